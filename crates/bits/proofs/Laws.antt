@@ -1,0 +1,62 @@
+-- The laws of `merge`, over any number of bits. Assumes nothing.
+use mathlib.Core.Path.{_≡_, refl, sym, ap, ap₂, _∙_}
+use mathlib.Core.Bool.{Bool, true, false, cond}
+use mathlib.Core.List.{List, [], _∷_}
+use Prim.Native.Nat.{ℕ, zero, suc, _+_, _*_, _/_, _%_, _-_, _^_, min, max, _<_}
+use native.Mathlib.Nat.{not-suc-le-zero, le-of-suc-le-suc}
+use native.Mathlib.Omega.{arith}
+use lib.Dec.{eqb}
+use borrow.Author.Tests.{eqb-true, eqb-false}
+use lib.Bits.{bitAnd, bitOr, and-step, or-step, and-zero-r}
+use Rattle.bits.specs.Merge.{merge, bit}
+use Rattle.bits.proofs.Truth.{E, zeros, var, by, law, low, high}
+
+-- what a merge hides does not count, whichever side it stands on
+pub merge-left : (k m a b c : ℕ) → merge k m (merge k m a b) c ≡ merge k m a c
+merge-left k m a b c = law (by (var 0) (by (var 0) (var 1) (var 2)) (var 3)) (by (var 0) (var 1) (var 3)) k (m ∷ a ∷ b ∷ c ∷ []) refl
+
+pub merge-right : (k m a b c : ℕ) → merge k m a (merge k m b c) ≡ merge k m a c
+merge-right k m a b c = law (by (var 0) (var 1) (by (var 0) (var 2) (var 3))) (by (var 0) (var 1) (var 3)) k (m ∷ a ∷ b ∷ c ∷ []) refl
+
+-- bit j of a merge is bit j of one of the two
+pub merge-bit : (k j m a b : ℕ) → j < k → bit j (merge k m a b) ≡ cond (eqb (bit j m) 1) (bit j a) (bit j b)
+unfolding merge
+merge-bit zero j m a b h = absurd (not-suc-le-zero h)
+merge-bit (suc k) zero m a b h = low (eqb (m % 2) 1) a b _
+merge-bit (suc k) (suc j) m a b h = ap (λ (n : ℕ). bit j n) (high (eqb (m % 2) 1) a b _) ∙ merge-bit k j (m / 2) (a / 2) (b / 2) (le-of-suc-le-suc h)
+
+-- the merge as code has it: `(a & m) | (b & !m)`
+half-of : (q d : ℕ) → d < 2 → (q * 2 + d) / 2 ≡ q
+half-of q d h = omega arith
+
+low-of : (q d : ℕ) → d < 2 → (q * 2 + d) % 2 ≡ d
+low-of q d h = omega arith
+
+and-half : (a m : ℕ) → bitAnd a m / 2 ≡ bitAnd (a / 2) (m / 2)
+and-half a m = ap (λ (n : ℕ). n / 2) (and-step a m) ∙ half-of _ (min (a % 2) (m % 2)) (omega arith)
+
+and-low : (a m : ℕ) → bitAnd a m % 2 ≡ min (a % 2) (m % 2)
+and-low a m = ap (λ (n : ℕ). n % 2) (and-step a m) ∙ low-of (bitAnd (a / 2) (m / 2)) (min (a % 2) (m % 2)) (omega arith)
+
+digit : (m a b q : ℕ) → m < 2 → a < 2 → b < 2 → q * 2 + max (min a m) (min b (1 - m)) ≡ cond (eqb m 1) a b + 2 * q
+digit m a b q hm ha hb = go (eqb m 1) refl
+  where
+    go : (r : Bool) → eqb m 1 ≡ r → q * 2 + max (min a m) (min b (1 - m)) ≡ cond r a b + 2 * q
+    go true e = let z : m ≡ 1 = eqb-true m 1 e in omega arith
+    go false e = let y : (m ≡ 1) → ⊥ = eqb-false m 1 e in let z : m ≡ 0 = omega arith in omega arith
+
+pub merge-code : (k m a b : ℕ) → m < 2 ^ k → merge k m a b ≡ bitOr (bitAnd a m) (bitAnd b (2 ^ k - 1 - m))
+unfolding merge
+merge-code zero m a b h =
+    let e : m ≡ 0 = omega arith in
+    let e′ : 2 ^ 0 - 1 - m ≡ 0 = omega arith in
+    rw (e′, e, and-zero-r, and-zero-r)
+merge-code (suc k) m a b h =
+    let N : ℕ = 2 ^ suc k - 1 - m in
+    let p : 2 ^ suc k ≡ 2 * 2 ^ k = omega arith in
+    let hn : N / 2 ≡ 2 ^ k - 1 - m / 2 = omega arith in
+    let ln : N % 2 ≡ 1 - m % 2 = omega arith in
+    let ih : merge k (m / 2) (a / 2) (b / 2) ≡ bitOr (bitAnd (a / 2) (m / 2)) (bitAnd (b / 2) (2 ^ k - 1 - m / 2)) = merge-code k (m / 2) (a / 2) (b / 2) (omega arith) in
+    sym (or-step (bitAnd a m) (bitAnd b N)
+    ∙ ap₂ (λ (q d : ℕ). q * 2 + d) (ap₂ bitOr (and-half a m) (and-half b N ∙ ap (bitAnd (b / 2)) hn) ∙ sym ih) (ap₂ max (and-low a m) (and-low b N ∙ ap (min (b % 2)) ln))
+    ∙ digit (m % 2) (a % 2) (b % 2) (merge k (m / 2) (a / 2) (b / 2)) (omega arith) (omega arith) (omega arith))

@@ -1,0 +1,93 @@
+-- The laws of the divisor that Euclid's rule finds.
+-- Assumes nothing.
+use mathlib.Core.Path.{_≡_, refl, sym, ap, _∙_, subst}
+use Prim.Native.Nat.{ℕ, zero, suc, _+_, _*_, _/_, _%_, _<_, _≤_, _∣_}
+use native.Mathlib.Nat.{dvd-refl, dvd-zero, dvd-mod-iff, dvd-add-iff-right, dvd-mul-right-of-dvd, dvd-of-mul-dvd-mul-left, eq-one-of-dvd-one, mul-dvd-mul-left, pos-of-dvd-of-pos}
+use native.Mathlib.Nat.{mod-lt, div-add-mod, mul-div-cancel', mul-add, mul-assoc, mul-left-comm, mul-one, zero-lt-suc, not-suc-le-zero, le-refl}
+use native.Mathlib.Omega.{arith}
+use Rattle.clock.specs.Gcd.{steps, gcdOf, Greatest, Lowest}
+use Rattle.clock.specs.Theorems.{EuclidsRule}
+
+-- more steps than b change nothing
+enough : (n m a b : ℕ) → b ≤ n → b ≤ m → steps n a b ≡ steps m a b
+unfolding steps
+enough zero zero a b h k = refl
+enough zero (suc m) a zero h k = refl
+enough zero (suc m) a (suc b) h k = absurd (not-suc-le-zero h)
+enough (suc n) zero a zero h k = refl
+enough (suc n) zero a (suc b) h k = absurd (not-suc-le-zero k)
+enough (suc n) (suc m) a zero h k = refl
+enough (suc n) (suc m) a (suc b) h k =
+    let l : a % suc b < suc b = mod-lt a (zero-lt-suc b) in
+    enough n m (suc b) (a % suc b) (omega arith) (omega arith)
+
+pub gcd-zero : (a : ℕ) → gcdOf a 0 ≡ a
+unfolding gcdOf steps
+gcd-zero a = refl
+
+pub gcd-step : (a b : ℕ) → 0 < b → gcdOf a b ≡ gcdOf b (a % b)
+unfolding gcdOf steps
+gcd-step a zero h = absurd (not-suc-le-zero h)
+gcd-step a (suc b) h =
+    let l : a % suc b < suc b = mod-lt a (zero-lt-suc b) in
+    enough b (a % suc b) (suc b) (a % suc b) (omega arith) (omega arith)
+
+-- it divides both, and every common divisor divides it
+great : (n a b : ℕ) → b ≤ n → Greatest (steps n a b) a b
+unfolding steps
+great zero a zero h = record { left = dvd-refl a; right = dvd-zero a; most = λ d p q. p }
+great zero a (suc b) h = absurd (not-suc-le-zero h)
+great (suc n) a zero h = record { left = dvd-refl a; right = dvd-zero a; most = λ d p q. p }
+great (suc n) a (suc b) h =
+    let l : a % suc b < suc b = mod-lt a (zero-lt-suc b) in
+    let r = great n (suc b) (a % suc b) (omega arith) in
+    record {
+      left = dvd-mod-iff _ (r .left) .0 (r .right);
+      right = r .left;
+      most = λ d p q. r .most d q (dvd-mod-iff d q .1 p);
+    }
+
+pub greatest : (a b : ℕ) → Greatest (gcdOf a b) a b
+unfolding gcdOf
+greatest a b = great b a b (le-refl b)
+
+pub some : (a b : ℕ) → 0 < b → 0 < gcdOf a b
+some a b h = pos-of-dvd-of-pos (greatest a b .right) h
+
+-- what divides m times both divides m times the divisor
+scaled : (n d m a b : ℕ) → b ≤ n → d ∣ m * a → d ∣ m * b → d ∣ m * steps n a b
+unfolding steps
+scaled zero d m a zero h p q = p
+scaled zero d m a (suc b) h p q = absurd (not-suc-le-zero h)
+scaled (suc n) d m a zero h p q = p
+scaled (suc n) d m a (suc b) h p q =
+    let l : a % suc b < suc b = mod-lt a (zero-lt-suc b) in
+    let e : m * a ≡ m * suc b * (a / suc b) + m * (a % suc b) =
+    ap (λ (x : ℕ). m * x) (sym (div-add-mod a (suc b))) ∙ mul-add m (suc b * (a / suc b)) (a % suc b)
+    ∙ ap (λ (x : ℕ). x + m * (a % suc b)) (sym (mul-assoc m (suc b) (a / suc b))) in
+    let s : d ∣ m * suc b * (a / suc b) + m * (a % suc b) = subst (λ (x : ℕ). d ∣ x) e p in
+    scaled n d m (suc b) (a % suc b) (omega arith) q (dvd-add-iff-right d (dvd-mul-right-of-dvd d q (a / suc b)) .1 s)
+
+pub divides-scaled : (d m a b : ℕ) → d ∣ m * a → d ∣ m * b → d ∣ m * gcdOf a b
+unfolding gcdOf
+divides-scaled d m a b = scaled b d m a b (le-refl b)
+
+-- the fraction is brought to lowest terms
+pub in-lowest : (num den : ℕ) → 0 < den → Lowest num den (num / gcdOf num den) (den / gcdOf num den)
+in-lowest num den h =
+    let g : ℕ = gcdOf num den in
+    let u : ℕ = num / g in
+    let v : ℕ = den / g in
+    let pos : 0 < g = some num den h in
+    let nu : g * u ≡ num = mul-div-cancel' g (greatest num den .left) in
+    let nv : g * v ≡ den = mul-div-cancel' g (greatest num den .right) in
+    record {
+      same = ap (λ (x : ℕ). x * v) (sym nu) ∙ mul-assoc g u v ∙ mul-left-comm g u v ∙ ap (λ (x : ℕ). u * x) nv;
+      lowest = λ d p q. eq-one-of-dvd-one
+          (dvd-of-mul-dvd-mul-left d pos
+          (subst (λ (x : ℕ). g * d ∣ x) (sym (mul-one g))
+          (greatest num den .most (g * d) (subst (λ (x : ℕ). g * d ∣ x) nu (mul-dvd-mul-left d g p)) (subst (λ (x : ℕ). g * d ∣ x) nv (mul-dvd-mul-left d g q)))));
+    }
+
+pub euclid : EuclidsRule
+euclid = record { greatest = greatest; lowest = in-lowest }

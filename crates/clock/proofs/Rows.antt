@@ -1,0 +1,58 @@
+-- The call on single fields gives the first of rows 4, 5 and 9 that applies. Assumes nothing.
+use mathlib.Core.Path.{_≡_, refl, sym, _∙_}
+use mathlib.Core.Logic.{_⊎_, inl, inr}
+use mathlib.Core.Bool.{Bool, true, false, false≢true, cond, not, _||_}
+use mathlib.Core.List.{List}
+use Prim.Native.Nat.{ℕ, _<_}
+use native.Mathlib.Omega.{arith}
+use lib.ListN.{drop}
+use lib.Dec.{eqb, ltb}
+use borrow.Author.Tests.{ltb-true, ltb-false, eqb-true, eqb-false}
+use Rattle.refusals.specs.Rows.{Rule, at}
+use Rattle.refusals.proofs.First.{Tried, tried}
+use Rattle.clock.specs.declared.Pair.{Pair}
+use Rattle.clock.specs.Modes.{offered, clockOf}
+use Rattle.clock.specs.Pairs.{Coherent, other}
+use Rattle.clock.specs.Found.{refused, coherentOf, pairOf}
+use Rattle.clock.specs.Theorems.{pairRules, PairRefusals}
+use Rattle.clock.proofs.Coherence.{coherence}
+
+module _ (vic family rate coherent : ℕ) where
+  abbrev rules : List Rule
+  rules = pairRules vic family rate coherent
+
+  outside : (a b : Bool) → ltb 6 rate ≡ a → ltb 1 coherent ≡ b → (a || b) ≡ true → at rules 1 .When
+  outside true b ea eb e = inl (ltb-true 6 rate ea)
+  outside false b ea eb e = inr (ltb-true 1 coherent (eb ∙ e))
+
+  inside : (a b : Bool) → ltb 6 rate ≡ a → ltb 1 coherent ≡ b → (a || b) ≡ false → (rate < 7) × (at rules 1 .When → ⊥)
+  inside true b ea eb e = absurd (false≢true (sym e))
+  inside false b ea eb e = (omega (arith, ltb-false 6 rate ea), within)
+    where
+      within : (6 < rate) ⊎ (1 < coherent) → ⊥
+      within (inl h) = omega (arith, ltb-false 6 rate ea)
+      within (inr h) = omega (arith, ltb-false 1 coherent (eb ∙ e))
+
+  last : (c : Pair) → Coherent (clockOf vic family) rate c → coherent ≡ 1 → (t : Bool) → eqb (c .refusal) 9 ≡ t → Tried (drop 2 rules) (c .refusal)
+  last c w one true e = let nine = eqb-true (c .refusal) 9 e in inl ((one, w .refused .0 nine), nine)
+  last c w one false e = let other = eqb-false (c .refusal) 9 e in inr ((λ a. other (w .refused .1 (a .1))), w .exact other .0)
+
+  pub in-turn : Tried rules (pairOf vic family rate coherent .refusal)
+  unfolding pairOf
+  in-turn = go (offered vic family) (ltb 6 rate || ltb 1 coherent) (eqb coherent 1) refl refl refl
+    where
+      go : (o t k : Bool) → offered vic family ≡ o → (ltb 6 rate || ltb 1 coherent) ≡ t → eqb coherent 1 ≡ k
+          → Tried rules
+          (cond {A = Pair} (not o) (refused 4) (cond t (refused 5) (cond k (coherentOf (clockOf vic family) rate) (other rate))) .refusal)
+      go false t k eo et ek = inl (eo, refl)
+      go true true k eo et ek = inr ((λ a. false≢true (sym a ∙ eo)), inl (outside (ltb 6 rate) (ltb 1 coherent) refl refl et, refl))
+      go true false true eo et ek =
+          let r = inside (ltb 6 rate) (ltb 1 coherent) refl refl et in
+          let c : Pair = coherentOf (clockOf vic family) rate in
+          inr ((λ a. false≢true (sym a ∙ eo)), inr (r .1, last c (coherence .modes vic family rate eo (r .0)) (eqb-true coherent 1 ek) (eqb (c .refusal) 9) refl))
+      go true false false eo et ek =
+          let r = inside (ltb 6 rate) (ltb 1 coherent) refl refl et in
+          inr ((λ a. false≢true (sym a ∙ eo)), inr (r .1, inr ((λ a. eqb-false coherent 1 ek (a .0)), refl)))
+
+pub refusals : PairRefusals
+refusals vic family rate coherent = tried (pairRules vic family rate coherent) _ (in-turn vic family rate coherent)

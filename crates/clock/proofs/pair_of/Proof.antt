@@ -1,0 +1,99 @@
+-- `clock::pair_of` meets its contract. Assumes nothing.
+use mathlib.Core.Path.{_≡_, sym, ap, _∙_, subst}
+use mathlib.Core.Bool.{true}
+use borrow.Author.Needs.{needs}
+use borrow.Author.Tests.{lt-ltb, le-ltb, eq-eqb, ne-eqb}
+use Rattle.clock.specs.declared.Clock.{Clock}
+use Rattle.clock.specs.Modes.{offered, Sized}
+use Rattle.clock.specs.Found.{pairOf}
+use Rattle.clock.proofs.Offered.{sized, accepted, declined}
+use Rattle.clock.proofs.pair_of.Statement.{statement}
+use Rattle.clock.proofs.pair_of.Tie as tie
+
+-- past the first test the mode is offered
+taken-up : (c : tie.Else1) → let a = c .before .before .before .args in offered (a .vic) (a .family) ≡ true
+taken-up c =
+    let p = c .before .before in
+    accepted (p .before .args .vic) (p .before .args .family) (ap (λ (k : Clock). k .refusal) (sym (p .clock-of .ensures)) ∙ c .if1 .left)
+
+clock-of-requires : tie.Need-clock-of-requires
+clock-of-requires c κs = search needs
+
+refused-requires : tie.Need-refused-requires
+refused-requires c κs = search needs
+
+returns : tie.Need-returns
+unfolding pairOf
+returns c =
+    let p = c .before .before .before in
+    let e = ap (λ (k : Clock). k .refusal) (p .clock-of .ensures) in
+    let d = declined (p .before .args .vic) (p .before .args .family) (λ z. c .before .if1 .taken (e ∙ z)) in
+    rw (c .refused .ensures, e ∙ d .1, d .0)
+
+refused-requires-2 : tie.Need-refused-requires-2
+refused-requires-2 c κs = search needs
+
+returns-2 : tie.Need-returns-2
+unfolding pairOf
+returns-2 c = rw (c .refused2 .ensures, taken-up (c .before .before), lt-ltb _ _ (c .before .if2 .taken))
+
+refused-requires-3 : tie.Need-refused-requires-3
+refused-requires-3 c κs = search needs
+
+returns-3 : tie.Need-returns-3
+unfolding pairOf
+returns-3 c =
+    let p = c .before .before in
+    rw (c .refused3 .ensures, taken-up (p .before), le-ltb _ _ (p .if2 .left), lt-ltb _ _ (c .before .if3 .taken))
+
+coherent-pair-requires : tie.Need-coherent-pair-requires
+coherent-pair-requires c κs =
+    let p = c .before .before in
+    let q = p .before .before .before in
+    (search needs, subst Sized (sym (q .clock-of .ensures)) (sized (q .before .args .vic) (q .before .args .family) (taken-up (p .before))))
+
+returns-4 : tie.Need-returns-4
+unfolding pairOf
+returns-4 c =
+    let p = c .before .before .before in
+    rw (
+      c .coherent-pair .ensures,
+      taken-up (p .before),
+      le-ltb _ _ (p .if2 .left),
+      le-ltb _ _ (c .before .before .if3 .left),
+      eq-eqb _ _ (c .before .if4 .taken),
+      p .before .before .before .clock-of .ensures,
+    )
+
+mul-given : tie.Need-mul-given
+mul-given c = search needs
+
+array-read-given : tie.Need-array-read-given
+array-read-given c = search needs
+
+given-requires : tie.Need-given-requires
+given-requires c κs = search needs
+
+returns-5 : tie.Need-returns-5
+unfolding pairOf
+returns-5 c =
+    let p = c .before .before .before in
+    rw (c .given .ensures, taken-up (p .before), le-ltb _ _ (p .if2 .left), le-ltb _ _ (c .before .before .if3 .left), ne-eqb _ _ (c .before .if4 .left))
+
+pub pair-of-spec : {M : Type 1} → statement M
+pair-of-spec =
+    tie.close
+    (tie.spec
+    clock-of-requires
+    refused-requires
+    returns
+    refused-requires-2
+    returns-2
+    refused-requires-3
+    returns-3
+    coherent-pair-requires
+    returns-4
+    mul-given
+    array-read-given
+    given-requires
+    returns-5)

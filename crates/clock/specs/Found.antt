@@ -1,0 +1,69 @@
+-- How the code finds the pair that `Pairs` speaks of, and what the calls answer. With u/v the ratio clock / (128·fs) in lowest terms, CTS = N·u/v, so the exact
+-- pairs are N = k·v, CTS = k·u.
+use mathlib.Core.Bool.{Bool, cond, _&&_, _||_, not}
+use mathlib.Core.List.{[]}
+use Prim.Native.Nat.{ℕ, _+_, _-_, _*_, _/_, min}
+use lib.Dec.{eqb, leb, ltb}
+use lib.ListN.{getD}
+use Rattle.clock.specs.declared.Clock.{Clock}
+use Rattle.clock.specs.declared.NCts.{NCts}
+use Rattle.clock.specs.declared.Pair.{Pair}
+use Rattle.clock.specs.declared.Recommended.{Recommended}
+use Rattle.clock.specs.Gcd.{gcdOf}
+use Rattle.clock.specs.Modes.{offered, clockOf}
+use Rattle.clock.specs.Pairs.{reference, recommended, recommendedOf, other}
+
+-- a row of the recommended pairs, by its place
+abbrev pub norow : Recommended
+norow = record { num = 0; den = 0; n = []; cts = [] }
+
+unfoldable pub recommendedAt : ℕ → Recommended
+recommendedAt i = getD recommended i norow
+
+abbrev pub refused : ℕ → Pair
+refused number = record { refusal = number; n = 0; cts = 0 }
+
+abbrev pub given : ℕ → ℕ → Pair
+given n cts = record { refusal = 0; n = n; cts = cts }
+
+-- k of the nearest pair among least to most, where `below` is the last k with k·v at most 128·fs/1000
+unfoldable pub nearestK : ℕ → ℕ → ℕ → ℕ → ℕ → ℕ
+nearestK f v least most below =
+    cond (leb most below) most
+    (cond (ltb below least) least (cond (ltb (1000 * ((below + 1) * v) - f) (f - 1000 * (below * v))) (below + 1) below))
+
+-- the first and the last k whose pair is in range
+abbrev pub leastK : ℕ → ℕ → ℕ
+leastK f v = (f + (1500 * v - 1)) / (1500 * v)
+
+abbrev pub mostK : ℕ → ℕ → ℕ → ℕ
+mostK f u v = min (f / (300 * v)) (1048575 / u)
+
+-- the nearest of the pairs (k·v, k·u)
+unfoldable pub nearestIn : ℕ → ℕ → ℕ → Pair
+nearestIn f u v =
+    let k : ℕ = nearestK f v (leastK f v) (mostK f u v) (f / (1000 * v)) in
+    cond (ltb (mostK f u v) (leastK f v)) (refused 9) (given (k * v) (k * u))
+
+unfoldable pub nearestOf : Clock → ℕ → Pair
+nearestOf clock rate =
+    let f : ℕ = reference rate in
+    let g : ℕ = gcdOf (clock .num) (clock .den * f) in
+    nearestIn f (clock .num / g) (clock .den * f / g)
+
+-- the test of `Exact`
+unfoldable pub exactly : Clock → ℕ → ℕ → ℕ → Bool
+exactly clock rate n cts =
+    leb (reference rate) (1500 * n) && leb (300 * n) (reference rate) && leb cts 1048575 && eqb (reference rate * cts * clock .den) (clock .num * n)
+
+unfoldable pub coherentOf : Clock → ℕ → Pair
+coherentOf clock rate =
+    let r : NCts = recommendedOf clock rate in
+    cond (exactly clock rate (r .n) (r .cts)) (given (r .n) (r .cts)) (nearestOf clock rate)
+
+-- N/CTS on single fields: refusals 4, 5, 9
+unfoldable pub pairOf : ℕ → ℕ → ℕ → ℕ → Pair
+pairOf vic family rate coherent =
+    cond (not (offered vic family)) (refused 4)
+    (cond (ltb 6 rate || ltb 1 coherent) (refused 5)
+    (cond (eqb coherent 1) (coherentOf (clockOf vic family) rate) (other rate)))

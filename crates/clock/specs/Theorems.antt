@@ -1,0 +1,34 @@
+-- What is proved of the definitions. Each is the contract of a function of its name.
+use mathlib.Core.Path.{_≡_}
+use mathlib.Core.Logic.{_⊎_}
+use mathlib.Core.Bool.{true, false}
+use mathlib.Core.List.{List, [], _∷_}
+use Prim.Native.Nat.{ℕ, _/_, _<_}
+use Rattle.refusals.specs.Rows.{modeNotOffered, fieldOutOfRange, noExactPair, Rule, rule, Given}
+use Rattle.clock.specs.declared.Clock.{Clock}
+use Rattle.clock.specs.declared.Pair.{Pair}
+use Rattle.clock.specs.Gcd.{gcdOf, Greatest, Lowest}
+use Rattle.clock.specs.Modes.{offered, clockOf}
+use Rattle.clock.specs.Pairs.{Exact, Coherent}
+use Rattle.clock.specs.Found.{coherentOf, pairOf}
+
+-- "Each clock ratio is brought to lowest terms by Euclid's rule"
+pub record EuclidsRule : Type 0 where
+  pub greatest : (a b : ℕ) → Greatest (gcdOf a b) a b
+  pub lowest : (num den : ℕ) → 0 < den → Lowest num den (num / gcdOf num den) (den / gcdOf num den)
+
+-- "N and CTS": for coherent audio the pair that is found is the one that is asked for, and there is no other
+pub record CoherentPairs : Type 0 where
+  pub clocks : (clock : Clock) (rate : ℕ) → 0 < clock .num → 0 < clock .den → rate < 7 → Coherent clock rate (coherentOf clock rate)
+  pub modes : (vic family rate : ℕ) → offered vic family ≡ true → rate < 7 → Coherent (clockOf vic family) rate (coherentOf (clockOf vic family) rate)
+  pub one : (clock : Clock) (rate : ℕ) → 0 < clock .den → rate < 7 → (a b : Pair) → Coherent clock rate a → Coherent clock rate b → a ≡ b
+
+-- "A call on single fields checks those .. whose fields it takes": rows 4, 5 and 9, for N/CTS
+abbrev pub pairRules : ℕ → ℕ → ℕ → ℕ → List Rule
+pairRules vic family rate coherent =
+    rule modeNotOffered (offered vic family ≡ false) ∷
+    rule fieldOutOfRange ((6 < rate) ⊎ (1 < coherent)) ∷
+    rule noExactPair ((coherent ≡ 1) × ((n cts : ℕ) → Exact (clockOf vic family) rate n cts → ⊥)) ∷ []
+
+abbrev pub PairRefusals : Type 0
+PairRefusals = (vic family rate coherent : ℕ) → Given (pairRules vic family rate coherent) (pairOf vic family rate coherent .refusal)

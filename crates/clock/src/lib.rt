@@ -1,0 +1,473 @@
+// Modes, the exact clock fraction, Euclid's rule, and N and CTS: document 01, "Modes and clocks" and "N and CTS".
+ghost use mathlib.Core.Path.{_≡_};
+ghost use Prim.Native.Nat.{_<_, _≤_, _+_, _*_, min};
+ghost use Rattle.clock.specs.Modes.{modeOf, clockOf, Sized};
+ghost use Rattle.clock.specs.Pairs.{reference, recommendedOf, off};
+ghost use Rattle.clock.specs.Gcd.{gcdOf};
+ghost use Rattle.clock.specs.Found.{recommendedAt, refused, given, nearestK, nearestIn, nearestOf, exactly, coherentOf, pairOf};
+ghost use Rattle.clock.specs.Theorems.{EuclidsRule, CoherentPairs, PairRefusals};
+use refusals::Refusal;
+
+// A listed mode. A VIC that is not listed offers no family.
+pub struct Mode {
+    pub vic: u8,
+    pub hertz: u32,
+    pub families: u8,
+    pub aspect: u8,
+    pub colorimetry: u8,
+}
+
+// A clock in Hz, kept exact: num / den.
+pub struct Clock {
+    pub refusal: u8,
+    pub num: u64,
+    pub den: u64,
+}
+
+// N and CTS, or the number of a refusal with zeros beside it.
+pub struct Pair {
+    pub refusal: u8,
+    pub n: u32,
+    pub cts: u32,
+}
+
+// N and CTS, side by side.
+pub struct NCts {
+    pub n: u32,
+    pub cts: u32,
+}
+
+// A clock in Hz, and its recommended N and CTS at each rate.
+pub struct Recommended {
+    pub num: u64,
+    pub den: u64,
+    pub n: [u32; 7],
+    pub cts: [u32; 7],
+}
+
+// "Modes and clocks", row by row as the definition has them.
+const MODES: [Mode; 15] = [
+    Mode {
+        vic: 1,
+        hertz: 25200000,
+        families: 2,
+        aspect: 1,
+        colorimetry: 1,
+    },
+    Mode {
+        vic: 2,
+        hertz: 27027000,
+        families: 2,
+        aspect: 1,
+        colorimetry: 1,
+    },
+    Mode {
+        vic: 3,
+        hertz: 27027000,
+        families: 2,
+        aspect: 2,
+        colorimetry: 1,
+    },
+    Mode {
+        vic: 4,
+        hertz: 74250000,
+        families: 2,
+        aspect: 2,
+        colorimetry: 2,
+    },
+    Mode {
+        vic: 5,
+        hertz: 74250000,
+        families: 2,
+        aspect: 2,
+        colorimetry: 2,
+    },
+    Mode {
+        vic: 16,
+        hertz: 148500000,
+        families: 2,
+        aspect: 2,
+        colorimetry: 2,
+    },
+    Mode {
+        vic: 17,
+        hertz: 27000000,
+        families: 1,
+        aspect: 1,
+        colorimetry: 1,
+    },
+    Mode {
+        vic: 18,
+        hertz: 27000000,
+        families: 1,
+        aspect: 2,
+        colorimetry: 1,
+    },
+    Mode {
+        vic: 19,
+        hertz: 74250000,
+        families: 1,
+        aspect: 2,
+        colorimetry: 2,
+    },
+    Mode {
+        vic: 20,
+        hertz: 74250000,
+        families: 1,
+        aspect: 2,
+        colorimetry: 2,
+    },
+    Mode {
+        vic: 31,
+        hertz: 148500000,
+        families: 1,
+        aspect: 2,
+        colorimetry: 2,
+    },
+    Mode {
+        vic: 32,
+        hertz: 74250000,
+        families: 2,
+        aspect: 2,
+        colorimetry: 2,
+    },
+    Mode {
+        vic: 34,
+        hertz: 74250000,
+        families: 2,
+        aspect: 2,
+        colorimetry: 2,
+    },
+    Mode {
+        vic: 60,
+        hertz: 59400000,
+        families: 2,
+        aspect: 2,
+        colorimetry: 2,
+    },
+    Mode {
+        vic: 62,
+        hertz: 74250000,
+        families: 2,
+        aspect: 2,
+        colorimetry: 2,
+    },
+];
+
+// The recommended pairs, row by row as the definition has them.
+const RECOMMENDED: [Recommended; 10] = [
+    Recommended {
+        num: 25200000000,
+        den: 1001,
+        n: [4576, 7007, 6864, 14014, 13728, 28028, 27456],
+        cts: [28125, 31250, 28125, 31250, 28125, 31250, 28125],
+    },
+    Recommended {
+        num: 25200000,
+        den: 1,
+        n: [4096, 6272, 6144, 12544, 12288, 25088, 24576],
+        cts: [25200, 28000, 25200, 28000, 25200, 28000, 25200],
+    },
+    Recommended {
+        num: 27000000,
+        den: 1,
+        n: [4096, 6272, 6144, 12544, 12288, 25088, 24576],
+        cts: [27000, 30000, 27000, 30000, 27000, 30000, 27000],
+    },
+    Recommended {
+        num: 27027000,
+        den: 1,
+        n: [4096, 6272, 6144, 12544, 12288, 25088, 24576],
+        cts: [27027, 30030, 27027, 30030, 27027, 30030, 27027],
+    },
+    Recommended {
+        num: 54000000,
+        den: 1,
+        n: [4096, 6272, 6144, 12544, 12288, 25088, 24576],
+        cts: [54000, 60000, 54000, 60000, 54000, 60000, 54000],
+    },
+    Recommended {
+        num: 54054000,
+        den: 1,
+        n: [4096, 6272, 6144, 12544, 12288, 25088, 24576],
+        cts: [54054, 60060, 54054, 60060, 54054, 60060, 54054],
+    },
+    Recommended {
+        num: 74250000000,
+        den: 1001,
+        n: [11648, 17836, 11648, 35672, 23296, 71344, 46592],
+        cts: [210937, 234375, 140625, 234375, 140625, 234375, 140625],
+    },
+    Recommended {
+        num: 74250000,
+        den: 1,
+        n: [4096, 6272, 6144, 12544, 12288, 25088, 24576],
+        cts: [74250, 82500, 74250, 82500, 74250, 82500, 74250],
+    },
+    Recommended {
+        num: 148500000000,
+        den: 1001,
+        n: [11648, 8918, 5824, 17836, 11648, 35672, 23296],
+        cts: [421875, 234375, 140625, 234375, 140625, 234375, 140625],
+    },
+    Recommended {
+        num: 148500000,
+        den: 1,
+        n: [4096, 6272, 6144, 12544, 12288, 25088, 24576],
+        cts: [148500, 165000, 148500, 165000, 148500, 165000, 148500],
+    },
+];
+
+// The rates 0 to 6 in Hz.
+const RATES: [u32; 7] = [32000, 44100, 48000, 88200, 96000, 176400, 192000];
+
+// N of the "Other" row.
+const OTHERS: [u32; 7] = [4096, 6272, 6144, 12544, 12288, 25088, 24576];
+
+// The mode of a VIC.
+pub fn mode_of(vic: u8) -> Mode
+    ensures { λ r. ⌜ r ≡ modeOf vic ⌝ }
+{
+    let mut i: usize = 0;
+    while i < 15 {
+        let row = MODES[i];
+        if row.vic == vic {
+            return row;
+        }
+        i = i + 1;
+    }
+    Mode {
+        vic: 0,
+        hertz: 0,
+        families: 0,
+        aspect: 0,
+        colorimetry: 0,
+    }
+}
+
+// The clock of a mode in a family, or refusal 4.
+pub fn clock_of(vic: u8, family: u8) -> Clock
+    ensures { λ r. ⌜ r ≡ clockOf vic family ⌝ }
+{
+    let row = mode_of(vic);
+    if row.families <= family {
+        return Clock {
+            refusal: Refusal::MODE_NOT_OFFERED,
+            num: 0,
+            den: 0,
+        };
+    }
+    if family == 0 {
+        return Clock {
+            refusal: Refusal::NONE,
+            num: row.hertz as u64,
+            den: 1,
+        };
+    }
+    Clock {
+        refusal: Refusal::NONE,
+        num: row.hertz as u64 * 1000,
+        den: 1001,
+    }
+}
+
+// The greatest common divisor, by Euclid's rule.
+pub fn gcd(a: u64, b: u64) -> u64
+    ensures { λ r. ⌜ r ≡ gcdOf a b ⌝ }
+{
+    if b == 0 {
+        return a;
+    }
+    gcd(b, a % b)
+}
+
+// 128·fs
+fn reference(rate: u8) -> u64
+    requires { ⌜ rate < 7 ⌝ }
+    ensures { λ r. ⌜ r ≡ reference rate ⌝ }
+    ensures { λ r. ⌜ (0 < r) × (r ≤ 24576000) ⌝ }
+{
+    128 * RATES[rate as usize] as u64
+}
+
+// One row of the recommended pairs.
+fn recommended_row(i: usize) -> Recommended
+    requires { ⌜ i < 10 ⌝ }
+    ensures { λ r. ⌜ r ≡ recommendedAt i ⌝ }
+{
+    RECOMMENDED[i]
+}
+
+// The recommended pair for a clock and rate; N 0 where there is none.
+fn recommended_pair(clock: Clock, rate: u8) -> NCts
+    requires { ⌜ rate < 7 ⌝ }
+    requires { ⌜ Sized clock ⌝ }
+    ensures { λ r. ⌜ r ≡ recommendedOf clock rate ⌝ }
+{
+    let mut i: usize = 0;
+    while i < 10 {
+        let row = recommended_row(i);
+        if clock.num * row.den == row.num * clock.den {
+            let ns = row.n;
+            let cts = row.cts;
+            return NCts {
+                n: ns[rate as usize],
+                cts: cts[rate as usize],
+            };
+        }
+        i = i + 1;
+    }
+    NCts { n: 0, cts: 0 }
+}
+
+// The test of an exact pair.
+fn exactly(clock: Clock, rate: u8, n: u32, cts: u32) -> bool
+    requires { ⌜ rate < 7 ⌝ }
+    requires { ⌜ Sized clock ⌝ }
+    ensures { λ r. ⌜ r ≡ exactly clock rate n cts ⌝ }
+{
+    let f = reference(rate);
+    if 1500 * (n as u64) < f {
+        return false;
+    }
+    if f < 300 * (n as u64) {
+        return false;
+    }
+    if cts > 1048575 {
+        return false;
+    }
+    f * (cts as u64) * clock.den == clock.num * (n as u64)
+}
+
+// The smaller of two numbers.
+fn lesser(a: u64, b: u64) -> u64
+    ensures { λ r. ⌜ r ≡ min a b ⌝ }
+{
+    if a < b {
+        return a;
+    }
+    b
+}
+
+// k of the nearest pair, where `below` is the last k with k·v at most f/1000.
+fn nearest_k(f: u64, v: u64, least: u64, most: u64, below: u64) -> u64
+    requires { ⌜ (v ≤ 24600576000) × (f ≤ 24576000) ⌝ }
+    requires { ⌜ (1000 * (below * v) ≤ f) × (f ≤ 1000 * ((below + 1) * v)) ⌝ }
+    ensures { λ r. ⌜ r ≡ nearestK f v least most below ⌝ }
+{
+    if most <= below {
+        return most;
+    }
+    if below < least {
+        return least;
+    }
+    let after = 1000 * ((below + 1) * v) - f;
+    let before = f - 1000 * (below * v);
+    if after < before {
+        return below + 1;
+    }
+    below
+}
+
+// The nearest of the pairs (k·v, k·u), or refusal 9. No f is above 128·192000, no u above a clock's num, no v above 1001·f.
+fn nearest_in(f: u64, u: u64, v: u64) -> Pair
+    requires { ⌜ f ≤ 24576000 ⌝ }
+    requires { ⌜ (0 < u) × (u ≤ 148500000000) ⌝ }
+    requires { ⌜ (0 < v) × (v ≤ 24600576000) ⌝ }
+    ensures { λ r. ⌜ r ≡ nearestIn f u v ⌝ }
+{
+    let least = (f + (1500 * v - 1)) / (1500 * v);
+    let most = lesser(f / (300 * v), 1048575 / u);
+    if most < least {
+        return refused(Refusal::NO_EXACT_PAIR);
+    }
+    let k = nearest_k(f, v, least, most, f / (1000 * v));
+    given((k * v) as u32, (k * u) as u32)
+}
+
+// The exact pair whose N is nearest to 128·fs/1000, or refusal 9.
+fn nearest(clock: Clock, rate: u8) -> Pair
+    requires { ⌜ rate < 7 ⌝ }
+    requires { ⌜ Sized clock ⌝ }
+    ensures { λ r. ⌜ r ≡ nearestOf clock rate ⌝ }
+{
+    let f = reference(rate);
+    let parts = clock.den * f;
+    let g = gcd(clock.num, parts);
+    nearest_in(f, clock.num / g, parts / g)
+}
+
+// N and CTS for coherent audio.
+fn coherent_pair(clock: Clock, rate: u8) -> Pair
+    requires { ⌜ rate < 7 ⌝ }
+    requires { ⌜ Sized clock ⌝ }
+    ensures { λ r. ⌜ r ≡ coherentOf clock rate ⌝ }
+{
+    let best = recommended_pair(clock, rate);
+    if exactly(clock, rate, best.n, best.cts) {
+        return given(best.n, best.cts);
+    }
+    nearest(clock, rate)
+}
+
+// A refusal, with zeros beside it.
+fn refused(number: u8) -> Pair
+    ensures { λ r. ⌜ r ≡ refused number ⌝ }
+{
+    Pair {
+        refusal: number,
+        n: 0,
+        cts: 0,
+    }
+}
+
+// A pair, with no refusal.
+fn given(n: u32, cts: u32) -> Pair
+    ensures { λ r. ⌜ r ≡ given n cts ⌝ }
+{
+    Pair {
+        refusal: Refusal::NONE,
+        n: n,
+        cts: cts,
+    }
+}
+
+// N and CTS on single fields: refusals 4, 5 and 9.
+pub fn pair_of(vic: u8, family: u8, rate: u8, coherent: u8) -> Pair
+    ensures { λ r. ⌜ r ≡ pairOf vic family rate coherent ⌝ }
+{
+    let clock = clock_of(vic, family);
+    if clock.refusal != Refusal::NONE {
+        return refused(clock.refusal);
+    }
+    if rate > 6 {
+        return refused(Refusal::FIELD_OUT_OF_RANGE);
+    }
+    if coherent > 1 {
+        return refused(Refusal::FIELD_OUT_OF_RANGE);
+    }
+    if coherent == 1 {
+        return coherent_pair(clock, rate);
+    }
+    given(OTHERS[rate as usize], 0)
+}
+
+// N and CTS where sound is off.
+pub fn silence() -> Pair
+    ensures { λ r. ⌜ r ≡ off ⌝ }
+{
+    given(6144, 0)
+}
+
+// What is proved of the definitions: Euclid's rule, the pair for coherent audio, and the refusals of the call on single fields.
+pub fn euclids_rule()
+    ensures { λ _. ⌜ EuclidsRule ⌝ }
+{}
+
+pub fn coherent_pairs()
+    ensures { λ _. ⌜ CoherentPairs ⌝ }
+{}
+
+pub fn pair_refusals()
+    ensures { λ _. ⌜ PairRefusals ⌝ }
+{}

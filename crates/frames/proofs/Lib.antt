@@ -1,0 +1,3 @@
+pub mod Total
+pub mod Sealed
+pub mod Small

@@ -1,0 +1,34 @@
+-- What every mode's row says of its aspect and its colorimetry: one test over the table. Assumes nothing.
+use mathlib.Core.Path.{_≡_, refl}
+use mathlib.Core.Bool.{Bool, true, false, cond, _&&_}
+use Prim.Native.Nat.{ℕ, _≤_}
+use lib.Dec.{eqb, leb, lit≤}
+use borrow.Author.Tests.{leb-true}
+use Rattle.lists.proofs.Both.{both-left, both-right}
+use Rattle.lists.proofs.Find.{found}
+use Rattle.clock.specs.declared.Mode.{Mode}
+use Rattle.clock.specs.Modes.{modes, unlisted, modeOf}
+use Rattle.frames.specs.Frames.{colorimetry}
+
+pub record Small (m : Mode) : Type 0 where
+  pub aspect : m .aspect ≤ 2
+  pub colorimetry : m .colorimetry ≤ 2
+
+abbrev fits : Mode → Bool
+fits m = leb (m .aspect) 2 && leb (m .colorimetry) 2
+
+pub mode-small : (vic : ℕ) → Small (modeOf vic)
+unfolding modeOf
+mode-small vic =
+    let m : Mode = modeOf vic in
+    let a : Bool = leb (m .aspect) 2 in
+    let b : Bool = leb (m .colorimetry) 2 in
+    let t : (a && b) ≡ true = found fits (λ m. eqb (m .vic) vic) unlisted modes refl refl in
+    record { aspect = leb-true _ _ (both-left a b t); colorimetry = leb-true _ _ (both-right a b t) }
+
+pub colour-small : (m : Mode) (encoding : ℕ) → Small m → colorimetry m encoding ≤ 2
+colour-small m encoding s = go (eqb encoding 0)
+  where
+    go : (b : Bool) → cond b 0 (m .colorimetry) ≤ 2
+    go true = lit≤ tt
+    go false = s .colorimetry

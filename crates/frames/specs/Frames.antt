@@ -1,0 +1,76 @@
+-- Document 01, "InfoFrames".
+use mathlib.Core.Path.{_≡_}
+use mathlib.Core.Bool.{Bool, cond, not, _||_}
+use mathlib.Core.List.{List, [], _∷_, _++_}
+use Prim.Native.Nat.{ℕ, _+_, _-_, _*_, _%_, _<_}
+use lib.Dec.{eqb, ltb}
+use lib.ListN.{replicate}
+use Rattle.clock.specs.declared.Mode.{Mode}
+use Rattle.clock.specs.Modes.{modeOf}
+use Rattle.frames.specs.declared.Avi.{Avi}
+use Rattle.frames.specs.declared.Audio.{Audio}
+
+unfoldable pub total : List ℕ → ℕ
+total [] = 0
+total (x ∷ xs) = x + total xs
+
+-- "The checksum byte makes the sum of all bytes zero modulo 256": 0, and not 256, where the sum is zero already
+abbrev pub checksumOf : List ℕ → ℕ
+checksumOf bytes = (256 - total bytes % 256) % 256
+
+-- a frame: its header of three bytes, the checksum, its payload
+abbrev pub frame : List ℕ → List ℕ → List ℕ
+frame header payload = header ++ checksumOf (header ++ payload) ∷ payload
+
+-- "C is 0 for RGB, else 1 for VIC 1, 2, 3, 17, 18 and 2 for the rest"
+abbrev pub colorimetry : Mode → ℕ → ℕ
+colorimetry mode encoding = cond (eqb encoding 0) 0 (mode .colorimetry)
+
+-- "Y is the encoding; A is 1; B, S, ITC, EC, SC, Q, PR and bars are 0; C ..; M from the aspect; R is 8; VIC as asked"
+-- Byte 1 is 0 Y1 Y0 A B1 B0 S1 S0, byte 2 C1 C0 M1 M0 R3 to R0, byte 3 ITC EC Q SC, byte 4 the VIC, byte 5 PR, bytes 6 to 13 the bars.
+abbrev pub aviPayload : ℕ → ℕ → ℕ → ℕ → List ℕ
+aviPayload y c m vic = (y * 32 + 16) ∷ (c * 64 + m * 16 + 8) ∷ 0 ∷ vic ∷ 0 ∷ replicate 8 0
+
+-- "AVI header 0x82, 0x02, 0x0D"
+abbrev pub aviHeader : List ℕ
+aviHeader = 0x82 ∷ 0x02 ∷ 0x0D ∷ []
+
+unfoldable pub aviFrame : ℕ → ℕ → List ℕ
+aviFrame vic encoding = frame aviHeader (aviPayload encoding (colorimetry (modeOf vic) encoding) (modeOf vic .aspect) vic)
+
+-- the AVI frame on single fields: refusals 4 and 5
+unfoldable pub aviOf : ℕ → ℕ → Avi
+aviOf vic encoding =
+    cond (eqb (modeOf vic .families) 0) (record { refusal = 4; bytes = replicate 17 0 })
+    (cond (ltb 2 encoding) (record { refusal = 5; bytes = replicate 17 0 })
+    (record { refusal = 0; bytes = aviFrame vic encoding }))
+
+-- "CC is channels less one; CA is 0x00 for 2 and 0x13 for 8; the rest 0." Byte 1 is CT3 to CT0 0 CC2 to CC0, byte 4 is CA.
+abbrev pub audioPayload : ℕ → ℕ → List ℕ
+audioPayload cc ca = cc ∷ 0 ∷ 0 ∷ ca ∷ replicate 6 0
+
+abbrev pub allocation : ℕ → ℕ
+allocation channels = cond (eqb channels 8) 0x13 0x00
+
+-- "audio header 0x84, 0x01, 0x0A"
+abbrev pub audioHeader : List ℕ
+audioHeader = 0x84 ∷ 0x01 ∷ 0x0A ∷ []
+
+unfoldable pub audioFrame : ℕ → List ℕ
+audioFrame channels = frame audioHeader (audioPayload (channels - 1) (allocation channels))
+
+-- "Audio off: payload all 0."
+unfoldable pub silentFrame : List ℕ
+silentFrame = frame audioHeader (replicate 10 0)
+
+-- the audio frame on a single field: refusal 5
+unfoldable pub audioOf : ℕ → Audio
+audioOf channels =
+    cond (eqb channels 2 || eqb channels 8) (record { refusal = 0; bytes = audioFrame channels }) (record { refusal = 5; bytes = replicate 14 0 })
+
+-- The checksum does what document 01 says, whatever the header and the payload; and no other byte does.
+pub record Checksum : Type 0 where
+  pub zero : (header payload : List ℕ) → total (frame header payload) % 256 ≡ 0
+  pub byte : (bytes : List ℕ) → checksumOf bytes < 256
+  pub only : (bytes : List ℕ) (c : ℕ) → c < 256 → (c + total bytes) % 256 ≡ 0 → c ≡ checksumOf bytes
+  pub already : (bytes : List ℕ) → total bytes % 256 ≡ 0 → checksumOf bytes ≡ 0

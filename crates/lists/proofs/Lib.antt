@@ -1,0 +1,3 @@
+pub mod Both
+pub mod Among
+pub mod Find

@@ -1,0 +1,1 @@
+// Laws of lists. Nothing of the chip, and no code.

@@ -1,0 +1,49 @@
+-- Document 01, "Matrix": "Coefficients are 13-bit two's complement"; "The request": two bytes, high byte first, from -4096 to 4095.
+use mathlib.Core.Path.{_≡_}
+use mathlib.Core.Logic.{_↔_}
+use mathlib.Core.Bool.{Bool, true, cond, _||_}
+use Prim.Native.Nat.{ℕ, suc, _+_, _-_, _*_, _%_, _^_, _<_}
+use lib.Dec.{leb, ltb}
+use lib.IntN.{ℤ, pos, negsuc, subℕ}
+use lib.Signed.{_≤ℤ_}
+
+-- the number that k + 1 bits stand for in two's complement, and the k + 1 bits of a number
+abbrev pub signed : ℕ → ℕ → ℤ
+signed k bits = cond (ltb bits (2 ^ k)) (pos bits) (subℕ bits (2 ^ suc k))
+
+abbrev pub bitsOf : ℕ → ℤ → ℕ
+bitsOf k (pos n) = n % 2 ^ suc k
+bitsOf k (negsuc n) = 2 ^ suc k - suc (n % 2 ^ suc k)
+
+-- a field of 13 bits as a number, and a number as a field of 13 bits
+abbrev pub valueOf : ℕ → ℤ
+valueOf field = signed 12 field
+
+abbrev pub fieldOf : ℤ → ℕ
+fieldOf z = bitsOf 12 z
+
+-- two bytes of a request, high byte first, as 16 bits; within -4096 to 4095; and their field
+abbrev pub word : ℕ → ℕ → ℕ
+word high low = high * 256 + low
+
+abbrev pub within : ℕ → Bool
+within w = ltb w 4096 || leb 61440 w
+
+abbrev pub field : ℕ → ℕ
+field w = w % 8192
+
+-- the numbers of k + 1 bits
+pub record Spans (k : ℕ) (z : ℤ) : Type 0 where
+  pub low : negsuc (2 ^ k - 1) ≤ℤ z
+  pub high : z ≤ℤ pos (2 ^ k - 1)
+
+-- there and back, at every width
+pub record TwosComplement (k : ℕ) : Type 0 where
+  pub range : (bits : ℕ) → bits < 2 ^ suc k → Spans k (signed k bits)
+  pub back : (bits : ℕ) → bits < 2 ^ suc k → bitsOf k (signed k bits) ≡ bits
+  pub again : (z : ℤ) → Spans k z → signed k (bitsOf k z) ≡ z
+
+-- what two bytes of a request say: `within` is "from -4096 to 4095", and the field stands for the number that the bytes stand for
+pub record Sent (w : ℕ) : Type 0 where
+  pub range : (within w ≡ true) ↔ Spans 12 (signed 15 w)
+  pub same : within w ≡ true → valueOf (field w) ≡ signed 15 w

@@ -1,0 +1,3 @@
+pub mod Coefficient
+pub mod Matrix
+pub mod Preview

@@ -1,0 +1,59 @@
+-- Document 01, "The request" (Matrix) and "Matrix": CSC mode, then A1 to A4, B1 to B4, C1 to C4.
+use mathlib.Core.Path.{_≡_}
+use mathlib.Core.Logic.{_↔_}
+use mathlib.Core.Bool.{Bool, true, cond, _&&_}
+use mathlib.Core.List.{List, [], _∷_}
+use Prim.Native.Nat.{ℕ, _+_, _*_, _<_, _≤_}
+use lib.Dec.{eqb, leb}
+use lib.IntN.{ℤ}
+use lib.ListN.{getD, length, drop}
+use Rattle.matrix.specs.declared.Matrix.{Matrix}
+use Rattle.matrix.specs.Coefficient.{word, within, field, signed, valueOf, Spans}
+
+-- the fields of 13 bits, and whether each is in range
+unfoldable pub fields : List ℕ → List ℕ
+fields [] = []
+fields (high ∷ []) = []
+fields (high ∷ low ∷ more) = field (word high low) ∷ fields more
+
+unfoldable pub inRange : List ℕ → Bool
+inRange [] = true
+inRange (high ∷ []) = true
+inRange (high ∷ low ∷ more) = within (word high low) && inRange more
+
+-- a body of 25 bytes whose mode is at most 2 and whose coefficients are in range: what refusal 5 asks of a matrix
+unfoldable pub sound : List ℕ → Bool
+sound body = eqb (length body) 25 && leb (getD body 0 0) 2 && inRange (drop 1 body)
+
+-- "With a matrix: converter on."
+abbrev pub matrixOf : List ℕ → Matrix
+matrixOf body = record { on = 1; mode = getD body 0 0; coefficients = fields (drop 1 body) }
+
+-- "No matrix: converter off, mode 1, A1 = B2 = C3 = 2048, the rest 0."
+abbrev pub noMatrix : Matrix
+noMatrix = record { on = 0; mode = 1; coefficients = 2048 ∷ 0 ∷ 0 ∷ 0 ∷ 0 ∷ 2048 ∷ 0 ∷ 0 ∷ 0 ∷ 0 ∷ 2048 ∷ 0 ∷ [] }
+
+-- what is read of a body, sound or not
+abbrev pub readOf : List ℕ → Matrix
+readOf body = cond (sound body) (matrixOf body) noMatrix
+
+abbrev pub Bytes : List ℕ → Type 0
+Bytes body = (i : ℕ) → getD body i 0 < 256
+
+-- the two bytes of coefficient i, and the number that they stand for
+abbrev pub wordAt : List ℕ → ℕ → ℕ
+wordAt body i = word (getD body (2 * i + 1) 0) (getD body (2 * i + 2) 0)
+
+abbrev pub numberAt : List ℕ → ℕ → ℤ
+numberAt body i = signed 15 (wordAt body i)
+
+-- "Matrix, count .. 25: CSC mode, then A1 to A4, B1 to B4, C1 to C4, .. from -4096 to 4095"; "(matrix mode above 2)"
+pub record Allowed (body : List ℕ) : Type 0 where
+  pub sized : length body ≡ 25
+  pub mode : getD body 0 0 ≤ 2
+  pub each : (i : ℕ) → i < 12 → Spans 12 (numberAt body i)
+
+-- `sound` is that rule, and the fields of a sound body stand for the numbers that its bytes stand for
+pub record Numbers (body : List ℕ) : Type 0 where
+  pub rule : (sound body ≡ true) ↔ Allowed body
+  pub values : sound body ≡ true → (i : ℕ) → i < 12 → valueOf (getD (matrixOf body .coefficients) i 0) ≡ numberAt body i

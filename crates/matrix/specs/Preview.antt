@@ -1,0 +1,65 @@
+-- Document 01, "Matrix": the preview.
+use mathlib.Core.Path.{_≡_}
+use mathlib.Core.Bool.{Bool, cond, _||_, not}
+use mathlib.Core.Logic.{_⊎_}
+use mathlib.Core.List.{List, [], _∷_}
+use Prim.Native.Nat.{ℕ, _+_, _*_, _^_, _<_, _≤_, min}
+use lib.Dec.{ltb}
+use lib.ListN.{getD}
+use lib.IntN.{ℤ, pos, negsuc, _+ℤ_, _*ℤ_}
+use lib.Signed.{shrZ, _≤ℤ_, _<ℤ_}
+use Rattle.refusals.specs.Rows.{Row, fieldOutOfRange, inputAbove, number, Rule, rule}
+use Rattle.matrix.specs.declared.Matrix.{Matrix}
+use Rattle.matrix.specs.declared.Pixel.{Pixel}
+use Rattle.matrix.specs.Coefficient.{valueOf}
+use Rattle.matrix.specs.Matrix.{sound, matrixOf, Allowed}
+
+-- "Output A = (InA·A1/4096 + InB·A2/4096 + InC·A3/4096 + A4)·2^mode", with the one division at the end, where it "rounds down to a whole code"
+abbrev pub exact : ℕ → ℕ → ℕ → ℤ → ℤ → ℤ → ℤ → ℕ → ℤ
+exact a b c k1 k2 k3 k4 mode = shrZ ((pos a *ℤ k1 +ℤ pos b *ℤ k2 +ℤ pos c *ℤ k3 +ℤ k4 *ℤ pos 4096) *ℤ pos (2 ^ mode)) 4096
+
+-- "then holds it within 0 to 4095"
+abbrev pub held : ℤ → ℕ
+held (pos n) = min n 4095
+held (negsuc n) = 0
+
+-- three codes through four fields
+unfoldable pub codeOf : ℕ → ℕ → ℕ → ℕ → ℕ → ℕ → ℕ → ℕ → ℕ
+codeOf a b c k1 k2 k3 k4 mode = held (exact a b c (valueOf k1) (valueOf k2) (valueOf k3) (valueOf k4) mode)
+
+-- row 0, 1 or 2 of a matrix on three codes
+abbrev pub outputOf : Matrix → ℕ → ℕ → ℕ → ℕ → ℕ
+outputOf m row a b c =
+    let k : ℕ → ℕ = λ i. getD (m .coefficients) (4 * row + i) 0 in
+    codeOf a b c (k 0) (k 1) (k 2) (k 3) (m .mode)
+
+-- an input above 4095
+abbrev pub above : ℕ → ℕ → ℕ → Bool
+above a b c = ltb 4095 a || ltb 4095 b || ltb 4095 c
+
+-- a refusal has its number, and zeros beside it
+abbrev pub refused : Row → Pixel
+refused row = record { refusal = number row; a = 0; b = 0; c = 0 }
+
+-- refusal 5: a mode or coefficient out of range, or a matrix not of 25 bytes; refusal 12: an input above 4095
+unfoldable pub previewOf : List ℕ → ℕ → ℕ → ℕ → Pixel
+previewOf body a b c =
+    cond (not (sound body)) (refused fieldOutOfRange)
+    (cond (above a b c) (refused inputAbove)
+    (record { refusal = 0; a = outputOf (matrixOf body) 0 a b c; b = outputOf (matrixOf body) 1 a b c; c = outputOf (matrixOf body) 2 a b c }))
+
+-- "the preview 5 and 12": when each applies, on the raw input
+abbrev pub previewRules : List ℕ → ℕ → ℕ → ℕ → List Rule
+previewRules body a b c = rule fieldOutOfRange (Allowed body → ⊥) ∷ rule inputAbove ((4095 < a) ⊎ (4095 < b) ⊎ (4095 < c)) ∷ []
+
+-- q is z / 4096 rounded down: what `shrZ z 4096` is
+pub record RoundedDown (z q : ℤ) : Type 0 where
+  pub below : (q *ℤ pos 4096) ≤ℤ z
+  pub above : z <ℤ ((q +ℤ pos 1) *ℤ pos 4096)
+
+-- n is z, or the nearer end of 0 to 4095 where z lies outside: what `held z` is
+pub record Clamped (z : ℤ) (n : ℕ) : Type 0 where
+  pub high : n ≤ 4095
+  pub inside : pos 0 ≤ℤ z → z ≤ℤ pos 4095 → pos n ≡ z
+  pub under : z ≤ℤ pos 0 → n ≡ 0
+  pub over : pos 4095 ≤ℤ z → n ≡ 4095

@@ -1,0 +1,41 @@
+-- The marked cases: each computes, but for the reason of case 9, which is a law of the clock. Assumes nothing.
+use mathlib.Core.Path.{_≡_, refl}
+use Prim.Native.Nat.{ℕ, _*_, _∣_}
+use native.Mathlib.Omega.{arith}
+use lib.Dec.{lit<}
+use Rattle.clock.specs.Gcd.{steps, gcdOf}
+use Rattle.clock.specs.Modes.{modeOf, clockOf}
+use Rattle.clock.specs.Pairs.{reference, recommendedOf}
+use Rattle.clock.specs.Found.{nearestK, nearestIn, nearestOf, exactly, coherentOf, pairOf}
+use Rattle.clock.proofs.Ratio.{divides}
+use Rattle.frames.specs.Frames.{total, aviFrame, aviOf, audioFrame, audioOf, silentFrame}
+use Rattle.matrix.specs.Matrix.{fields, inRange, sound}
+use Rattle.matrix.specs.Preview.{codeOf, previewOf}
+use Rattle.request.specs.Sections.{walk, walked}
+use Rattle.request.specs.Request.{outside, combined}
+use Rattle.request.specs.Read.{judged, readOf}
+use Rattle.promises.specs.Cases.{MarkedCases}
+
+multiple : (n cts : ℕ) → reference 0 * cts * clockOf 4 1 .den ≡ clockOf 4 1 .num * n → 23296 ∣ n
+unfolding reference clockOf modeOf gcdOf steps
+multiple n cts e = divides 74250000000 4100096000 (lit< tt) n cts (omega arith)
+
+pub cases : MarkedCases
+unfolding steps gcdOf modeOf clockOf reference recommendedOf nearestK nearestIn nearestOf exactly coherentOf pairOf total aviFrame aviOf audioFrame audioOf silentFrame fields inRange sound codeOf previewOf walk walked outside combined judged readOf
+cases =
+    record {
+      case1 = refl;
+      case2 = refl;
+      case3 = refl;
+      case4 = (refl, refl);
+      case5 = refl;
+      case6 = refl;
+      case7 = refl;
+      case8 = refl;
+      case9 = refl;
+      case9For = multiple;
+      case10 = refl;
+      case11 = (refl, refl);
+      case12 = (refl, refl);
+      case13 = refl;
+    }

@@ -1,0 +1,58 @@
+-- Document 01, "Refusal numbers": the rows of the list, their numbers, their order, and what it is to give one.
+use mathlib.Core.Path.{_≡_}
+use mathlib.Core.Logic.{_↔_, _≢_}
+use mathlib.Core.List.{List, [], _∷_}
+use Prim.Native.Nat.{ℕ, _<_, _≤_}
+use lib.ListN.{length, getD}
+
+-- a row, named after its "When"
+pub data Row : Type 0 where
+  inputEnds countNotAllowed bytesAfter modeNotOffered fieldOutOfRange combination imageLength holdsUp noExactPair bufferShort noRequest inputAbove twoHolds : Row
+
+abbrev pub number : Row → ℕ
+number inputEnds = 1
+number countNotAllowed = 2
+number bytesAfter = 3
+number modeNotOffered = 4
+number fieldOutOfRange = 5
+number combination = 6
+number imageLength = 7
+number holdsUp = 8
+number noExactPair = 9
+number bufferShort = 10
+number noRequest = 11
+number inputAbove = 12
+number twoHolds = 13
+
+-- "Checked in this order". Each call checks some of the rows, in this order.
+abbrev pub order : List Row
+order =
+    inputEnds ∷ countNotAllowed ∷ bytesAfter ∷ modeNotOffered ∷ fieldOutOfRange ∷ combination ∷ imageLength ∷ holdsUp ∷ noExactPair ∷ bufferShort ∷
+    noRequest ∷ inputAbove ∷ twoHolds ∷ []
+
+-- a row that a call checks, and when it applies to the call's input
+pub record Rule : Type 1 where
+  pub row : Row
+  pub When : Type 0
+
+abbrev pub rule : Row → Type 0 → Rule
+rule row When = record { row = row; When = When }
+
+-- the rule at a place of a call's list; past its end there is none that applies
+abbrev pub at : List Rule → ℕ → Rule
+at rules i = getD rules i (rule inputEnds ⊥)
+
+-- the first of a call's rules that applies, and its number
+pub record First (rules : List Rule) (given : ℕ) : Type 0 where
+  pub place : ℕ
+  pub within : place < length rules
+  pub numbered : given ≡ number (at rules place .row)
+  pub applies : at rules place .When
+  pub earlier : (i : ℕ) → i < place → at rules i .When → ⊥
+
+-- "the lowest that applies is given, and none is given otherwise": what a call gives, 0 for none
+pub record Given (rules : List Rule) (given : ℕ) : Type 0 where
+  -- the one given applies, and none earlier in the order does
+  pub some : given ≢ 0 → First rules given
+  -- none is given exactly when none applies
+  pub none : (given ≡ 0) ↔ ((i : ℕ) → i < length rules → at rules i .When → ⊥)

@@ -1,0 +1,22 @@
+-- The other named registers are those that the class table names and no other step writes, by one test over all 256 addresses.
+-- Assumes nothing.
+use mathlib.Core.Path.{_≡_, refl, sym}
+use mathlib.Core.Bool.{Bool, true, false, not, _&&_, Bool·beq}
+use Prim.Native.Nat.{ℕ, _<_}
+use Rattle.lists.specs.Among.{among}
+use Rattle.bits.proofs.Below.{at-below}
+use Rattle.registers.specs.Classes.{classAt}
+use Rattle.registers.specs.Steps.{others, hasNamed, elsewhere}
+
+beq-true : (a b : Bool) → Bool·beq a b ≡ true → a ≡ b
+beq-true true true e = refl
+beq-true true false e = sym e
+beq-true false true e = e
+beq-true false false e = refl
+
+abbrev test : ℕ → Bool
+test a = Bool·beq (among a others) (hasNamed a && not (elsewhere a))
+
+pub listed : (a : ℕ) → a < 256 → among a others ≡ (hasNamed a && not (elsewhere a))
+unfolding classAt
+listed a h = beq-true (among a others) (hasNamed a && not (elsewhere a)) (at-below test 256 a refl h)

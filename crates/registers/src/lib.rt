@@ -1,0 +1,76 @@
+// The class of each bit of the main map: document 01, "Register classes".
+ghost use mathlib.Core.Path.{_≡_};
+ghost use mathlib.Core.Bool.{_&&_, not};
+ghost use Prim.Native.Nat.{ℕ, _<_};
+ghost use Rattle.lists.specs.Among.{among};
+ghost use Rattle.registers.specs.Classes.{classAt, readOnly, mandated, named, free, bits, Rule};
+ghost use Rattle.registers.specs.Steps.{others, hasNamed, elsewhere};
+ghost use Rattle.registers.specs.Fields.{Fields};
+
+mod table;
+
+// Five numbers for each address: the masks of its read-only, mandated, named and free bits, and the mandated bits.
+pub struct Class {
+    pub read_only: u8,
+    pub mandated: u8,
+    pub named: u8,
+    pub free: u8,
+    pub bits: u8,
+}
+
+pub fn read_only(a: u8) -> u8
+    ensures { λ r. ⌜ r ≡ readOnly a ⌝ }
+{
+    table::READ_ONLY[a as usize]
+}
+
+pub fn mandated(a: u8) -> u8
+    ensures { λ r. ⌜ r ≡ mandated a ⌝ }
+{
+    table::MANDATED[a as usize]
+}
+
+pub fn named(a: u8) -> u8
+    ensures { λ r. ⌜ r ≡ named a ⌝ }
+{
+    table::NAMED[a as usize]
+}
+
+pub fn free(a: u8) -> u8
+    ensures { λ r. ⌜ r ≡ free a ⌝ }
+{
+    table::FREE[a as usize]
+}
+
+pub fn bits(a: u8) -> u8
+    ensures { λ r. ⌜ r ≡ bits a ⌝ }
+{
+    table::BITS[a as usize]
+}
+
+pub fn class_at(a: u8) -> Class
+    ensures { λ r. ⌜ r ≡ classAt a ⌝ }
+{
+    Class {
+        read_only: read_only(a),
+        mandated: mandated(a),
+        named: named(a),
+        free: free(a),
+        bits: bits(a),
+    }
+}
+
+// "This rule is proved once over the whole table."
+pub fn rule()
+    ensures { λ _. ⌜ ((a : ℕ) → a < 256 → Rule (classAt a)) ⌝ }
+{}
+
+// "then the fields listed below are named": the named bits of these registers are the fields of the map.
+pub fn fields()
+    ensures { λ _. ⌜ Fields ⌝ }
+{}
+
+// "the other named registers, those in no other step": the list has each register with a named bit that no other step writes.
+pub fn others()
+    ensures { λ _. ⌜ ((a : ℕ) → a < 256 → among a others ≡ (hasNamed a && not (elsewhere a))) ⌝ }
+{}

@@ -1,0 +1,4 @@
+pub mod Walks
+pub mod Judged
+pub mod Ordered
+pub mod Coherent

@@ -1,0 +1,91 @@
+-- The rows of a request, tested in order. Assumes nothing.
+use mathlib.Core.Path.{_≡_, refl, sym, ap, _∙_}
+use mathlib.Core.Logic.{_≢_, inl, inr}
+use mathlib.Core.Bool.{Bool, true, false, false≢true, cond, not}
+use mathlib.Core.List.{List, [], _∷_}
+use Prim.Native.Nat.{ℕ}
+use native.Mathlib.Omega.{arith}
+use lib.ListN.{drop, getD}
+use borrow.Author.Tests.{not-true, not-false}
+use Rattle.refusals.specs.Rows.{Rule, at}
+use Rattle.refusals.proofs.First.{Tried, test}
+use Rattle.clock.specs.Modes.{offered}
+use Rattle.request.specs.declared.Checked.{Checked}
+use Rattle.request.specs.Sections.{Walk, ends, notAllowed, whole, bodyOf}
+use Rattle.request.specs.Request.{present, vic, family, outside, combined, requestIn, readRules}
+use Rattle.request.specs.Read.{refusedRequest, judged, checked, readOf}
+
+-- a test that came out one way did not come out the other
+other : (b : Bool) → b ≡ false → b ≡ true → ⊥
+other b f t = false≢true (sym f ∙ t)
+
+-- the three kinds of walk are different
+abbrev kind : Walk → ℕ
+kind ends = 0
+kind notAllowed = 1
+kind (whole bodies rest) = 2
+
+-- the number of an answer
+abbrev numberOf : Checked → ℕ
+numberOf c = c .refusal
+
+judged-rules : (w : Walk) → Tried (drop 3 (readRules w)) (judged (bodyOf 0 w) (bodyOf 1 w) (bodyOf 2 w) .refusal)
+unfolding judged
+judged-rules w =
+    let rs : List Rule = readRules w in
+    test numberOf (at rs 3) (drop 4 rs) (not (offered (vic (bodyOf 0 w)) (family (bodyOf 0 w)))) _ _ refl (not-true _) (λ n f. other _ f (not-false _ n))
+    (λ n. test numberOf (at rs 4) (drop 5 rs) (outside (bodyOf 0 w) (bodyOf 1 w) (bodyOf 2 w)) _ _ refl (λ t. t) (other _)
+    (λ m. test numberOf (at rs 5) [] (combined (bodyOf 0 w) (bodyOf 1 w) (bodyOf 2 w)) _ _ refl (λ t. t) (other _) (λ o. refl)))
+
+-- a walk that found the bodies did not end early, and met no count that is not allowed
+not-ends : (w : Walk) → kind w ≢ 0 → w ≡ ends → ⊥
+not-ends w h e = h (ap kind e)
+
+not-refused : (w : Walk) → kind w ≢ 1 → w ≡ notAllowed → ⊥
+not-refused w h e = h (ap kind e)
+
+pub tried-read : (w : Walk) → Tried (readRules w) (checked w .refusal)
+tried-read ends = inl (refl, refl)
+tried-read notAllowed = inr (not-ends notAllowed (omega arith), inl (refl, refl))
+tried-read (whole bodies rest) =
+    let w : Walk = whole bodies rest in
+    inr (
+      not-ends w (omega arith),
+      inr (
+        not-refused w (omega arith),
+        test numberOf (at (readRules w) 2) (drop 3 (readRules w)) (present rest) _ _ refl (λ t. t) (other _) (λ f. judged-rules w),
+      ),
+    )
+
+module _ (v a m : List ℕ) where
+  pub record Judged (c : Checked) : Type 0 where
+    pub request : c .request ≡ requestIn v a m
+    pub mode : offered (vic v) (family v) ≡ true
+    pub inside : outside v a m ≡ false
+    pub apart : combined v a m ≡ false
+
+  judgement : Bool → Bool → Bool → Checked
+  judgement o x y =
+      cond (not o) (refusedRequest 4) (cond x (refusedRequest 5) (cond y (refusedRequest 6) (record { refusal = 0; request = requestIn v a m })))
+
+  by-tests : (o x y : Bool) → offered (vic v) (family v) ≡ o → outside v a m ≡ x → combined v a m ≡ y → judgement o x y .refusal ≡ 0 → Judged (judgement o x y)
+  unfolding judgement
+  by-tests false x y e f g z = absurd (omega arith)
+  by-tests true true y e f g z = absurd (omega arith)
+  by-tests true false true e f g z = absurd (omega arith)
+  by-tests true false false e f g z = record { request = refl; mode = e; inside = f; apart = g }
+
+  pub accepted : judged v a m .refusal ≡ 0 → Judged (judged v a m)
+  unfolding judged judgement
+  accepted = by-tests (offered (vic v) (family v)) (outside v a m) (combined v a m) refl refl refl
+
+-- a walk that no row refuses: its request is what its bodies say, in a mode that is offered, with each field in range
+pub passed : (w : Walk) → checked w .refusal ≡ 0 → Judged (bodyOf 0 w) (bodyOf 1 w) (bodyOf 2 w) (checked w)
+passed ends z = absurd (omega arith)
+passed notAllowed z = absurd (omega arith)
+passed (whole bodies rest) z = go (present rest) z
+  where
+    go : (b : Bool) → cond b (refusedRequest 3) (judged (getD bodies 0 []) (getD bodies 1 []) (getD bodies 2 [])) .refusal ≡ 0
+        → Judged (getD bodies 0 []) (getD bodies 1 []) (getD bodies 2 []) (cond b (refusedRequest 3) (judged (getD bodies 0 []) (getD bodies 1 []) (getD bodies 2 [])))
+    go true z = absurd (omega arith)
+    go false z = accepted (getD bodies 0 []) (getD bodies 1 []) (getD bodies 2 []) z

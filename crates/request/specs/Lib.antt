@@ -1,0 +1,4 @@
+pub mod Sections
+pub mod Part
+pub mod Request
+pub mod Read

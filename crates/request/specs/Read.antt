@@ -1,0 +1,82 @@
+-- What the calls on a request answer, as the code finds it.
+use mathlib.Core.Bool.{Bool, cond, not}
+use mathlib.Core.List.{List, []}
+use Prim.Native.Nat.{ℕ}
+use lib.Dec.{eqb}
+use lib.ListN.{getD, length}
+use Rattle.clock.specs.declared.Pair.{Pair}
+use Rattle.clock.specs.Modes.{offered}
+use Rattle.clock.specs.Pairs.{off}
+use Rattle.clock.specs.Found.{pairOf, refused}
+use Rattle.matrix.specs.Matrix.{noMatrix}
+use Rattle.request.specs.declared.Sound.{Sound}
+use Rattle.request.specs.declared.Sound.the-variants.{Off, On}
+use Rattle.request.specs.declared.Request.{Request}
+use Rattle.request.specs.declared.Checked.{Checked}
+use Rattle.request.specs.Sections.{Walk, ends, notAllowed, whole, walked}
+use Rattle.request.specs.Request.{present, vic, family, outside, combined, requestIn, readRules, nctsRules}
+use Rattle.request.specs.declared.Line.{Line}
+use Rattle.refusals.specs.Rows.{Given}
+use Rattle.frames.specs.Frames.{aviOf, audioOf, silentFrame}
+
+-- a refusal stands beside a request of zeros
+abbrev pub refusedRequest : ℕ → Checked
+refusedRequest number = record { refusal = number; request = record { vic = 0; family = 0; encoding = 0; link = 0; sound = Off; matrix = noMatrix } }
+
+-- rows 4 to 6, in order
+unfoldable pub judged : List ℕ → List ℕ → List ℕ → Checked
+judged video audio matrix =
+    cond (not (offered (vic video) (family video))) (refusedRequest 4)
+    (cond (outside video audio matrix) (refusedRequest 5)
+    (cond (combined video audio matrix) (refusedRequest 6)
+    (record { refusal = 0; request = requestIn video audio matrix })))
+
+-- rows 1 to 3, and then the others
+abbrev pub checked : Walk → Checked
+checked ends = refusedRequest 1
+checked notAllowed = refusedRequest 2
+checked (whole bodies rest) =
+    cond (present rest) (refusedRequest 3) (judged (getD bodies 0 []) (getD bodies 1 []) (getD bodies 2 []))
+
+-- a request read from an input: refusals 1 to 6
+unfoldable pub readOf : List ℕ → Checked
+readOf input = checked (walked input)
+
+-- N and CTS for a request: refusal 9
+abbrev pub pairIn : Request → Sound → Pair
+pairIn r Off = off
+pairIn r (On rate channels coherent) = pairOf (r .vic) (r .family) rate coherent
+
+unfoldable pub pairFor : Request → Pair
+pairFor r = pairIn r (r .sound)
+
+-- N and CTS over a request slice: refusals 1 to 6 and 9
+unfoldable pub nctsOf : List ℕ → Pair
+nctsOf input = cond (eqb (readOf input .refusal) 0) (pairFor (readOf input .request)) (refused (readOf input .refusal))
+
+-- the checksums that the small program prints: byte 3 of each frame
+abbrev pub audioChecksum : Sound → ℕ
+audioChecksum Off = getD silentFrame 3 0
+audioChecksum (On rate channels coherent) = getD (audioOf channels .bytes) 3 0
+
+-- "accepted vic .. n .. cts .. avi .. audio ..", or "refused" with its number: refusals 1 to 6 and 9
+abbrev pub accepted : Request → Pair → Line
+accepted r p =
+    record {
+      refusal = 0;
+      vic = r .vic;
+      n = p .n;
+      cts = p .cts;
+      avi = getD (aviOf (r .vic) (r .encoding) .bytes) 3 0;
+      audio = audioChecksum (r .sound);
+    }
+
+unfoldable pub lineOf : List ℕ → Line
+lineOf input =
+    cond (eqb (nctsOf input .refusal) 0) (accepted (readOf input .request) (nctsOf input))
+    (record { refusal = nctsOf input .refusal; vic = 0; n = 0; cts = 0; avi = 0; audio = 0 })
+
+-- of the rows that a call checks, the lowest that applies is given, and none is given otherwise
+pub record Rows (input : List ℕ) : Type 0 where
+  pub read : Given (readRules (walked input)) (readOf input .refusal)
+  pub ncts : Given (nctsRules (walked input)) (nctsOf input .refusal)

@@ -1,0 +1,268 @@
+// The request: document 01, "The request" and "Refusal numbers".
+ghost use mathlib.Core.Path.{_≡_};
+ghost use mathlib.Core.Bool.{not, _&&_};
+ghost use Prim.Native.Nat.{ℕ, _%_, _≤_};
+ghost use lib.ListN.{length};
+ghost use Rattle.matrix.specs.Matrix.{sound};
+ghost use Rattle.request.specs.Request.{present, audioOutside, outside, combined, soundOf};
+ghost use Rattle.request.specs.Read.{judged, readOf, pairFor, nctsOf, audioChecksum, lineOf, refusedRequest, Rows};
+ghost use mathlib.Core.List.{List};
+use clock::Pair;
+use matrix::Matrix;
+use refusals::Refusal;
+use sections::section;
+
+pub mod sections;
+
+// What the audio section asks for.
+pub enum Sound {
+    Off,
+    On {
+        rate: u8,
+        channels: u8,
+        coherent: u8,
+    },
+}
+
+// What the three sections ask for.
+pub struct Request {
+    pub vic: u8,
+    pub family: u8,
+    pub encoding: u8,
+    pub link: u8,
+    pub sound: Sound,
+    pub matrix: Matrix,
+}
+
+// What the small program prints: "accepted" with the five numbers, or "refused" with the first.
+pub struct Line {
+    pub refusal: u8,
+    pub vic: u8,
+    pub n: u32,
+    pub cts: u32,
+    pub avi: u8,
+    pub audio: u8,
+}
+
+// A request, or the number of a refusal with zeros beside it.
+pub struct Checked {
+    pub refusal: u8,
+    pub request: Request,
+}
+
+// A refusal, with zeros beside it.
+fn refused(number: u8) -> Checked
+    ensures { λ r. ⌜ r ≡ refusedRequest number ⌝ }
+{
+    let matrix = matrix::none();
+    Checked {
+        refusal: number,
+        request: Request {
+            vic: 0,
+            family: 0,
+            encoding: 0,
+            link: 0,
+            sound: Sound::Off,
+            matrix: matrix,
+        },
+    }
+}
+
+// What an audio section's body, of three bytes or none, asks for.
+fn sound_of(audio: &[u8]) -> Sound
+    requires { ⌜ length (now audio) % 3 ≡ 0 ⌝ }
+    ensures { λ r. ⌜ r ≡ soundOf (now (audio .entry)) ⌝ }
+{
+    if audio.len() == 0 {
+        return Sound::Off;
+    }
+    Sound::On {
+        rate: audio[0],
+        channels: audio[1],
+        coherent: audio[2],
+    }
+}
+
+// Whether an audio section is there and has a field outside its range.
+fn audio_outside(audio: &[u8]) -> bool
+    requires { ⌜ length (now audio) % 3 ≡ 0 ⌝ }
+    ensures { λ r. ⌜ r ≡ (present (now (audio .entry)) && audioOutside (now (audio .entry))) ⌝ }
+{
+    if audio.len() == 0 {
+        return false;
+    }
+    (6 < audio[0]) | !((audio[1] == 2) | (audio[1] == 8)) | (1 < audio[2])
+}
+
+// Whether a matrix section is there and has a field outside its range.
+fn matrix_outside(body: &[u8]) -> bool
+    ensures { λ r. ⌜ r ≡ (present (now (body .entry)) && not (sound (now (body .entry)))) ⌝ }
+{
+    if body.len() == 0 {
+        return false;
+    }
+    !matrix::fits(body)
+}
+
+// Row 5.
+fn is_outside(video: &[u8], audio: &[u8], body: &[u8]) -> bool
+    requires { ⌜ (4 ≤ length (now video)) × (length (now audio) % 3 ≡ 0) ⌝ }
+    ensures { λ r. ⌜ r ≡ outside (now (video .entry)) (now (audio .entry)) (now (body .entry)) ⌝ }
+{
+    (2 < video[2]) | (1 < video[3]) | audio_outside(audio) | matrix_outside(body)
+}
+
+// Row 6.
+fn is_combined(video: &[u8], audio: &[u8], body: &[u8]) -> bool
+    requires { ⌜ 4 ≤ length (now video) ⌝ }
+    ensures { λ r. ⌜ r ≡ combined (now (video .entry)) (now (audio .entry)) (now (body .entry)) ⌝ }
+{
+    ((video[2] != 0) & (body.len() == 0))
+        | ((video[3] == 0) & ((audio.len() != 0) | (video[2] != 0)))
+}
+
+// The three bodies: rows 4 to 6.
+fn judge(video: &[u8], audio: &[u8], body: &[u8]) -> Checked
+    requires { ⌜ (4 ≤ length (now video)) × (length (now audio) % 3 ≡ 0) ⌝ }
+    ensures { λ r. ⌜ r ≡ judged (now (video .entry)) (now (audio .entry)) (now (body .entry)) ⌝ }
+{
+    let clock = clock::clock_of(video[0], video[1]);
+    if clock.refusal != Refusal::NONE {
+        return refused(Refusal::MODE_NOT_OFFERED);
+    }
+    if is_outside(video, audio, body) {
+        return refused(Refusal::FIELD_OUT_OF_RANGE);
+    }
+    if is_combined(video, audio, body) {
+        return refused(Refusal::COMBINATION);
+    }
+    let sound = sound_of(audio);
+    let matrix = matrix::read(body);
+    Checked {
+        refusal: Refusal::NONE,
+        request: Request {
+            vic: video[0],
+            family: video[1],
+            encoding: video[2],
+            link: video[3],
+            sound: sound,
+            matrix: matrix,
+        },
+    }
+}
+
+// A request read from an input: rows 1 to 6.
+pub fn read(s: &[u8]) -> Checked
+    ensures { λ r. ⌜ r ≡ readOf (now (s .entry)) ⌝ }
+{
+    let video = section(s, 0, 0);
+    if video.refusal != Refusal::NONE {
+        return refused(video.refusal);
+    }
+    let audio = section(s, video.end, 1);
+    if audio.refusal != Refusal::NONE {
+        return refused(audio.refusal);
+    }
+    let matrix = section(s, audio.end, 2);
+    if matrix.refusal != Refusal::NONE {
+        return refused(matrix.refusal);
+    }
+    let end = matrix.end;
+    if end != s.len() {
+        return refused(Refusal::BYTES_AFTER);
+    }
+    let a = video.start;
+    let b = video.end;
+    let c = audio.start;
+    let d = audio.end;
+    let e = matrix.start;
+    judge(&s[a..b], &s[c..d], &s[e..end])
+}
+
+// N and CTS for a request: row 9.
+pub fn pair_for(r: Request) -> Pair
+    ensures { λ p. ⌜ p ≡ pairFor r ⌝ }
+{
+    let sound = r.sound;
+    match sound {
+        Sound::Off => clock::silence(),
+        Sound::On {
+            rate,
+            channels: _,
+            coherent,
+        } => clock::pair_of(r.vic, r.family, rate, coherent),
+    }
+}
+
+// N and CTS over a request slice: rows 1 to 6 and 9.
+pub fn ncts(s: &[u8]) -> Pair
+    ensures { λ r. ⌜ r ≡ nctsOf (now (s .entry)) ⌝ }
+{
+    let checked = read(s);
+    if checked.refusal != Refusal::NONE {
+        return Pair {
+            refusal: checked.refusal,
+            n: 0,
+            cts: 0,
+        };
+    }
+    let request = checked.request;
+    pair_for(request)
+}
+
+// The checksum of the audio InfoFrame that a sound asks for.
+fn audio_checksum(sound: Sound) -> u8
+    ensures { λ r. ⌜ r ≡ audioChecksum sound ⌝ }
+{
+    match sound {
+        Sound::Off => {
+            let bytes = frames::silence();
+            bytes[3]
+        }
+        Sound::On {
+            rate: _,
+            channels,
+            coherent: _,
+        } => {
+            let frame = frames::audio_of(channels);
+            let bytes = frame.bytes;
+            bytes[3]
+        }
+    }
+}
+
+// What the small program prints of a request.
+pub fn line_of(s: &[u8]) -> Line
+    ensures { λ r. ⌜ r ≡ lineOf (now (s .entry)) ⌝ }
+{
+    let checked = read(s);
+    let pair = ncts(s);
+    if pair.refusal != Refusal::NONE {
+        return Line {
+            refusal: pair.refusal,
+            vic: 0,
+            n: 0,
+            cts: 0,
+            avi: 0,
+            audio: 0,
+        };
+    }
+    let request = checked.request;
+    let frame = frames::avi_of(request.vic, request.encoding);
+    let bytes = frame.bytes;
+    let sound = request.sound;
+    let audio = audio_checksum(sound);
+    Line {
+        refusal: Refusal::NONE,
+        vic: request.vic,
+        n: pair.n,
+        cts: pair.cts,
+        avi: bytes[3],
+        audio: audio,
+    }
+}
+
+// The rows of a request, in document 01's order.
+pub fn rows()
+    ensures { λ _. ⌜ ((input : List ℕ) → Rows input) ⌝ }
+{}
