@@ -1,21 +1,59 @@
 -- What one write does and leaves alone. Assumes nothing.
 use mathlib.Core.Path.{_≡_, refl, sym, ap, _∙_}
-use mathlib.Core.Logic.{_≢_}
-use mathlib.Core.Bool.{Bool, true, false, cond}
+use mathlib.Core.Logic.{_≢_, _⊎_}
+use mathlib.Core.Bool.{Bool, true, false, false≢true, cond, not, _&&_, _||_}
+use mathlib.Core.List.{List, [], _∷_, _++_}
 use Prim.Native.Nat.{ℕ, _<_, _≤_}
 use native.Mathlib.Omega.{arith}
-use lib.Dec.{eqb, ltb}
-use lib.ListN.{length, getD, set, List·getD-eq-default, length-set}
+use lib.Dec.{eqb, ltb, lit<}
+use lib.ListN.{length, getD, set, drop, length-set}
 use lib.Seq.{getD-set-same, getD-set-other, set-out}
-use borrow.Author.Tests.{eq-eqb, ne-eqb, ltb-true, ltb-false}
+use borrow.Author.Tests.{eq-eqb, ne-eqb, eqb-true, eqb-false, ltb-true, ltb-false, not-true}
+use Rattle.lists.specs.Find.{every}
+use Rattle.lists.proofs.Both.{both-left, both-right, neither-left, neither-right}
+use Rattle.lists.proofs.Decides.{Decides, itself, either, together}
+use Rattle.refusals.specs.Rows.{at}
+use Rattle.refusals.proofs.First.{test, tried}
 use Rattle.bits.specs.Merge.{bit}
 use Rattle.bits.proofs.Laws.{merge-bit}
 use Rattle.registers.specs.Classes.{readOnly}
-use Rattle.map.specs.Map.{infoframeUpdate, coefficientUpdate}
 use Rattle.chip.specs.declared.Chip.{Chip}
 use Rattle.chip.specs.declared.Wrote.{Wrote}
-use Rattle.chip.specs.Machine.{put, stored, refuses, writeOf}
-use Rattle.chip.specs.Step.{Step}
+use Rattle.chip.specs.Machine.{Group, Bank, avi, audio, gc, matrix, packets, converter, up, part, holdsOf, refill, refresh, put, stored, imageAfter, two, refuses, writeOf}
+use Rattle.chip.specs.Step.{TwoUp, writeRules, Copies, Keeps, Step}
+
+-- a test for two packet holds decides that two are up
+two-up : (image : List ℕ) → Decides (two (holdsOf packets image)) (TwoUp image)
+two-up image =
+    let n : ℕ = holdsOf packets image in
+    either (together (itself (up avi n)) (itself (up audio n)))
+    (either (together (itself (up avi n)) (itself (up gc n))) (together (itself (up audio n)) (itself (up gc n))))
+
+-- where no hold rises the buffer stays
+refill-none : (gs : List Group) (n n′ : ℕ) (image buffer : List ℕ) → every (λ g. not (up g n′ && not (up g n))) gs ≡ true
+    → refill gs n n′ image buffer ≡ buffer
+refill-none [] n n′ image buffer t = refl
+refill-none (g ∷ gs) n n′ image buffer t =
+    let r : Bool = up g n′ && not (up g n) in
+    let more : Bool = every (λ g. not (up g n′ && not (up g n))) gs in
+    rw (not-true r (both-left (not r) more t)) (refill-none gs n n′ image buffer (both-right (not r) more t))
+
+quiet : (b : Bool) → not (b && not b) ≡ true
+quiet true = refl
+quiet false = refl
+
+refill-same : (gs : List Group) (n : ℕ) (image buffer : List ℕ) → refill gs n n image buffer ≡ buffer
+refill-same [] n image buffer = refl
+refill-same (g ∷ gs) n image buffer = rw (not-true (up g n && not (up g n)) (quiet (up g n))) (refill-same gs n image buffer)
+
+-- of three holds of which no two are up, the one that is up is alone
+alone : (a b c : Bool) → ((a && b) || ((a && c) || (b && c))) ≡ false → ((b ≡ true → a ≡ false) × (c ≡ true → (a ≡ false) × (b ≡ false)))
+alone true true c t = absurd (false≢true (sym t))
+alone true false true t = absurd (false≢true (sym t))
+alone true false false t = ((λ e. absurd (false≢true e)), (λ e. absurd (false≢true e)))
+alone false true true t = absurd (false≢true (sym t))
+alone false true false t = ((λ e. refl), (λ e. absurd (false≢true e)))
+alone false false c t = ((λ e. refl), (λ e. (refl, refl)))
 
 module _ (s : Chip) (address value : ℕ) where
   -- a refused write, and one that is taken
@@ -50,29 +88,93 @@ module _ (s : Chip) (address value : ℕ) where
   other-byte a h true = refl
   other-byte a h false = getD-set-other (s .image) address a _ 0 h
 
-  packet-stays : address ≢ infoframeUpdate → (b : Bool) → answer b .chip .packet ≡ s .packet
-  unfolding put
-  packet-stays h true = refl
-  packet-stays h false = rw (ne-eqb address infoframeUpdate h)
-
-  coefficients-stay : address ≢ coefficientUpdate → (b : Bool) → answer b .chip .coefficients ≡ s .coefficients
-  unfolding put
-  coefficients-stay h true = refl
-  coefficients-stay h false = rw (ne-eqb address coefficientUpdate h)
-
   taken-bit : address < length (s .image) → (j : ℕ) → j < 8 → bit j (readOnly address) ≡ 0
       → bit j (getD (answer false .chip .image) address 0) ≡ bit j value
   unfolding put
   taken-bit l j h r = ap (bit j) (getD-set-same (s .image) address _ 0 l) ∙ new-bit j h r
 
-  pub stepped : Step s address value
-  stepped =
-      record {
-        refused = λ e. (ap (λ (w : Wrote). w .chip) (written-as true e), ap (λ (w : Wrote). w .refusal) (written-as true e));
-        taken = λ e. ap (λ (w : Wrote). w .refusal) (written-as false e);
-        kept = λ j h r. rw (written-as (refuses s address value) refl) (kept-bit j h r (refuses s address value));
-        written = λ e l j h r. rw (written-as false e) (taken-bit l j h r);
-        elsewhere = λ a h. rw (written-as (refuses s address value) refl) (other-byte a h (refuses s address value));
-        packet = λ h. rw (written-as (refuses s address value) refl) (packet-stays h (refuses s address value));
-        coefficients = λ h. rw (written-as (refuses s address value) refl) (coefficients-stay h (refuses s address value));
-      }
+  image-sized : (b : Bool) → length (answer b .chip .image) ≡ length (s .image)
+  unfolding put
+  image-sized true = refl
+  image-sized false = length-set (s .image) address _
+
+  -- the number of a refusal, and the state that goes with it
+  decided : Decides (refuses s address value) (TwoUp (s .image) ⊎ TwoUp (imageAfter s address value))
+  unfolding refuses
+  decided = either (two-up (s .image)) (two-up (imageAfter s address value))
+
+  unchanged : (b : Bool) → answer b .refusal ≢ 0 → answer b .chip ≡ s
+  unchanged true h = refl
+  unchanged false h = absurd (h refl)
+
+  -- a bank's holds after a write, and its buffer after one that is taken
+  module _ (bank : Bank) (inside : bank .register < length (s .image)) where
+    abbrev before : ℕ
+    before = holdsOf bank (s .image)
+
+    abbrev after : ℕ
+    after = holdsOf bank (imageAfter s address value)
+
+    abbrev refilled : List ℕ
+    refilled = refill (bank .groups) before after (s .image) (bank .buffer s)
+
+    same-holds : getD (imageAfter s address value) (bank .register) 0 ≡ getD (s .image) (bank .register) 0 → bank .buffer s ≡ refilled
+    same-holds e = sym (ap (λ (b : ℕ). refill (bank .groups) before (bank .holds b) (s .image) (bank .buffer s)) e ∙ refill-same (bank .groups) before (s .image) (bank .buffer s))
+
+    refreshed : refresh bank address (stored address value (s .image)) s ≡ refilled
+    refreshed = go (eqb address (bank .register)) refl
+      where
+        go : (b : Bool) → eqb address (bank .register) ≡ b
+            → cond b (refill (bank .groups) before (bank .holds (stored address value (s .image))) (s .image) (bank .buffer s)) (bank .buffer s) ≡ refilled
+        go true e =
+            ap (λ (b : ℕ). refill (bank .groups) before (bank .holds b) (s .image) (bank .buffer s))
+            (sym (rw (eqb-true address (bank .register) e) (getD-set-same (s .image) (bank .register) (stored (bank .register) value (s .image)) 0 inside)))
+        go false e = same-holds (getD-set-other (s .image) address (bank .register) _ 0 (λ q. eqb-false address (bank .register) e (sym q)))
+
+  -- each bank's buffer, whatever the write
+  module _ (whole : length (s .image) ≡ 256) where
+    packet-after : refuses s address value ≡ false → writeOf s address value .chip .packet ≡ refilled packets (rw whole (lit< tt))
+    unfolding put
+    packet-after e = ap (λ (w : Wrote). w .chip .packet) (written-as false e) ∙ refreshed packets (rw whole (lit< tt))
+
+    coefficients-after : refuses s address value ≡ false → writeOf s address value .chip .coefficients ≡ refilled converter (rw whole (lit< tt))
+    unfolding put
+    coefficients-after e = ap (λ (w : Wrote). w .chip .coefficients) (written-as false e) ∙ refreshed converter (rw whole (lit< tt))
+
+    -- no two packet holds are up after a write that is taken
+    lone : refuses s address value ≡ false → two (holdsOf packets (imageAfter s address value)) ≡ false
+    unfolding refuses
+    lone e = neither-right (two (holdsOf packets (s .image))) _ e
+
+    packet-stays : Keeps packets s address value
+    packet-stays t = go (refuses s address value) refl
+      where
+        go : (b : Bool) → refuses s address value ≡ b → writeOf s address value .chip .packet ≡ s .packet
+        go true e = ap (λ (w : Wrote). w .chip .packet) (written-as true e)
+        go false e = packet-after e ∙ refill-none (packets .groups) (holdsOf packets (s .image)) (holdsOf packets (imageAfter s address value)) (s .image) (s .packet) t
+
+    coefficients-stay : Keeps converter s address value
+    coefficients-stay t = go (refuses s address value) refl
+      where
+        go : (b : Bool) → refuses s address value ≡ b → writeOf s address value .chip .coefficients ≡ s .coefficients
+        go true e = ap (λ (w : Wrote). w .chip .coefficients) (written-as true e)
+        go false e = coefficients-after e ∙ refill-none (converter .groups) (holdsOf converter (s .image)) (holdsOf converter (imageAfter s address value)) (s .image) (s .coefficients) t
+
+    pub stepped : Step s address value
+    stepped =
+        let n : ℕ = holdsOf packets (imageAfter s address value) in
+        record {
+          refusals = rw (written-as (refuses s address value) refl) (tried (writeRules s address value) _ refl
+              (test (λ (w : Wrote). w .refusal) (at (writeRules s address value) 0) [] (refuses s address value) _ _ refl decided (λ f. refl)));
+          refused = rw (written-as (refuses s address value) refl) (unchanged (refuses s address value));
+          kept = λ j h r. rw (written-as (refuses s address value) refl) (kept-bit j h r (refuses s address value));
+          written = λ e l j h r. rw (written-as false e) (taken-bit l j h r);
+          elsewhere = λ a h. rw (written-as (refuses s address value) refl) (other-byte a h (refuses s address value));
+          sized = rw (written-as (refuses s address value) refl) (image-sized (refuses s address value));
+          avi = λ e d u. packet-after e ∙ rw (u, d);
+          audio = λ e d u. packet-after e ∙ rw (alone (up avi n) (up audio n) (up gc n) (lone e) .0 u, u, d);
+          gc = λ e d u. let o = alone (up avi n) (up audio n) (up gc n) (lone e) .1 u in packet-after e ∙ rw (o .0, o .1, u, d);
+          packet = packet-stays;
+          matrix = λ e d u. coefficients-after e ∙ rw (u, d);
+          coefficients = coefficients-stay;
+        }

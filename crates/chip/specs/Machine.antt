@@ -1,17 +1,21 @@
 -- Document 01, "The chip machine": its groups and their holds, one write, and what is in use.
 use mathlib.Core.Bool.{Bool, cond, not, _&&_, _||_}
 use mathlib.Core.List.{List, [], _∷_, _++_}
-use Prim.Native.Nat.{ℕ, _+_, _*_, _/_, _%_}
+use Prim.Native.Nat.{ℕ, _/_, _%_, _^_}
 use lib.Dec.{eqb}
 use lib.ListN.{getD, set, take, drop}
 use Rattle.bits.specs.Merge.{merge}
 use Rattle.registers.specs.Classes.{readOnly}
-use Rattle.map.specs.Map.{infoframeUpdate, gcPacketUpdateMask, aviInfoframeVersion, aviInfoframeCount, audioInfoframeVersion, audioInfoframeCount, gc}
-use Rattle.map.specs.Map.{coefficientUpdate, coefficientUpdateMask, csc, cscCount}
+use Rattle.map.specs.Map as map
+use Rattle.map.specs.Map.{infoframeUpdate, gcPacketUpdateMask, aviPacketUpdateMask, audioInfoframePacketUpdateMask, setAvMuteMask}
+use Rattle.map.specs.Map.{aviInfoframeVersion, aviInfoframeCount, audioInfoframeVersion, audioInfoframeCount}
+use Rattle.map.specs.Map.{coefficientUpdate, coefficientUpdateMask, csc, cscCount, cscEnableMask, cscScalingFactorShift}
+use Rattle.matrix.specs.Matrix.{fields}
+use Rattle.refusals.specs.Rows.{twoHolds, number}
 use Rattle.chip.specs.declared.Chip.{Chip}
 use Rattle.chip.specs.declared.Wrote.{Wrote}
 
--- a run of registers that is sent whole: its hold's place among its bank's holds (1, 2, 4), its first register, their number
+-- a run of registers that is sent whole: its hold's place among its bank's holds (1, 2, 4), its first register, how many they are
 pub record Group : Type 0 where
   pub hold : ℕ
   pub first : ℕ
@@ -26,13 +30,13 @@ pub record Bank : Type 0 where
 
 -- "A packet's registers run from its version to its last data byte, reserved ones included: 16 for AVI, 13 for audio"; "GC's is 0x4B alone"
 abbrev pub avi : Group
-avi = record { hold = 4; first = aviInfoframeVersion; count = aviInfoframeCount }
+avi = record { hold = aviPacketUpdateMask / gcPacketUpdateMask; first = aviInfoframeVersion; count = aviInfoframeCount }
 
 abbrev pub audio : Group
-audio = record { hold = 2; first = audioInfoframeVersion; count = audioInfoframeCount }
+audio = record { hold = audioInfoframePacketUpdateMask / gcPacketUpdateMask; first = audioInfoframeVersion; count = audioInfoframeCount }
 
-abbrev pub control : Group
-control = record { hold = 1; first = gc; count = 1 }
+abbrev pub gc : Group
+gc = record { hold = 1; first = map.gc; count = 1 }
 
 -- "the 24 bytes 0x18 to 0x2F, copied whole"
 abbrev pub matrix : Group
@@ -40,7 +44,7 @@ matrix = record { hold = 1; first = csc; count = cscCount }
 
 -- "Packet holds: 0x4A[6] AVI, [5] audio, [4] GC"
 abbrev pub packets : Bank
-packets = record { register = infoframeUpdate; holds = λ b. b / gcPacketUpdateMask % 8; groups = avi ∷ audio ∷ control ∷ []; buffer = λ s. s .packet }
+packets = record { register = infoframeUpdate; holds = λ b. b / gcPacketUpdateMask % 8; groups = avi ∷ audio ∷ gc ∷ []; buffer = λ s. s .packet }
 
 -- "Coefficient hold 0x1A[5]"
 abbrev pub converter : Bank
@@ -55,8 +59,8 @@ abbrev pub part : Group → List ℕ → List ℕ
 part g image = take (g .count) (drop (g .first) image)
 
 -- a bank's holds, as they stand in an image
-abbrev pub held : Bank → List ℕ → ℕ
-held bank image = bank .holds (getD image (bank .register) 0)
+abbrev pub holdsOf : Bank → List ℕ → ℕ
+holdsOf bank image = bank .holds (getD image (bank .register) 0)
 
 -- "A hold going 0 to 1 copies that packet's registers, as they stood before the write, to the packet buffer" ("a packet fills its front, the
 -- rest stays"): the buffer as the holds go from n to n′
@@ -66,7 +70,7 @@ refill (g ∷ gs) n n′ image buffer = cond (up g n′ && not (up g n)) (part g
 
 abbrev pub refresh : Bank → ℕ → ℕ → Chip → List ℕ
 refresh bank address byte s =
-    cond (eqb address (bank .register)) (refill (bank .groups) (held bank (s .image)) (bank .holds byte) (s .image) (bank .buffer s)) (bank .buffer s)
+    cond (eqb address (bank .register)) (refill (bank .groups) (holdsOf bank (s .image)) (bank .holds byte) (s .image) (bank .buffer s)) (bank .buffer s)
 
 -- a byte stored as it is
 unfoldable pub put : ℕ → ℕ → Chip → Chip
@@ -77,34 +81,43 @@ put address byte s =
 unfoldable pub stored : ℕ → ℕ → List ℕ → ℕ
 stored address value image = merge 8 (readOnly address) (getD image address 0) value
 
--- at most one packet hold is up
-abbrev pub single : ℕ → Bool
-single n = eqb n 0 || eqb n 1 || eqb n 2 || eqb n 4
+-- the image that a write would leave
+abbrev pub imageAfter : Chip → ℕ → ℕ → List ℕ
+imageAfter s address value = set (s .image) address (stored address value (s .image))
+
+-- two packet holds are up
+abbrev pub two : ℕ → Bool
+two n = (up avi n && up audio n) || ((up avi n && up gc n) || (up audio n && up gc n))
 
 -- refusal 13: "two packet holds are up, or the write would leave two up"
 unfoldable pub refuses : Chip → ℕ → ℕ → Bool
-refuses s address value =
-    not (single (held packets (s .image)) && single (held packets (set (s .image) address (stored address value (s .image)))))
+refuses s address value = two (holdsOf packets (s .image)) || two (holdsOf packets (imageAfter s address value))
 
 -- "Each write hands the state back with one byte changed in the image, and a buffer filled where a hold rises"
 unfoldable pub writeOf : Chip → ℕ → ℕ → Wrote
 writeOf s address value =
-    cond (refuses s address value) (record { refusal = 13; chip = s })
+    cond (refuses s address value) (record { refusal = number twoHolds; chip = s })
     (record { refusal = 0; chip = put address (stored address value (s .image)) s })
 
--- "While it is up the buffer is sent; when down, the registers": the bytes of a group that the chip goes by
+-- "While it is up the buffer is sent; when down, the registers": the bytes of a group that the chip goes by. (Of the matrix's first byte
+-- only the coefficient bits count: see `enableInUse`, `modeInUse`.)
 unfoldable pub inUse : Bank → Group → Chip → List ℕ
-inUse bank g s = cond (up g (held bank (s .image))) (take (g .count) (bank .buffer s)) (part g (s .image))
+inUse bank g s = cond (up g (holdsOf bank (s .image))) (take (g .count) (bank .buffer s)) (part g (s .image))
 
--- "a coefficient is the low 13 bits of its pair": the twelve in 24 bytes
-unfoldable pub coefficients : List ℕ → List ℕ
-coefficients [] = []
-coefficients (high ∷ []) = []
-coefficients (high ∷ low ∷ more) = (high % 32 * 256 + low) ∷ coefficients more
+-- the twelve coefficients in use, "the low 13 bits" of each pair
+unfoldable pub coefficients : Chip → List ℕ
+coefficients s = fields (inUse converter matrix s)
+
+-- "Enable and mode in 0x18[7:5] act at once": they are read off the registers, whatever the hold
+abbrev pub enableInUse : Chip → ℕ
+enableInUse s = getD (s .image) csc 0 / cscEnableMask % 2
+
+abbrev pub modeInUse : Chip → ℕ
+modeInUse s = getD (s .image) csc 0 / 2 ^ cscScalingFactorShift % 4
 
 -- the mute bits of the GC byte in use, set worth 1 and clear 2. "Muted: set bit 1, clear bit 0. Open: set 0, clear 1."
 unfoldable pub mute : Chip → ℕ
-mute s = getD (inUse packets control s) 0 0 / 64 % 4
+mute s = getD (inUse packets gc s) 0 0 / setAvMuteMask % 4
 
 abbrev pub isMuted : Chip → Bool
 isMuted s = eqb (mute s) 1

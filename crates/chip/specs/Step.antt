@@ -1,20 +1,42 @@
 -- What one write does, as a reader of document 01 would check it against `writeOf`.
 use mathlib.Core.Path.{_≡_}
-use mathlib.Core.Logic.{_≢_}
-use mathlib.Core.Bool.{Bool, true, false}
+use mathlib.Core.Logic.{_≢_, _⊎_}
+use mathlib.Core.Bool.{true, false, not, _&&_}
+use mathlib.Core.List.{List, [], _∷_, _++_}
 use Prim.Native.Nat.{ℕ, _<_}
-use lib.ListN.{length, getD}
+use lib.ListN.{length, getD, drop}
+use Rattle.lists.specs.Find.{every}
 use Rattle.bits.specs.Merge.{bit}
+use Rattle.refusals.specs.Rows.{twoHolds, Condition, _when_, Given}
 use Rattle.registers.specs.Classes.{readOnly}
-use Rattle.map.specs.Map.{infoframeUpdate, coefficientUpdate}
 use Rattle.chip.specs.declared.Chip.{Chip}
-use Rattle.chip.specs.Machine.{refuses, writeOf}
+use Rattle.chip.specs.Machine.{Group, Bank, avi, audio, gc, matrix, packets, converter, up, part, holdsOf, imageAfter, refuses, writeOf}
+
+-- "(machine) two packet holds are up, or the write would leave two up"
+abbrev pub TwoUp : List ℕ → Type 0
+TwoUp image =
+    let Up : Group → Type 0 = λ g. up g (holdsOf packets image) ≡ true in
+    (Up avi × Up audio) ⊎ (Up avi × Up gc) ⊎ (Up audio × Up gc)
+
+abbrev pub writeRules : Chip → ℕ → ℕ → List Condition
+writeRules s address value = twoHolds when (TwoUp (s .image) ⊎ TwoUp (imageAfter s address value)) ∷ []
+
+-- "A hold going 0 to 1 copies that packet's registers, as they stood before the write, to the .. buffer": its front, "the rest stays"
+abbrev pub Copies : Bank → Group → Chip → ℕ → ℕ → Type 0
+Copies bank g s address value =
+    refuses s address value ≡ false → up g (holdsOf bank (s .image)) ≡ false → up g (holdsOf bank (imageAfter s address value)) ≡ true
+    → bank .buffer (writeOf s address value .chip) ≡ part g (s .image) ++ drop (g .count) (bank .buffer s)
+
+-- where none of a bank's holds rises, its buffer stays
+abbrev pub Keeps : Bank → Chip → ℕ → ℕ → Type 0
+Keeps bank s address value =
+    every (λ g. not (up g (holdsOf bank (imageAfter s address value)) && not (up g (holdsOf bank (s .image))))) (bank .groups) ≡ true
+    → bank .buffer (writeOf s address value .chip) ≡ bank .buffer s
 
 pub record Step (s : Chip) (address value : ℕ) : Type 0 where
-  -- a refused write changes nothing, and says 13
-  pub refused : refuses s address value ≡ true → (writeOf s address value .chip ≡ s) × (writeOf s address value .refusal ≡ 13)
-  -- any other says 0
-  pub taken : refuses s address value ≡ false → writeOf s address value .refusal ≡ 0
+  -- a write is refused by 13 alone, and a refused one changes nothing
+  pub refusals : Given (writeRules s address value) (writeOf s address value .refusal)
+  pub refused : writeOf s address value .refusal ≢ 0 → writeOf s address value .chip ≡ s
   -- "Read-only bits never change"
   pub kept : (j : ℕ) → j < 8 → bit j (readOnly address) ≡ 1
       → bit j (getD (writeOf s address value .chip .image) address 0) ≡ bit j (getD (s .image) address 0)
@@ -23,6 +45,11 @@ pub record Step (s : Chip) (address value : ℕ) : Type 0 where
       → bit j (getD (writeOf s address value .chip .image) address 0) ≡ bit j value
   -- "one byte changed in the image"
   pub elsewhere : (a : ℕ) → a ≢ address → getD (writeOf s address value .chip .image) a 0 ≡ getD (s .image) a 0
-  -- the buffers move only at their holds' registers
-  pub packet : address ≢ infoframeUpdate → writeOf s address value .chip .packet ≡ s .packet
-  pub coefficients : address ≢ coefficientUpdate → writeOf s address value .chip .coefficients ≡ s .coefficients
+  pub sized : length (writeOf s address value .chip .image) ≡ length (s .image)
+  -- the buffers
+  pub avi : Copies packets avi s address value
+  pub audio : Copies packets audio s address value
+  pub gc : Copies packets gc s address value
+  pub packet : Keeps packets s address value
+  pub matrix : Copies converter matrix s address value
+  pub coefficients : Keeps converter s address value

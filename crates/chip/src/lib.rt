@@ -1,6 +1,7 @@
 // The chip machine: document 01, "The chip machine".
 ghost use mathlib.Core.Path.{_≡_};
 ghost use Prim.Native.Nat.{ℕ};
+ghost use lib.ListN.{length};
 ghost use Rattle.chip.specs.declared.Chip.{Chip};
 ghost use Rattle.chip.specs.Step.{Step};
 
@@ -19,5 +20,5 @@ pub struct Wrote {
 
 // What each write does and leaves alone.
 pub fn step()
-    ensures { λ _. ⌜ ((s : Chip) (address value : ℕ) → Step s address value) ⌝ }
+    ensures { λ _. ⌜ ((s : Chip) → length (s .image) ≡ 256 → (address value : ℕ) → Step s address value) ⌝ }
 {}

@@ -7,6 +7,7 @@ use native.Mathlib.Nat.{eq-of-mul-eq-mul-left, mul-pos, le-antisymm}
 use native.Mathlib.Omega.{arith}
 use lib.Dec.{eqb}
 use borrow.Author.Tests.{eqb-true, eqb-false}
+use Rattle.refusals.specs.Rows.{noExactPair}
 use Rattle.clock.specs.declared.Clock.{Clock}
 use Rattle.clock.specs.declared.Pair.{Pair}
 use Rattle.clock.specs.Modes.{clockOf}
@@ -38,7 +39,7 @@ module _ (clock : Clock) (rate : ℕ) where
         nearest = λ none. absurd (none x);
       }
 
-  by-none : None clock rate → Coherent clock rate (refused 9)
+  by-none : None clock rate → Coherent clock rate (refused noExactPair)
   by-none none =
       record {
         refused = ((λ _. none), (λ _. refl));
@@ -63,7 +64,7 @@ module _ (clock : Clock) (rate : ℕ) where
   found num den some = go (exactly clock rate N C) refl (nearest-found clock rate num den some)
     where
       go : (t : Bool) → exactly clock rate N C ≡ t
-          → ((nearestOf clock rate ≡ refused 9) × None clock rate)
+          → ((nearestOf clock rate ≡ refused noExactPair) × None clock rate)
           ⊎ ((n : ℕ) × (cts : ℕ) × (nearestOf clock rate ≡ given n cts) × Exact clock rate n cts × Best clock rate n)
           → Coherent clock rate (cond t (given N C) (nearestOf clock rate))
       go true e w = by-table (exact-of clock rate N C e)

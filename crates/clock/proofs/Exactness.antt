@@ -7,6 +7,7 @@ use native.Mathlib.Nat.{mul-assoc, mul-comm, mul-pos}
 use native.Mathlib.Omega.{arith}
 use lib.Dec.{ltb}
 use borrow.Author.Tests.{leb-true, le-leb, eqb-true, eq-eqb, ltb-true, ltb-false}
+use Rattle.refusals.specs.Rows.{noExactPair}
 use Rattle.clock.specs.declared.Clock.{Clock}
 use Rattle.clock.specs.Pairs.{reference, Exact, far}
 use Rattle.clock.specs.Found.{refused, given, exactly, nearestK, nearestIn, nearestOf, leastK, mostK}
@@ -103,14 +104,14 @@ module _ (clock : Clock) (rate : ℕ) (num : 0 < clock .num) (den : 0 < clock .d
 
   -- no pair is exact, and 9 is given; or the one given is exact, and none is nearer
 
-  pub nearest-found : ((nearestOf clock rate ≡ refused 9) × None clock rate)
+  pub nearest-found : ((nearestOf clock rate ≡ refused noExactPair) × None clock rate)
       ⊎ ((n : ℕ) × (cts : ℕ) × (nearestOf clock rate ≡ given n cts) × Exact clock rate n cts × Best clock rate n)
   unfolding nearestOf nearestIn
   nearest-found = go (ltb most least) refl
     where
       go : (t : Bool) → ltb most least ≡ t
-          → ((cond t (refused 9) (given (K * stepN) (K * stepCts)) ≡ refused 9) × None clock rate)
-          ⊎ ((n : ℕ) × (cts : ℕ) × (cond t (refused 9) (given (K * stepN) (K * stepCts)) ≡ given n cts) × Exact clock rate n cts × Best clock rate n)
+          → ((cond t (refused noExactPair) (given (K * stepN) (K * stepCts)) ≡ refused noExactPair) × None clock rate)
+          ⊎ ((n : ℕ) × (cts : ℕ) × (cond t (refused noExactPair) (given (K * stepN) (K * stepCts)) ≡ given n cts) × Exact clock rate n cts × Best clock rate n)
       go true e = inl (refl, λ n cts x. let w = inside n cts x in absurd (omega (arith, ltb-true most least e)))
       go false e =
           let b = between (reference rate) stepN least most below (ltb-false most least e) in

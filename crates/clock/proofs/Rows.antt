@@ -8,7 +8,7 @@ use native.Mathlib.Omega.{arith}
 use lib.ListN.{drop}
 use lib.Dec.{eqb, ltb}
 use borrow.Author.Tests.{ltb-true, ltb-false, eqb-true, eqb-false}
-use Rattle.refusals.specs.Rows.{Rule, at}
+use Rattle.refusals.specs.Rows.{Condition, at, modeNotOffered, fieldOutOfRange}
 use Rattle.refusals.proofs.First.{Tried, tried}
 use Rattle.clock.specs.declared.Pair.{Pair}
 use Rattle.clock.specs.Modes.{offered, clockOf}
@@ -18,7 +18,7 @@ use Rattle.clock.specs.Theorems.{pairRules, PairRefusals}
 use Rattle.clock.proofs.Coherence.{coherence}
 
 module _ (vic family rate coherent : ℕ) where
-  abbrev rules : List Rule
+  abbrev rules : List Condition
   rules = pairRules vic family rate coherent
 
   outside : (a b : Bool) → ltb 6 rate ≡ a → ltb 1 coherent ≡ b → (a || b) ≡ true → at rules 1 .When
@@ -43,7 +43,7 @@ module _ (vic family rate coherent : ℕ) where
     where
       go : (o t k : Bool) → offered vic family ≡ o → (ltb 6 rate || ltb 1 coherent) ≡ t → eqb coherent 1 ≡ k
           → Tried rules
-          (cond {A = Pair} (not o) (refused 4) (cond t (refused 5) (cond k (coherentOf (clockOf vic family) rate) (other rate))) .refusal)
+          (cond {A = Pair} (not o) (refused modeNotOffered) (cond t (refused fieldOutOfRange) (cond k (coherentOf (clockOf vic family) rate) (other rate))) .refusal)
       go false t k eo et ek = inl (eo, refl)
       go true true k eo et ek = inr ((λ a. false≢true (sym a ∙ eo)), inl (outside (ltb 6 rate) (ltb 1 coherent) refl refl et, refl))
       go true false true eo et ek =
@@ -55,4 +55,4 @@ module _ (vic family rate coherent : ℕ) where
           inr ((λ a. false≢true (sym a ∙ eo)), inr (r .1, inr ((λ a. eqb-false coherent 1 ek (a .0)), refl)))
 
 pub refusals : PairRefusals
-refusals vic family rate coherent = tried (pairRules vic family rate coherent) _ (in-turn vic family rate coherent)
+refusals vic family rate coherent = tried (pairRules vic family rate coherent) _ refl (in-turn vic family rate coherent)

@@ -5,6 +5,7 @@ use mathlib.Core.List.{[]}
 use Prim.Native.Nat.{ℕ, _+_, _-_, _*_, _/_, min}
 use lib.Dec.{eqb, leb, ltb}
 use lib.ListN.{getD}
+use Rattle.refusals.specs.Rows.{Row, modeNotOffered, fieldOutOfRange, noExactPair, number}
 use Rattle.clock.specs.declared.Clock.{Clock}
 use Rattle.clock.specs.declared.NCts.{NCts}
 use Rattle.clock.specs.declared.Pair.{Pair}
@@ -20,8 +21,12 @@ norow = record { num = 0; den = 0; n = []; cts = [] }
 unfoldable pub recommendedAt : ℕ → Recommended
 recommendedAt i = getD recommended i norow
 
-abbrev pub refused : ℕ → Pair
-refused number = record { refusal = number; n = 0; cts = 0 }
+-- a refusal has its number, and zeros beside it
+abbrev pub numbered : ℕ → Pair
+numbered n = record { refusal = n; n = 0; cts = 0 }
+
+abbrev pub refused : Row → Pair
+refused row = numbered (number row)
 
 abbrev pub given : ℕ → ℕ → Pair
 given n cts = record { refusal = 0; n = n; cts = cts }
@@ -43,7 +48,7 @@ mostK f u v = min (f / (300 * v)) (1048575 / u)
 unfoldable pub nearestIn : ℕ → ℕ → ℕ → Pair
 nearestIn f u v =
     let k : ℕ = nearestK f v (leastK f v) (mostK f u v) (f / (1000 * v)) in
-    cond (ltb (mostK f u v) (leastK f v)) (refused 9) (given (k * v) (k * u))
+    cond (ltb (mostK f u v) (leastK f v)) (refused noExactPair) (given (k * v) (k * u))
 
 unfoldable pub nearestOf : Clock → ℕ → Pair
 nearestOf clock rate =
@@ -64,6 +69,6 @@ coherentOf clock rate =
 -- N/CTS on single fields: refusals 4, 5, 9
 unfoldable pub pairOf : ℕ → ℕ → ℕ → ℕ → Pair
 pairOf vic family rate coherent =
-    cond (not (offered vic family)) (refused 4)
-    (cond (ltb 6 rate || ltb 1 coherent) (refused 5)
+    cond (not (offered vic family)) (refused modeNotOffered)
+    (cond (ltb 6 rate || ltb 1 coherent) (refused fieldOutOfRange)
     (cond (eqb coherent 1) (coherentOf (clockOf vic family) rate) (other rate)))

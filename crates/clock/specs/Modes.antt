@@ -4,6 +4,7 @@ use mathlib.Core.List.{List, [], _∷_}
 use Prim.Native.Nat.{ℕ, _*_, _<_, _≤_}
 use lib.Dec.{eqb, ltb}
 use Rattle.lists.specs.Find.{find}
+use Rattle.refusals.specs.Rows.{modeNotOffered, number}
 use Rattle.clock.specs.declared.Mode.{Mode}
 use Rattle.clock.specs.declared.Clock.{Clock}
 
@@ -51,7 +52,7 @@ clockIn hertz family =
 
 -- refusal 4: VIC not listed, or family not offered by it
 unfoldable pub clockOf : ℕ → ℕ → Clock
-clockOf vic family = cond (offered vic family) (clockIn (modeOf vic .hertz) family) (record { refusal = 4; num = 0; den = 0 })
+clockOf vic family = cond (offered vic family) (clockIn (modeOf vic .hertz) family) (record { refusal = number modeNotOffered; num = 0; den = 0 })
 
 -- what holds of every clock that is offered: it is above 0 and at most 148.5 MHz, and a fraction whose numbers are as large as these at most
 pub record Sized (clock : Clock) : Type 0 where

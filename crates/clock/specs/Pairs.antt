@@ -85,12 +85,12 @@ pub record Coherent (clock : Clock) (rate : ℕ) (answer : Pair) : Type 0 where
       → (far rate (answer .n) ≤ far rate n) × (far rate (answer .n) ≡ far rate n → answer .n ≤ n)
 
 -- "For other audio: N from the "Other" row, CTS 0, automatic"
-abbrev pub others : List ℕ
-others = 4096 ∷ 6272 ∷ 6144 ∷ 12544 ∷ 12288 ∷ 25088 ∷ 24576 ∷ []
+abbrev pub otherRow : List ℕ
+otherRow = 4096 ∷ 6272 ∷ 6144 ∷ 12544 ∷ 12288 ∷ 25088 ∷ 24576 ∷ []
 
 abbrev pub other : ℕ → Pair
-other rate = record { refusal = 0; n = getD others rate 0; cts = 0 }
+other rate = record { refusal = 0; n = getD otherRow rate 0; cts = 0 }
 
 -- "Audio off: N 6144, CTS 0, automatic"
-abbrev pub off : Pair
-off = record { refusal = 0; n = 6144; cts = 0 }
+abbrev pub audioOff : Pair
+audioOff = record { refusal = 0; n = 6144; cts = 0 }

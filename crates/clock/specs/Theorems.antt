@@ -4,7 +4,7 @@ use mathlib.Core.Logic.{_⊎_}
 use mathlib.Core.Bool.{true, false}
 use mathlib.Core.List.{List, [], _∷_}
 use Prim.Native.Nat.{ℕ, _/_, _<_}
-use Rattle.refusals.specs.Rows.{modeNotOffered, fieldOutOfRange, noExactPair, Rule, rule, Given}
+use Rattle.refusals.specs.Rows.{modeNotOffered, fieldOutOfRange, noExactPair, Condition, _when_, Given}
 use Rattle.clock.specs.declared.Clock.{Clock}
 use Rattle.clock.specs.declared.Pair.{Pair}
 use Rattle.clock.specs.Gcd.{gcdOf, Greatest, Lowest}
@@ -24,11 +24,11 @@ pub record CoherentPairs : Type 0 where
   pub one : (clock : Clock) (rate : ℕ) → 0 < clock .den → rate < 7 → (a b : Pair) → Coherent clock rate a → Coherent clock rate b → a ≡ b
 
 -- "A call on single fields checks those .. whose fields it takes": rows 4, 5 and 9, for N/CTS
-abbrev pub pairRules : ℕ → ℕ → ℕ → ℕ → List Rule
+abbrev pub pairRules : ℕ → ℕ → ℕ → ℕ → List Condition
 pairRules vic family rate coherent =
-    rule modeNotOffered (offered vic family ≡ false) ∷
-    rule fieldOutOfRange ((6 < rate) ⊎ (1 < coherent)) ∷
-    rule noExactPair ((coherent ≡ 1) × ((n cts : ℕ) → Exact (clockOf vic family) rate n cts → ⊥)) ∷ []
+    modeNotOffered when (offered vic family ≡ false) ∷
+    fieldOutOfRange when ((6 < rate) ⊎ (1 < coherent)) ∷
+    noExactPair when ((coherent ≡ 1) × ((n cts : ℕ) → Exact (clockOf vic family) rate n cts → ⊥)) ∷ []
 
 abbrev pub PairRefusals : Type 0
 PairRefusals = (vic family rate coherent : ℕ) → Given (pairRules vic family rate coherent) (pairOf vic family rate coherent .refusal)

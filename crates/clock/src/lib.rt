@@ -2,9 +2,9 @@
 ghost use mathlib.Core.Path.{_≡_};
 ghost use Prim.Native.Nat.{_<_, _≤_, _+_, _*_, min};
 ghost use Rattle.clock.specs.Modes.{modeOf, clockOf, Sized};
-ghost use Rattle.clock.specs.Pairs.{reference, recommendedOf, off};
+ghost use Rattle.clock.specs.Pairs.{reference, recommendedOf, audioOff};
 ghost use Rattle.clock.specs.Gcd.{gcdOf};
-ghost use Rattle.clock.specs.Found.{recommendedAt, refused, given, nearestK, nearestIn, nearestOf, exactly, coherentOf, pairOf};
+ghost use Rattle.clock.specs.Found.{recommendedAt, numbered, given, nearestK, nearestIn, nearestOf, exactly, coherentOf, pairOf};
 ghost use Rattle.clock.specs.Theorems.{EuclidsRule, CoherentPairs, PairRefusals};
 use refusals::Refusal;
 
@@ -412,7 +412,7 @@ fn coherent_pair(clock: Clock, rate: u8) -> Pair
 
 // A refusal, with zeros beside it.
 fn refused(number: u8) -> Pair
-    ensures { λ r. ⌜ r ≡ refused number ⌝ }
+    ensures { λ r. ⌜ r ≡ numbered number ⌝ }
 {
     Pair {
         refusal: number,
@@ -452,9 +452,9 @@ pub fn pair_of(vic: u8, family: u8, rate: u8, coherent: u8) -> Pair
     given(OTHERS[rate as usize], 0)
 }
 
-// N and CTS where sound is off.
-pub fn silence() -> Pair
-    ensures { λ r. ⌜ r ≡ off ⌝ }
+// N and CTS where audio is off.
+pub fn audio_off() -> Pair
+    ensures { λ r. ⌜ r ≡ audioOff ⌝ }
 {
     given(6144, 0)
 }

@@ -5,6 +5,7 @@ use mathlib.Core.List.{List, [], _∷_, _++_}
 use Prim.Native.Nat.{ℕ, _+_, _-_, _*_, _%_, _<_}
 use lib.Dec.{eqb, ltb}
 use lib.ListN.{replicate}
+use Rattle.refusals.specs.Rows.{modeNotOffered, fieldOutOfRange, number}
 use Rattle.clock.specs.declared.Mode.{Mode}
 use Rattle.clock.specs.Modes.{modeOf}
 use Rattle.frames.specs.declared.Avi.{Avi}
@@ -41,8 +42,8 @@ aviFrame vic encoding = frame aviHeader (aviPayload encoding (colorimetry (modeO
 -- the AVI frame on single fields: refusals 4 and 5
 unfoldable pub aviOf : ℕ → ℕ → Avi
 aviOf vic encoding =
-    cond (eqb (modeOf vic .families) 0) (record { refusal = 4; bytes = replicate 17 0 })
-    (cond (ltb 2 encoding) (record { refusal = 5; bytes = replicate 17 0 })
+    cond (eqb (modeOf vic .families) 0) (record { refusal = number modeNotOffered; bytes = replicate 17 0 })
+    (cond (ltb 2 encoding) (record { refusal = number fieldOutOfRange; bytes = replicate 17 0 })
     (record { refusal = 0; bytes = aviFrame vic encoding }))
 
 -- "CC is channels less one; CA is 0x00 for 2 and 0x13 for 8; the rest 0." Byte 1 is CT3 to CT0 0 CC2 to CC0, byte 4 is CA.
@@ -60,13 +61,13 @@ unfoldable pub audioFrame : ℕ → List ℕ
 audioFrame channels = frame audioHeader (audioPayload (channels - 1) (allocation channels))
 
 -- "Audio off: payload all 0."
-unfoldable pub silentFrame : List ℕ
-silentFrame = frame audioHeader (replicate 10 0)
+unfoldable pub audioOffFrame : List ℕ
+audioOffFrame = frame audioHeader (replicate 10 0)
 
 -- the audio frame on a single field: refusal 5
 unfoldable pub audioOf : ℕ → Audio
 audioOf channels =
-    cond (eqb channels 2 || eqb channels 8) (record { refusal = 0; bytes = audioFrame channels }) (record { refusal = 5; bytes = replicate 14 0 })
+    cond (eqb channels 2 || eqb channels 8) (record { refusal = 0; bytes = audioFrame channels }) (record { refusal = number fieldOutOfRange; bytes = replicate 14 0 })
 
 -- The checksum does what document 01 says, whatever the header and the payload; and no other byte does.
 pub record Checksum : Type 0 where

@@ -2,7 +2,7 @@
 ghost use mathlib.Core.Path.{_≡_};
 ghost use Prim.Native.Nat.{_%_, _≤_};
 ghost use Rattle.frames.specs.Frames.{total, checksumOf, frame, Checksum};
-ghost use Rattle.frames.specs.Frames.{colorimetry, aviHeader, aviPayload, aviOf, audioHeader, audioPayload, audioOf, silentFrame};
+ghost use Rattle.frames.specs.Frames.{colorimetry, aviHeader, aviPayload, aviOf, audioHeader, audioPayload, audioOf, audioOffFrame};
 use clock::Mode;
 use refusals::Refusal;
 
@@ -153,8 +153,8 @@ pub fn audio_of(channels: u8) -> Audio
 }
 
 // The audio InfoFrame where sound is off.
-pub fn silence() -> [u8; 14]
-    ensures { λ r. ⌜ r ≡ silentFrame ⌝ }
+pub fn audio_off() -> [u8; 14]
+    ensures { λ r. ⌜ r ≡ audioOffFrame ⌝ }
 {
     audio_frame(0, 0)
 }

@@ -1,3 +1,4 @@
 pub mod Both
 pub mod Among
 pub mod Find
+pub mod Decides

@@ -12,7 +12,7 @@ use Rattle.lists.proofs.Both.{neither-left, neither-right}
 use Rattle.refusals.specs.Rows.{fieldOutOfRange, inputAbove, Given}
 use Rattle.refusals.proofs.First.{Tried, tried}
 use Rattle.matrix.specs.declared.Pixel.{Pixel}
-use Rattle.matrix.specs.Matrix.{sound, Bytes}
+use Rattle.matrix.specs.Matrix.{isAllowed, Bytes}
 use Rattle.matrix.specs.Preview.{above, refused, previewOf, previewRules}
 use Rattle.matrix.proofs.Numbers.{numbers}
 
@@ -36,9 +36,9 @@ none-above a b c e (inr (inr h)) = let l = codes a b c e in omega arith
 
 pub given : (body : List ℕ) → Bytes body → (a b c : ℕ) → Given (previewRules body a b c) (previewOf body a b c .refusal)
 unfolding previewOf
-given body bytes a b c = tried (previewRules body a b c) _ (go (sound body) (above a b c) _ refl refl refl)
+given body bytes a b c = tried (previewRules body a b c) _ refl (go (isAllowed body) (above a b c) _ refl refl refl)
   where
-    go : (s t : Bool) (p : Pixel) → p .refusal ≡ 0 → sound body ≡ s → above a b c ≡ t
+    go : (s t : Bool) (p : Pixel) → p .refusal ≡ 0 → isAllowed body ≡ s → above a b c ≡ t
         → Tried (previewRules body a b c) (cond (not s) (refused fieldOutOfRange) (cond t (refused inputAbove) p) .refusal)
     go false t p z e f = inl ((λ r. false≢true (sym e ∙ numbers body bytes .rule .1 r)), refl)
     go true true p z e f = inr ((λ x. x (numbers body bytes .rule .0 e)), inl (some-above a b c f, refl))

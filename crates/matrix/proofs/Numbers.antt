@@ -1,4 +1,4 @@
--- A sound body is in range, number by number, and its fields stand for its numbers.
+-- A isAllowed body is in range, number by number, and its fields stand for its numbers.
 -- Assumes nothing.
 use mathlib.Core.Path.{_≡_, refl, sym, ap, _∙_}
 use mathlib.Core.Bool.{true}
@@ -10,7 +10,7 @@ use lib.ListN.{length, getD, drop}
 use borrow.Author.Tests.{eq-eqb, le-leb}
 use Rattle.lists.proofs.Both.{both-left, both-right}
 use Rattle.matrix.specs.Coefficient.{within, field, valueOf, Sent}
-use Rattle.matrix.specs.Matrix.{fields, inRange, sound, wordAt, Numbers, Bytes}
+use Rattle.matrix.specs.Matrix.{fields, inRange, isAllowed, wordAt, Numbers, Bytes}
 use Rattle.matrix.proofs.Pairs.{rest, range-more, range-end, fields-more, sized, mode-small, ranged}
 use Rattle.matrix.proofs.Signs.{sent}
 
@@ -39,7 +39,7 @@ module _ (body : List ℕ) (bytes : Bytes body) where
   said i = sent (wordAt body i) (omega (arith, bytes (2 * i + 1), bytes (2 * i + 2)))
 
   pub numbers : Numbers body
-  unfolding sound
+  unfolding isAllowed
   numbers = record {
     rule = (
       (λ s. let n = sized body s in record { sized = n; mode = mode-small body s; each = λ i h. said i .range .0 (each-passes body n i h (ranged body s)) }),

@@ -12,7 +12,7 @@ use lib.ListN.{length, getD, take, drop, set, drop-of-length-le}
 use lib.Seq.{drop-cons, take-suc-set, append-snoc, take-all}
 use Rattle.lists.proofs.Both.{both-left, both-right}
 use Rattle.matrix.specs.Coefficient.{within, field}
-use Rattle.matrix.specs.Matrix.{fields, inRange, sound, wordAt}
+use Rattle.matrix.specs.Matrix.{fields, inRange, isAllowed, wordAt}
 
 -- what is left of a body from coefficient i on
 abbrev pub rest : List ℕ → ℕ → List ℕ
@@ -53,18 +53,18 @@ fields-turn out body i v h l e =
 pub fields-all : (out body : List ℕ) (i : ℕ) → length out ≤ i → length body ≤ 2 * i + 1 → take i out ++ fields (rest body i) ≡ out
 fields-all out body i h l = rw (fields-end body i l, take-all i out h) (append-nil out)
 
--- what a sound body is
-module _ (body : List ℕ) (s : sound body ≡ true) where
+-- what a isAllowed body is
+module _ (body : List ℕ) (s : isAllowed body ≡ true) where
   pub sized : length body ≡ 25
-  unfolding sound
+  unfolding isAllowed
   sized = eqb-true _ _ (both-left _ _ (both-left _ (inRange (drop 1 body)) s))
 
   pub mode-small : getD body 0 0 ≤ 2
-  unfolding sound
+  unfolding isAllowed
   mode-small = leb-true _ _ (both-right (eqb (length body) 25) _ (both-left _ (inRange (drop 1 body)) s))
 
   pub ranged : inRange (drop 1 body) ≡ true
-  unfolding sound
+  unfolding isAllowed
   ranged = both-right (eqb (length body) 25 && leb (getD body 0 0) 2) _ s
 
 pub fields-small : (bytes : List ℕ) (i : ℕ) → getD (fields bytes) i 0 < 8192

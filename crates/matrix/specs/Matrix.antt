@@ -22,8 +22,8 @@ inRange (high ∷ []) = true
 inRange (high ∷ low ∷ more) = within (word high low) && inRange more
 
 -- a body of 25 bytes whose mode is at most 2 and whose coefficients are in range: what refusal 5 asks of a matrix
-unfoldable pub sound : List ℕ → Bool
-sound body = eqb (length body) 25 && leb (getD body 0 0) 2 && inRange (drop 1 body)
+unfoldable pub isAllowed : List ℕ → Bool
+isAllowed body = eqb (length body) 25 && leb (getD body 0 0) 2 && inRange (drop 1 body)
 
 -- "With a matrix: converter on."
 abbrev pub matrixOf : List ℕ → Matrix
@@ -33,9 +33,9 @@ matrixOf body = record { on = 1; mode = getD body 0 0; coefficients = fields (dr
 abbrev pub noMatrix : Matrix
 noMatrix = record { on = 0; mode = 1; coefficients = 2048 ∷ 0 ∷ 0 ∷ 0 ∷ 0 ∷ 2048 ∷ 0 ∷ 0 ∷ 0 ∷ 0 ∷ 2048 ∷ 0 ∷ [] }
 
--- what is read of a body, sound or not
+-- what is read of a body, isAllowed or not
 abbrev pub readOf : List ℕ → Matrix
-readOf body = cond (sound body) (matrixOf body) noMatrix
+readOf body = cond (isAllowed body) (matrixOf body) noMatrix
 
 abbrev pub Bytes : List ℕ → Type 0
 Bytes body = (i : ℕ) → getD body i 0 < 256
@@ -53,7 +53,7 @@ pub record Allowed (body : List ℕ) : Type 0 where
   pub mode : getD body 0 0 ≤ 2
   pub each : (i : ℕ) → i < 12 → Spans 12 (numberAt body i)
 
--- `sound` is that rule, and the fields of a sound body stand for the numbers that its bytes stand for
+-- `isAllowed` is that rule, and the fields of a isAllowed body stand for the numbers that its bytes stand for
 pub record Numbers (body : List ℕ) : Type 0 where
-  pub rule : (sound body ≡ true) ↔ Allowed body
-  pub values : sound body ≡ true → (i : ℕ) → i < 12 → valueOf (getD (matrixOf body .coefficients) i 0) ≡ numberAt body i
+  pub rule : (isAllowed body ≡ true) ↔ Allowed body
+  pub values : isAllowed body ≡ true → (i : ℕ) → i < 12 → valueOf (getD (matrixOf body .coefficients) i 0) ≡ numberAt body i

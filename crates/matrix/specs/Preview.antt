@@ -8,11 +8,11 @@ use lib.Dec.{ltb}
 use lib.ListN.{getD}
 use lib.IntN.{ℤ, pos, negsuc, _+ℤ_, _*ℤ_}
 use lib.Signed.{shrZ, _≤ℤ_, _<ℤ_}
-use Rattle.refusals.specs.Rows.{Row, fieldOutOfRange, inputAbove, number, Rule, rule}
+use Rattle.refusals.specs.Rows.{Row, fieldOutOfRange, inputAbove, number, Condition, _when_}
 use Rattle.matrix.specs.declared.Matrix.{Matrix}
 use Rattle.matrix.specs.declared.Pixel.{Pixel}
 use Rattle.matrix.specs.Coefficient.{valueOf}
-use Rattle.matrix.specs.Matrix.{sound, matrixOf, Allowed}
+use Rattle.matrix.specs.Matrix.{isAllowed, matrixOf, Allowed}
 
 -- "Output A = (InA·A1/4096 + InB·A2/4096 + InC·A3/4096 + A4)·2^mode", with the one division at the end, where it "rounds down to a whole code"
 abbrev pub exact : ℕ → ℕ → ℕ → ℤ → ℤ → ℤ → ℤ → ℕ → ℤ
@@ -44,13 +44,13 @@ refused row = record { refusal = number row; a = 0; b = 0; c = 0 }
 -- refusal 5: a mode or coefficient out of range, or a matrix not of 25 bytes; refusal 12: an input above 4095
 unfoldable pub previewOf : List ℕ → ℕ → ℕ → ℕ → Pixel
 previewOf body a b c =
-    cond (not (sound body)) (refused fieldOutOfRange)
+    cond (not (isAllowed body)) (refused fieldOutOfRange)
     (cond (above a b c) (refused inputAbove)
     (record { refusal = 0; a = outputOf (matrixOf body) 0 a b c; b = outputOf (matrixOf body) 1 a b c; c = outputOf (matrixOf body) 2 a b c }))
 
 -- "the preview 5 and 12": when each applies, on the raw input
-abbrev pub previewRules : List ℕ → ℕ → ℕ → ℕ → List Rule
-previewRules body a b c = rule fieldOutOfRange (Allowed body → ⊥) ∷ rule inputAbove ((4095 < a) ⊎ (4095 < b) ⊎ (4095 < c)) ∷ []
+abbrev pub previewRules : List ℕ → ℕ → ℕ → ℕ → List Condition
+previewRules body a b c = fieldOutOfRange when (Allowed body → ⊥) ∷ inputAbove when ((4095 < a) ⊎ (4095 < b) ⊎ (4095 < c)) ∷ []
 
 -- q is z / 4096 rounded down: what `shrZ z 4096` is
 pub record RoundedDown (z q : ℤ) : Type 0 where

@@ -8,7 +8,7 @@ ghost use lib.Signed.{shrZ};
 ghost use Rattle.refusals.specs.Rows.{Given};
 ghost use Rattle.matrix.specs.declared.Matrix.{Matrix};
 ghost use Rattle.matrix.specs.Coefficient.{TwosComplement, Sent};
-ghost use Rattle.matrix.specs.Matrix.{sound, readOf, noMatrix, wordAt, Bytes, Numbers};
+ghost use Rattle.matrix.specs.Matrix.{isAllowed, readOf, noMatrix, wordAt, Bytes, Numbers};
 ghost use Rattle.matrix.specs.Preview.{held, codeOf, outputOf, previewOf, previewRules, RoundedDown, Clamped};
 use refusals::Refusal;
 
@@ -43,7 +43,7 @@ fn pair(body: &[u8], i: usize) -> u16
 
 // Whether a matrix section's body is in range: 25 bytes, mode, coefficients.
 pub fn fits(body: &[u8]) -> bool
-    ensures { λ r. ⌜ r ≡ sound (now (body .entry)) ⌝ }
+    ensures { λ r. ⌜ r ≡ isAllowed (now (body .entry)) ⌝ }
 {
     if body.len() != 25 {
         return false;

@@ -8,12 +8,11 @@ use Rattle.clock.specs.Modes.{modeOf, clockOf}
 use Rattle.clock.specs.Pairs.{reference, recommendedOf}
 use Rattle.clock.specs.Found.{nearestK, nearestIn, nearestOf, exactly, coherentOf, pairOf}
 use Rattle.clock.proofs.Ratio.{divides}
-use Rattle.frames.specs.Frames.{total, aviFrame, aviOf, audioFrame, audioOf, silentFrame}
-use Rattle.matrix.specs.Matrix.{fields, inRange, sound}
+use Rattle.frames.specs.Frames.{total, aviFrame, aviOf, audioFrame, audioOf, audioOffFrame}
+use Rattle.matrix.specs.Matrix.{fields, inRange, isAllowed}
 use Rattle.matrix.specs.Preview.{codeOf, previewOf}
 use Rattle.request.specs.Sections.{walk, walked}
-use Rattle.request.specs.Request.{outside, combined}
-use Rattle.request.specs.Read.{judged, readOf}
+use Rattle.request.specs.Read.{outside, combined, judged, readOf, pairFor, nctsOf, lineOf}
 use Rattle.promises.specs.Cases.{MarkedCases}
 
 multiple : (n cts : ℕ) → reference 0 * cts * clockOf 4 1 .den ≡ clockOf 4 1 .num * n → 23296 ∣ n
@@ -21,9 +20,11 @@ unfolding reference clockOf modeOf gcdOf steps
 multiple n cts e = divides 74250000000 4100096000 (lit< tt) n cts (omega arith)
 
 pub cases : MarkedCases
-unfolding steps gcdOf modeOf clockOf reference recommendedOf nearestK nearestIn nearestOf exactly coherentOf pairOf total aviFrame aviOf audioFrame audioOf silentFrame fields inRange sound codeOf previewOf walk walked outside combined judged readOf
+unfolding steps gcdOf modeOf clockOf reference recommendedOf nearestK nearestIn nearestOf exactly coherentOf pairOf total aviFrame aviOf audioFrame audioOf audioOffFrame fields inRange isAllowed codeOf previewOf walk walked outside combined judged readOf pairFor nctsOf lineOf
 cases =
     record {
+      example = refl;
+      empty = refl;
       case1 = refl;
       case2 = refl;
       case3 = refl;

@@ -1,23 +1,16 @@
--- Document 01, "Marked cases, proved together as one table".
+-- Document 01, "Marked cases, proved together as one table", and the worked example of "What the station's library does".
 use mathlib.Core.Path.{_≡_}
 use mathlib.Core.List.{List, [], _∷_}
 use Prim.Native.Nat.{ℕ, _*_, _∣_}
-use lib.IntN.{ℤ, negsuc}
+use lib.IntN.{negsuc}
 use lib.ListN.{getD}
-use Rattle.clock.specs.declared.Clock.{Clock}
-use Rattle.clock.specs.declared.Pair.{Pair}
 use Rattle.clock.specs.Modes.{clockOf}
 use Rattle.clock.specs.Pairs.{reference}
-use Rattle.clock.specs.Found.{pairOf}
-use Rattle.frames.specs.Frames.{aviOf, audioOf, silentFrame}
-use Rattle.matrix.specs.declared.Pixel.{Pixel}
+use Rattle.clock.specs.Found.{given, pairOf}
+use Rattle.frames.specs.Frames.{aviOf, audioOf, audioOffFrame}
 use Rattle.matrix.specs.Coefficient.{word, field, valueOf}
 use Rattle.matrix.specs.Preview.{previewOf}
-use Rattle.request.specs.Read.{readOf, nctsOf}
-
--- rates 0, 1, 2 are 32, 44.1 and 48 kHz; a coherent byte of 1 asks for coherent audio
-abbrev exactly : ℕ → ℕ → Pair
-exactly n cts = record { refusal = 0; n = n; cts = cts }
+use Rattle.request.specs.Read.{readOf, lineOf}
 
 -- Table 39 as a request has it: mode 1, A 3155, 2048, 0, -1578; B -938, 2048, -376, 657; C -1, 2048, 3717, -1858
 abbrev table39 : List ℕ
@@ -26,6 +19,11 @@ table39 =
     0xFF ∷ 0xFF ∷ 0x08 ∷ 0x00 ∷ 0x0E ∷ 0x85 ∷ 0xF8 ∷ 0xBE ∷ []
 
 pub record MarkedCases : Type 0 where
+  -- "For the ten bytes `04 10 00 00 01 03 02 02 01 00` the whole output is `accepted vic 16 n 6144 cts 148500 avi 27 audio 70`"
+  pub example : lineOf (0x04 ∷ 0x10 ∷ 0x00 ∷ 0x00 ∷ 0x01 ∷ 0x03 ∷ 0x02 ∷ 0x02 ∷ 0x01 ∷ 0x00 ∷ [])
+      ≡ record { refusal = 0; vic = 16; n = 6144; cts = 148500; avi = 0x27; audio = 0x70 }
+  -- "and for an empty input `refused 1`"
+  pub empty : lineOf [] .refusal ≡ 1
   -- 1. `04`: refused 1
   pub case1 : readOf (0x04 ∷ []) .refusal ≡ 1
   -- 2. `05 10 00 00 01`: refused 2
@@ -36,19 +34,19 @@ pub record MarkedCases : Type 0 where
   pub case4 : (clockOf 19 1 .refusal ≡ 4) × (readOf (0x04 ∷ 19 ∷ 1 ∷ 0x00 ∷ 0x01 ∷ 0x00 ∷ 0x00 ∷ []) .refusal ≡ 4)
   -- 5. `04 10 00 01 01 00 00`: refused 6
   pub case5 : readOf (0x04 ∷ 0x10 ∷ 0x00 ∷ 0x01 ∷ 0x01 ∷ 0x00 ∷ 0x00 ∷ []) .refusal ≡ 6
-  -- 6. VIC 16, family 0, 48 kHz, coherent (so are 7 and 8): 6144, 148500
-  pub case6 : pairOf 16 0 2 1 ≡ exactly 6144 148500
+  -- 6. VIC 16, family 0, 48 kHz, coherent (so are 7 and 8): 6144, 148500. (Rates 0, 1, 2 are 32, 44.1 and 48 kHz.)
+  pub case6 : pairOf 16 0 2 1 ≡ given 6144 148500
   -- 7. VIC 60, family 0, 44.1 kHz: 5488, 57750
-  pub case7 : pairOf 60 0 1 1 ≡ exactly 5488 57750
+  pub case7 : pairOf 60 0 1 1 ≡ given 5488 57750
   -- 8. VIC 60, family 1, 32 kHz: 5824, 84375
-  pub case8 : pairOf 60 1 0 1 ≡ exactly 5824 84375
+  pub case8 : pairOf 60 1 0 1 ≡ given 5824 84375
   -- 9. VIC 4, family 1, 32 kHz, coherent: refused 9, for N would have to be a multiple of 23296
   pub case9 : pairOf 4 1 0 1 .refusal ≡ 9
   pub case9For : (n cts : ℕ) → reference 0 * cts * clockOf 4 1 .den ≡ clockOf 4 1 .num * n → 23296 ∣ n
   -- 10. AVI, VIC 16, RGB: checksum 0x27
   pub case10 : getD (aviOf 16 0 .bytes) 3 0 ≡ 0x27
   -- 11. Audio InfoFrame, 8 channels: 0x57; off: 0x71
-  pub case11 : (getD (audioOf 8 .bytes) 3 0 ≡ 0x57) × (getD silentFrame 3 0 ≡ 0x71)
+  pub case11 : (getD (audioOf 8 .bytes) 3 0 ≡ 0x57) × (getD audioOffFrame 3 0 ≡ 0x71)
   -- 12. Table 39's A4 bytes 0x19, 0xD6: -1578; C1 0x1F, 0xFF: -1
   pub case12 : (valueOf (field (word 0x19 0xD6)) ≡ negsuc 1577) × (valueOf (field (word 0x1F 0xFF)) ≡ negsuc 0)
   -- 13. Table 39 on 2048, 3760, 2048: 3759, 3760, 3760

@@ -1,8 +1,10 @@
 -- Document 01, "Refusal numbers": the rows of the list, their numbers, their order, and what it is to give one.
 use mathlib.Core.Path.{_≡_}
 use mathlib.Core.Logic.{_↔_, _≢_}
+use mathlib.Core.Bool.{Bool, true, false, cond}
 use mathlib.Core.List.{List, [], _∷_}
 use Prim.Native.Nat.{ℕ, _<_, _≤_}
+use lib.Dec.{eqb}
 use lib.ListN.{length, getD}
 
 -- a row, named after its "When"
@@ -24,26 +26,33 @@ number noRequest = 11
 number inputAbove = 12
 number twoHolds = 13
 
--- "Checked in this order". Each call checks some of the rows, in this order.
+-- "Checked in this order"
 abbrev pub order : List Row
 order =
     inputEnds ∷ countNotAllowed ∷ bytesAfter ∷ modeNotOffered ∷ fieldOutOfRange ∷ combination ∷ imageLength ∷ holdsUp ∷ noExactPair ∷ bufferShort ∷
     noRequest ∷ inputAbove ∷ twoHolds ∷ []
 
 -- a row that a call checks, and when it applies to the call's input
-pub record Rule : Type 1 where
+pub record Condition : Type 1 where
   pub row : Row
   pub When : Type 0
 
-abbrev pub rule : Row → Type 0 → Rule
-rule row When = record { row = row; When = When }
+infix 80 _when_
+abbrev pub _when_ : Row → Type 0 → Condition
+row when P = record { row = row; When = P }
 
--- the rule at a place of a call's list; past its end there is none that applies
-abbrev pub at : List Rule → ℕ → Rule
-at rules i = getD rules i (rule inputEnds ⊥)
+-- a call's conditions are some of the rows, in this order
+abbrev pub inOrder : List Condition → List Row → Bool
+inOrder [] rows = true
+inOrder (c ∷ cs) [] = false
+inOrder (c ∷ cs) (r ∷ rs) = cond (eqb (number (c .row)) (number r)) (inOrder cs rs) (inOrder (c ∷ cs) rs)
 
--- the first of a call's rules that applies, and its number
-pub record First (rules : List Rule) (given : ℕ) : Type 0 where
+-- the condition at a place of a call's list; past its end there is none that applies
+abbrev pub at : List Condition → ℕ → Condition
+at rules i = getD rules i (inputEnds when ⊥)
+
+-- the first of a call's conditions that applies, and its number
+pub record First (rules : List Condition) (given : ℕ) : Type 0 where
   pub place : ℕ
   pub within : place < length rules
   pub numbered : given ≡ number (at rules place .row)
@@ -51,7 +60,8 @@ pub record First (rules : List Rule) (given : ℕ) : Type 0 where
   pub earlier : (i : ℕ) → i < place → at rules i .When → ⊥
 
 -- "the lowest that applies is given, and none is given otherwise": what a call gives, 0 for none
-pub record Given (rules : List Rule) (given : ℕ) : Type 0 where
+pub record Given (rules : List Condition) (given : ℕ) : Type 0 where
+  pub ordered : inOrder rules order ≡ true
   -- the one given applies, and none earlier in the order does
   pub some : given ≢ 0 → First rules given
   -- none is given exactly when none applies

@@ -38,8 +38,9 @@ impl Refusal {
     pub const TWO_HOLDS: u8 = 13;
 }
 
-// The constants are the numbers of the rows.
+// The constants are the numbers of the rows, and 0 for none.
 pub fn numbers()
+    ensures { λ _. do ⌜ (← ⟦Refusal::NONE⟧ .entry) ≡ 0 ⌝ }
     ensures { λ _. do ⌜ (← ⟦Refusal::INPUT_ENDS⟧ .entry) ≡ number inputEnds ⌝ }
     ensures { λ _. do ⌜ (← ⟦Refusal::COUNT_NOT_ALLOWED⟧ .entry) ≡ number countNotAllowed ⌝ }
     ensures { λ _. do ⌜ (← ⟦Refusal::BYTES_AFTER⟧ .entry) ≡ number bytesAfter ⌝ }

@@ -1,80 +1,122 @@
 -- Row 9 of a request, and both calls' rules in order. Assumes nothing.
 use mathlib.Core.Path.{_≡_, refl, sym, ap, _∙_}
 use mathlib.Core.Logic.{_≢_, _⊎_, inl, inr}
-use mathlib.Core.Bool.{Bool, true, false, false≢true, cond, not, _&&_, _||_}
+use mathlib.Core.Bool.{Bool, true, false, false≢true, cond}
 use mathlib.Core.List.{List, [], _∷_, _++_}
-use Prim.Native.Nat.{ℕ, _<_}
-use native.Mathlib.Omega.{arith}
-use lib.Dec.{eqb, ltb}
-use borrow.Author.Tests.{ltb-false}
-use Rattle.lists.proofs.Both.{neither-left, neither-right}
-use Rattle.refusals.specs.Rows.{noExactPair, Rule, rule, Given}
+use Prim.Native.Nat.{ℕ, zero, suc, _+_, _<_}
+use lib.Dec.{eqb, leb, lit<}
+use lib.ListN.{length, take, drop}
+use lib.Seq.{getD-drop}
+use borrow.Author.Tests.{eqb-true}
+use Rattle.lists.specs.Among.{among}
+use Rattle.refusals.specs.Rows.{noExactPair, Condition, _when_, Given}
 use Rattle.refusals.proofs.First.{Tried, then, tried}
 use Rattle.clock.specs.declared.Pair.{Pair}
 use Rattle.clock.specs.Modes.{offered, clockOf}
 use Rattle.clock.specs.Pairs.{Exact}
-use Rattle.clock.specs.Found.{pairOf, refused}
+use Rattle.clock.specs.Found.{numbered}
 use Rattle.clock.specs.Theorems.{pairRules}
 use Rattle.clock.proofs.Rows.{in-turn}
 use Rattle.request.specs.declared.Sound.the-variants.{Off, On}
-use Rattle.matrix.specs.Matrix.{sound}
+use Rattle.matrix.specs.Matrix.{Bytes}
 use Rattle.request.specs.declared.Request.{Request}
-use Rattle.request.specs.Sections.{Walk, bodyOf, walked}
-use Rattle.request.specs.Request.{present, vic, family, encoding, link, rate, channels, coherent, audioOutside, outside, soundOf, requestIn, NoPair, readRules, nctsRules}
-use Rattle.request.specs.Read.{checked, pairIn, pairFor, readOf, nctsOf, Rows}
-use Rattle.request.proofs.Ordered.{tried-read, Judged, passed}
+use Rattle.request.specs.Sections.{Walk, ends, notAllowed, whole, after, walk, walked, sections, bodyOf}
+use Rattle.request.specs.Request.{Present, present, vic, family, rate, channels, coherent, Outside, requestIn, NoPair, readRules, nctsRules}
+use Rattle.request.specs.Read.{checked, pairIn, pairFor, readOf, nctsOf, accepted, lineOf, Rows}
+use Rattle.request.proofs.Ordered.{tried-read, Judged, passed, full, is-outside}
 
--- where an audio section is there and row 5 does not apply, its rate and its coherent byte are in range
-none-outside : (a : List ℕ) → audioOutside a ≡ false → (6 < rate a) ⊎ (1 < coherent a) → ⊥
-none-outside a y h = go (neither-left (ltb 6 (rate a)) wrong (neither-left (ltb 6 (rate a) || wrong) late y)) (neither-right (ltb 6 (rate a) || wrong) late y) h
-  where
-    wrong : Bool
-    wrong = not (eqb (channels a) 2 || eqb (channels a) 8)
-
-    late : Bool
-    late = ltb 1 (coherent a)
-
-    go : ltb 6 (rate a) ≡ false → ltb 1 (coherent a) ≡ false → (6 < rate a) ⊎ (1 < coherent a) → ⊥
-    go p q (inl h) = omega (arith, ltb-false 6 (rate a) p)
-    go p q (inr h) = omega (arith, ltb-false 1 (coherent a) q)
-
-in-range : (v a m : List ℕ) → outside v a m ≡ false → present a ≡ true → (6 < rate a) ⊎ (1 < coherent a) → ⊥
-unfolding outside
-in-range v a m e p =
-    let x = neither-right (ltb 2 (encoding v) || ltb 1 (link v)) (present a && audioOutside a) (neither-left _ (present m && not (sound m)) e) in
-    none-outside a (sym (ap (λ (b : Bool). b && audioOutside a) p) ∙ x)
+-- where row 5 does not apply, the rate and the coherent byte of an audio section are in range
+in-range : (v a m : List ℕ) → (Outside v a m → ⊥) → Present a → (6 < rate a) ⊎ (1 < coherent a) → ⊥
+in-range v a m o p (inl h) = o (inr (inr (inl (p, inl h))))
+in-range v a m o p (inr h) = o (inr (inr (inl (p, inr (inr h)))))
 
 -- the rules of the call on single fields, where the mode is offered and the fields are in range: row 9 is left
-nine : (w : Walk) → offered (vic (bodyOf 0 w)) (family (bodyOf 0 w)) ≡ true → ((6 < rate (bodyOf 1 w)) ⊎ (1 < coherent (bodyOf 1 w)) → ⊥) → present (bodyOf 1 w) ≡ true
-    → (n : ℕ) → Tried (pairRules (vic (bodyOf 0 w)) (family (bodyOf 0 w)) (rate (bodyOf 1 w)) (coherent (bodyOf 1 w))) n → Tried (rule noExactPair (NoPair w) ∷ []) n
+nine : (w : Walk) → offered (vic (bodyOf 0 w)) (family (bodyOf 0 w)) ≡ true → ((6 < rate (bodyOf 1 w)) ⊎ (1 < coherent (bodyOf 1 w)) → ⊥) → Present (bodyOf 1 w)
+    → (n : ℕ) → Tried (pairRules (vic (bodyOf 0 w)) (family (bodyOf 0 w)) (rate (bodyOf 1 w)) (coherent (bodyOf 1 w))) n → Tried (noExactPair when (NoPair w) ∷ []) n
 nine w o r p n (inl h) = absurd (false≢true (sym (h .0) ∙ o))
 nine w o r p n (inr (_, inl h)) = absurd (r (h .0))
 nine w o r p n (inr (_, inr (_, inl h))) = inl ((p, h .0 .0, h .0 .1), h .1)
 nine w o r p n (inr (_, inr (_, inr h))) = inr ((λ x. h .0 (x .1, x .2)), h .1)
 
-sounds : (w : Walk) → Judged (bodyOf 0 w) (bodyOf 1 w) (bodyOf 2 w) (checked w)
-    → Tried (rule noExactPair (NoPair w) ∷ []) (pairFor (requestIn (bodyOf 0 w) (bodyOf 1 w) (bodyOf 2 w)) .refusal)
+sounds : (w : Walk) → Bytes (bodyOf 2 w) → Judged (bodyOf 0 w) (bodyOf 1 w) (bodyOf 2 w) (checked w)
+    → Tried (noExactPair when (NoPair w) ∷ []) (pairFor (requestIn (bodyOf 0 w) (bodyOf 1 w) (bodyOf 2 w)) .refusal)
 unfolding pairFor
-sounds w j = go (present (bodyOf 1 w)) refl
+sounds w bytes j = go (present (bodyOf 1 w)) refl
   where
     r : Request
     r = requestIn (bodyOf 0 w) (bodyOf 1 w) (bodyOf 2 w)
 
     go : (b : Bool) → present (bodyOf 1 w) ≡ b
-        → Tried (rule noExactPair (NoPair w) ∷ []) (pairIn r (cond b (On (rate (bodyOf 1 w)) (channels (bodyOf 1 w)) (coherent (bodyOf 1 w))) Off) .refusal)
-    go true e = nine w (j .mode) (in-range (bodyOf 0 w) (bodyOf 1 w) (bodyOf 2 w) (j .inside) e) e _ (in-turn _ _ _ _)
-    go false e = inr ((λ x. false≢true (sym e ∙ x .0)), refl)
+        → Tried (noExactPair when (NoPair w) ∷ []) (pairIn r (cond b (On (rate (bodyOf 1 w)) (channels (bodyOf 1 w)) (coherent (bodyOf 1 w))) Off) .refusal)
+    go true e =
+        let p = full (bodyOf 1 w) .passes e in
+        nine w (j .mode) (in-range (bodyOf 0 w) (bodyOf 1 w) (bodyOf 2 w) (is-outside (bodyOf 0 w) (bodyOf 1 w) (bodyOf 2 w) bytes .fails (j .inside)) p) p _ (in-turn _ _ _ _)
+    go false e = inr ((λ x. full (bodyOf 1 w) .fails e (x .0)), refl)
 
 abbrev numberOf : Pair → ℕ
 numberOf p = p .refusal
 
+-- the bytes of a walk's bodies are bytes of the input
+none-there : Bytes []
+none-there i = lit< tt
+
+taken : (n : ℕ) (s : List ℕ) → Bytes s → Bytes (take n s)
+taken zero s b = none-there
+taken (suc n) [] b = none-there
+taken (suc n) (x ∷ s) b = go (taken n s (λ j. b (suc j)))
+  where
+    go : Bytes (take n s) → Bytes (x ∷ take n s)
+    go t zero = b zero
+    go t (suc i) = t i
+
+left : (n : ℕ) (s : List ℕ) → Bytes s → Bytes (drop n s)
+left n s b i = rw (getD-drop n s i 0) (b (n + i))
+
+joined : (body : List ℕ) (w : Walk) → Bytes body → ((k : ℕ) → Bytes (bodyOf k w)) → (k : ℕ) → Bytes (bodyOf k (after body w))
+joined body ends b f k = none-there
+joined body notAllowed b f k = none-there
+joined body (whole bodies rest) b f zero = b
+joined body (whole bodies rest) b f (suc k) = f k
+
+parts : (cs : List (List ℕ)) (s : List ℕ) → Bytes s → (k : ℕ) → Bytes (bodyOf k (walk cs s))
+unfolding walk
+parts [] s b k = none-there
+parts (c ∷ cs) [] b k = none-there
+parts (c ∷ cs) (n ∷ s) b k = go (among n c) (leb n (length s)) (joined (take n s) (walk cs (drop n s)) (taken n s rest) (parts cs (drop n s) (left n s rest)) k)
+  where
+    rest : Bytes s
+    rest i = b (suc i)
+
+    go : (t u : Bool) → Bytes (bodyOf k (after (take n s) (walk cs (drop n s))))
+        → Bytes (bodyOf k (cond t (cond u (after (take n s) (walk cs (drop n s))) ends) notAllowed))
+    go true true h = h
+    go true false h = none-there
+    go false u h = none-there
+
+both-calls : (w : Walk) → Bytes (bodyOf 2 w)
+    → Tried (nctsRules w) (cond (eqb (checked w .refusal) 0) (pairFor (checked w .request)) (numbered (checked w .refusal)) .refusal)
+both-calls w bytes =
+    then numberOf (readRules w) (noExactPair when NoPair w ∷ []) (checked w .refusal) (pairFor (checked w .request)) (numbered (checked w .refusal))
+    (tried-read w bytes) (λ _. refl) (λ z. let j = passed w z in rw (j .request) (sounds w bytes j))
+
+-- what the small program prints is refused as N and CTS are
+same-number : (input : List ℕ) → lineOf input .refusal ≡ nctsOf input .refusal
+unfolding lineOf
+same-number input = go (eqb (nctsOf input .refusal) 0) refl
+  where
+    go : (b : Bool) → eqb (nctsOf input .refusal) 0 ≡ b
+        → cond b (accepted (readOf input .request) (nctsOf input)) (record { refusal = nctsOf input .refusal; vic = 0; n = 0; cts = 0; avi = 0; audio = 0 }) .refusal ≡ nctsOf input .refusal
+    go true e = sym (eqb-true _ _ e)
+    go false e = refl
+
 pub rows : (input : List ℕ) → Rows input
-unfolding readOf nctsOf
+unfolding readOf nctsOf walked
 rows input =
     let w : Walk = walked input in
-    let t = tried-read w in
+    let bytes : Bytes input → Bytes (bodyOf 2 w) = λ b. parts sections input b 2 in
+    let both : Bytes input → Given (nctsRules w) (nctsOf input .refusal) = λ b. tried (nctsRules w) _ refl (both-calls w (bytes b)) in
     record {
-      read = tried (readRules w) _ t;
-      ncts = tried (nctsRules w) _ (then numberOf (readRules w) (rule noExactPair (NoPair w) ∷ []) (checked w .refusal) (pairFor (checked w .request)) (refused (checked w .refusal)) t (λ _. refl)
-          (λ z. let j = passed w z in rw (j .request) (sounds w j)));
+      read = λ b. tried (readRules w) _ refl (tried-read w (bytes b));
+      ncts = both;
+      line = λ b. rw (same-number input) (both b);
     }

@@ -5,19 +5,18 @@ use mathlib.Core.Bool.{Bool, true, false, false≢true, cond, not}
 use mathlib.Core.List.{List, [], _∷_}
 use Prim.Native.Nat.{ℕ}
 use native.Mathlib.Omega.{arith}
-use lib.ListN.{drop, getD}
+use lib.ListN.{length, drop, getD}
 use borrow.Author.Tests.{not-true, not-false}
-use Rattle.refusals.specs.Rows.{Rule, at}
+use Rattle.refusals.specs.Rows.{Condition, at}
+use Rattle.lists.proofs.Decides.{Decides, itself, equal, less, opposite, either, together, restated}
+use Rattle.matrix.specs.Matrix.{isAllowed, Allowed, Bytes}
+use Rattle.matrix.proofs.Numbers.{numbers}
 use Rattle.refusals.proofs.First.{Tried, test}
 use Rattle.clock.specs.Modes.{offered}
 use Rattle.request.specs.declared.Checked.{Checked}
 use Rattle.request.specs.Sections.{Walk, ends, notAllowed, whole, bodyOf}
-use Rattle.request.specs.Request.{present, vic, family, outside, combined, requestIn, readRules}
-use Rattle.request.specs.Read.{refusedRequest, judged, checked, readOf}
-
--- a test that came out one way did not come out the other
-other : (b : Bool) → b ≡ false → b ≡ true → ⊥
-other b f t = false≢true (sym f ∙ t)
+use Rattle.request.specs.Request.{Present, present, vic, family, encoding, link, rate, channels, coherent, AudioOutside, Outside, Combined, requestIn, readRules}
+use Rattle.request.specs.Read.{audioOutside, outside, combined, emptied, judged, checked}
 
 -- the three kinds of walk are different
 abbrev kind : Walk → ℕ
@@ -29,13 +28,35 @@ kind (whole bodies rest) = 2
 abbrev numberOf : Checked → ℕ
 numberOf c = c .refusal
 
-judged-rules : (w : Walk) → Tried (drop 3 (readRules w)) (judged (bodyOf 0 w) (bodyOf 1 w) (bodyOf 2 w) .refusal)
+-- what the tests of rows 3, 5 and 6 decide
+pub full : (l : List ℕ) → Decides (present l) (Present l)
+full l = opposite (equal (length l) 0)
+
+out-of-range : (a : List ℕ) → Decides (audioOutside a) (AudioOutside a)
+out-of-range a = either (less 6 (rate a)) (either (together (opposite (equal (channels a) 2)) (opposite (equal (channels a) 8))) (less 1 (coherent a)))
+
+pub is-outside : (v a m : List ℕ) → Bytes m → Decides (outside v a m) (Outside v a m)
+unfolding outside
+is-outside v a m bytes =
+    let allowed : Decides (isAllowed m) (Allowed m) = restated (numbers m bytes .rule .0) (numbers m bytes .rule .1) (itself (isAllowed m)) in
+    either (less 2 (encoding v)) (either (less 1 (link v)) (either (together (full a) (out-of-range a)) (together (full m) (opposite allowed))))
+
+is-combined : (v a m : List ℕ) → Decides (combined v a m) (Combined v a m)
+unfolding combined
+is-combined v a m =
+    either (together (opposite (equal (encoding v) 0)) (equal (length m) 0))
+    (together (equal (link v) 0) (either (full a) (opposite (equal (encoding v) 0))))
+
+not-offered : (b : Bool) → Decides (not b) (b ≡ false)
+not-offered b = record { passes = not-true b; fails = λ n f. false≢true (sym f ∙ not-false b n) }
+
+judged-rules : (w : Walk) → Bytes (bodyOf 2 w) → Tried (drop 3 (readRules w)) (judged (bodyOf 0 w) (bodyOf 1 w) (bodyOf 2 w) .refusal)
 unfolding judged
-judged-rules w =
-    let rs : List Rule = readRules w in
-    test numberOf (at rs 3) (drop 4 rs) (not (offered (vic (bodyOf 0 w)) (family (bodyOf 0 w)))) _ _ refl (not-true _) (λ n f. other _ f (not-false _ n))
-    (λ n. test numberOf (at rs 4) (drop 5 rs) (outside (bodyOf 0 w) (bodyOf 1 w) (bodyOf 2 w)) _ _ refl (λ t. t) (other _)
-    (λ m. test numberOf (at rs 5) [] (combined (bodyOf 0 w) (bodyOf 1 w) (bodyOf 2 w)) _ _ refl (λ t. t) (other _) (λ o. refl)))
+judged-rules w bytes =
+    let rs : List Condition = readRules w in
+    test numberOf (at rs 3) (drop 4 rs) _ _ _ refl (not-offered (offered (vic (bodyOf 0 w)) (family (bodyOf 0 w))))
+    (λ n. test numberOf (at rs 4) (drop 5 rs) _ _ _ refl (is-outside (bodyOf 0 w) (bodyOf 1 w) (bodyOf 2 w) bytes)
+    (λ m. test numberOf (at rs 5) [] _ _ _ refl (is-combined (bodyOf 0 w) (bodyOf 1 w) (bodyOf 2 w)) (λ o. refl)))
 
 -- a walk that found the bodies did not end early, and met no count that is not allowed
 not-ends : (w : Walk) → kind w ≢ 0 → w ≡ ends → ⊥
@@ -44,16 +65,16 @@ not-ends w h e = h (ap kind e)
 not-refused : (w : Walk) → kind w ≢ 1 → w ≡ notAllowed → ⊥
 not-refused w h e = h (ap kind e)
 
-pub tried-read : (w : Walk) → Tried (readRules w) (checked w .refusal)
-tried-read ends = inl (refl, refl)
-tried-read notAllowed = inr (not-ends notAllowed (omega arith), inl (refl, refl))
-tried-read (whole bodies rest) =
+pub tried-read : (w : Walk) → Bytes (bodyOf 2 w) → Tried (readRules w) (checked w .refusal)
+tried-read ends bytes = inl (refl, refl)
+tried-read notAllowed bytes = inr (not-ends notAllowed (omega arith), inl (refl, refl))
+tried-read (whole bodies rest) bytes =
     let w : Walk = whole bodies rest in
     inr (
       not-ends w (omega arith),
       inr (
         not-refused w (omega arith),
-        test numberOf (at (readRules w) 2) (drop 3 (readRules w)) (present rest) _ _ refl (λ t. t) (other _) (λ f. judged-rules w),
+        test numberOf (at (readRules w) 2) (drop 3 (readRules w)) (present rest) _ _ refl (full rest) (λ f. judged-rules w bytes),
       ),
     )
 
@@ -66,7 +87,7 @@ module _ (v a m : List ℕ) where
 
   judgement : Bool → Bool → Bool → Checked
   judgement o x y =
-      cond (not o) (refusedRequest 4) (cond x (refusedRequest 5) (cond y (refusedRequest 6) (record { refusal = 0; request = requestIn v a m })))
+      cond (not o) (emptied 4) (cond x (emptied 5) (cond y (emptied 6) (record { refusal = 0; request = requestIn v a m })))
 
   by-tests : (o x y : Bool) → offered (vic v) (family v) ≡ o → outside v a m ≡ x → combined v a m ≡ y → judgement o x y .refusal ≡ 0 → Judged (judgement o x y)
   unfolding judgement
@@ -85,7 +106,7 @@ passed ends z = absurd (omega arith)
 passed notAllowed z = absurd (omega arith)
 passed (whole bodies rest) z = go (present rest) z
   where
-    go : (b : Bool) → cond b (refusedRequest 3) (judged (getD bodies 0 []) (getD bodies 1 []) (getD bodies 2 [])) .refusal ≡ 0
-        → Judged (getD bodies 0 []) (getD bodies 1 []) (getD bodies 2 []) (cond b (refusedRequest 3) (judged (getD bodies 0 []) (getD bodies 1 []) (getD bodies 2 [])))
+    go : (b : Bool) → cond b (emptied 3) (judged (getD bodies 0 []) (getD bodies 1 []) (getD bodies 2 [])) .refusal ≡ 0
+        → Judged (getD bodies 0 []) (getD bodies 1 []) (getD bodies 2 []) (cond b (emptied 3) (judged (getD bodies 0 []) (getD bodies 1 []) (getD bodies 2 [])))
     go true z = absurd (omega arith)
     go false z = accepted (getD bodies 0 []) (getD bodies 1 []) (getD bodies 2 []) z

@@ -11,10 +11,11 @@ use lib.ListN.{getD, length, take, drop, length-take, length-drop, drop-of-lengt
 use lib.Seq.{drop-cons, drop-drop}
 use borrow.Author.Tests.{leb-true, leb-false, ltb-true, ltb-false, le-leb, lt-leb, eqb-true, eqb-false, eq-eqb, ne-eqb}
 use Rattle.lists.specs.Among.{among}
+use Rattle.refusals.specs.Rows.{inputEnds, countNotAllowed}
 use Rattle.request.specs.declared.sections.Part.{Part}
 use Rattle.request.specs.Sections.{Walk, ends, notAllowed, whole, after, walk, walked, sections}
 use Rattle.request.specs.Part.{partOf, noPart}
-use Rattle.request.specs.Read.{refusedRequest, judged, checked, readOf}
+use Rattle.request.specs.Read.{emptied, judged, checked, readOf}
 
 -- what is found where a section is refused
 abbrev pub failed : ℕ → Walk
@@ -31,7 +32,7 @@ module _ (s : List ℕ) (place k : ℕ) (more : List (List ℕ)) where
   body : (a t : Bool) → length s - suc place ≡ length (drop (suc place) s) → place < length s
       → among n (getD sections k []) ≡ a → ltb (length s - suc place) n ≡ t
       → walk (getD sections k [] ∷ more) (n ∷ drop (suc place) s)
-      ≡ from more s (cond (not a) (noPart 2) (cond t (noPart 1) (record { refusal = 0; start = suc place; end = suc place + n })))
+      ≡ from more s (cond (not a) (noPart countNotAllowed) (cond t (noPart inputEnds) (record { refusal = 0; start = suc place; end = suc place + n })))
   unfolding walk
   body false t l h e g = rw e
   body true true l h e g = rw (e, lt-leb n (length (drop (suc place) s)) (rw (← l) (ltb-true _ _ g)))
@@ -45,7 +46,7 @@ module _ (s : List ℕ) (place k : ℕ) (more : List (List ℕ)) where
     where
       go : (b : Bool) → leb (length s) place ≡ b
           → walk (getD sections k [] ∷ more) (drop place s)
-          ≡ from more s (cond b (noPart 1) (cond (not (among n (getD sections k []))) (noPart 2) (cond (ltb (length s - (place + 1)) n) (noPart 1) (record { refusal = 0; start = place + 1; end = place + 1 + n }))))
+          ≡ from more s (cond b (noPart inputEnds) (cond (not (among n (getD sections k []))) (noPart countNotAllowed) (cond (ltb (length s - (place + 1)) n) (noPart inputEnds) (record { refusal = 0; start = place + 1; end = place + 1 + n }))))
       go true e = rw (drop-of-length-le s (leb-true _ _ e))
       go false e =
           let h : place < length s = leb-false _ _ e in
@@ -58,7 +59,7 @@ module _ (s : List ℕ) (place k : ℕ) (more : List (List ℕ)) where
     where
       found : Bool → Bool → Bool → Part
       found b a t =
-          cond b (noPart 1) (cond (not a) (noPart 2) (cond t (noPart 1) (record { refusal = 0; start = place + 1; end = place + 1 + getD s place 0 })))
+          cond b (noPart inputEnds) (cond (not a) (noPart countNotAllowed) (cond t (noPart inputEnds) (record { refusal = 0; start = place + 1; end = place + 1 + getD s place 0 })))
 
       go : (b a : Bool) → among (getD s place 0) (getD sections k []) ≡ a → (t : Bool) → found b a t .refusal ≡ 0
           → among (found b a t .end - found b a t .start) (getD sections k []) ≡ true
@@ -85,7 +86,7 @@ unfolding partOf
 small s place k = go (leb (length s) place) (among (getD s place 0) (getD sections k [])) (ltb (length s - (place + 1)) (getD s place 0))
   where
     go : (b a t : Bool)
-        → cond b (noPart 1) (cond (not a) (noPart 2) (cond t (noPart 1) (record { refusal = 0; start = place + 1; end = place + 1 + getD s place 0 }))) .refusal ≤ 2
+        → cond b (noPart inputEnds) (cond (not a) (noPart countNotAllowed) (cond t (noPart inputEnds) (record { refusal = 0; start = place + 1; end = place + 1 + getD s place 0 }))) .refusal ≤ 2
     go true a t = lit≤ tt
     go false false t = lit≤ tt
     go false true true = lit≤ tt
@@ -119,20 +120,20 @@ after-failed body n = go (eqb n 1)
     go true = refl
     go false = refl
 
-pub checked-failed : (n : ℕ) → n ≢ 0 → n ≤ 2 → checked (failed n) ≡ refusedRequest n
+pub checked-failed : (n : ℕ) → n ≢ 0 → n ≤ 2 → checked (failed n) ≡ emptied n
 checked-failed n z h = go (eqb n 1) refl
   where
-    go : (b : Bool) → eqb n 1 ≡ b → checked (cond b ends notAllowed) ≡ refusedRequest n
+    go : (b : Bool) → eqb n 1 ≡ b → checked (cond b ends notAllowed) ≡ emptied n
     go true e = rw (eqb-true n 1 e)
     go false e = let y : n ≢ 1 = eqb-false n 1 e in let t : n ≡ 2 = omega arith in rw t
 
 -- what is read where a section is refused, and where none is
-pub read-failed : (s : List ℕ) (n : ℕ) → walked s ≡ failed n → n ≢ 0 → n ≤ 2 → refusedRequest n ≡ readOf s
+pub read-failed : (s : List ℕ) (n : ℕ) → walked s ≡ failed n → n ≢ 0 → n ≤ 2 → emptied n ≡ readOf s
 unfolding readOf
 read-failed s n w z h = rw w (sym (checked-failed n z h))
 
 module _ (s a b c rest : List ℕ) (w : walked s ≡ whole (a ∷ b ∷ c ∷ []) rest) where
-  pub read-after : length rest ≢ 0 → refusedRequest 3 ≡ readOf s
+  pub read-after : length rest ≢ 0 → emptied 3 ≡ readOf s
   unfolding readOf
   read-after h = rw (w, ne-eqb (length rest) 0 h)
 

@@ -1,42 +1,57 @@
 -- What the calls on a request answer, as the code finds it.
-use mathlib.Core.Bool.{Bool, cond, not}
+use mathlib.Core.Bool.{Bool, cond, not, _&&_, _||_}
 use mathlib.Core.List.{List, []}
 use Prim.Native.Nat.{ℕ}
-use lib.Dec.{eqb}
+use lib.Dec.{eqb, ltb}
 use lib.ListN.{getD, length}
 use Rattle.clock.specs.declared.Pair.{Pair}
 use Rattle.clock.specs.Modes.{offered}
-use Rattle.clock.specs.Pairs.{off}
-use Rattle.clock.specs.Found.{pairOf, refused}
-use Rattle.matrix.specs.Matrix.{noMatrix}
+use Rattle.clock.specs.Pairs.{audioOff}
+use Rattle.clock.specs.Found.{pairOf, numbered}
+use Rattle.matrix.specs.Matrix.{isAllowed, noMatrix, Bytes}
 use Rattle.request.specs.declared.Sound.{Sound}
 use Rattle.request.specs.declared.Sound.the-variants.{Off, On}
 use Rattle.request.specs.declared.Request.{Request}
 use Rattle.request.specs.declared.Checked.{Checked}
 use Rattle.request.specs.Sections.{Walk, ends, notAllowed, whole, walked}
-use Rattle.request.specs.Request.{present, vic, family, outside, combined, requestIn, readRules, nctsRules}
+use Rattle.request.specs.Request.{present, vic, family, encoding, link, rate, channels, coherent, requestIn, readRules, nctsRules}
 use Rattle.request.specs.declared.Line.{Line}
-use Rattle.refusals.specs.Rows.{Given}
-use Rattle.frames.specs.Frames.{aviOf, audioOf, silentFrame}
+use Rattle.refusals.specs.Rows.{Row, inputEnds, countNotAllowed, bytesAfter, modeNotOffered, fieldOutOfRange, combination, number, Given}
+use Rattle.frames.specs.Frames.{aviOf, audioOf, audioOffFrame}
 
--- a refusal stands beside a request of zeros
-abbrev pub refusedRequest : ℕ → Checked
-refusedRequest number = record { refusal = number; request = record { vic = 0; family = 0; encoding = 0; link = 0; sound = Off; matrix = noMatrix } }
+-- a refusal stands beside an empty request: fields 0, audio off, no matrix
+abbrev pub emptied : ℕ → Checked
+emptied number = record { refusal = number; request = record { vic = 0; family = 0; encoding = 0; link = 0; sound = Off; matrix = noMatrix } }
+
+abbrev pub refusedRequest : Row → Checked
+refusedRequest row = emptied (number row)
+
+-- the tests of row 5 and row 6
+abbrev pub audioOutside : List ℕ → Bool
+audioOutside audio = ltb 6 (rate audio) || ((not (eqb (channels audio) 2) && not (eqb (channels audio) 8)) || ltb 1 (coherent audio))
+
+unfoldable pub outside : List ℕ → List ℕ → List ℕ → Bool
+outside video audio matrix =
+    ltb 2 (encoding video) || (ltb 1 (link video) || ((present audio && audioOutside audio) || (present matrix && not (isAllowed matrix))))
+
+unfoldable pub combined : List ℕ → List ℕ → List ℕ → Bool
+combined video audio matrix =
+    (not (eqb (encoding video) 0) && eqb (length matrix) 0) || (eqb (link video) 0 && (present audio || not (eqb (encoding video) 0)))
 
 -- rows 4 to 6, in order
 unfoldable pub judged : List ℕ → List ℕ → List ℕ → Checked
 judged video audio matrix =
-    cond (not (offered (vic video) (family video))) (refusedRequest 4)
-    (cond (outside video audio matrix) (refusedRequest 5)
-    (cond (combined video audio matrix) (refusedRequest 6)
+    cond (not (offered (vic video) (family video))) (refusedRequest modeNotOffered)
+    (cond (outside video audio matrix) (refusedRequest fieldOutOfRange)
+    (cond (combined video audio matrix) (refusedRequest combination)
     (record { refusal = 0; request = requestIn video audio matrix })))
 
 -- rows 1 to 3, and then the others
 abbrev pub checked : Walk → Checked
-checked ends = refusedRequest 1
-checked notAllowed = refusedRequest 2
+checked ends = refusedRequest inputEnds
+checked notAllowed = refusedRequest countNotAllowed
 checked (whole bodies rest) =
-    cond (present rest) (refusedRequest 3) (judged (getD bodies 0 []) (getD bodies 1 []) (getD bodies 2 []))
+    cond (present rest) (refusedRequest bytesAfter) (judged (getD bodies 0 []) (getD bodies 1 []) (getD bodies 2 []))
 
 -- a request read from an input: refusals 1 to 6
 unfoldable pub readOf : List ℕ → Checked
@@ -44,7 +59,7 @@ readOf input = checked (walked input)
 
 -- N and CTS for a request: refusal 9
 abbrev pub pairIn : Request → Sound → Pair
-pairIn r Off = off
+pairIn r Off = audioOff
 pairIn r (On rate channels coherent) = pairOf (r .vic) (r .family) rate coherent
 
 unfoldable pub pairFor : Request → Pair
@@ -52,11 +67,11 @@ pairFor r = pairIn r (r .sound)
 
 -- N and CTS over a request slice: refusals 1 to 6 and 9
 unfoldable pub nctsOf : List ℕ → Pair
-nctsOf input = cond (eqb (readOf input .refusal) 0) (pairFor (readOf input .request)) (refused (readOf input .refusal))
+nctsOf input = cond (eqb (readOf input .refusal) 0) (pairFor (readOf input .request)) (numbered (readOf input .refusal))
 
 -- the checksums that the small program prints: byte 3 of each frame
 abbrev pub audioChecksum : Sound → ℕ
-audioChecksum Off = getD silentFrame 3 0
+audioChecksum Off = getD audioOffFrame 3 0
 audioChecksum (On rate channels coherent) = getD (audioOf channels .bytes) 3 0
 
 -- "accepted vic .. n .. cts .. avi .. audio ..", or "refused" with its number: refusals 1 to 6 and 9
@@ -78,5 +93,6 @@ lineOf input =
 
 -- of the rows that a call checks, the lowest that applies is given, and none is given otherwise
 pub record Rows (input : List ℕ) : Type 0 where
-  pub read : Given (readRules (walked input)) (readOf input .refusal)
-  pub ncts : Given (nctsRules (walked input)) (nctsOf input .refusal)
+  pub read : Bytes input → Given (readRules (walked input)) (readOf input .refusal)
+  pub ncts : Bytes input → Given (nctsRules (walked input)) (nctsOf input .refusal)
+  pub line : Bytes input → Given (nctsRules (walked input)) (lineOf input .refusal)

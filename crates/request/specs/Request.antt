@@ -1,21 +1,24 @@
 -- Document 01, "The request": the fields of a request, and when each row of the list of refusals applies to it.
 use mathlib.Core.Path.{_≡_}
-use mathlib.Core.Bool.{Bool, true, false, cond, not, _&&_, _||_}
+use mathlib.Core.Logic.{_≢_, _⊎_}
+use mathlib.Core.Bool.{Bool, false, cond, not}
 use mathlib.Core.List.{List, [], _∷_, _++_}
-use Prim.Native.Nat.{ℕ}
-use lib.Dec.{eqb, ltb}
+use Prim.Native.Nat.{ℕ, _<_}
+use lib.Dec.{eqb}
 use lib.ListN.{getD, length}
-use Rattle.refusals.specs.Rows.{inputEnds, countNotAllowed, bytesAfter, modeNotOffered, fieldOutOfRange, combination, noExactPair, Rule, rule}
+use Rattle.refusals.specs.Rows.{inputEnds, countNotAllowed, bytesAfter, modeNotOffered, fieldOutOfRange, combination, noExactPair, Condition, _when_}
 use Rattle.clock.specs.Modes.{offered, clockOf}
 use Rattle.clock.specs.Pairs.{Exact}
-use Rattle.matrix.specs.Matrix.{sound, matrixOf, noMatrix}
+use Rattle.matrix.specs.Matrix.{Allowed, matrixOf, noMatrix}
 use Rattle.request.specs.declared.Sound.{Sound}
 use Rattle.request.specs.declared.Sound.the-variants.{Off, On}
 use Rattle.request.specs.declared.Request.{Request}
-use Rattle.request.specs.declared.Checked.{Checked}
 use Rattle.request.specs.Sections.{Walk, ends, notAllowed, bodyOf, restOf}
 
--- a body of the audio section is absent or has three bytes; one of the matrix section is absent or has 25
+-- not empty
+abbrev pub Present : List ℕ → Type 0
+Present body = length body ≢ 0
+
 abbrev pub present : List ℕ → Bool
 present body = not (eqb (length body) 0)
 
@@ -42,36 +45,36 @@ abbrev pub coherent : List ℕ → ℕ
 coherent audio = getD audio 2 0
 
 -- row 5, "any other field outside its range (matrix mode above 2)"
-abbrev pub audioOutside : List ℕ → Bool
-audioOutside audio = ltb 6 (rate audio) || not (eqb (channels audio) 2 || eqb (channels audio) 8) || ltb 1 (coherent audio)
+abbrev pub AudioOutside : List ℕ → Type 0
+AudioOutside audio = (6 < rate audio) ⊎ ((channels audio ≢ 2) × (channels audio ≢ 8)) ⊎ (1 < coherent audio)
 
-unfoldable pub outside : List ℕ → List ℕ → List ℕ → Bool
-outside video audio matrix =
-    ltb 2 (encoding video) || ltb 1 (link video) || (present audio && audioOutside audio) || (present matrix && not (sound matrix))
+abbrev pub Outside : List ℕ → List ℕ → List ℕ → Type 0
+Outside video audio matrix =
+    (2 < encoding video) ⊎ (1 < link video) ⊎ (Present audio × AudioOutside audio) ⊎ (Present matrix × (Allowed matrix → ⊥))
 
 -- row 6, "encoding not 0 without a matrix; DVI with audio or with encoding not 0"
-unfoldable pub combined : List ℕ → List ℕ → List ℕ → Bool
-combined video audio matrix =
-    (not (eqb (encoding video) 0) && not (present matrix)) || (eqb (link video) 0 && (present audio || not (eqb (encoding video) 0)))
+abbrev pub Combined : List ℕ → List ℕ → List ℕ → Type 0
+Combined video audio matrix =
+    ((encoding video ≢ 0) × (length matrix ≡ 0)) ⊎ ((link video ≡ 0) × (Present audio ⊎ (encoding video ≢ 0)))
 
 -- rows 1 to 6, by what the walk finds in the input: its three bodies, and the bytes after them
-abbrev pub readRules : Walk → List Rule
+abbrev pub readRules : Walk → List Condition
 readRules w =
-    rule inputEnds (w ≡ ends) ∷
-    rule countNotAllowed (w ≡ notAllowed) ∷
-    rule bytesAfter (present (restOf w) ≡ true) ∷
-    rule modeNotOffered (offered (vic (bodyOf 0 w)) (family (bodyOf 0 w)) ≡ false) ∷
-    rule fieldOutOfRange (outside (bodyOf 0 w) (bodyOf 1 w) (bodyOf 2 w) ≡ true) ∷
-    rule combination (combined (bodyOf 0 w) (bodyOf 1 w) (bodyOf 2 w) ≡ true) ∷ []
+    inputEnds when (w ≡ ends) ∷
+    countNotAllowed when (w ≡ notAllowed) ∷
+    bytesAfter when Present (restOf w) ∷
+    modeNotOffered when (offered (vic (bodyOf 0 w)) (family (bodyOf 0 w)) ≡ false) ∷
+    fieldOutOfRange when Outside (bodyOf 0 w) (bodyOf 1 w) (bodyOf 2 w) ∷
+    combination when Combined (bodyOf 0 w) (bodyOf 1 w) (bodyOf 2 w) ∷ []
 
 -- row 9, "coherent audio, and no exact pair exists"
 abbrev pub NoPair : Walk → Type 0
 NoPair w =
-    (present (bodyOf 1 w) ≡ true) × (coherent (bodyOf 1 w) ≡ 1)
+    Present (bodyOf 1 w) × (coherent (bodyOf 1 w) ≡ 1)
     × ((n cts : ℕ) → Exact (clockOf (vic (bodyOf 0 w)) (family (bodyOf 0 w))) (rate (bodyOf 1 w)) n cts → ⊥)
 
-abbrev pub nctsRules : Walk → List Rule
-nctsRules w = readRules w ++ rule noExactPair (NoPair w) ∷ []
+abbrev pub nctsRules : Walk → List Condition
+nctsRules w = readRules w ++ noExactPair when (NoPair w) ∷ []
 
 -- what the bodies say: sound is off where the audio section is empty, the converter where the matrix section is
 abbrev pub soundOf : List ℕ → Sound

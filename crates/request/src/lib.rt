@@ -3,9 +3,9 @@ ghost use mathlib.Core.Path.{_≡_};
 ghost use mathlib.Core.Bool.{not, _&&_};
 ghost use Prim.Native.Nat.{ℕ, _%_, _≤_};
 ghost use lib.ListN.{length};
-ghost use Rattle.matrix.specs.Matrix.{sound};
-ghost use Rattle.request.specs.Request.{present, audioOutside, outside, combined, soundOf};
-ghost use Rattle.request.specs.Read.{judged, readOf, pairFor, nctsOf, audioChecksum, lineOf, refusedRequest, Rows};
+ghost use Rattle.matrix.specs.Matrix.{isAllowed};
+ghost use Rattle.request.specs.Request.{present, soundOf};
+ghost use Rattle.request.specs.Read.{audioOutside, outside, combined, judged, readOf, pairFor, nctsOf, audioChecksum, lineOf, emptied, Rows};
 ghost use mathlib.Core.List.{List};
 use clock::Pair;
 use matrix::Matrix;
@@ -44,15 +44,15 @@ pub struct Line {
     pub audio: u8,
 }
 
-// A request, or the number of a refusal with zeros beside it.
+// A request, or the number of a refusal beside an empty request.
 pub struct Checked {
     pub refusal: u8,
     pub request: Request,
 }
 
-// A refusal, with zeros beside it.
+// A refusal, beside an empty request.
 fn refused(number: u8) -> Checked
-    ensures { λ r. ⌜ r ≡ refusedRequest number ⌝ }
+    ensures { λ r. ⌜ r ≡ emptied number ⌝ }
 {
     let matrix = matrix::none();
     Checked {
@@ -91,12 +91,12 @@ fn audio_outside(audio: &[u8]) -> bool
     if audio.len() == 0 {
         return false;
     }
-    (6 < audio[0]) | !((audio[1] == 2) | (audio[1] == 8)) | (1 < audio[2])
+    (6 < audio[0]) | (((audio[1] != 2) & (audio[1] != 8)) | (1 < audio[2]))
 }
 
 // Whether a matrix section is there and has a field outside its range.
 fn matrix_outside(body: &[u8]) -> bool
-    ensures { λ r. ⌜ r ≡ (present (now (body .entry)) && not (sound (now (body .entry)))) ⌝ }
+    ensures { λ r. ⌜ r ≡ (present (now (body .entry)) && not (isAllowed (now (body .entry)))) ⌝ }
 {
     if body.len() == 0 {
         return false;
@@ -109,7 +109,7 @@ fn is_outside(video: &[u8], audio: &[u8], body: &[u8]) -> bool
     requires { ⌜ (4 ≤ length (now video)) × (length (now audio) % 3 ≡ 0) ⌝ }
     ensures { λ r. ⌜ r ≡ outside (now (video .entry)) (now (audio .entry)) (now (body .entry)) ⌝ }
 {
-    (2 < video[2]) | (1 < video[3]) | audio_outside(audio) | matrix_outside(body)
+    (2 < video[2]) | ((1 < video[3]) | (audio_outside(audio) | matrix_outside(body)))
 }
 
 // Row 6.
@@ -185,7 +185,7 @@ pub fn pair_for(r: Request) -> Pair
 {
     let sound = r.sound;
     match sound {
-        Sound::Off => clock::silence(),
+        Sound::Off => clock::audio_off(),
         Sound::On {
             rate,
             channels: _,
@@ -216,7 +216,7 @@ fn audio_checksum(sound: Sound) -> u8
 {
     match sound {
         Sound::Off => {
-            let bytes = frames::silence();
+            let bytes = frames::audio_off();
             bytes[3]
         }
         Sound::On {

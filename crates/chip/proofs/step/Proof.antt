@@ -4,7 +4,7 @@ use Rattle.chip.proofs.step.Statement.{statement}
 use Rattle.chip.proofs.step.Tie as tie
 
 returns : tie.Need-returns
-returns c = stepped
+returns c = λ s whole address value. stepped s address value whole
 
 pub step-spec : {M : Type 1} → statement M
 step-spec = tie.close (tie.spec returns)

@@ -7,30 +7,30 @@ use lib.ListN.{drop}
 use borrow.Author.Needs.{needs}
 use borrow.Author.Tests.{eq-eqb, ne-eqb, le-leb, lt-leb, not-true, not-false}
 use Rattle.matrix.specs.Coefficient.{within}
-use Rattle.matrix.specs.Matrix.{sound, inRange}
+use Rattle.matrix.specs.Matrix.{isAllowed, inRange}
 use Rattle.matrix.proofs.Pairs.{range-more, range-end}
 use Rattle.matrix.proofs.fits.Statement.{statement}
 use Rattle.matrix.proofs.fits.Tie as tie
 
 abbrev Inv-loop : tie.InvT-loop
-Inv-loop body i₀ i = (i ≤ 12) × (sound body ≡ inRange (drop (2 * i + 1) body))
+Inv-loop body i₀ i = (i ≤ 12) × (isAllowed body ≡ inRange (drop (2 * i + 1) body))
 
 abbrev μ-loop : tie.MeasureT-loop
 μ-loop body i₀ i = 12 - i
 
 returns : tie.Need-returns Inv-loop μ-loop
-unfolding sound
+unfolding isAllowed
 returns c = simp (ne-eqb _ _ (c .if1 .taken))
 
 shared-slice-read-if2 : tie.Need-shared-slice-read-if2 Inv-loop μ-loop
 shared-slice-read-if2 c = search needs
 
 returns-2 : tie.Need-returns-2 Inv-loop μ-loop
-unfolding sound
+unfolding isAllowed
 returns-2 c = simp (eq-eqb _ _ (c .before .before .if1 .left), lt-leb _ _ (c .if2 .taken))
 
 loop-holds : tie.Need-loop-holds Inv-loop μ-loop
-unfolding sound
+unfolding isAllowed
 loop-holds c = (search needs, simp (eq-eqb _ _ (c .before .before .if1 .left), le-leb _ _ (c .if2 .left)))
 
 pair-requires : tie.Need-pair-requires Inv-loop μ-loop

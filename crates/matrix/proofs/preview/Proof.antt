@@ -6,7 +6,7 @@ use Prim.Native.Nat.{ℕ, _<_, _≤_}
 use lib.Dec.{lit<}
 use lib.ListN.{getD}
 use borrow.Author.Tests.{not-true, not-false}
-use Rattle.matrix.specs.Matrix.{sound, matrixOf}
+use Rattle.matrix.specs.Matrix.{isAllowed, matrixOf}
 use Rattle.matrix.specs.Preview.{previewOf}
 use Rattle.matrix.proofs.Pairs.{mode-small, fields-small}
 use Rattle.matrix.proofs.Codes.{codes}
@@ -17,7 +17,7 @@ use Rattle.matrix.proofs.preview.Tie as tie
 fits-requires : tie.Need-fits-requires
 fits-requires c κs = search needs
 
-good : (c : tie.Else1) → sound (c .before .before .before .args .body .now) ≡ true
+good : (c : tie.Else1) → isAllowed (c .before .before .before .args .body .now) ≡ true
 good c = sym (c .before .fits2 .ensures) ∙ not-false (c .before .fits2 .result) (c .if1 .left)
 
 returns : tie.Need-returns

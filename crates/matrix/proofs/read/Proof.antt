@@ -8,7 +8,7 @@ use native.Mathlib.Omega.{arith}
 use lib.ListN.{length, take, drop}
 use borrow.Author.Needs.{needs}
 use borrow.Author.Tests.{not-true, not-false}
-use Rattle.matrix.specs.Matrix.{sound, fields}
+use Rattle.matrix.specs.Matrix.{isAllowed, fields}
 use Rattle.matrix.proofs.Pairs.{fields-turn, fields-all, sized}
 use Rattle.matrix.proofs.read.Statement.{statement}
 use Rattle.matrix.proofs.read.Tie as tie
@@ -31,7 +31,7 @@ returns c =
     let s = sym (c .before .before .fits2 .ensures) ∙ not-true (c .before .before .fits2 .result) (c .before .if1 .taken) in
     simp (c .none .ensures, s)
 
-good : (c : tie.Else1 Inv-loop μ-loop) → sound (c .before .before .before .args .body .now) ≡ true
+good : (c : tie.Else1 Inv-loop μ-loop) → isAllowed (c .before .before .before .args .body .now) ≡ true
 good c = sym (c .before .fits2 .ensures) ∙ not-false (c .before .fits2 .result) (c .if1 .left)
 
 shared-slice-read-mode : tie.Need-shared-slice-read-mode Inv-loop μ-loop

@@ -6,8 +6,8 @@ use Rattle.request.proofs.audio_checksum.Tie as tie
 enum-told : tie.Need-enum-told
 enum-told c = search needs
 
-silence-requires : tie.Need-silence-requires
-silence-requires c κs = search needs
+audio-off-requires : tie.Need-audio-off-requires
+audio-off-requires c κs = search needs
 
 array-read-result : tie.Need-array-read-result
 array-read-result c = search needs
@@ -22,7 +22,7 @@ array-read-result-2 : tie.Need-array-read-result-2
 array-read-result-2 c = search needs
 
 returns : tie.Need-returns
-returns c = simp (c .before .enum-told .given .1, c .silence .ensures)
+returns c = simp (c .before .enum-told .given .1, c .audio-off .ensures)
 
 returns-2 : tie.Need-returns-2
 returns-2 c = simp (c .before .before .before .sound .given .1, c .before .audio-of .ensures)
@@ -32,7 +32,7 @@ audio-checksum-spec =
     tie.close
     (tie.spec
     enum-told
-    silence-requires
+    audio-off-requires
     array-read-result
     enum-known-sound
     audio-of-requires

@@ -1,7 +1,6 @@
 -- `request::is_combined` meets its contract. Assumes nothing.
 use mathlib.Core.Path.{refl}
-use mathlib.Core.Bool.{Bool·not-not}
-use Rattle.request.specs.Request.{combined}
+use Rattle.request.specs.Read.{combined}
 use borrow.Author.Needs.{needs}
 use Rattle.request.proofs.is_combined.Statement.{statement}
 use Rattle.request.proofs.is_combined.Tie as tie
@@ -17,7 +16,7 @@ shared-slice-read-result-3 c = search needs
 
 returns : tie.Need-returns
 unfolding combined
-returns c = rw Bool·not-not
+returns c = refl
 
 pub is-combined-spec : {M : Type 1} → statement M
 is-combined-spec =

@@ -1,5 +1,5 @@
 -- `request::is_outside` meets its contract. Assumes nothing.
-use Rattle.request.specs.Request.{outside}
+use Rattle.request.specs.Read.{outside}
 use borrow.Author.Needs.{needs}
 use Rattle.request.proofs.is_outside.Statement.{statement}
 use Rattle.request.proofs.is_outside.Tie as tie

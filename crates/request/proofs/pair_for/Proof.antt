@@ -7,8 +7,8 @@ use Rattle.request.proofs.pair_for.Tie as tie
 enum-told : tie.Need-enum-told
 enum-told c = search needs
 
-silence-requires : tie.Need-silence-requires
-silence-requires c κs = search needs
+audio-off-requires : tie.Need-audio-off-requires
+audio-off-requires c κs = search needs
 
 enum-known-sound : tie.Need-enum-known-sound
 enum-known-sound c = search needs
@@ -18,7 +18,7 @@ pair-of-requires c κs = search needs
 
 returns : tie.Need-returns
 unfolding pairFor
-returns c = simp (c .before .enum-told .given .1, c .silence .ensures)
+returns c = simp (c .before .enum-told .given .1, c .audio-off .ensures)
 
 returns-2 : tie.Need-returns-2
 unfolding pairFor
@@ -27,4 +27,4 @@ returns-2 c = simp (c .before .before .sound .given .1, c .pair-of .ensures)
 pub pair-for-spec : {M : Type 1} → statement M
 pair-for-spec =
     tie.close
-    (tie.spec enum-told silence-requires enum-known-sound pair-of-requires returns returns-2)
+    (tie.spec enum-told audio-off-requires enum-known-sound pair-of-requires returns returns-2)

@@ -1,0 +1,46 @@
+-- A test and the statement that it decides. A test made of tests decides the statement made of theirs. Assumes nothing.
+use mathlib.Core.Path.{_≡_, refl, sym, _∙_}
+use mathlib.Core.Logic.{_⊎_, inl, inr, ⊎-elim, _≢_}
+use mathlib.Core.Bool.{Bool, true, false, false≢true, not, _&&_, _||_}
+use Prim.Native.Nat.{ℕ, _<_, _≤_}
+use native.Mathlib.Omega.{arith}
+use lib.Dec.{eqb, ltb, leb}
+use borrow.Author.Tests.{eqb-true, eqb-false, ltb-true, ltb-false, leb-true, leb-false}
+
+pub record Decides (b : Bool) (P : Type 0) : Type 0 where
+  pub passes : b ≡ true → P
+  pub fails : b ≡ false → P → ⊥
+
+pub itself : (b : Bool) → Decides b (b ≡ true)
+itself b = record { passes = λ t. t; fails = λ f t. false≢true (sym f ∙ t) }
+
+pub equal : (m n : ℕ) → Decides (eqb m n) (m ≡ n)
+equal m n = record { passes = eqb-true m n; fails = eqb-false m n }
+
+pub less : (m n : ℕ) → Decides (ltb m n) (m < n)
+less m n = record { passes = ltb-true m n; fails = λ f h. omega (arith, ltb-false m n f) }
+
+pub opposite : {b : Bool} {P : Type 0} → Decides b P → Decides (not b) (P → ⊥)
+opposite {b} {P} d = go b d
+  where
+    go : (b : Bool) → Decides b P → Decides (not b) (P → ⊥)
+    go true d = record { passes = λ t. absurd (false≢true t); fails = λ f n. n (d .passes refl) }
+    go false d = record { passes = λ t. d .fails refl; fails = λ f. absurd (false≢true (sym f)) }
+
+pub either : {a b : Bool} {P Q : Type 0} → Decides a P → Decides b Q → Decides (a || b) (P ⊎ Q)
+either {a} {b} {P} {Q} d e = go a d
+  where
+    go : (a : Bool) → Decides a P → Decides (a || b) (P ⊎ Q)
+    go true d = record { passes = λ t. inl (d .passes refl); fails = λ f. absurd (false≢true (sym f)) }
+    go false d = record { passes = λ t. inr (e .passes t); fails = λ f. ⊎-elim (d .fails refl) (e .fails f) }
+
+pub together : {a b : Bool} {P Q : Type 0} → Decides a P → Decides b Q → Decides (a && b) (P × Q)
+together {a} {b} {P} {Q} d e = go a d
+  where
+    go : (a : Bool) → Decides a P → Decides (a && b) (P × Q)
+    go true d = record { passes = λ t. (d .passes refl, e .passes t); fails = λ f h. e .fails f (h .1) }
+    go false d = record { passes = λ t. absurd (false≢true t); fails = λ f h. d .fails refl (h .0) }
+
+-- the same test for a statement that says the same
+pub restated : {b : Bool} {P Q : Type 0} → (P → Q) → (Q → P) → Decides b P → Decides b Q
+restated to from d = record { passes = λ t. to (d .passes t); fails = λ f q. d .fails f (from q) }
