@@ -160,6 +160,23 @@ module _ (s : Chip) (address value : ℕ) where
         go true e = ap (λ (w : Wrote). w .chip .coefficients) (written-as true e)
         go false e = coefficients-after e ∙ refill-none (converter .groups) (holdsOf converter (s .image)) (holdsOf converter (imageAfter s address value)) (s .image) (s .coefficients) t
 
+    -- what a write is refused by, and the byte that it stores, as code has them
+    pub tested : (byte : ℕ) → byte ≡ stored address value (s .image) → (held holds : Bool) → held ≡ two (holdsOf packets (s .image))
+        → holds ≡ two (holdsOf packets (set (s .image) address byte)) → refuses s address value ≡ (held || holds)
+    unfolding refuses
+    tested byte e held holds p q = rw (p, q, e)
+
+    -- the answer of a write, by its parts
+    pub taken-write : (packet coefficients : List ℕ) → refuses s address value ≡ false
+        → packet ≡ refilled packets (rw whole (lit< tt)) → coefficients ≡ refilled converter (rw whole (lit< tt))
+        → record { refusal = 0; chip = record { image = imageAfter s address value; packet = packet; coefficients = coefficients } } ≡ writeOf s address value
+    unfolding put
+    taken-write packet coefficients e p q =
+        sym (written-as false e ∙ rw (p, q, refreshed packets (rw whole (lit< tt)), refreshed converter (rw whole (lit< tt))))
+
+    pub refused-write : refuses s address value ≡ true → record { refusal = 13; chip = s } ≡ writeOf s address value
+    refused-write e = sym (written-as true e)
+
     pub stepped : Step s address value
     stepped =
         let n : ℕ = holdsOf packets (imageAfter s address value) in

@@ -6,7 +6,7 @@ use lib.Dec.{eqb}
 use lib.ListN.{getD, set, take, drop}
 use Rattle.bits.specs.Merge.{merge}
 use Rattle.registers.specs.Classes.{readOnly}
-use Rattle.map.specs.Map as map
+use Rattle.map.specs.Map as reg
 use Rattle.map.specs.Map.{infoframeUpdate, gcPacketUpdateMask, aviPacketUpdateMask, audioInfoframePacketUpdateMask, setAvMuteMask}
 use Rattle.map.specs.Map.{aviInfoframeVersion, aviInfoframeCount, audioInfoframeVersion, audioInfoframeCount}
 use Rattle.map.specs.Map.{coefficientUpdate, coefficientUpdateMask, csc, cscCount, cscEnableMask, cscScalingFactorShift}
@@ -36,7 +36,7 @@ abbrev pub audio : Group
 audio = record { hold = audioInfoframePacketUpdateMask / gcPacketUpdateMask; first = audioInfoframeVersion; count = audioInfoframeCount }
 
 abbrev pub gc : Group
-gc = record { hold = 1; first = map.gc; count = 1 }
+gc = record { hold = 1; first = reg.gc; count = 1 }
 
 -- "the 24 bytes 0x18 to 0x2F, copied whole"
 abbrev pub matrix : Group
@@ -98,6 +98,20 @@ unfoldable pub writeOf : Chip → ℕ → ℕ → Wrote
 writeOf s address value =
     cond (refuses s address value) (record { refusal = number twoHolds; chip = s })
     (record { refusal = 0; chip = put address (stored address value (s .image)) s })
+
+-- a pair of address and value
+pub record Write : Type 0 where
+  pub address : ℕ
+  pub value : ℕ
+
+infix 80 _gets_
+abbrev pub _gets_ : ℕ → ℕ → Write
+address gets value = record { address = address; value = value }
+
+-- the state after a list of writes; one that is refused changes nothing
+abbrev pub after : List Write → Chip → Chip
+after [] s = s
+after (w ∷ ws) s = after ws (writeOf s (w .address) (w .value) .chip)
 
 -- "While it is up the buffer is sent; when down, the registers": the bytes of a group that the chip goes by. (Of the matrix's first byte
 -- only the coefficient bits count: see `enableInUse`, `modeInUse`.)

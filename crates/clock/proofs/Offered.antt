@@ -1,7 +1,6 @@
 -- Every clock that is offered is a fraction above 0, of bounded size. Assumes nothing.
 use mathlib.Core.Path.{_≡_, refl}
 use mathlib.Core.Bool.{Bool, true, false, cond, _&&_, _||_}
-use mathlib.Core.List.{List, [], _∷_}
 use Prim.Native.Nat.{ℕ, _*_, _<_, _≤_}
 use native.Mathlib.Omega.{arith}
 use lib.Dec.{eqb, ltb, leb}
@@ -44,7 +43,7 @@ unfolding clockOf
 sized vic family o = let b = hertz vic family o in rw o (sized-in (modeOf vic .hertz) family (b .0) (b .1))
 
 -- what the refusal of a clock says
-no-refusal : (h family : ℕ) → clockIn h family .refusal ≡ 0
+pub no-refusal : (h family : ℕ) → clockIn h family .refusal ≡ 0
 no-refusal h family = go (eqb family 0)
   where
     go : (b : Bool) → cond {A = Clock} b (record { refusal = 0; num = h; den = 1 }) (record { refusal = 0; num = h * 1000; den = 1001 }) .refusal ≡ 0

@@ -1,4 +1,4 @@
--- The call on single fields gives the first of rows 4, 5 and 9 that applies. Assumes nothing.
+-- The two calls on single fields give the first of their rows that applies: row 4, and rows 4, 5 and 9. Assumes nothing.
 use mathlib.Core.Path.{_≡_, refl, sym, _∙_}
 use mathlib.Core.Logic.{_⊎_, inl, inr}
 use mathlib.Core.Bool.{Bool, true, false, false≢true, cond, not, _||_}
@@ -8,14 +8,16 @@ use native.Mathlib.Omega.{arith}
 use lib.ListN.{drop}
 use lib.Dec.{eqb, ltb}
 use borrow.Author.Tests.{ltb-true, ltb-false, eqb-true, eqb-false}
-use Rattle.refusals.specs.Rows.{Condition, at, modeNotOffered, fieldOutOfRange}
+use Rattle.refusals.specs.Rows.{Condition, at, modeNotOffered, fieldOutOfRange, number}
 use Rattle.refusals.proofs.First.{Tried, tried}
+use Rattle.clock.specs.declared.Clock.{Clock}
 use Rattle.clock.specs.declared.Pair.{Pair}
-use Rattle.clock.specs.Modes.{offered, clockOf}
+use Rattle.clock.specs.Modes.{modeOf, offered, clockIn, clockOf}
 use Rattle.clock.specs.Pairs.{Coherent, other}
 use Rattle.clock.specs.Found.{refused, coherentOf, pairOf}
-use Rattle.clock.specs.Theorems.{pairRules, PairRefusals}
+use Rattle.clock.specs.Theorems.{clockRules, ClockRefusals, pairRules, PairRefusals}
 use Rattle.clock.proofs.Coherence.{coherence}
+use Rattle.clock.proofs.Offered.{no-refusal}
 
 module _ (vic family rate coherent : ℕ) where
   abbrev rules : List Condition
@@ -54,5 +56,13 @@ module _ (vic family rate coherent : ℕ) where
           let r = inside (ltb 6 rate) (ltb 1 coherent) refl refl et in
           inr ((λ a. false≢true (sym a ∙ eo)), inr (r .1, inr ((λ a. eqb-false coherent 1 ek (a .0)), refl)))
 
-pub refusals : PairRefusals
-refusals vic family rate coherent = tried (pairRules vic family rate coherent) _ refl (in-turn vic family rate coherent)
+pub clock-refusals : ClockRefusals
+unfolding clockOf
+clock-refusals vic family = tried (clockRules vic family) _ refl (go (offered vic family) refl)
+  where
+    go : (o : Bool) → offered vic family ≡ o → Tried (clockRules vic family) (cond {A = Clock} o (clockIn (modeOf vic .hertz) family) (record { refusal = number modeNotOffered; num = 0; den = 0 }) .refusal)
+    go false e = inl (e, refl)
+    go true e = inr ((λ f. false≢true (sym f ∙ e)), no-refusal (modeOf vic .hertz) family)
+
+pub pair-refusals : PairRefusals
+pair-refusals vic family rate coherent = tried (pairRules vic family rate coherent) _ refl (in-turn vic family rate coherent)

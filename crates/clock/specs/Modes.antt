@@ -1,6 +1,6 @@
 -- Document 01, "Modes and clocks": the listed VICs, their clocks in both families, and their picture aspect.
 use mathlib.Core.Bool.{Bool, cond}
-use mathlib.Core.List.{List, [], _∷_}
+use mathlib.Core.List.{List, [], _∷_, map}
 use Prim.Native.Nat.{ℕ, _*_, _<_, _≤_}
 use lib.Dec.{eqb, ltb}
 use Rattle.lists.specs.Find.{find}
@@ -31,6 +31,10 @@ modes =
     mode 60 59400000 2 2 2 ∷
     mode 62 74250000 2 2 2 ∷ []
 
+-- the VICs that are listed
+abbrev pub listed : List ℕ
+listed = map (λ m. m .vic) modes
+
 -- the row of a VIC; one that is not listed offers no family
 abbrev pub unlisted : Mode
 unlisted = mode 0 0 0 0 0
@@ -54,7 +58,7 @@ clockIn hertz family =
 unfoldable pub clockOf : ℕ → ℕ → Clock
 clockOf vic family = cond (offered vic family) (clockIn (modeOf vic .hertz) family) (record { refusal = number modeNotOffered; num = 0; den = 0 })
 
--- what holds of every clock that is offered: it is above 0 and at most 148.5 MHz, and a fraction whose numbers are as large as these at most
+-- bounds on the two numbers of a clock that is offered, so that no product overflows
 pub record Sized (clock : Clock) : Type 0 where
   pub some : 0 < clock .num
   pub most : clock .num ≤ 148500000000

@@ -19,8 +19,8 @@ rates = 32000 ∷ 44100 ∷ 48000 ∷ 88200 ∷ 96000 ∷ 176400 ∷ 192000 ∷ 
 unfoldable pub reference : ℕ → ℕ
 reference rate = 128 * getD rates rate 0
 
--- "A pair is exact when CTS is whole and the equation holds": 128·fs = clock·N/CTS, N lies between 128·fs/1500 and 128·fs/300,
--- ends included, and CTS is at most 1,048,575
+-- an exact pair within the range: "128·fs = clock·N/CTS, and N lies between 128·fs/1500 and 128·fs/300, ends included. CTS is at most
+-- 1,048,575. A pair is exact when CTS is whole and the equation holds." The equation is multiplied out; a CTS of ℕ is whole.
 pub record Exact (clock : Clock) (rate n cts : ℕ) : Type 0 where
   pub equation : reference rate * cts * clock .den ≡ clock .num * n
   pub least : reference rate ≤ 1500 * n
@@ -40,8 +40,10 @@ row num den r32 r44 r48 r88 r96 r176 r192 =
       cts = r32 .cts ∷ r44 .cts ∷ r48 .cts ∷ r88 .cts ∷ r96 .cts ∷ r176 .cts ∷ r192 .cts ∷ [];
     }
 
--- Source document 000, tables 80 to 82, with HDMI 1.4's numbers where 000 misprints them: a pixel clock, as a fraction in Hz, and its
--- pair at each rate. At 74.25/1.001 MHz and 32 kHz the tables print two CTS, 210937 and 210938, taken in turn: no pair there is exact.
+-- Source document 000, tables 80 to 82: a pixel clock, as a fraction in Hz, and its pair at each rate. "HDMI 1.4 decides over 000", so these
+-- numbers are HDMI 1.4's and not 000's: CTS 165000 (000: 16500) at 148.5 MHz and 44.1, 88.2, 176.4 kHz; N 23296 (000: 35672) at
+-- 74.25/1.001 MHz and 96 kHz; N 11648 (000: 17836) at 148.5/1.001 MHz and 96 kHz.
+-- At 74.25/1.001 MHz and 32 kHz the tables print two CTS, 210937 and 210938, taken in turn: no pair there is exact.
 abbrev pub recommended : List Recommended
 recommended =
     row 25200000000 1001 (pair 4576 28125) (pair 7007 31250) (pair 6864 28125) (pair 14014 31250) (pair 13728 28125) (pair 28028 31250) (pair 27456 28125) ∷

@@ -23,7 +23,14 @@ pub record CoherentPairs : Type 0 where
   pub modes : (vic family rate : ℕ) → offered vic family ≡ true → rate < 7 → Coherent (clockOf vic family) rate (coherentOf (clockOf vic family) rate)
   pub one : (clock : Clock) (rate : ℕ) → 0 < clock .den → rate < 7 → (a b : Pair) → Coherent clock rate a → Coherent clock rate b → a ≡ b
 
--- "A call on single fields checks those .. whose fields it takes": rows 4, 5 and 9, for N/CTS
+-- "A call on single fields checks those .. whose fields it takes": row 4 for a clock, "VIC not listed below, or family not offered by it"
+abbrev pub clockRules : ℕ → ℕ → List Condition
+clockRules vic family = modeNotOffered when (offered vic family ≡ false) ∷ []
+
+abbrev pub ClockRefusals : Type 0
+ClockRefusals = (vic family : ℕ) → Given (clockRules vic family) (clockOf vic family .refusal)
+
+-- rows 4, 5 and 9 for N/CTS: "any other field outside its range", and "coherent audio, and no exact pair exists"
 abbrev pub pairRules : ℕ → ℕ → ℕ → ℕ → List Condition
 pairRules vic family rate coherent =
     modeNotOffered when (offered vic family ≡ false) ∷

@@ -5,7 +5,7 @@ ghost use Rattle.clock.specs.Modes.{modeOf, clockOf, Sized};
 ghost use Rattle.clock.specs.Pairs.{reference, recommendedOf, audioOff};
 ghost use Rattle.clock.specs.Gcd.{gcdOf};
 ghost use Rattle.clock.specs.Found.{recommendedAt, numbered, given, nearestK, nearestIn, nearestOf, exactly, coherentOf, pairOf};
-ghost use Rattle.clock.specs.Theorems.{EuclidsRule, CoherentPairs, PairRefusals};
+ghost use Rattle.clock.specs.Theorems.{EuclidsRule, CoherentPairs, ClockRefusals, PairRefusals};
 use refusals::Refusal;
 
 // A listed mode. A VIC that is not listed offers no family.
@@ -459,13 +459,17 @@ pub fn audio_off() -> Pair
     given(6144, 0)
 }
 
-// What is proved of the definitions: Euclid's rule, the pair for coherent audio, and the refusals of the call on single fields.
+// What is proved of the definitions: Euclid's rule, the pair for coherent audio, and the refusals of the two calls on single fields.
 pub fn euclids_rule()
     ensures { λ _. ⌜ EuclidsRule ⌝ }
 {}
 
 pub fn coherent_pairs()
     ensures { λ _. ⌜ CoherentPairs ⌝ }
+{}
+
+pub fn clock_refusals()
+    ensures { λ _. ⌜ ClockRefusals ⌝ }
 {}
 
 pub fn pair_refusals()

@@ -1,3 +1,4 @@
 pub mod Total
 pub mod Sealed
 pub mod Small
+pub mod Refused

@@ -1,16 +1,19 @@
--- Document 01, "InfoFrames".
+-- Document 01, "InfoFrames": the checksum, the AVI and the audio frame, and when a call on their fields is refused.
 use mathlib.Core.Path.{_≡_}
-use mathlib.Core.Bool.{Bool, cond, not, _||_}
+use mathlib.Core.Logic.{_≢_}
+use mathlib.Core.Bool.{false, cond, not, _&&_}
 use mathlib.Core.List.{List, [], _∷_, _++_}
 use Prim.Native.Nat.{ℕ, _+_, _-_, _*_, _%_, _<_}
 use lib.Dec.{eqb, ltb}
 use lib.ListN.{replicate}
-use Rattle.refusals.specs.Rows.{modeNotOffered, fieldOutOfRange, number}
+use Rattle.lists.specs.Among.{among}
+use Rattle.refusals.specs.Rows.{modeNotOffered, fieldOutOfRange, number, Condition, _when_, Given}
 use Rattle.clock.specs.declared.Mode.{Mode}
-use Rattle.clock.specs.Modes.{modeOf}
+use Rattle.clock.specs.Modes.{listed, modeOf}
 use Rattle.frames.specs.declared.Avi.{Avi}
 use Rattle.frames.specs.declared.Audio.{Audio}
 
+-- "the sum of all bytes"
 unfoldable pub total : List ℕ → ℕ
 total [] = 0
 total (x ∷ xs) = x + total xs
@@ -67,7 +70,21 @@ audioOffFrame = frame audioHeader (replicate 10 0)
 -- the audio frame on a single field: refusal 5
 unfoldable pub audioOf : ℕ → Audio
 audioOf channels =
-    cond (eqb channels 2 || eqb channels 8) (record { refusal = 0; bytes = audioFrame channels }) (record { refusal = number fieldOutOfRange; bytes = replicate 14 0 })
+    cond (not (eqb channels 2) && not (eqb channels 8)) (record { refusal = number fieldOutOfRange; bytes = replicate 14 0 })
+    (record { refusal = 0; bytes = audioFrame channels })
+
+-- "A call on single fields checks those .. whose fields it takes": row 4, "VIC not listed below", and row 5, "any other field outside its
+-- range": the encoding is 0 to 2, and the channels are 2 or 8
+abbrev pub aviRules : ℕ → ℕ → List Condition
+aviRules vic encoding = modeNotOffered when (among vic listed ≡ false) ∷ fieldOutOfRange when (2 < encoding) ∷ []
+
+abbrev pub audioRules : ℕ → List Condition
+audioRules channels = fieldOutOfRange when ((channels ≢ 2) × (channels ≢ 8)) ∷ []
+
+-- the refusals of the two calls
+pub record FrameRefusals : Type 0 where
+  pub avi : (vic encoding : ℕ) → Given (aviRules vic encoding) (aviOf vic encoding .refusal)
+  pub audio : (channels : ℕ) → Given (audioRules channels) (audioOf channels .refusal)
 
 -- The checksum does what document 01 says, whatever the header and the payload; and no other byte does.
 pub record Checksum : Type 0 where

@@ -2,7 +2,7 @@
 ghost use mathlib.Core.Path.{_≡_};
 ghost use Prim.Native.Nat.{_%_, _≤_};
 ghost use Rattle.frames.specs.Frames.{total, checksumOf, frame, Checksum};
-ghost use Rattle.frames.specs.Frames.{colorimetry, aviHeader, aviPayload, aviOf, audioHeader, audioPayload, audioOf, audioOffFrame};
+ghost use Rattle.frames.specs.Frames.{colorimetry, aviHeader, aviPayload, aviOf, audioHeader, audioPayload, audioOf, audioOffFrame, FrameRefusals};
 use clock::Mode;
 use refusals::Refusal;
 
@@ -162,4 +162,9 @@ pub fn audio_off() -> [u8; 14]
 // The checksum's promise.
 pub fn checksum_rule()
     ensures { λ _. ⌜ Checksum ⌝ }
+{}
+
+// The refusals of the two calls, in document 01's order.
+pub fn frame_refusals()
+    ensures { λ _. ⌜ FrameRefusals ⌝ }
 {}

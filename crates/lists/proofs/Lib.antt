@@ -2,3 +2,4 @@ pub mod Both
 pub mod Among
 pub mod Find
 pub mod Decides
+pub mod Copy

@@ -86,7 +86,7 @@ classes =
     class 0x00 0x00 0x00 0xFF 0x00 ∷  -- 46
     class 0x00 0x00 0x00 0xFF 0x00 ∷  -- 47
     class 0x00 0x80 0x00 0x7F 0x00 ∷  -- 48: [7] Reserved, must be default 0; [6] [5] [4:3] free; [2:0] not listed
-    class 0x00 0x00 0x00 0xFF 0x00 ∷  -- 49: [7:2] Bit Trimming Mode: "others invalid" is no order; [1:0] not listed
+    class 0x00 0x00 0x00 0xFF 0x00 ∷  -- 49: [7:2] Bit Trimming Mode: "All other settings are invalid" is no order; [1:0] not listed
     class 0x00 0x00 0xE0 0x1F 0x00 ∷  -- 4A: [7] Auto Checksum, [6] AVI hold, [5] audio hold named; [4] GC hold free; [3:0] not listed
     class 0x00 0x00 0xC0 0x3F 0x00 ∷  -- 4B: [7] Clear AV Mute, [6] Set AV Mute named; [5:0] not listed
     class 0xFF 0x00 0x00 0x00 0x00 ∷  -- 4C: RO [7:4] Pixel Packing; RO [3:0] Color Depth
@@ -271,7 +271,7 @@ classes =
     class 0x00 0x00 0x00 0xFF 0x00 ∷  -- FF: not listed
     []
 
--- the class of an address; shut, so that no goal shows the table
+-- the class of an address. The table behind it is unfolded only in a proof that asks for it by name.
 unfoldable pub classAt : ℕ → Class
 classAt a = getD classes a (class 0 0 0 0 0)
 

@@ -1,3 +1,4 @@
 pub mod Classes
 pub mod Fields
 pub mod Steps
+pub mod Table14

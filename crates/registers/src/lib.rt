@@ -5,7 +5,8 @@ ghost use Prim.Native.Nat.{ℕ, _<_};
 ghost use Rattle.lists.specs.Among.{among};
 ghost use Rattle.registers.specs.Classes.{classAt, readOnly, mandated, named, free, bits, Rule};
 ghost use Rattle.registers.specs.Steps.{others, hasNamed, elsewhere};
-ghost use Rattle.registers.specs.Fields.{Fields};
+ghost use Rattle.registers.specs.Fields.{namedFields, maskIn};
+ghost use Rattle.registers.specs.Table14.{Table14};
 
 mod table;
 
@@ -65,9 +66,14 @@ pub fn rule()
     ensures { λ _. ⌜ ((a : ℕ) → a < 256 → Rule (classAt a)) ⌝ }
 {}
 
-// "then the fields listed below are named": the named bits of these registers are the fields of the map.
+// "Table 14's bits are mandated", with the values that it prints.
+pub fn table14()
+    ensures { λ _. ⌜ Table14 ⌝ }
+{}
+
+// "then the fields listed below are named": the named bits of each register are those of its listed fields.
 pub fn fields()
-    ensures { λ _. ⌜ Fields ⌝ }
+    ensures { λ _. ⌜ ((a : ℕ) → a < 256 → named a ≡ maskIn namedFields a) ⌝ }
 {}
 
 // "the other named registers, those in no other step": the list has each register with a named bit that no other step writes.

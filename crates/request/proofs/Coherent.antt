@@ -1,19 +1,18 @@
 -- Row 9 of a request, and both calls' rules in order. Assumes nothing.
-use mathlib.Core.Path.{_≡_, refl, sym, ap, _∙_}
-use mathlib.Core.Logic.{_≢_, _⊎_, inl, inr}
+use mathlib.Core.Path.{_≡_, refl, sym, _∙_}
+use mathlib.Core.Logic.{_⊎_, inl, inr}
 use mathlib.Core.Bool.{Bool, true, false, false≢true, cond}
-use mathlib.Core.List.{List, [], _∷_, _++_}
+use mathlib.Core.List.{List, [], _∷_}
 use Prim.Native.Nat.{ℕ, zero, suc, _+_, _<_}
 use lib.Dec.{eqb, leb, lit<}
 use lib.ListN.{length, take, drop}
 use lib.Seq.{getD-drop}
 use borrow.Author.Tests.{eqb-true}
 use Rattle.lists.specs.Among.{among}
-use Rattle.refusals.specs.Rows.{noExactPair, Condition, _when_, Given}
+use Rattle.refusals.specs.Rows.{noExactPair, _when_, Given}
 use Rattle.refusals.proofs.First.{Tried, then, tried}
 use Rattle.clock.specs.declared.Pair.{Pair}
-use Rattle.clock.specs.Modes.{offered, clockOf}
-use Rattle.clock.specs.Pairs.{Exact}
+use Rattle.clock.specs.Modes.{offered}
 use Rattle.clock.specs.Found.{numbered}
 use Rattle.clock.specs.Theorems.{pairRules}
 use Rattle.clock.proofs.Rows.{in-turn}

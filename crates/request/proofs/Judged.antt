@@ -1,6 +1,6 @@
 -- What the test of row 5 says of the matrix. Assumes nothing.
 use mathlib.Core.Path.{_≡_, refl, sym, _∙_}
-use mathlib.Core.Bool.{Bool, true, false, false≢true, cond, not, _&&_, _||_}
+use mathlib.Core.Bool.{Bool, true, false, false≢true, cond, not, _&&_}
 use mathlib.Core.List.{List}
 use Prim.Native.Nat.{ℕ}
 use lib.Dec.{eqb, ltb}

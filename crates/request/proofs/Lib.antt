@@ -2,3 +2,5 @@ pub mod Walks
 pub mod Judged
 pub mod Ordered
 pub mod Coherent
+pub mod Counted
+pub mod Cut

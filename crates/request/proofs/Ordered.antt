@@ -1,18 +1,18 @@
 -- The rows of a request, tested in order. Assumes nothing.
-use mathlib.Core.Path.{_≡_, refl, sym, ap, _∙_}
+use mathlib.Core.Path.{_≡_, refl, ap}
 use mathlib.Core.Logic.{_≢_, inl, inr}
-use mathlib.Core.Bool.{Bool, true, false, false≢true, cond, not}
-use mathlib.Core.List.{List, [], _∷_}
+use mathlib.Core.Bool.{Bool, true, false, cond, not}
+use mathlib.Core.List.{List, []}
 use Prim.Native.Nat.{ℕ}
 use native.Mathlib.Omega.{arith}
 use lib.ListN.{length, drop, getD}
-use borrow.Author.Tests.{not-true, not-false}
 use Rattle.refusals.specs.Rows.{Condition, at}
 use Rattle.lists.proofs.Decides.{Decides, itself, equal, less, opposite, either, together, restated}
 use Rattle.matrix.specs.Matrix.{isAllowed, Allowed, Bytes}
 use Rattle.matrix.proofs.Numbers.{numbers}
 use Rattle.refusals.proofs.First.{Tried, test}
 use Rattle.clock.specs.Modes.{offered}
+use Rattle.clock.proofs.Listed.{failing}
 use Rattle.request.specs.declared.Checked.{Checked}
 use Rattle.request.specs.Sections.{Walk, ends, notAllowed, whole, bodyOf}
 use Rattle.request.specs.Request.{Present, present, vic, family, encoding, link, rate, channels, coherent, AudioOutside, Outside, Combined, requestIn, readRules}
@@ -47,14 +47,11 @@ is-combined v a m =
     either (together (opposite (equal (encoding v) 0)) (equal (length m) 0))
     (together (equal (link v) 0) (either (full a) (opposite (equal (encoding v) 0))))
 
-not-offered : (b : Bool) → Decides (not b) (b ≡ false)
-not-offered b = record { passes = not-true b; fails = λ n f. false≢true (sym f ∙ not-false b n) }
-
 judged-rules : (w : Walk) → Bytes (bodyOf 2 w) → Tried (drop 3 (readRules w)) (judged (bodyOf 0 w) (bodyOf 1 w) (bodyOf 2 w) .refusal)
 unfolding judged
 judged-rules w bytes =
     let rs : List Condition = readRules w in
-    test numberOf (at rs 3) (drop 4 rs) _ _ _ refl (not-offered (offered (vic (bodyOf 0 w)) (family (bodyOf 0 w))))
+    test numberOf (at rs 3) (drop 4 rs) _ _ _ refl (failing (offered (vic (bodyOf 0 w)) (family (bodyOf 0 w))))
     (λ n. test numberOf (at rs 4) (drop 5 rs) _ _ _ refl (is-outside (bodyOf 0 w) (bodyOf 1 w) (bodyOf 2 w) bytes)
     (λ m. test numberOf (at rs 5) [] _ _ _ refl (is-combined (bodyOf 0 w) (bodyOf 1 w) (bodyOf 2 w)) (λ o. refl)))
 

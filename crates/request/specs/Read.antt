@@ -1,9 +1,11 @@
 -- What the calls on a request answer, as the code finds it.
-use mathlib.Core.Bool.{Bool, cond, not, _&&_, _||_}
-use mathlib.Core.List.{List, []}
-use Prim.Native.Nat.{ℕ}
+use mathlib.Core.Path.{_≡_}
+use mathlib.Core.Bool.{Bool, true, cond, not, _&&_, _||_}
+use mathlib.Core.List.{List, [], _∷_}
+use Prim.Native.Nat.{ℕ, _≤_}
 use lib.Dec.{eqb, ltb}
-use lib.ListN.{getD, length}
+use lib.ListN.{getD, length, take}
+use Rattle.lists.specs.Among.{among}
 use Rattle.clock.specs.declared.Pair.{Pair}
 use Rattle.clock.specs.Modes.{offered}
 use Rattle.clock.specs.Pairs.{audioOff}
@@ -96,3 +98,11 @@ pub record Rows (input : List ℕ) : Type 0 where
   pub read : Bytes input → Given (readRules (walked input)) (readOf input .refusal)
   pub ncts : Bytes input → Given (nctsRules (walked input)) (nctsOf input .refusal)
   pub line : Bytes input → Given (nctsRules (walked input)) (lineOf input .refusal)
+
+-- "Lengths are therefore 7, 10, 32 or 35"
+pub record Lengths (input : List ℕ) : Type 0 where
+  pub accepted : readOf input .refusal ≡ 0 → among (length input) (7 ∷ 10 ∷ 32 ∷ 35 ∷ []) ≡ true
+  -- so the first 36 bytes of an input decide: cut after them, or later, it is answered as it is whole
+  pub read : (n : ℕ) → 36 ≤ n → readOf (take n input) ≡ readOf input
+  pub ncts : (n : ℕ) → 36 ≤ n → nctsOf (take n input) ≡ nctsOf input
+  pub line : (n : ℕ) → 36 ≤ n → lineOf (take n input) ≡ lineOf input

@@ -5,7 +5,7 @@ ghost use Prim.Native.Nat.{ℕ, _%_, _≤_};
 ghost use lib.ListN.{length};
 ghost use Rattle.matrix.specs.Matrix.{isAllowed};
 ghost use Rattle.request.specs.Request.{present, soundOf};
-ghost use Rattle.request.specs.Read.{audioOutside, outside, combined, judged, readOf, pairFor, nctsOf, audioChecksum, lineOf, emptied, Rows};
+ghost use Rattle.request.specs.Read.{audioOutside, outside, combined, judged, readOf, pairFor, nctsOf, audioChecksum, lineOf, emptied, Rows, Lengths};
 ghost use mathlib.Core.List.{List};
 use clock::Pair;
 use matrix::Matrix;
@@ -265,4 +265,9 @@ pub fn line_of(s: &[u8]) -> Line
 // The rows of a request, in document 01's order.
 pub fn rows()
     ensures { λ _. ⌜ ((input : List ℕ) → Rows input) ⌝ }
+{}
+
+// The lengths of a request, and what a longer input is answered.
+pub fn lengths()
+    ensures { λ _. ⌜ ((input : List ℕ) → Lengths input) ⌝ }
 {}

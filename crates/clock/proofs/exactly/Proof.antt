@@ -4,7 +4,6 @@ use native.Mathlib.Nat.{mul-le-mul}
 use native.Mathlib.Omega.{arith}
 use borrow.Author.Needs.{needs}
 use borrow.Author.Tests.{le-leb, lt-leb}
-use Rattle.clock.specs.Pairs.{reference}
 use Rattle.clock.specs.Found.{exactly}
 use Rattle.clock.proofs.exactly.Statement.{statement}
 use Rattle.clock.proofs.exactly.Tie as tie

@@ -1,5 +1,4 @@
 -- `frames::audio_frame` meets its contract: the place of the checksum is 0 while the sum is taken. Assumes nothing.
-use mathlib.Core.Path.{_≡_, refl}
 use Rattle.frames.specs.Frames.{audioHeader, audioPayload}
 use Rattle.frames.proofs.Total.{kept}
 use borrow.Author.Needs.{needs}

@@ -1,5 +1,5 @@
 -- `frames::audio_of` meets its contract. Assumes nothing.
-use borrow.Author.Tests.{eq-eqb, ne-eqb}
+use borrow.Author.Tests.{ne-eqb}
 use Rattle.frames.specs.Frames.{audioOf, audioFrame}
 use borrow.Author.Needs.{needs}
 use Rattle.frames.proofs.audio_of.Statement.{statement}

@@ -1,6 +1,7 @@
+-- `frames::sum` meets its contract: t is the total of the bytes so far, modulo 256. Assumes nothing.
 use borrow.Author.Needs.{needs}
 use mathlib.Core.Path.{_≡_, _∙_}
-use Prim.Native.Nat.{ℕ, _≤_, _-_, _%_}
+use Prim.Native.Nat.{_≤_, _-_, _%_}
 use lib.ListN.{length, take}
 use lib.Seq.{take-length}
 use native.Mathlib.Omega.{arith}

@@ -1,5 +1,5 @@
 -- `request::judge` meets its contract: rows 4 to 6. Assumes nothing.
-use mathlib.Core.Path.{_≡_, refl, sym, ap, _∙_}
+use mathlib.Core.Path.{sym, _∙_}
 use Rattle.request.specs.Read.{judged}
 use Rattle.request.proofs.Judged.{matrix-read}
 use Rattle.clock.proofs.Offered.{accepted, declined}

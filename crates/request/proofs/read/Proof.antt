@@ -1,13 +1,11 @@
 -- `request::read` meets its contract: rows 1 to 3, and then those of `judge`. Assumes nothing.
-use mathlib.Core.Path.{_≡_, refl, sym, ap, _∙_}
-use mathlib.Core.Logic.{_≢_}
-use mathlib.Core.List.{List, [], _∷_}
-use Prim.Native.Nat.{ℕ, _-_, _%_, _≤_}
+use mathlib.Core.Path.{_≡_, refl, _∙_}
+use mathlib.Core.List.{[], _∷_}
+use Prim.Native.Nat.{_-_, _%_}
 use native.Mathlib.Omega.{arith}
-use lib.ListN.{length, drop, length-take, length-drop}
+use lib.ListN.{length, drop, length-drop}
 use borrow.Author.Tests.{eq-eqb, ne-eqb}
 use Rattle.request.specs.Sections.{walked, whole}
-use Rattle.request.specs.Part.{partOf}
 use Rattle.request.proofs.Walks.{failed, bytes, length-bytes, small, by-parts, after-failed, read-failed, read-after, read-whole, counted, four, thirds}
 use borrow.Author.Needs.{needs}
 use Rattle.request.proofs.read.Statement.{statement}

@@ -1,5 +1,5 @@
 -- `request::sections::allows` meets its contract: a test for each section. Assumes nothing.
-use mathlib.Core.Path.{_≡_, refl, sym}
+use mathlib.Core.Path.{refl}
 use mathlib.Core.Bool.{or-false}
 use mathlib.Core.List.{[]}
 use Prim.Native.Nat.{_≤_}

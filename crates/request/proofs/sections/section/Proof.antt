@@ -1,9 +1,7 @@
 -- `request::sections::section` meets its contract, test by test. Assumes nothing.
-use mathlib.Core.Path.{_≡_, refl, sym, ap, _∙_}
-use mathlib.Core.Bool.{not}
 use native.Mathlib.Omega.{arith}
 use borrow.Author.Needs.{needs}
-use borrow.Author.Tests.{le-leb, lt-leb, lt-ltb, le-ltb, not-true, not-false}
+use borrow.Author.Tests.{le-leb, lt-leb, lt-ltb, le-ltb}
 use Rattle.request.specs.Part.{partOf}
 use Rattle.request.proofs.sections.section.Statement.{statement}
 use Rattle.request.proofs.sections.section.Tie as tie

@@ -1,0 +1,169 @@
+-- The bytes of a list: they keep the image's read-only and free bits, so that the machine stores them as they are, and a list planned on an
+-- image with the same such bits has the same bytes. Of a write a walk sees only what its step decides. Assumes nothing.
+use mathlib.Core.Path.{_≡_, refl, sym, ap, subst, subst⁻¹, _∙_}
+use mathlib.Core.Bool.{Bool, true, false, cond}
+use mathlib.Core.List.{List, [], _∷_, map}
+use Prim.Native.Nat.{ℕ, zero, suc, _+_, _*_, _/_, _%_, _<_}
+use native.Mathlib.Omega.{arith}
+use lib.Dec.{eqb, lit<}
+use lib.ListN.{getD, set}
+use borrow.Author.Tests.{eqb-true}
+use Rattle.bits.specs.Merge.{merge, bit}
+use Rattle.bits.proofs.Truth.{var, by, law}
+use Rattle.bits.proofs.Laws.{merge-left, merge-right, merge-bit}
+use Rattle.map.specs.Map as reg
+use Rattle.registers.specs.Classes.{classAt, readOnly, named, free, bits}
+use Rattle.chip.specs.declared.Chip.{Chip}
+use Rattle.chip.specs.Machine.{Write, _gets_, Bank, Group, packets, converter, put, stored}
+use Rattle.plan.specs.List.{decided, byte, written}
+use Rattle.cut.proofs.Latch.{nexts, walk, nexts-map, walk-map, acts}
+use Rattle.cut.proofs.Bank.{store, next, quiet, view}
+
+-- two bytes of register a with the same read-only and free bits
+pub record Kept (a x y : ℕ) : Type 0 where
+  pub reads : merge 8 (readOnly a) x 0 ≡ merge 8 (readOnly a) y 0
+  pub frees : merge 8 (free a) x 0 ≡ merge 8 (free a) y 0
+
+kept-self : {a x : ℕ} → Kept a x x
+kept-self = record { reads = refl; frees = refl }
+
+merge-swap : (m x y z : ℕ) → merge 8 m x 0 ≡ merge 8 m y 0 → merge 8 m x z ≡ merge 8 m y z
+merge-swap m x y z h = sym (merge-left 8 m x 0 z) ∙ ap (λ (t : ℕ). merge 8 m t z) h ∙ merge-left 8 m y 0 z
+
+merge-through : (f r a b c : ℕ) → merge 8 f (merge 8 r a (merge 8 f a b)) c ≡ merge 8 f a c
+merge-through f r a b c =
+    law (by (var 0) (by (var 1) (var 2) (by (var 0) (var 2) (var 3))) (var 4)) (by (var 0) (var 2) (var 4)) 8 (f ∷ r ∷ a ∷ b ∷ c ∷ []) refl
+
+byte-kept : (a : ℕ) {x y : ℕ} (w : ℕ) → Kept a x y → byte a x w ≡ byte a y w
+unfolding byte
+byte-kept a {x} {y} w k = merge-swap (readOnly a) x y _ (k .reads) ∙ ap (λ (t : ℕ). merge 8 (readOnly a) y t) (merge-swap (free a) x y _ (k .frees))
+
+kept-byte : (a x w : ℕ) → Kept a (byte a x w) x
+unfolding byte
+kept-byte a x w = record { reads = merge-left 8 (readOnly a) x _ 0; frees = merge-through (free a) (readOnly a) x _ 0 }
+
+byte-stored : (a : ℕ) {x y : ℕ} (w : ℕ) → Kept a x y → merge 8 (readOnly a) x (byte a y w) ≡ byte a y w
+unfolding byte
+byte-stored a {x} {y} w k = merge-right 8 (readOnly a) x y _ ∙ merge-swap (readOnly a) x y _ (k .reads)
+
+-- what stands at b after a store at a: the stored byte, or what stood there
+at-set : (P : ℕ → Type 0) (l : List ℕ) (a b v : ℕ) → (b ≡ a → P v) → P (getD l b 0) → P (getD (set l a v) b 0)
+at-set P [] a b v f p = p
+at-set P (x ∷ xs) zero zero v f p = f refl
+at-set P (x ∷ xs) zero (suc b) v f p = p
+at-set P (x ∷ xs) (suc a) zero v f p = p
+at-set P (x ∷ xs) (suc a) (suc b) v f p = at-set P xs a b v (λ e. f (ap suc e)) p
+
+-- ---- the bits that a step decides
+
+byte-bit : (a j old wanted : ℕ) → j < 8
+    → bit j (byte a old wanted)
+    ≡ cond (eqb (bit j (readOnly a)) 1) (bit j old) (cond (eqb (bit j (free a)) 1) (bit j old) (cond (eqb (bit j (named a)) 1) (bit j wanted) (bit j (bits a))))
+unfolding byte
+byte-bit a j old wanted h = rw (merge-bit 8 j (readOnly a) _ _ h, merge-bit 8 j (free a) _ _ h, merge-bit 8 j (named a) _ _ h)
+
+sixteenth : (n : ℕ) → n / 16 ≡ n / 2 / 2 / 2 / 2
+sixteenth n = omega arith
+
+eighths : (q : ℕ) → q % 8 ≡ q % 2 + 2 * (q / 2 % 2) + 4 * (q / 2 / 2 % 2)
+eighths q = omega arith
+
+pub three-bits : (n : ℕ) → n / 16 % 8 ≡ bit 4 n + 2 * bit 5 n + 4 * bit 6 n
+three-bits n = ap (λ (q : ℕ). q % 8) (sixteenth n) ∙ eighths (n / 2 / 2 / 2 / 2)
+
+-- the hold and mute bits of a list's byte are the step's; GC's hold is the image's
+packets-byte : (old x wanted : ℕ) → bit 4 old ≡ 0 → byte reg.infoframeUpdate old (merge 8 0x60 x wanted) / 16 % 8 ≡ (32 * bit 5 x + 64 * bit 6 x) / 16 % 8
+unfolding classAt
+packets-byte old x wanted h =
+    let b : ℕ = byte reg.infoframeUpdate old (merge 8 0x60 x wanted) in
+    let b4 : bit 4 b ≡ bit 4 old = byte-bit reg.infoframeUpdate 4 old _ (lit< tt) in
+    let b5 : bit 5 b ≡ bit 5 x = byte-bit reg.infoframeUpdate 5 old _ (lit< tt) ∙ merge-bit 8 5 0x60 x wanted (lit< tt) in
+    let b6 : bit 6 b ≡ bit 6 x = byte-bit reg.infoframeUpdate 6 old _ (lit< tt) ∙ merge-bit 8 6 0x60 x wanted (lit< tt) in
+    three-bits b ∙ rw (b4, b5, b6, h) (omega arith)
+
+converter-byte : (old x wanted : ℕ) → byte reg.coefficientUpdate old (merge 8 0x20 x wanted) / 32 % 2 ≡ (32 * bit 5 x + 64 * bit 6 x) / 32 % 2
+unfolding classAt
+converter-byte old x wanted =
+    let b : ℕ = byte reg.coefficientUpdate old (merge 8 0x20 x wanted) in
+    let b5 : bit 5 b ≡ bit 5 x = byte-bit reg.coefficientUpdate 5 old _ (lit< tt) ∙ merge-bit 8 5 0x20 x wanted (lit< tt) in
+    omega arith
+
+pub mute-byte : (old x wanted : ℕ) → byte reg.gc old (merge 8 0xC0 x wanted) / 64 % 4 ≡ x / 64 % 4
+unfolding classAt
+mute-byte old x wanted =
+    let b : ℕ = byte reg.gc old (merge 8 0xC0 x wanted) in
+    let b6 : bit 6 b ≡ bit 6 x = byte-bit reg.gc 6 old _ (lit< tt) ∙ merge-bit 8 6 0xC0 x wanted (lit< tt) in
+    let b7 : bit 7 b ≡ bit 7 x = byte-bit reg.gc 7 old _ (lit< tt) ∙ merge-bit 8 7 0xC0 x wanted (lit< tt) in
+    omega arith
+
+-- a step with no more than its hold bits
+abbrev pub clean : Write → Write
+clean i = i .address gets (32 * bit 5 (i .value) + 64 * bit 6 (i .value))
+
+pub place : (want : ℕ → ℕ) (image : List ℕ) (i : Write) → written want image i .address ≡ i .address
+unfolding written
+place want image i = refl
+
+-- of a list's write a walk sees what it sees of the step
+unfoldable pub Seen : (ℕ → ℕ) → List ℕ → Bank → Type 0
+Seen want image B = (n : ℕ) (i : Write) → next B n (written want image i) ≡ next B n (clean i)
+
+seen : (want : ℕ → ℕ) (image : List ℕ) (B : Bank)
+    → ((x : ℕ) → B .holds (written want image (B .register gets x) .value) ≡ B .holds (clean (B .register gets x) .value)) → Seen want image B
+unfolding Seen written
+seen want image B h n i = go (eqb (i .address) (B .register)) refl
+  where
+    go : (r : Bool) → eqb (i .address) (B .register) ≡ r → cond r (B .holds (written want image i .value)) n ≡ cond r (B .holds (clean i .value)) n
+    go true p = subst⁻¹ (λ (a : ℕ). B .holds (written want image (a gets i .value) .value) ≡ B .holds (clean i .value)) (eqb-true _ _ p) (h (i .value))
+    go false p = refl
+
+pub packets-seen : (want : ℕ → ℕ) (image : List ℕ) → bit 4 (getD image reg.infoframeUpdate 0) ≡ 0 → Seen want image packets
+unfolding written decided
+packets-seen want image h = seen want image packets (λ x. packets-byte _ x _ h)
+
+pub converter-seen : (want : ℕ → ℕ) (image : List ℕ) → Seen want image converter
+unfolding written decided
+converter-seen want image = seen want image converter (λ x. converter-byte _ x _)
+
+module _ (want : ℕ → ℕ) (image : List ℕ) (B : Bank) (g : Group) (see : Seen want image B) where
+  pub walk-seen : (may : Bool) (n : ℕ) (is : List Write) → walk (view B g) may n (map (written want image) is) ≡ walk (view B g) may n (map clean is)
+  unfolding Seen written
+  walk-seen = walk-map (view B g) (written want image) clean see (λ n i. ap (λ (m : ℕ). quiet g n m (i .address)) (see n i))
+
+  pub nexts-seen : (n : ℕ) (is : List Write) → nexts (view B g) n (map (written want image) is) ≡ nexts (view B g) n (map clean is)
+  unfolding Seen written
+  nexts-seen = nexts-map (view B g) (written want image) clean see (λ n i. ap (λ (m : ℕ). quiet g n m (i .address)) (see n i))
+
+-- ---- two images with the same read-only and free bits everywhere
+
+pub Agree : List ℕ → List ℕ → Type 0
+Agree image image₀ = (a : ℕ) → Kept a (getD image a 0) (getD image₀ a 0)
+
+pub agree-self : (image : List ℕ) → Agree image image
+unfolding Agree
+agree-self image a = kept-self
+
+pub agree-trans : (x y z : List ℕ) → Agree x y → Agree y z → Agree x z
+unfolding Agree
+agree-trans x y z p q a = record { reads = p a .reads ∙ q a .reads; frees = p a .frees ∙ q a .frees }
+
+pub written-agree : (want : ℕ → ℕ) (image image₀ : List ℕ) (i : Write) → Agree image image₀ → written want image i ≡ written want image₀ i
+unfolding written Agree
+written-agree want image image₀ i k = ap (λ (v : ℕ). i .address gets v) (byte-kept (i .address) _ (k (i .address)))
+
+module _ (want : ℕ → ℕ) (image₀ : List ℕ) where
+  -- the machine stores a list's bytes as they are
+  pub written-stored : (i : Write) (s : Chip) → Agree (s .image) image₀
+      → stored (written want image₀ i .address) (written want image₀ i .value) (s .image) ≡ written want image₀ i .value
+  unfolding stored written Agree
+  written-stored i s k = byte-stored (i .address) _ (k (i .address))
+
+  pub agree-store : (i : Write) (s : Chip) → Agree (s .image) image₀ → Agree (store (written want image₀ i) s .image) image₀
+  unfolding Agree written put
+  agree-store i s k a =
+      at-set (λ (x : ℕ). Kept a x (getD image₀ a 0)) (s .image) (i .address) a (written want image₀ i .value)
+      (λ e. subst (λ (b : ℕ). Kept b (written want image₀ i .value) (getD image₀ b 0)) (sym e) (kept-byte (i .address) (getD image₀ (i .address) 0) _)) (k a)
+
+  pub agree-acts : (is : List Write) (s : Chip) → Agree (s .image) image₀ → Agree (acts store (map (written want image₀) is) s .image) image₀
+  agree-acts [] s k = k
+  agree-acts (i ∷ is) s k = agree-acts is (store (written want image₀ i) s) (agree-store i s k)

@@ -1,0 +1,357 @@
+-- Demand 3 for any list that is `Good`: one that mutes first and opens last, whose walks pass, and that leaves each register as the finished
+-- image has it. What the walks show of the groups in use is `Latch`'s. Assumes nothing.
+use mathlib.Core.Path.{_≡_, refl, sym, ap, subst, _∙_}
+use mathlib.Core.Logic.{_⊎_, inl, inr, ⊎-map, _≢_}
+use mathlib.Core.Bool.{false≢true, Bool, true, false, _||_, cond}
+use mathlib.Core.List.{List, [], _∷_, _++_, map, map-append}
+use Prim.Native.Nat.{ℕ, zero, suc, _/_, _%_, _≤_, _<_}
+use native.Mathlib.Nat.{not-suc-le-zero, le-of-suc-le-suc}
+use native.Mathlib.Omega.{arith}
+use lib.Dec.{eqb, ltb, lit<}
+use lib.ListN.{length-append, length, getD, take}
+use lib.Seq.{ext-getD, take-length, take-append-le, getD-take, getD-drop, getD-set-same, getD-set-other}
+use borrow.Author.Tests.{eqb-true, ltb-true, ltb-false}
+use Rattle.map.specs.Map as reg
+use Rattle.bits.specs.Merge.{bit}
+use Rattle.bits.proofs.Below.{at-below}
+use Rattle.matrix.specs.Matrix.{fields}
+use Rattle.chip.specs.declared.Chip.{Chip}
+use Rattle.chip.specs.Machine.{Write, _gets_, Group, Bank, avi, audio, gc, matrix, packets, converter, up, part, holdsOf, inUse, writeOf, mute, coefficients}
+use Rattle.plan.specs.List.{decided, steps, written, listed, isWritten, finished, ready}
+use Rattle.cut.specs.Demand.{Plan, cut, done, Either, After, Demand3}
+use Rattle.cut.proofs.Latch.{nexts, walk, acts, status-acts, calm, once}
+use Rattle.cut.proofs.Bank.{store, view, Sized, Shown, image-store, size-store, down-part, avi-shown, audio-shown, gc-shown, matrix-shown}
+use Rattle.cut.proofs.Bytes.{clean, place, three-bits, mute-byte, Seen, packets-seen, converter-seen, walk-seen, nexts-seen}
+use Rattle.cut.proofs.Bytes.{Agree, agree-self, agree-trans, written-agree, agree-acts}
+use Rattle.cut.proofs.Taken.{neat, tidy, neat-at, tidy-seen, Fit, after-acts, taken-at}
+use Rattle.cut.proofs.Last.{last, read, stored-last, last-none}
+
+-- an image on which planning is not refused by 7 or 8
+pub record Ready (image : List ℕ) : Type 0 where
+  pub whole : length image ≡ 256
+  pub holds : ready image ≡ true
+
+-- the packet holds of such an image: none, audio's or AVI's
+abbrev three : ℕ → Bool
+three n = eqb n 0 || eqb n 2 || eqb n 4
+
+pub neat-elim : (P : ℕ → Type 0) → P 0 → P 2 → P 4 → (q : ℕ) → neat (q % 8) ≡ true → P (q % 8)
+neat-elim P p0 p2 p4 q t =
+    let n : ℕ = q % 8 in
+    go n (eqb n 0) (eqb n 2) (eqb n 4) refl refl refl (rw t at (at-below (λ n. cond (neat n) (three n) true) 8 n refl (omega arith)))
+  where
+    go : (n : ℕ) (x y z : Bool) → eqb n 0 ≡ x → eqb n 2 ≡ y → eqb n 4 ≡ z → (x || y || z) ≡ true → P n
+    go n true y z e f g t = subst P (sym (eqb-true _ _ e)) p0
+    go n false true z e f g t = subst P (sym (eqb-true _ _ f)) p2
+    go n false false true e f g t = subst P (sym (eqb-true _ _ g)) p4
+    go n false false false e f g t = absurd (false≢true t)
+
+-- what a list between mute and open must do: pass the walks, and leave each register as the finished image has it
+pub record Walked (n m : ℕ) (ms : List Write) : Type 0 where
+  pub avi-once : walk (view packets avi) true n (map clean (steps ms)) ≡ true
+  pub audio-once : walk (view packets audio) true n (map clean (steps ms)) ≡ true
+  pub matrix-once : walk (view converter matrix) true m (map clean (steps ms)) ≡ true
+  pub gc-calm : walk (view packets gc) false n (map clean ms) ≡ true
+  pub tidies : walk tidy false n (map clean (steps ms)) ≡ true
+  pub ends : nexts tidy n (map clean (steps ms)) ≡ 0
+  pub closes : nexts tidy n (map clean ms) ≡ 0
+  pub matrix-ends : nexts (view converter matrix) m (map clean (steps ms)) ≡ 0
+
+pub record Good (want : ℕ → ℕ) (image : List ℕ) (ms : List Write) : Type 0 where
+  pub walked : Walked (holdsOf packets image) (holdsOf converter image) ms
+  pub finishes : (a : ℕ) → a < 256 → read (written want image) a (last a (steps ms) 0) (getD image a 0) ≡ finished want image a
+  pub rests : (a : ℕ) → a < 256 → isWritten a ≡ false → last a (steps ms) 0 ≡ 0
+
+take-map : (f : Write → Write) (k : ℕ) (l : List Write) → take k (map f l) ≡ map f (take k l)
+take-map f zero l = refl
+take-map f (suc k) [] = refl
+take-map f (suc k) (x ∷ xs) = ap (λ (r : List Write). f x ∷ r) (take-map f k xs)
+
+sized-acts : (ws : List Write) (s : Chip) → Sized s → Sized (acts store ws s)
+sized-acts [] s e = e
+sized-acts (w ∷ ws) s e = sized-acts ws (store w s) (size-store w s e)
+
+acts-append : (vs ws : List Write) (s : Chip) → acts store (vs ++ ws) s ≡ acts store ws (acts store vs s)
+acts-append [] ws s = refl
+acts-append (v ∷ vs) ws s = acts-append vs ws (store v s)
+
+-- a write leaves the other registers
+elsewhere : (w : Write) (s : Chip) (a : ℕ) → a ≢ w .address → getD (store w s .image) a 0 ≡ getD (s .image) a 0
+elsewhere w s a h = ap (λ (l : List ℕ). getD l a 0) (image-store w s) ∙ getD-set-other (s .image) (w .address) a (w .value) 0 h
+
+-- so at most the last write's register moves once the writes before it are done
+tail-stays : (ws : List Write) (w : Write) (s : Chip) (a k : ℕ) → a ≢ w .address → length ws ≤ k
+    → getD (acts store (take k (ws ++ w ∷ [])) s .image) a 0 ≡ getD (acts store ws s .image) a 0
+tail-stays [] w s a zero h l = refl
+tail-stays [] w s a (suc zero) h l = elsewhere w s a h
+tail-stays [] w s a (suc (suc k)) h l = elsewhere w s a h
+tail-stays (v ∷ vs) w s a zero h l = absurd (not-suc-le-zero l)
+tail-stays (v ∷ vs) w s a (suc k) h l = tail-stays vs w (store v s) a k h (le-of-suc-le-suc l)
+
+gc-low : (q : ℕ) → neat (q % 8) ≡ true → up gc (q % 8) ≡ false
+gc-low = neat-elim (λ (n : ℕ). up gc n ≡ false) refl refl refl
+
+gc-bit : (x : ℕ) → neat (x / 16 % 8) ≡ true → bit 4 x ≡ 0
+gc-bit x h =
+    neat-elim (λ (n : ℕ). x / 16 % 8 ≡ n → bit 4 x ≡ 0) (λ e. omega (arith, three-bits x)) (λ e. omega (arith, three-bits x))
+    (λ e. omega (arith, three-bits x)) (x / 16) h refl
+
+-- a state that cut runs may lead to: the read-only and free bits, and the registers that no list writes, are as they were
+pub record Near (s u : Chip) : Type 0 where
+  pub ready : Ready (u .image)
+  pub kept : Agree (u .image) (s .image)
+  pub rest : (a : ℕ) → a < 256 → isWritten a ≡ false → getD (u .image) a 0 ≡ getD (s .image) a 0
+
+pub near-self : (s : Chip) → Ready (s .image) → Near s s
+near-self s r = record { ready = r; kept = agree-self (s .image); rest = λ a h t. refl }
+
+finished-near : (want : ℕ → ℕ) (s u : Chip) → Near s u → (a : ℕ) → a < 256 → finished want (u .image) a ≡ finished want (s .image) a
+unfolding finished
+finished-near want s u near a h = go (isWritten a) refl
+  where
+    end : Write
+    end = a gets cond (eqb a reg.gc) reg.clearAvMuteMask 0
+
+    go : (t : Bool) → isWritten a ≡ t
+        → cond t (written want (u .image) end .value) (getD (u .image) a 0) ≡ cond t (written want (s .image) end .value) (getD (s .image) a 0)
+    go true t = ap (λ (w : Write). w .value) (written-agree want (u .image) (s .image) end (near .kept))
+    go false t = near .rest a h t
+
+-- a value that is old or new at every cut of every run, and that ends as the registers do
+pub record Latched (P : Plan) (shown : Chip → List ℕ) : Type 0 where
+  pub either : (want : ℕ → ℕ) (s : Chip) → Ready (s .image) → (k : ℕ) → Either shown s (done P want s) (cut P want s k)
+  pub ending : (want : ℕ → ℕ) (s u : Chip) → Ready (s .image) → Near s u → shown (done P want u) ≡ shown (done P want s)
+
+module _ (mid : Plan) (good : (want : ℕ → ℕ) (image : List ℕ) → Ready image → Good want image (mid want image)) where
+  abbrev P : Plan
+  P = listed mid
+
+  module _ (want : ℕ → ℕ) (s : Chip) (r : Ready (s .image)) where
+    -- the steps between mute and open, all steps, and their bytes
+    abbrev ms : List Write
+    ms = mid want (s .image)
+
+    abbrev is : List Write
+    is = steps ms
+
+    abbrev f : Write → Write
+    f = written want (s .image)
+
+    facts : Walked (holdsOf packets (s .image)) (holdsOf converter (s .image)) ms
+    facts = good want (s .image) r .walked
+
+    seen-p : Seen want (s .image) packets
+    seen-p = packets-seen want (s .image) (gc-bit (getD (s .image) reg.infoframeUpdate 0) (r .holds))
+
+    -- no write is refused, so a run, and a cut one, store their bytes as they are
+    fit : Fit want (s .image) s is
+    fit = record {
+      agree = agree-self (s .image);
+      sized = r .whole;
+      holds = r .holds;
+      walks = tidy-seen want (s .image) seen-p (holdsOf packets (s .image)) is ∙ facts .tidies;
+    }
+
+    cut-acts : (k : ℕ) → cut P want s k ≡ acts store (take k (map f is)) s
+    cut-acts k = after-acts want (s .image) is s k fit
+
+    done-acts : done P want s ≡ acts store (map f is) s
+    done-acts = rw take-length at (after-acts want (s .image) is s (length (map f is)) fit)
+
+    taken : (k : ℕ) → k < length (map f is) → let w : Write = getD (map f is) k (0 gets 0) in writeOf (cut P want s k) (w .address) (w .value) .refusal ≡ 0
+    taken k h = rw (cut-acts k) (taken-at want (s .image) is s k fit h)
+
+    -- one group: old or new at every cut, and at the end as it stands in the registers
+    module _ (B : Bank) (g : Group) (F : Shown B g) (see : Seen want (s .image) B) where
+      holds-acts : (vs : List Write) (u : Chip) → Sized u → holdsOf B (acts store (map f vs) u .image) ≡ nexts (view B g) (holdsOf B (u .image)) (map clean vs)
+      holds-acts vs u e = status-acts store F (map f vs) u e ∙ nexts-seen want (s .image) B g see (holdsOf B (u .image)) vs
+
+      group-cut : walk (view B g) true (holdsOf B (s .image)) (map clean is) ≡ true → (k : ℕ) → Either (inUse B g) s (done P want s) (cut P want s k)
+      group-cut t k = rw (cut-acts k, done-acts) (once store F (map f is) s k (r .whole) (walk-seen want (s .image) B g see true (holdsOf B (s .image)) is ∙ t))
+
+      group-done : nexts (view B g) (holdsOf B (s .image)) (map clean is) ≡ 0 → up g 0 ≡ false → inUse B g (done P want s) ≡ part g (done P want s .image)
+      group-done t z = down-part B g (done P want s) (ap (λ (n : ℕ). up g n) (rw done-acts (holds-acts is s (r .whole)) ∙ t) ∙ z)
+
+    ready-cut : (k : ℕ) → Ready (cut P want s k .image)
+    ready-cut k = record {
+      whole = rw (cut-acts k) (sized-acts (take k (map f is)) s (r .whole));
+      holds = rw (cut-acts k, take-map f k is, holds-acts packets gc gc-shown seen-p (take k is) s (r .whole), ← take-map clean k is)
+          (neat-at _ (map clean is) k (r .holds) (facts .tidies));
+    }
+
+    -- the mute bits after a write to their register
+    mute-store : (x : ℕ) (u : Chip) → Sized u → up gc (holdsOf packets (u .image)) ≡ false → mute (store (f (reg.gc gets x)) u) ≡ x / 64 % 4
+    unfolding mute written decided
+    mute-store x u e h =
+        let d : inUse packets gc (store (f (reg.gc gets x)) u) ≡ part gc (store (f (reg.gc gets x)) u .image) =
+        down-part packets gc (store (f (reg.gc gets x)) u) (ap (λ (n : ℕ). up gc n) (gc-shown .tracks (f (reg.gc gets x)) u e) ∙ h) in
+        rw (d, image-store, getD-take {A = ℕ} 1 _ 0 0 (lit< tt), getD-drop, getD-set-same (u .image) reg.gc _ 0 (rw e (lit< tt)))
+        (mute-byte (getD (s .image) reg.gc 0) x (want reg.gc))
+
+    -- the state after the first write
+    dark : Chip
+    dark = store (f (reg.gc gets reg.setAvMuteMask)) s
+
+    dark-sized : Sized dark
+    unfolding dark
+    dark-sized = size-store (f (reg.gc gets reg.setAvMuteMask)) s (r .whole)
+
+    dark-holds : holdsOf packets (dark .image) ≡ holdsOf packets (s .image)
+    unfolding dark written
+    dark-holds = gc-shown .tracks (f (reg.gc gets reg.setAvMuteMask)) s (r .whole)
+
+    -- the writes between, and the last
+    abbrev ws : List Write
+    ws = map f ms
+
+    abbrev opening : Write
+    opening = f (reg.gc gets reg.clearAvMuteMask)
+
+    shape : map f (ms ++ reg.gc gets reg.clearAvMuteMask ∷ []) ≡ ws ++ opening ∷ []
+    shape = map-append f ms _
+
+    count : length (P want (s .image)) ≡ suc (suc (length ws))
+    count = ap (λ (l : List Write). suc (length l)) shape ∙ rw (length-append ws (opening ∷ [])) (omega arith)
+
+    cut-dark : (j : ℕ) → cut P want s (suc j) ≡ acts store (take j (ws ++ opening ∷ [])) dark
+    unfolding dark
+    cut-dark j = cut-acts (suc j) ∙ ap (λ (l : List Write). acts store (take j l) dark) shape
+
+    opens : mute (done P want s) ≡ 2
+    unfolding dark
+    opens =
+        let u : Chip = acts store ws dark in
+        let e : done P want s ≡ store opening u = done-acts ∙ rw (map-append, acts-append) in
+        let h : holdsOf packets (u .image) ≡ 0 =
+        holds-acts packets gc gc-shown seen-p ms dark dark-sized ∙ ap (λ (n : ℕ). nexts (view packets gc) n (map clean ms)) dark-holds ∙ facts .closes in
+        rw e (mute-store reg.clearAvMuteMask u (sized-acts ws dark dark-sized) (ap (λ (n : ℕ). up gc n) h))
+
+    mutes : (j : ℕ) → suc j < length (P want (s .image)) → mute (cut P want s (suc j)) ≡ 1
+    unfolding mute dark
+    mutes j h =
+        let le : j ≤ length ws = omega (arith, count) in
+        let e : cut P want s (suc j) ≡ acts store (take j ws) dark =
+        cut-dark j ∙ ap (λ (l : List Write). acts store l dark) (take-append-le j ws (opening ∷ []) le) in
+        let c : inUse packets gc (acts store (take j ws) dark) ≡ inUse packets gc dark =
+        calm store gc-shown ws dark j dark-sized
+        (rw dark-holds (walk-seen want (s .image) packets gc seen-p false (holdsOf packets (s .image)) ms ∙ facts .gc-calm)) in
+        rw (e, c) (mute-store reg.setAvMuteMask s (r .whole) (gc-low (getD (s .image) reg.infoframeUpdate 0 / 16) (r .holds)))
+
+    ended : After (done P want s)
+    unfolding coefficients
+    ended = record {
+      opened = opens;
+      avi = group-done packets avi avi-shown seen-p (facts .ends) refl;
+      audio = group-done packets audio audio-shown seen-p (facts .ends) refl;
+      matrix = ap fields (group-done converter matrix matrix-shown (converter-seen want (s .image)) (facts .matrix-ends) refl);
+    }
+
+    -- the registers after some of the steps
+    stand : (vs : List Write) (a : ℕ) → a < 256 → getD (acts store (map f vs) s .image) a 0 ≡ read f a (last a vs 0) (getD (s .image) a 0)
+    stand vs a h = stored-last f (place want (s .image)) a (getD (s .image) a 0) h vs s 0 (r .whole) refl
+
+    registers : (a : ℕ) → a < 256 → getD (done P want s .image) a 0 ≡ finished want (s .image) a
+    registers a h = rw done-acts (stand is a h) ∙ good want (s .image) r .finishes a h
+
+    others-stay : (k a : ℕ) → a < 256 → isWritten a ≡ false → getD (cut P want s k .image) a 0 ≡ getD (s .image) a 0
+    others-stay k a h t = rw (cut-acts k, take-map f k is, stand (take k is) a h, last-none a is 0 k (good want (s .image) r .rests a h t))
+
+    -- a register that a write moves is the mute's, or the picture is muted before and after
+    covered : (a k : ℕ) → a ≢ reg.gc → getD (cut P want s (suc k) .image) a 0 ≢ getD (cut P want s k .image) a 0
+        → (mute (cut P want s k) ≡ 1) × (mute (cut P want s (suc k)) ≡ 1)
+    unfolding dark written
+    covered a zero h m = absurd (m (ap (λ (t : Chip). getD (t .image) a 0) (cut-dark 0) ∙ elsewhere (f (reg.gc gets reg.setAvMuteMask)) s a h))
+    covered a (suc j) h m = go (ltb (suc (suc j)) (length (P want (s .image)))) refl
+      where
+        late : (i : ℕ) → length ws ≤ i → getD (cut P want s (suc i) .image) a 0 ≡ getD (acts store ws dark .image) a 0
+        late i l = ap (λ (t : Chip). getD (t .image) a 0) (cut-dark i) ∙ tail-stays ws opening dark a i h l
+
+        go : (t : Bool) → ltb (suc (suc j)) (length (P want (s .image))) ≡ t → (mute (cut P want s (suc j)) ≡ 1) × (mute (cut P want s (suc (suc j))) ≡ 1)
+        go true e =
+            let l : suc (suc j) < length (P want (s .image)) = ltb-true (suc (suc j)) (length (P want (s .image))) e in
+            (mutes j (omega (arith, l)), mutes (suc j) l)
+        go false e =
+            let l : length ws ≤ j = omega (arith, count, ltb-false (suc (suc j)) (length (P want (s .image))) e) in
+            absurd (m (late (suc j) (omega (arith, l)) ∙ sym (late j l)))
+
+    vic : (k : ℕ) → getD (cut P want s k .image) reg.vicManual 0 ≢ getD (s .image) reg.vicManual 0
+        → (mute (cut P want s k) ≡ 1) ⊎ (length (P want (s .image)) ≤ k)
+    vic zero m = absurd (m refl)
+    vic (suc j) m = go (ltb (suc j) (length (P want (s .image)))) refl
+      where
+        go : (t : Bool) → ltb (suc j) (length (P want (s .image))) ≡ t → (mute (cut P want s (suc j)) ≡ 1) ⊎ (length (P want (s .image)) ≤ suc j)
+        go true e = inl (mutes j (ltb-true (suc j) (length (P want (s .image))) e))
+        go false e = inr (ltb-false (suc j) (length (P want (s .image))) e)
+
+  pub near-cut : (want : ℕ → ℕ) (s u : Chip) (k : ℕ) → Near s u → Near s (cut P want u k)
+  near-cut want s u k near =
+      let vs : List Write = take k (is want u (near .ready)) in
+      record {
+        ready = ready-cut want u (near .ready) k;
+        kept = agree-trans _ (u .image) _
+            (rw (cut-acts want u (near .ready) k, take-map (written want (u .image)) k) (agree-acts want (u .image) vs u (agree-self (u .image)))) (near .kept);
+        rest = λ a h t. others-stay want u (near .ready) k a h t ∙ near .rest a h t;
+      }
+
+  -- a run from a near state ends in the same registers
+  pub ends-alike : (want : ℕ → ℕ) (s u : Chip) → Ready (s .image) → Near s u → done P want u .image ≡ done P want s .image
+  ends-alike want s u r near = ext-getD 0 _ _ (size u (near .ready) ∙ sym (size s r)) (λ a h. at-each a (rw (size u (near .ready)) at h))
+    where
+      size : (t : Chip) → Ready (t .image) → length (done P want t .image) ≡ 256
+      size t q = rw (done-acts want t q) (sized-acts (P want (t .image)) t (q .whole))
+
+      at-each : (a : ℕ) → a < 256 → getD (done P want u .image) a 0 ≡ getD (done P want s .image) a 0
+      at-each a h = registers want u (near .ready) a h ∙ finished-near want s u near a h ∙ sym (registers want s r a h)
+
+  ending-part : (g : Group) (shown : Chip → List ℕ) (of : List ℕ → List ℕ)
+      → ((want : ℕ → ℕ) (t : Chip) → Ready (t .image) → shown (done P want t) ≡ of (part g (done P want t .image)))
+      → (want : ℕ → ℕ) (s u : Chip) → Ready (s .image) → Near s u → shown (done P want u) ≡ shown (done P want s)
+  ending-part g shown of h want s u r near = h want u (near .ready) ∙ ap (λ (l : List ℕ). of (part g l)) (ends-alike want s u r near) ∙ sym (h want s r)
+
+  pub avi-latched : Latched P (inUse packets avi)
+  avi-latched = record {
+    either = λ want s r k. group-cut want s r packets avi avi-shown (seen-p want s r) (facts want s r .avi-once) k;
+    ending = ending-part avi (inUse packets avi) (λ l. l) (λ want s r. ended want s r .avi);
+  }
+
+  pub audio-latched : Latched P (inUse packets audio)
+  audio-latched = record {
+    either = λ want s r k. group-cut want s r packets audio audio-shown (seen-p want s r) (facts want s r .audio-once) k;
+    ending = ending-part audio (inUse packets audio) (λ l. l) (λ want s r. ended want s r .audio);
+  }
+
+  pub matrix-latched : Latched P coefficients
+  unfolding coefficients
+  matrix-latched = record {
+    either = λ want s r k. ⊎-map (ap fields) (ap fields)
+        (group-cut want s r converter matrix matrix-shown (converter-seen want (s .image)) (facts want s r .matrix-once) k);
+    ending = ending-part matrix coefficients fields (λ want s r. ended want s r .matrix);
+  }
+
+  pub demand3 : (want : ℕ → ℕ) (s : Chip) → Ready (s .image) → Demand3 P want s
+  demand3 want s r = record {
+    start = refl;
+    between = λ k lo hi. record {
+      muted = muted k lo hi;
+      avi = avi-latched .either want s r k;
+      audio = audio-latched .either want s r k;
+      matrix = matrix-latched .either want s r k;
+    };
+    ended = ended want s r;
+    registers = registers want s r;
+    taken = taken want s r;
+    whole = λ k. ready-cut want s r k .whole;
+    ready = λ k. ready-cut want s r k .holds;
+    again = λ k. let near : Near s (cut P want s k) = near-cut want s s k (near-self s r) in record {
+      registers = ends-alike want s (cut P want s k) r near;
+      avi = avi-latched .ending want s (cut P want s k) r near;
+      audio = audio-latched .ending want s (cut P want s k) r near;
+      matrix = matrix-latched .ending want s (cut P want s k) r near;
+    };
+    covered = covered want s r;
+    vic = vic want s r;
+  }
+    where
+      muted : (k : ℕ) → 0 < k → k < length (P want (s .image)) → mute (cut P want s k) ≡ 1
+      muted zero lo hi = absurd (not-suc-le-zero lo)
+      muted (suc j) lo hi = mutes want s r j hi

@@ -1,0 +1,9 @@
+pub mod Latch
+pub mod Bank
+pub mod Bytes
+pub mod Taken
+pub mod Last
+pub mod Cut
+pub mod WriteList
+pub mod InOrder
+pub mod Carries

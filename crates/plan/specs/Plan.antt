@@ -1,0 +1,62 @@
+-- Document 01, "Refusal numbers" (planning checks 1 to 10) and "The write list": what planning answers, and what it leaves in the lent buffer.
+use mathlib.Core.Path.{_≡_}
+use mathlib.Core.Logic.{_≢_, _⊎_}
+use mathlib.Core.Bool.{Bool, true, cond, not}
+use mathlib.Core.List.{List, [], _∷_, _++_}
+use Prim.Native.Nat.{ℕ, _<_}
+use lib.Dec.{eqb, ltb}
+use lib.ListN.{length, drop}
+use Rattle.refusals.specs.Rows.{Row, imageLength, holdsUp, noExactPair, bufferShort, number, Condition, _when_}
+use Rattle.request.specs.declared.Request.{Request}
+use Rattle.request.specs.Sections.{walked}
+use Rattle.request.specs.Request.{readRules, NoPair}
+use Rattle.request.specs.Read.{readOf, pairFor}
+use Rattle.chip.specs.Machine.{Write, up, avi, audio, gc, packets, holdsOf}
+use Rattle.plan.specs.declared.Planned.{Planned}
+use Rattle.plan.specs.Wanted.{wanted}
+use Rattle.plan.specs.List.{writeList, ready}
+
+-- row 8, "GC hold up, or AVI and audio holds both up"
+abbrev pub HoldsUp : List ℕ → Type 0
+HoldsUp image =
+    (up gc (holdsOf packets image) ≡ true) ⊎ ((up avi (holdsOf packets image) ≡ true) × (up audio (holdsOf packets image) ≡ true))
+
+-- "Planning checks 1 to 10", on the request, the image and the buffer as they are lent
+abbrev pub planRules : List ℕ → List ℕ → List ℕ → List Condition
+planRules input image buffer =
+    readRules (walked input) ++
+    imageLength when (length image ≢ 256) ∷
+    holdsUp when HoldsUp image ∷
+    noExactPair when NoPair (walked input) ∷
+    bufferShort when (length buffer < 256) ∷ []
+
+-- the list as bytes: pairs of address and value
+unfoldable pub flat : List Write → List ℕ
+flat [] = []
+flat (w ∷ ws) = w .address ∷ w .value ∷ flat ws
+
+-- rows 7 to 10, for a request that was read
+unfoldable pub laterRefusal : Request → List ℕ → List ℕ → ℕ
+laterRefusal r image buffer =
+    cond (not (eqb (length image) 256)) (number imageLength)
+    (cond (not (ready image)) (number holdsUp)
+    (cond (not (eqb (pairFor r .refusal) 0)) (number noExactPair) (cond (ltb (length buffer) 256) (number bufferShort) 0)))
+
+unfoldable pub refusalOf : List ℕ → List ℕ → List ℕ → ℕ
+refusalOf input image buffer =
+    cond (eqb (readOf input .refusal) 0) (laterRefusal (readOf input .request) image buffer) (readOf input .refusal)
+
+-- the write list of an input on an image
+unfoldable pub writesOf : List ℕ → List ℕ → List Write
+writesOf input image = writeList (wanted (readOf input .request)) image
+
+-- the answer: the number of the refusal, 0 for none, and the count of pairs
+unfoldable pub planOf : List ℕ → List ℕ → List ℕ → Planned
+planOf input image buffer =
+    cond (eqb (refusalOf input image buffer) 0) (record { refusal = 0; count = length (writesOf input image) })
+    (record { refusal = refusalOf input image buffer; count = 0 })
+
+-- the buffer: the list at its front, and "buffer bytes after the list stay"; a refusal changes no byte
+unfoldable pub bufferOf : List ℕ → List ℕ → List ℕ → List ℕ
+bufferOf input image buffer =
+    cond (eqb (refusalOf input image buffer) 0) (flat (writesOf input image) ++ drop (length (flat (writesOf input image))) buffer) buffer

@@ -1,0 +1,93 @@
+-- Document 01, "Register classes" and the sections it draws on: the byte that a request wants in each register. Only its named bits count.
+use mathlib.Core.Bool.{cond}
+use mathlib.Core.List.{List, [], _∷_, _++_}
+use Prim.Native.Nat.{ℕ, suc, _+_, _*_, _/_, _%_, _^_}
+use lib.Dec.{eqb}
+use lib.ListN.{getD, set, drop, replicate}
+use Rattle.map.specs.Map as reg
+use Rattle.matrix.specs.declared.Matrix.{Matrix}
+use Rattle.frames.specs.Frames.{aviFrame, audioFrame, audioOffFrame}
+use Rattle.chip.specs.Machine.{Write, _gets_}
+use Rattle.request.specs.declared.Sound.{Sound}
+use Rattle.request.specs.declared.Sound.the-variants.{Off, On}
+use Rattle.request.specs.declared.Request.{Request}
+use Rattle.request.specs.Read.{pairFor}
+
+-- registers from an address on get these bytes
+abbrev pub run : ℕ → List ℕ → List Write
+run a [] = []
+run a (b ∷ bs) = a gets b ∷ run (suc a) bs
+
+-- "Coherent audio sets 0x0A[7] to 1"
+abbrev pub ctsSelect : Sound → ℕ
+ctsSelect Off = 0
+ctsSelect (On rate channels coherent) = coherent
+
+-- the code of the rate in 0x15[7:4]: 0011, 0000, 0010, 1000, 1010, 1100, 1110 for 32 to 192 kHz; "Audio off: .. the 48 kHz rate code"
+abbrev pub rateCodes : List ℕ
+rateCodes = 3 ∷ 0 ∷ 2 ∷ 8 ∷ 10 ∷ 12 ∷ 14 ∷ []
+
+abbrev pub rateCode : Sound → ℕ
+rateCode Off = 2
+rateCode (On rate channels coherent) = getD rateCodes rate 0
+
+-- "one I2S input is enabled for 2 channels, all four for 8, none when off": a bit for each of I2S0 to I2S3
+abbrev pub inputs : Sound → ℕ
+inputs Off = 0
+inputs (On rate channels coherent) = cond (eqb channels 8) 15 1
+
+abbrev pub withAudio : Sound → ℕ
+withAudio Off = 0
+withAudio (On rate channels coherent) = 1
+
+abbrev pub audioBytes : Sound → List ℕ
+audioBytes Off = audioOffFrame
+audioBytes (On rate channels coherent) = audioFrame channels
+
+-- a number of 20 bits in three registers
+abbrev pub twenty : ℕ → List ℕ
+twenty n = n / 65536 % 256 ∷ n / 256 % 256 ∷ n % 256 ∷ []
+
+-- CSC enable, mode and the twelve coefficients, the high five bits of each first
+abbrev pub high : Matrix → ℕ → ℕ
+high m i = getD (m .coefficients) i 0 / 256
+
+abbrev pub low : Matrix → ℕ → ℕ
+low m i = getD (m .coefficients) i 0 % 256
+
+abbrev pub cscBytes : Matrix → List ℕ
+cscBytes m =
+    (m .on * 2 ^ reg.cscEnableShift + m .mode * 2 ^ reg.cscScalingFactorShift + high m 0) ∷ low m 0 ∷ high m 1 ∷ low m 1 ∷ high m 2 ∷ low m 2 ∷
+    high m 3 ∷ low m 3 ∷ high m 4 ∷ low m 4 ∷ high m 5 ∷ low m 5 ∷ high m 6 ∷ low m 6 ∷ high m 7 ∷ low m 7 ∷ high m 8 ∷ low m 8 ∷
+    high m 9 ∷ low m 9 ∷ high m 10 ∷ low m 10 ∷ high m 11 ∷ low m 11 ∷ []
+
+-- the registers with a named bit, but for 0x4B, whose bits are the step's. A named field for which document 01 gives no value, Audio
+-- Select, Audio Mode, I2S Format and Input ID, holds the map's default, 0; Output Format is that of the encoding.
+abbrev pub wantedBytes : Request → List Write
+wantedBytes r =
+    run reg.n0 (twenty (pairFor r .n)) ++ run reg.ctsManual0 (twenty (pairFor r .cts)) ++
+    (reg.audioSource gets (ctsSelect (r .sound) * 2 ^ reg.ctsSelectShift) ∷
+    reg.i2sConfig gets (inputs (r .sound) * 2 ^ reg.i2s0EnableShift) ∷
+    reg.i2sFreqIdCfg gets (rateCode (r .sound) * 2 ^ reg.i2sSamplingFrequencyShift) ∷
+    reg.videoInputCfg1 gets cond (eqb (r .encoding) 1) reg.outputFormatMask 0 ∷ []) ++
+    run reg.csc (cscBytes (r .matrix)) ++
+    (reg.pixelRepetition gets (2 * 2 ^ reg.prModeShift) ∷
+    reg.vicManual gets r .vic ∷
+    reg.packetEnable0 gets (r .link * reg.gcPacketEnableMask) ∷
+    reg.packetEnable1
+    gets (withAudio (r .sound) * (reg.nCtsPacketEnableMask + reg.audioSamplePacketEnableMask + reg.audioInfoframeEnableMask) + r .link * reg.aviInfoframeEnableMask) ∷
+    reg.infoframeUpdate gets reg.autoChecksumEnableMask ∷ []) ++
+    run reg.aviInfoframeVersion (drop 1 (aviFrame (r .vic) (r .encoding))) ++
+    run reg.audioInfoframeVersion (drop 1 (audioBytes (r .sound))) ++
+    (reg.hdcpHdmiCfg gets (r .link * reg.hdmiDviModeSelectMask) ∷ [])
+
+-- the bytes of a list of writes, stored in order
+abbrev pub stores : List ℕ → List Write → List ℕ
+stores image [] = image
+stores image (w ∷ ws) = stores (set image (w .address) (w .value)) ws
+
+unfoldable pub wantedImage : Request → List ℕ
+wantedImage r = stores (replicate 256 0) (wantedBytes r)
+
+unfoldable pub wanted : Request → ℕ → ℕ
+wanted r a = getD (wantedImage r) a 0

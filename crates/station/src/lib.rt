@@ -1,0 +1,49 @@
+// The C face: each call is a call of the library, taken apart. No logic. The C declarations are in include/station.h.
+ghost use mathlib.Core.Path.{_≡_};
+ghost use Rattle.station.specs.Face.{pairOut, pixelOut};
+ghost use Rattle.request.specs.Read.{nctsOf};
+ghost use Rattle.matrix.specs.Preview.{previewOf};
+
+// struct station_pair
+#[repr(C)]
+pub struct PairOut {
+    pub refusal: u32,
+    pub n: u32,
+    pub cts: u32,
+}
+
+// struct station_pixel
+#[repr(C)]
+pub struct PixelOut {
+    pub refusal: u32,
+    pub a: u32,
+    pub b: u32,
+    pub c: u32,
+}
+
+// N and CTS over a request: refusals 1 to 6 and 9.
+#[no_mangle]
+pub extern "C" fn station_ncts(request: &[u8]) -> PairOut
+    ensures { λ r. ⌜ r ≡ pairOut (nctsOf (now (request .entry))) ⌝ }
+{
+    let pair = request::ncts(request);
+    PairOut {
+        refusal: pair.refusal as u32,
+        n: pair.n,
+        cts: pair.cts,
+    }
+}
+
+// Three codes through a matrix, 25 bytes as the request has them: refusals 5 and 12.
+#[no_mangle]
+pub extern "C" fn station_preview(matrix: &[u8], a: u32, b: u32, c: u32) -> PixelOut
+    ensures { λ r. ⌜ r ≡ pixelOut (previewOf (now (matrix .entry)) a b c) ⌝ }
+{
+    let pixel = matrix::preview(matrix, a, b, c);
+    PixelOut {
+        refusal: pixel.refusal as u32,
+        a: pixel.a as u32,
+        b: pixel.b as u32,
+        c: pixel.c as u32,
+    }
+}
