@@ -13,14 +13,27 @@
 extern "C" {
 #endif
 
-/* The number of a refusal is 0 for none; every other field is 0 where it is not.
- *   1  input ends before a count or inside a section      5  any other field outside its range
- *   2  a count the section does not allow                 6  encoding not 0 without a matrix; DVI with audio or with encoding not 0
- *   3  bytes after the matrix section                     9  coherent audio, and no exact pair exists
- *   4  VIC not listed, or family not offered by it       12  an input above 4095
+/* The number of a refusal is 0 for none; every other field is 0 where it is not, and no lent byte is changed.
+ *   1  input ends before a count or inside a section
+ *   2  a count the section does not allow
+ *   3  bytes after the matrix section
+ *   4  VIC not listed, or family not offered by it
+ *   5  any other field outside its range (matrix mode above 2)
+ *   6  encoding not 0 without a matrix; DVI with audio or with encoding not 0
+ *   7  image not of 256 bytes
+ *   8  GC hold up, or AVI and audio holds both up
+ *   9  coherent audio, and no exact pair exists
+ *  10  write buffer shorter than 256 bytes
+ *  12  an input above 4095
  */
+struct station_count { uint32_t refusal, count; };
 struct station_pair { uint32_t refusal, n, cts; };
 struct station_pixel { uint32_t refusal, a, b, c; };
+
+/* The write list of a request on a register image of 256 bytes: `count` pairs of address and value at the front of `writes`, which has at
+ * least 256 bytes; the bytes after them stay. Refusals 1 to 10. */
+struct station_count station_plan(const uint8_t *request, size_t request_length, const uint8_t *image, size_t image_length,
+                                  uint8_t *writes, size_t writes_length);
 
 /* N and CTS for a request. Refusals 1 to 6 and 9. */
 struct station_pair station_ncts(const uint8_t *request, size_t length);

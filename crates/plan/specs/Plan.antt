@@ -2,11 +2,11 @@
 use mathlib.Core.Path.{_≡_}
 use mathlib.Core.Logic.{_≢_, _⊎_}
 use mathlib.Core.Bool.{Bool, true, cond, not}
-use mathlib.Core.List.{List, [], _∷_, _++_}
+use mathlib.Core.List.{List, [], _∷_, _++_, map}
 use Prim.Native.Nat.{ℕ, _<_}
 use lib.Dec.{eqb, ltb}
-use lib.ListN.{length, drop}
-use Rattle.refusals.specs.Rows.{Row, imageLength, holdsUp, noExactPair, bufferShort, number, Condition, _when_}
+use lib.ListN.{length, getD, drop}
+use Rattle.refusals.specs.Rows.{imageLength, holdsUp, noExactPair, bufferShort, number, Condition, _when_, Given}
 use Rattle.request.specs.declared.Request.{Request}
 use Rattle.request.specs.Sections.{walked}
 use Rattle.request.specs.Request.{readRules, NoPair}
@@ -14,7 +14,7 @@ use Rattle.request.specs.Read.{readOf, pairFor}
 use Rattle.chip.specs.Machine.{Write, up, avi, audio, gc, packets, holdsOf}
 use Rattle.plan.specs.declared.Planned.{Planned}
 use Rattle.plan.specs.Wanted.{wanted}
-use Rattle.plan.specs.List.{writeList, ready}
+use Rattle.plan.specs.List.{steps, middle, written, writeList, ready}
 
 -- row 8, "GC hold up, or AVI and audio holds both up"
 abbrev pub HoldsUp : List ℕ → Type 0
@@ -35,6 +35,14 @@ unfoldable pub flat : List Write → List ℕ
 flat [] = []
 flat (w ∷ ws) = w .address ∷ w .value ∷ flat ws
 
+-- the list that an image of wanted bytes gives, in one of its two orders
+unfoldable pub inOrder : List ℕ → List ℕ → Bool → List Write
+inOrder wanted image audioFirst = map (written (λ a. getD wanted a 0) image) (steps (middle audioFirst))
+
+-- a list at the front of a buffer: "buffer bytes after the list stay"
+abbrev pub fronted : List Write → List ℕ → List ℕ
+fronted ws buffer = flat ws ++ drop (length (flat ws)) buffer
+
 -- rows 7 to 10, for a request that was read
 unfoldable pub laterRefusal : Request → List ℕ → List ℕ → ℕ
 laterRefusal r image buffer =
@@ -51,12 +59,21 @@ unfoldable pub writesOf : List ℕ → List ℕ → List Write
 writesOf input image = writeList (wanted (readOf input .request)) image
 
 -- the answer: the number of the refusal, 0 for none, and the count of pairs
+abbrev pub nothing : ℕ → Planned
+nothing number = record { refusal = number; count = 0 }
+
 unfoldable pub planOf : List ℕ → List ℕ → List ℕ → Planned
 planOf input image buffer =
     cond (eqb (refusalOf input image buffer) 0) (record { refusal = 0; count = length (writesOf input image) })
-    (record { refusal = refusalOf input image buffer; count = 0 })
+    (nothing (refusalOf input image buffer))
 
--- the buffer: the list at its front, and "buffer bytes after the list stay"; a refusal changes no byte
+-- the buffer: the list at its front; a refusal changes no byte
 unfoldable pub bufferOf : List ℕ → List ℕ → List ℕ → List ℕ
 bufferOf input image buffer =
-    cond (eqb (refusalOf input image buffer) 0) (flat (writesOf input image) ++ drop (length (flat (writesOf input image))) buffer) buffer
+    cond (eqb (refusalOf input image buffer) 0) (fronted (writesOf input image) buffer) buffer
+
+-- "the lowest that applies is given, and none is given otherwise. Each returns its number and count 0 and changes no lent byte."
+pub record PlanRefusals (input image buffer : List ℕ) : Type 0 where
+  pub given : Given (planRules input image buffer) (planOf input image buffer .refusal)
+  pub count : planOf input image buffer .refusal ≢ 0 → planOf input image buffer .count ≡ 0
+  pub kept : planOf input image buffer .refusal ≢ 0 → bufferOf input image buffer ≡ buffer

@@ -1,10 +1,14 @@
 -- Document 01, "Register classes" and the sections it draws on: the byte that a request wants in each register. Only its named bits count.
+use mathlib.Core.Path.{_≡_}
+use mathlib.Core.Logic.{_≢_, _⊎_}
 use mathlib.Core.Bool.{cond}
 use mathlib.Core.List.{List, [], _∷_, _++_}
-use Prim.Native.Nat.{ℕ, suc, _+_, _*_, _/_, _%_, _^_}
+use Prim.Native.Nat.{ℕ, zero, suc, _+_, _*_, _/_, _%_, _^_, _<_, _≤_}
 use lib.Dec.{eqb}
 use lib.ListN.{getD, set, drop, replicate}
 use Rattle.map.specs.Map as reg
+use Rattle.clock.specs.declared.Pair.{Pair}
+use Rattle.clock.specs.Modes.{modeOf}
 use Rattle.matrix.specs.declared.Matrix.{Matrix}
 use Rattle.frames.specs.Frames.{aviFrame, audioFrame, audioOffFrame}
 use Rattle.chip.specs.Machine.{Write, _gets_}
@@ -49,37 +53,50 @@ abbrev pub twenty : ℕ → List ℕ
 twenty n = n / 65536 % 256 ∷ n / 256 % 256 ∷ n % 256 ∷ []
 
 -- CSC enable, mode and the twelve coefficients, the high five bits of each first
-abbrev pub high : Matrix → ℕ → ℕ
-high m i = getD (m .coefficients) i 0 / 256
+abbrev pub high : List ℕ → ℕ → ℕ
+high k i = getD k i 0 / 256
 
-abbrev pub low : Matrix → ℕ → ℕ
-low m i = getD (m .coefficients) i 0 % 256
+abbrev pub low : List ℕ → ℕ → ℕ
+low k i = getD k i 0 % 256
+
+-- two bytes for each of count coefficients from the i-th on
+abbrev pub halves : List ℕ → ℕ → ℕ → List ℕ
+halves k i zero = []
+halves k i (suc count) = high k i ∷ low k i ∷ halves k (suc i) count
 
 abbrev pub cscBytes : Matrix → List ℕ
 cscBytes m =
-    (m .on * 2 ^ reg.cscEnableShift + m .mode * 2 ^ reg.cscScalingFactorShift + high m 0) ∷ low m 0 ∷ high m 1 ∷ low m 1 ∷ high m 2 ∷ low m 2 ∷
-    high m 3 ∷ low m 3 ∷ high m 4 ∷ low m 4 ∷ high m 5 ∷ low m 5 ∷ high m 6 ∷ low m 6 ∷ high m 7 ∷ low m 7 ∷ high m 8 ∷ low m 8 ∷
-    high m 9 ∷ low m 9 ∷ high m 10 ∷ low m 10 ∷ high m 11 ∷ low m 11 ∷ []
+    let k : List ℕ = m .coefficients in
+    (m .on * 2 ^ reg.cscEnableShift + m .mode * 2 ^ reg.cscScalingFactorShift + high k 0) ∷ low k 0 ∷ halves k 1 11
 
 -- the registers with a named bit, but for 0x4B, whose bits are the step's. A named field for which document 01 gives no value, Audio
 -- Select, Audio Mode, I2S Format and Input ID, holds the map's default, 0; Output Format is that of the encoding.
-abbrev pub wantedBytes : Request → List Write
-wantedBytes r =
-    run reg.n0 (twenty (pairFor r .n)) ++ run reg.ctsManual0 (twenty (pairFor r .cts)) ++
-    (reg.audioSource gets (ctsSelect (r .sound) * 2 ^ reg.ctsSelectShift) ∷
+abbrev pub clockBytes : Pair → List Write
+clockBytes p = run reg.n0 (twenty (p .n)) ++ run reg.ctsManual0 (twenty (p .cts))
+
+abbrev pub inputBytes : Request → List Write
+inputBytes r =
+    reg.audioSource gets (ctsSelect (r .sound) * 2 ^ reg.ctsSelectShift) ∷
     reg.i2sConfig gets (inputs (r .sound) * 2 ^ reg.i2s0EnableShift) ∷
     reg.i2sFreqIdCfg gets (rateCode (r .sound) * 2 ^ reg.i2sSamplingFrequencyShift) ∷
-    reg.videoInputCfg1 gets cond (eqb (r .encoding) 1) reg.outputFormatMask 0 ∷ []) ++
-    run reg.csc (cscBytes (r .matrix)) ++
-    (reg.pixelRepetition gets (2 * 2 ^ reg.prModeShift) ∷
+    reg.videoInputCfg1 gets cond (eqb (r .encoding) 1) reg.outputFormatMask 0 ∷ []
+
+abbrev pub enableBytes : Request → List Write
+enableBytes r =
+    reg.pixelRepetition gets (2 * 2 ^ reg.prModeShift) ∷
     reg.vicManual gets r .vic ∷
     reg.packetEnable0 gets (r .link * reg.gcPacketEnableMask) ∷
     reg.packetEnable1
     gets (withAudio (r .sound) * (reg.nCtsPacketEnableMask + reg.audioSamplePacketEnableMask + reg.audioInfoframeEnableMask) + r .link * reg.aviInfoframeEnableMask) ∷
-    reg.infoframeUpdate gets reg.autoChecksumEnableMask ∷ []) ++
-    run reg.aviInfoframeVersion (drop 1 (aviFrame (r .vic) (r .encoding))) ++
-    run reg.audioInfoframeVersion (drop 1 (audioBytes (r .sound))) ++
-    (reg.hdcpHdmiCfg gets (r .link * reg.hdmiDviModeSelectMask) ∷ [])
+    reg.infoframeUpdate gets reg.autoChecksumEnableMask ∷
+    reg.hdcpHdmiCfg gets (r .link * reg.hdmiDviModeSelectMask) ∷ []
+
+abbrev pub frameBytes : Request → List Write
+frameBytes r =
+    run reg.aviInfoframeVersion (drop 1 (aviFrame (r .vic) (r .encoding))) ++ run reg.audioInfoframeVersion (drop 1 (audioBytes (r .sound)))
+
+abbrev pub wantedBytes : Request → List Write
+wantedBytes r = clockBytes (pairFor r) ++ inputBytes r ++ run reg.csc (cscBytes (r .matrix)) ++ enableBytes r ++ frameBytes r
 
 -- the bytes of a list of writes, stored in order
 abbrev pub stores : List ℕ → List Write → List ℕ
@@ -91,3 +108,20 @@ wantedImage r = stores (replicate 256 0) (wantedBytes r)
 
 unfoldable pub wanted : Request → ℕ → ℕ
 wanted r a = getD (wantedImage r) a 0
+
+-- what holds of each field of an accepted request
+abbrev pub SoundFits : Sound → Type 0
+SoundFits Off = Unit
+SoundFits (On rate channels coherent) = (rate ≤ 6) × ((channels ≡ 2) ⊎ (channels ≡ 8)) × (coherent ≤ 1)
+
+pub record MatrixFits (m : Matrix) : Type 0 where
+  pub on : m .on ≤ 1
+  pub mode : m .mode ≤ 2
+  pub coefficients : (i : ℕ) → getD (m .coefficients) i 0 < 8192
+
+pub record Fits (r : Request) : Type 0 where
+  pub vic : modeOf (r .vic) .families ≢ 0
+  pub encoding : r .encoding ≤ 2
+  pub link : r .link ≤ 1
+  pub sound : SoundFits (r .sound)
+  pub matrix : MatrixFits (r .matrix)

@@ -1,11 +1,404 @@
 // Planning: from a request and a register image to the write list. Document 01, "The write list".
 ghost use mathlib.Core.Path.{_≡_};
-ghost use Rattle.plan.specs.Wanted.{wantedImage};
-ghost use Rattle.plan.specs.Plan.{planOf, bufferOf};
+ghost use mathlib.Core.Logic.{_≢_};
+ghost use mathlib.Core.Bool.{cond, not, _&&_};
+ghost use mathlib.Core.List.{List};
+ghost use Prim.Native.Nat.{ℕ, _+_, _/_, _%_, _<_, _≤_};
+ghost use lib.Dec.{eqb};
+ghost use lib.ListN.{getD, length};
+ghost use Rattle.bits.specs.Merge.{merge};
+ghost use Rattle.map.specs.Map.{outputFormatMask};
+ghost use Rattle.clock.specs.Modes.{modeOf};
+ghost use Rattle.frames.specs.Frames.{aviFrame};
+ghost use Rattle.matrix.specs.Matrix.{Bytes};
+ghost use Rattle.chip.specs.Machine.{_gets_, up, avi, audio, gc};
+ghost use Rattle.plan.specs.Wanted.{run, stores, twenty, ctsSelect, inputs, rateCode, withAudio, audioBytes, halves, cscBytes};
+ghost use Rattle.plan.specs.Wanted.{clockBytes, inputBytes, enableBytes, frameBytes, wantedImage, SoundFits, MatrixFits, Fits};
+ghost use Rattle.plan.specs.List.{steps, middle, decided, byte};
+ghost use Rattle.plan.specs.Plan.{inOrder, fronted, nothing, planOf, bufferOf, PlanRefusals};
+use clock::Pair;
+use map::Map;
+use matrix::Matrix;
 use refusals::Refusal;
+use request::Request;
+use request::Sound;
+
+mod audio_then_avi;
+mod avi_then_audio;
 
 // The number of a refusal, 0 for none, and the count of pairs written.
 pub struct Planned {
     pub refusal: u8,
     pub count: u32,
 }
+
+// Bytes stored from a place on.
+fn laid(out: [u8; 256], at: usize, bytes: &[u8]) -> [u8; 256]
+    requires { ⌜ at + length (now bytes) ≤ 256 ⌝ }
+    ensures { λ r. ⌜ r ≡ stores out (run at (now (bytes .entry))) ⌝ }
+{
+    let mut next = out;
+    let mut i: usize = 0;
+    while i < bytes.len() {
+        next[at + i] = bytes[i];
+        i = i + 1;
+    }
+    next
+}
+
+// A number of 20 bits as three bytes.
+fn twenty(n: u32) -> [u8; 3]
+    ensures { λ r. ⌜ r ≡ twenty n ⌝ }
+{
+    [
+        (n / 65536 % 256) as u8,
+        (n / 256 % 256) as u8,
+        (n % 256) as u8,
+    ]
+}
+
+fn cts_select(sound: Sound) -> u8
+    requires { ⌜ SoundFits sound ⌝ }
+    ensures { λ r. ⌜ (r ≡ ctsSelect sound) × (r ≤ 1) ⌝ }
+{
+    match sound {
+        Sound::Off => 0,
+        Sound::On {
+            rate: _,
+            channels: _,
+            coherent,
+        } => coherent,
+    }
+}
+
+const RATE_CODES: [u8; 7] = [3, 0, 2, 8, 10, 12, 14];
+
+fn rate_code(sound: Sound) -> u8
+    requires { ⌜ SoundFits sound ⌝ }
+    ensures { λ r. ⌜ (r ≡ rateCode sound) × (r ≤ 15) ⌝ }
+{
+    match sound {
+        Sound::Off => 2,
+        Sound::On {
+            rate,
+            channels: _,
+            coherent: _,
+        } => RATE_CODES[rate as usize],
+    }
+}
+
+fn inputs(sound: Sound) -> u8
+    ensures { λ r. ⌜ (r ≡ inputs sound) × (r ≤ 15) ⌝ }
+{
+    match sound {
+        Sound::Off => 0,
+        Sound::On {
+            rate: _,
+            channels,
+            coherent: _,
+        } => {
+            if channels == 8 {
+                return 15;
+            }
+            1
+        }
+    }
+}
+
+fn with_audio(sound: Sound) -> u8
+    ensures { λ r. ⌜ (r ≡ withAudio sound) × (r ≤ 1) ⌝ }
+{
+    match sound {
+        Sound::Off => 0,
+        Sound::On {
+            rate: _,
+            channels: _,
+            coherent: _,
+        } => 1,
+    }
+}
+
+fn audio_bytes(sound: Sound) -> [u8; 14]
+    requires { ⌜ SoundFits sound ⌝ }
+    ensures { λ r. ⌜ r ≡ audioBytes sound ⌝ }
+{
+    match sound {
+        Sound::Off => frames::audio_off(),
+        Sound::On {
+            rate: _,
+            channels,
+            coherent: _,
+        } => {
+            let frame = frames::audio_of(channels);
+            frame.bytes
+        }
+    }
+}
+
+// Twelve coefficients as 24 bytes, the high five bits of each first.
+fn halves(k: [u16; 12]) -> [u8; 24]
+    requires { ⌜ ((i : ℕ) → getD k i 0 < 8192) ⌝ }
+    ensures { λ r. ⌜ r ≡ halves k 0 12 ⌝ }
+{
+    let mut out = [0u8; 24];
+    let mut i: usize = 0;
+    while i < 12 {
+        out[2 * i] = (k[i] / 256) as u8;
+        out[2 * i + 1] = (k[i] % 256) as u8;
+        i = i + 1;
+    }
+    out
+}
+
+// The 24 bytes of the converter.
+fn csc_bytes(m: Matrix) -> [u8; 24]
+    requires { ⌜ MatrixFits m ⌝ }
+    ensures { λ r. ⌜ r ≡ cscBytes m ⌝ }
+{
+    let k = m.coefficients;
+    let mut out = halves(k);
+    out[0] = m.on * (1 << Map::CSC_ENABLE_SHIFT)
+        + m.mode * (1 << Map::CSC_SCALING_FACTOR_SHIFT)
+        + out[0];
+    out
+}
+
+// N and CTS.
+fn with_clock(out: [u8; 256], pair: Pair) -> [u8; 256]
+    ensures { λ r. ⌜ r ≡ stores out (clockBytes pair) ⌝ }
+{
+    let n = twenty(pair.n);
+    let cts = twenty(pair.cts);
+    let next = laid(out, Map::N0 as usize, &n);
+    laid(next, Map::CTS_MANUAL0 as usize, &cts)
+}
+
+fn output_format(encoding: u8) -> u8
+    ensures { λ r. ⌜ r ≡ cond (eqb encoding 1) outputFormatMask 0 ⌝ }
+{
+    if encoding == 1 {
+        return Map::OUTPUT_FORMAT_MASK;
+    }
+    0
+}
+
+// How sound arrives, and the output format.
+fn with_inputs(out: [u8; 256], r: Request) -> [u8; 256]
+    requires { ⌜ SoundFits (r .sound) ⌝ }
+    ensures { λ image. ⌜ image ≡ stores out (inputBytes r) ⌝ }
+{
+    let sound = r.sound;
+    let mut next = out;
+    next[Map::AUDIO_SOURCE as usize] = cts_select(sound) * (1 << Map::CTS_SELECT_SHIFT);
+    next[Map::I2S_CONFIG as usize] = inputs(sound) * (1 << Map::I2S0_ENABLE_SHIFT);
+    next[Map::I2S_FREQ_ID_CFG as usize] = rate_code(sound)
+        * (1 << Map::I2S_SAMPLING_FREQUENCY_SHIFT);
+    next[Map::VIDEO_INPUT_CFG1 as usize] = output_format(r.encoding);
+    next
+}
+
+// The VIC, the enables and HDMI or DVI.
+fn with_enables(out: [u8; 256], r: Request) -> [u8; 256]
+    requires { ⌜ r .link ≤ 1 ⌝ }
+    ensures { λ image. ⌜ image ≡ stores out (enableBytes r) ⌝ }
+{
+    let sound = r.sound;
+    let audio = Map::N_CTS_PACKET_ENABLE_MASK
+        + Map::AUDIO_SAMPLE_PACKET_ENABLE_MASK
+        + Map::AUDIO_INFOFRAME_ENABLE_MASK;
+    let mut next = out;
+    next[Map::PIXEL_REPETITION as usize] = 2 * (1 << Map::PR_MODE_SHIFT);
+    next[Map::VIC_MANUAL as usize] = r.vic;
+    next[Map::PACKET_ENABLE0 as usize] = r.link * Map::GC_PACKET_ENABLE_MASK;
+    next[Map::PACKET_ENABLE1 as usize] = with_audio(sound) * audio
+        + r.link * Map::AVI_INFOFRAME_ENABLE_MASK;
+    next[Map::INFOFRAME_UPDATE as usize] = Map::AUTO_CHECKSUM_ENABLE_MASK;
+    next[Map::HDCP_HDMI_CFG as usize] = r.link * Map::HDMI_DVI_MODE_SELECT_MASK;
+    next
+}
+
+// The AVI InfoFrame of a VIC that is listed.
+fn avi_bytes(vic: u8, encoding: u8) -> [u8; 17]
+    requires { ⌜ (modeOf vic .families ≢ 0) × (encoding ≤ 2) ⌝ }
+    ensures { λ r. ⌜ r ≡ aviFrame vic encoding ⌝ }
+{
+    let frame = frames::avi_of(vic, encoding);
+    frame.bytes
+}
+
+// The registers of the two InfoFrames.
+fn with_frames(out: [u8; 256], r: Request) -> [u8; 256]
+    requires { ⌜ Fits r ⌝ }
+    ensures { λ image. ⌜ image ≡ stores out (frameBytes r) ⌝ }
+{
+    let sound = r.sound;
+    let video = avi_bytes(r.vic, r.encoding);
+    let audio = audio_bytes(sound);
+    let next = laid(out, Map::AVI_INFOFRAME_VERSION as usize, &video[1..]);
+    laid(next, Map::AUDIO_INFOFRAME_VERSION as usize, &audio[1..])
+}
+
+// The bits that a step decides and not the request.
+fn decided(a: u8) -> u8
+    ensures { λ r. ⌜ r ≡ decided a ⌝ }
+{
+    if a == Map::INFOFRAME_UPDATE {
+        return Map::AVI_PACKET_UPDATE_MASK + Map::AUDIO_INFOFRAME_PACKET_UPDATE_MASK;
+    }
+    if a == Map::COEFFICIENT_UPDATE {
+        return Map::COEFFICIENT_UPDATE_MASK;
+    }
+    if a == Map::GC {
+        return Map::CLEAR_AV_MUTE_MASK + Map::SET_AV_MUTE_MASK;
+    }
+    0
+}
+
+// The byte that a step writes at an address: its decided bits, the old byte's free and read-only bits, mandated and wanted bits.
+fn written_byte(a: u8, old: u8, wanted: u8, bits: u8) -> u8
+    ensures { λ r. ⌜ r ≡ byte a old (merge 8 (decided a) bits wanted) ⌝ }
+{
+    let asked = bits::merge(decided(a), bits, wanted);
+    let set = bits::merge(registers::named(a), asked, registers::bits(a));
+    let free = bits::merge(registers::free(a), old, set);
+    bits::merge(registers::read_only(a), old, free)
+}
+
+// The register of a step.
+fn step_address(audio_first: bool, i: usize) -> u8
+    requires { ⌜ i < 84 ⌝ }
+    ensures { λ r. ⌜ r ≡ getD (steps (middle «audio_first»)) i (0 gets 0) .address ⌝ }
+{
+    if audio_first {
+        return audio_then_avi::ADDRESSES[i];
+    }
+    avi_then_audio::ADDRESSES[i]
+}
+
+// The bits that a step decides.
+fn step_bits(audio_first: bool, i: usize) -> u8
+    requires { ⌜ i < 84 ⌝ }
+    ensures { λ r. ⌜ r ≡ getD (steps (middle «audio_first»)) i (0 gets 0) .value ⌝ }
+{
+    if audio_first {
+        return audio_then_avi::BITS[i];
+    }
+    avi_then_audio::BITS[i]
+}
+
+// The byte that a step writes.
+fn step_value(image: &[u8], wanted: [u8; 256], audio_first: bool, i: usize) -> u8
+    requires { ⌜ (length (now image) ≡ 256) × (i < 84) ⌝ }
+    ensures { λ r. ⌜ r ≡ getD (inOrder wanted (now (image .entry)) «audio_first») i (0 gets 0) .value ⌝ }
+{
+    let a = step_address(audio_first, i);
+    let at = a as usize;
+    written_byte(a, image[at], wanted[at], step_bits(audio_first, i))
+}
+
+// The byte that every register with a named bit is to hold.
+fn wanted_image(r: Request) -> [u8; 256]
+    requires { ⌜ Fits r ⌝ }
+    ensures { λ image. ⌜ image ≡ wantedImage r ⌝ }
+{
+    let pair = request::pair_for(r);
+    let matrix = r.matrix;
+    let csc = csc_bytes(matrix);
+    let zeros = [0u8; 256];
+    let clock = with_clock(zeros, pair);
+    let input = with_inputs(clock, r);
+    let converter = laid(input, Map::CSC as usize, &csc);
+    let enabled = with_enables(converter, r);
+    with_frames(enabled, r)
+}
+
+// Whether a packet's hold is up, by the three holds as one number.
+fn up(hold: u8, holds: u8) -> bool
+    requires { ⌜ 0 < hold ⌝ }
+    ensures { λ r. ⌜ r ≡ eqb (holds / hold % 2) 1 ⌝ }
+{
+    holds / hold % 2 == 1
+}
+
+fn audio_up(holds: u8) -> bool
+    ensures { λ r. ⌜ r ≡ up audio holds ⌝ }
+{
+    up(
+        Map::AUDIO_INFOFRAME_PACKET_UPDATE_MASK / Map::GC_PACKET_UPDATE_MASK,
+        holds,
+    )
+}
+
+// GC hold down, and not both other holds up.
+fn is_ready(holds: u8) -> bool
+    ensures { λ r. ⌜ r ≡ (not (up gc holds) && not (up avi holds && up audio holds)) ⌝ }
+{
+    !up(1, holds)
+        & !(up(
+            Map::AVI_PACKET_UPDATE_MASK / Map::GC_PACKET_UPDATE_MASK,
+            holds,
+        )
+            & audio_up(holds))
+}
+
+// The list, at the front of the buffer.
+fn write_list(image: &[u8], wanted: [u8; 256], audio_first: bool, writes: &mut [u8])
+    requires { ⌜ (length (now image) ≡ 256) × (256 ≤ length (now writes)) ⌝ }
+    ensures { λ _. ⌜ now (writes .exit) ≡ fronted (inOrder wanted (now (image .entry)) «audio_first») (now (writes .entry)) ⌝ }
+{
+    let mut i: usize = 0;
+    while i < 84 {
+        let a = step_address(audio_first, i);
+        let v = step_value(image, wanted, audio_first, i);
+        writes[2 * i] = a;
+        writes[2 * i + 1] = v;
+        i = i + 1;
+    }
+}
+
+// A refusal: its number, and no pair.
+fn refused(number: u8) -> Planned
+    ensures { λ r. ⌜ r ≡ nothing number ⌝ }
+{
+    Planned {
+        refusal: number,
+        count: 0,
+    }
+}
+
+// The write list of a request on an image, as pairs of address and value in a lent buffer: refusals 1 to 10.
+pub fn plan(input: &[u8], image: &[u8], writes: &mut [u8]) -> Planned
+    ensures { λ r. ⌜ r ≡ planOf (now (input .entry)) (now (image .entry)) (now (writes .entry)) ⌝ }
+    ensures { λ _. ⌜ now (writes .exit) ≡ bufferOf (now (input .entry)) (now (image .entry)) (now (writes .entry)) ⌝ }
+{
+    let checked = request::read(input);
+    if checked.refusal != Refusal::NONE {
+        return refused(checked.refusal);
+    }
+    if image.len() != 256 {
+        return refused(Refusal::IMAGE_LENGTH);
+    }
+    let holds = image[Map::INFOFRAME_UPDATE as usize] / Map::GC_PACKET_UPDATE_MASK % 8;
+    if !is_ready(holds) {
+        return refused(Refusal::HOLDS_UP);
+    }
+    let r = checked.request;
+    let pair = request::pair_for(r);
+    if pair.refusal != Refusal::NONE {
+        return refused(Refusal::NO_EXACT_PAIR);
+    }
+    if writes.len() < 256 {
+        return refused(Refusal::BUFFER_SHORT);
+    }
+    let wanted = wanted_image(r);
+    write_list(image, wanted, audio_up(holds), writes);
+    Planned {
+        refusal: Refusal::NONE,
+        count: 84,
+    }
+}
+
+// The refusals of planning, in document 01's order.
+pub fn refusals_of_a_plan()
+    ensures { λ _. ⌜ ((input : List ℕ) → Bytes input → (image buffer : List ℕ) → PlanRefusals input image buffer) ⌝ }
+{}

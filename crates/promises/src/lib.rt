@@ -1,7 +1,18 @@
 // The promises: nothing is computed here. Each function's contract is a theorem about the definitions of the crates below.
+ghost use mathlib.Core.Path.{_≡_};
+ghost use mathlib.Core.List.{List};
+ghost use Prim.Native.Nat.{ℕ};
+ghost use Rattle.chip.specs.declared.Chip.{Chip};
+ghost use Rattle.plan.specs.Plan.{planOf};
+ghost use Rattle.promises.specs.AnyCut.{AnyCut};
 ghost use Rattle.promises.specs.Cases.{MarkedCases};
 
 // Document 01, "Marked cases, proved together as one table".
 pub fn marked_cases()
     ensures { λ _. ⌜ MarkedCases ⌝ }
+{}
+
+// Demand 3: whatever request is accepted, whatever the chip's two buffers hold, wherever the run is cut.
+pub fn demand_3()
+    ensures { λ _. ⌜ ((input buffer : List ℕ) (s : Chip) → planOf input (s .image) buffer .refusal ≡ 0 → AnyCut input buffer s) ⌝ }
 {}

@@ -1,8 +1,16 @@
 // The C face: each call is a call of the library, taken apart. No logic. The C declarations are in include/station.h.
 ghost use mathlib.Core.Path.{_≡_};
-ghost use Rattle.station.specs.Face.{pairOut, pixelOut};
+ghost use Rattle.station.specs.Face.{countOut, pairOut, pixelOut};
+ghost use Rattle.plan.specs.Plan.{planOf, bufferOf};
 ghost use Rattle.request.specs.Read.{nctsOf};
 ghost use Rattle.matrix.specs.Preview.{previewOf};
+
+// struct station_count
+#[repr(C)]
+pub struct CountOut {
+    pub refusal: u32,
+    pub count: u32,
+}
 
 // struct station_pair
 #[repr(C)]
@@ -19,6 +27,19 @@ pub struct PixelOut {
     pub a: u32,
     pub b: u32,
     pub c: u32,
+}
+
+// The write list of a request on an image, as pairs of address and value: refusals 1 to 10.
+#[no_mangle]
+pub extern "C" fn station_plan(request: &[u8], image: &[u8], writes: &mut [u8]) -> CountOut
+    ensures { λ r. ⌜ r ≡ countOut (planOf (now (request .entry)) (now (image .entry)) (now (writes .entry))) ⌝ }
+    ensures { λ _. ⌜ now (writes .exit) ≡ bufferOf (now (request .entry)) (now (image .entry)) (now (writes .entry)) ⌝ }
+{
+    let planned = plan::plan(request, image, writes);
+    CountOut {
+        refusal: planned.refusal as u32,
+        count: planned.count,
+    }
 }
 
 // N and CTS over a request: refusals 1 to 6 and 9.

@@ -1,0 +1,48 @@
+-- `plan::csc_bytes` meets its contract. Assumes nothing.
+use mathlib.Core.Path.{ap}
+use mathlib.Core.List.{List}
+use Prim.Native.Nat.{ℕ}
+use native.Mathlib.Omega.{arith}
+use lib.ListN.{getD}
+use borrow.Author.Needs.{needs}
+use Rattle.plan.proofs.csc_bytes.Statement.{statement}
+use Rattle.plan.proofs.csc_bytes.Tie as tie
+
+halves-requires : tie.Need-halves-requires
+halves-requires c κs = search needs
+
+mul-out : tie.Need-mul-out
+mul-out c = search needs
+
+mul-out-2 : tie.Need-mul-out-2
+mul-out-2 c = search needs
+
+add-out : tie.Need-add-out
+add-out c = search needs
+
+array-read-out : tie.Need-array-read-out
+array-read-out c = search needs
+
+add-out-2 : tie.Need-add-out-2
+add-out-2 c =
+    let h = c .before .before in
+    omega (arith, ap (λ (l : List ℕ). getD l 0 0) (h .halves .ensures), h .before .before .pre .coefficients 0)
+
+array-write-out : tie.Need-array-write-out
+array-write-out c = search needs
+
+returns : tie.Need-returns
+returns c = let h = c .before .before in rw (h .halves .ensures)
+
+pub csc-bytes-spec : {M : Type 1} → statement M
+csc-bytes-spec =
+    tie.close
+    (tie.spec
+    halves-requires
+    mul-out
+    mul-out-2
+    add-out
+    array-read-out
+    add-out-2
+    array-write-out
+    returns)

@@ -1,0 +1,75 @@
+-- `plan::wanted_image` meets its contract. Assumes nothing.
+use mathlib.Core.List.{List, _++_}
+use Prim.Native.Nat.{ℕ}
+use lib.ListN.{replicate}
+use Rattle.map.specs.Map as reg
+use Rattle.chip.specs.Machine.{Write}
+use Rattle.request.specs.Read.{pairFor}
+use Rattle.plan.specs.Wanted.{run, cscBytes, clockBytes, inputBytes, enableBytes, frameBytes, wantedImage}
+use Rattle.plan.proofs.Stored.{more}
+use borrow.Author.Needs.{needs}
+use Rattle.plan.proofs.wanted_image.Statement.{statement}
+use Rattle.plan.proofs.wanted_image.Tie as tie
+
+pair-for-requires : tie.Need-pair-for-requires
+pair-for-requires c κs = search needs
+
+csc-bytes-requires : tie.Need-csc-bytes-requires
+csc-bytes-requires c κs = search needs
+
+with-clock-requires : tie.Need-with-clock-requires
+with-clock-requires c κs = search needs
+
+with-inputs-requires : tie.Need-with-inputs-requires
+with-inputs-requires c κs = search needs
+
+cast-laid : tie.Need-cast-laid
+cast-laid c = search needs
+
+slice-aggregate-laid : tie.Need-slice-aggregate-laid
+slice-aggregate-laid c = search needs
+
+laid-requires : tie.Need-laid-requires
+laid-requires c κs = search needs
+
+with-enables-requires : tie.Need-with-enables-requires
+with-enables-requires c κs = search needs
+
+with-frames-requires : tie.Need-with-frames-requires
+with-frames-requires c κs = search needs
+
+returns : tie.Need-returns
+unfolding wantedImage
+returns c =
+    let l = c .before .before in
+    let i = l .before .before in
+    let m = i .before .before in
+    let p = m .before .before in
+    let r = p .before .args .r in
+    let z : List ℕ = replicate 256 0 in
+    let one : List Write = clockBytes (pairFor r) in
+    let two : List Write = one ++ inputBytes r in
+    let three : List Write = two ++ run reg.csc (cscBytes (r .matrix)) in
+    let four : List Write = three ++ enableBytes r in
+    more z four (frameBytes r)
+    (more z three (enableBytes r)
+    (more z two (run reg.csc (cscBytes (r .matrix)))
+    (more z one (inputBytes r) (rw (p .pair-for .ensures) at (i .before .with-clock .ensures)) (i .with-inputs .ensures))
+    (rw (m .csc-bytes .ensures) at (l .laid .ensures)))
+    (c .before .with-enables .ensures))
+    (c .with-frames .ensures)
+
+pub wanted-image-spec : {M : Type 1} → statement M
+wanted-image-spec =
+    tie.close
+    (tie.spec
+    pair-for-requires
+    csc-bytes-requires
+    with-clock-requires
+    with-inputs-requires
+    cast-laid
+    slice-aggregate-laid
+    laid-requires
+    with-enables-requires
+    with-frames-requires
+    returns)

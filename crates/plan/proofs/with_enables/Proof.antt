@@ -1,0 +1,97 @@
+-- `plan::with_enables` meets its contract. Assumes nothing.
+use borrow.Author.Needs.{needs}
+use Rattle.plan.proofs.with_enables.Statement.{statement}
+use Rattle.plan.proofs.with_enables.Tie as tie
+
+add-audio : tie.Need-add-audio
+add-audio c = search needs
+
+add-audio-2 : tie.Need-add-audio-2
+add-audio-2 c = search needs
+
+mul-next : tie.Need-mul-next
+mul-next c = search needs
+
+cast-next : tie.Need-cast-next
+cast-next c = search needs
+
+array-write-next : tie.Need-array-write-next
+array-write-next c = search needs
+
+cast-next-2 : tie.Need-cast-next-2
+cast-next-2 c = search needs
+
+array-write-next-2 : tie.Need-array-write-next-2
+array-write-next-2 c = search needs
+
+mul-next-2 : tie.Need-mul-next-2
+mul-next-2 c = search needs
+
+cast-next-3 : tie.Need-cast-next-3
+cast-next-3 c = search needs
+
+array-write-next-3 : tie.Need-array-write-next-3
+array-write-next-3 c = search needs
+
+with-audio-requires : tie.Need-with-audio-requires
+with-audio-requires c κs = search needs
+
+mul-next-3 : tie.Need-mul-next-3
+mul-next-3 c = search needs
+
+mul-next-4 : tie.Need-mul-next-4
+mul-next-4 c = search needs
+
+add-next : tie.Need-add-next
+add-next c = search needs
+
+cast-next-4 : tie.Need-cast-next-4
+cast-next-4 c = search needs
+
+array-write-next-4 : tie.Need-array-write-next-4
+array-write-next-4 c = search needs
+
+cast-next-5 : tie.Need-cast-next-5
+cast-next-5 c = search needs
+
+array-write-next-5 : tie.Need-array-write-next-5
+array-write-next-5 c = search needs
+
+mul-next-5 : tie.Need-mul-next-5
+mul-next-5 c = search needs
+
+cast-next-6 : tie.Need-cast-next-6
+cast-next-6 c = search needs
+
+array-write-next-6 : tie.Need-array-write-next-6
+array-write-next-6 c = search needs
+
+returns : tie.Need-returns
+returns c = simp (c .before .before .with-audio .ensures .0)
+
+pub with-enables-spec : {M : Type 1} → statement M
+with-enables-spec =
+    tie.close
+    (tie.spec
+    add-audio
+    add-audio-2
+    mul-next
+    cast-next
+    array-write-next
+    cast-next-2
+    array-write-next-2
+    mul-next-2
+    cast-next-3
+    array-write-next-3
+    with-audio-requires
+    mul-next-3
+    mul-next-4
+    add-next
+    cast-next-4
+    array-write-next-4
+    cast-next-5
+    array-write-next-5
+    mul-next-5
+    cast-next-6
+    array-write-next-6
+    returns)

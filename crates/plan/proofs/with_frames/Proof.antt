@@ -1,0 +1,73 @@
+-- `plan::with_frames` meets its contract. Assumes nothing.
+use mathlib.Core.Path.{_≡_}
+use lib.ListN.{take, drop}
+use Rattle.frames.specs.Frames.{aviFrame}
+use Rattle.plan.specs.Wanted.{run, audioBytes}
+use Rattle.plan.proofs.Stored.{more, rest}
+use borrow.Author.Needs.{needs}
+use Rattle.plan.proofs.with_frames.Statement.{statement}
+use Rattle.plan.proofs.with_frames.Tie as tie
+
+avi-bytes-requires : tie.Need-avi-bytes-requires
+avi-bytes-requires c κs = search needs
+
+audio-bytes-requires : tie.Need-audio-bytes-requires
+audio-bytes-requires c κs = search needs
+
+cast-laid : tie.Need-cast-laid
+cast-laid c = search needs
+
+sub-laid : tie.Need-sub-laid
+sub-laid c = search needs
+
+part-laid-start : tie.Need-part-laid-start
+part-laid-start c = search needs
+
+part-laid-end : tie.Need-part-laid-end
+part-laid-end c = search needs
+
+laid-requires : tie.Need-laid-requires
+laid-requires c κs = search needs
+
+cast-laid-2 : tie.Need-cast-laid-2
+cast-laid-2 c = search needs
+
+sub-laid-2 : tie.Need-sub-laid-2
+sub-laid-2 c = search needs
+
+part-laid-start-2 : tie.Need-part-laid-start-2
+part-laid-start-2 c = search needs
+
+part-laid-end-2 : tie.Need-part-laid-end-2
+part-laid-end-2 c = search needs
+
+laid-requires-2 : tie.Need-laid-requires-2
+laid-requires-2 c κs = search needs
+
+returns : tie.Need-returns
+returns c =
+    let l = c .before .before .before in
+    let b = l .before .before .before in
+    let r = b .before .before .args .r in
+    let audio : take 13 (drop 1 (b .audio-bytes .result)) ≡ drop 1 (b .audio-bytes .result) = rest 13 (b .audio-bytes .result) (search needs) in
+    let video : take 16 (drop 1 (b .before .avi-bytes .result)) ≡ drop 1 (b .before .avi-bytes .result) = rest 16 (b .before .avi-bytes .result) (search needs) in
+    more (b .before .before .args .out) (run 0x52 (drop 1 (aviFrame (r .vic) (r .encoding)))) (run 0x70 (drop 1 (audioBytes (r .sound))))
+    (rw (video, b .before .avi-bytes .ensures) at (l .laid .ensures)) (rw (audio, b .audio-bytes .ensures) at (c .laid2 .ensures))
+
+pub with-frames-spec : {M : Type 1} → statement M
+with-frames-spec =
+    tie.close
+    (tie.spec
+    avi-bytes-requires
+    audio-bytes-requires
+    cast-laid
+    sub-laid
+    part-laid-start
+    part-laid-end
+    laid-requires
+    cast-laid-2
+    sub-laid-2
+    part-laid-start-2
+    part-laid-end-2
+    laid-requires-2
+    returns)

@@ -1,0 +1,77 @@
+-- Demand 3, tied to the planning entry. Assumes nothing.
+use mathlib.Core.Path.{_≡_, refl, sym, ap, _∙_}
+use mathlib.Core.Bool.{Bool, true, false, false≢true, cond, not}
+use mathlib.Core.List.{List, _++_}
+use Prim.Native.Nat.{ℕ}
+use native.Mathlib.Omega.{arith}
+use lib.Dec.{eqb, ltb}
+use lib.ListN.{length, drop}
+use borrow.Author.Tests.{eqb-true, eq-eqb}
+use Rattle.chip.specs.declared.Chip.{Chip}
+use Rattle.request.specs.Read.{readOf, pairFor}
+use Rattle.plan.specs.declared.Planned.{Planned}
+use Rattle.plan.specs.List.{writeList, ready}
+use Rattle.plan.specs.Plan.{flat, laterRefusal, refusalOf, writesOf, planOf, bufferOf}
+use Rattle.cut.specs.Demand.{Demand3, cut}
+use Rattle.cut.proofs.WriteList.{holds}
+use Rattle.promises.specs.AnyCut.{asked, AnyCut}
+
+-- an answer without a refusal comes from no refusal
+answered : (input image buffer : List ℕ) → planOf input image buffer .refusal ≡ 0 → refusalOf input image buffer ≡ 0
+unfolding planOf
+answered input image buffer z = go (eqb (refusalOf input image buffer) 0) refl z
+  where
+    go : (b : Bool) → eqb (refusalOf input image buffer) 0 ≡ b
+        → cond {A = Planned} b (record { refusal = 0; count = length (writesOf input image) }) (record { refusal = refusalOf input image buffer; count = 0 }) .refusal ≡ 0
+        → refusalOf input image buffer ≡ 0
+    go true e z = eqb-true _ _ e
+    go false e z = z
+
+-- what no refusal says of the image, and what it takes from the image: its length and its holds
+pub record Fine (input image buffer : List ℕ) : Type 0 where
+  pub read : readOf input .refusal ≡ 0
+  pub whole : length image ≡ 256
+  pub clear : ready image ≡ true
+  pub paired : eqb (pairFor (readOf input .request) .refusal) 0 ≡ true
+  pub long : ltb (length buffer) 256 ≡ false
+
+fine : (input image buffer : List ℕ) → refusalOf input image buffer ≡ 0 → Fine input image buffer
+unfolding refusalOf laterRefusal
+fine input image buffer z =
+    go (eqb (readOf input .refusal) 0) refl (eqb (length image) 256) refl (ready image) refl (eqb (pairFor (readOf input .request) .refusal) 0) refl
+    (ltb (length buffer) 256) refl z
+  where
+    go : (r : Bool) → eqb (readOf input .refusal) 0 ≡ r → (l : Bool) → eqb (length image) 256 ≡ l → (h : Bool) → ready image ≡ h
+        → (p : Bool) → eqb (pairFor (readOf input .request) .refusal) 0 ≡ p → (b : Bool) → ltb (length buffer) 256 ≡ b
+        → cond r (cond (not l) 7 (cond (not h) 8 (cond (not p) 9 (cond b 10 0)))) (readOf input .refusal) ≡ 0
+        → Fine input image buffer
+    go true er true el true eh true ep false eb z = record { read = eqb-true _ _ er; whole = eqb-true _ _ el; clear = eh; paired = ep; long = eb }
+    go true er true el true eh true ep true eb z = absurd (omega arith)
+    go true er true el true eh false ep b eb z = absurd (omega arith)
+    go true er true el false eh p ep b eb z = absurd (omega arith)
+    go true er false el h eh p ep b eb z = absurd (omega arith)
+    go false er l el h eh p ep b eb z = absurd (false≢true (sym er ∙ eq-eqb _ _ z))
+
+-- and back, on any image with that length and those holds
+accepted : (input image buffer : List ℕ) → Fine input image buffer → refusalOf input image buffer ≡ 0
+unfolding refusalOf laterRefusal
+accepted input image buffer f = rw (eq-eqb _ 0 (f .read), eq-eqb _ 256 (f .whole), f .clear, f .paired, f .long)
+
+answer : (input image buffer : List ℕ) → refusalOf input image buffer ≡ 0 → planOf input image buffer .refusal ≡ 0
+unfolding planOf
+answer input image buffer z = rw z
+
+pub any-cut : (input buffer : List ℕ) (s : Chip) → planOf input (s .image) buffer .refusal ≡ 0 → AnyCut input buffer s
+unfolding planOf bufferOf writesOf
+any-cut input buffer s z =
+    let r : refusalOf input (s .image) buffer ≡ 0 = answered input (s .image) buffer z in
+    let f = fine input (s .image) buffer r in
+    let d : Demand3 writeList (asked input) s = holds (asked input) s (f .whole) (f .clear) in
+    record {
+      count = rw r;
+      list = rw r;
+      demand = d;
+      again = λ k. answer input (cut writeList (asked input) s k .image) buffer
+          (accepted input (cut writeList (asked input) s k .image) buffer
+          (record { read = f .read; whole = d .whole k; clear = d .ready k; paired = f .paired; long = f .long }));
+    }
