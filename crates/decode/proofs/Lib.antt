@@ -1,0 +1,10 @@
+pub mod Fields
+pub mod Stored
+pub mod Standing
+pub mod Ranged
+pub mod Extracted
+pub mod Says
+pub mod Back
+pub mod Answers
+pub mod Turns
+pub mod Emitted

@@ -1,0 +1,81 @@
+-- Where a request stands in an image, the named bits of a register are those wanted. Assumes nothing.
+use mathlib.Core.Path.{_≡_, refl, sym, ap, _∙_, subst}
+use mathlib.Core.Bool.{Bool, true, false, cond, _&&_}
+use mathlib.Core.List.{List, [], _∷_}
+use Prim.Native.Nat.{ℕ, zero, suc, _+_, _*_, _/_, _%_, _^_, _<_, _≤_}
+use native.Mathlib.Nat.{pow-succ'}
+use native.Mathlib.Omega.{arith}
+use lib.Dec.{eqb, leb}
+use lib.ListN.{getD}
+use borrow.Author.Tests.{eqb-true, leb-true}
+use Rattle.lists.proofs.Both.{both-left, both-right}
+use Rattle.bits.specs.Merge.{merge, bit}
+use Rattle.bits.proofs.Truth.{zeros, var, by}
+use Rattle.bits.proofs.Below.{below, at-below}
+use Rattle.bits.proofs.Laws.{merge-bit}
+use Rattle.registers.specs.Classes.{named}
+use Rattle.registers.proofs.Apart.{by-rule}
+use Rattle.map.specs.Map as reg
+use Rattle.request.specs.declared.Request.{Request}
+use Rattle.plan.specs.Wanted.{wanted}
+use Rattle.plan.specs.List.{byte, decided, written, isWritten, finished}
+use Rattle.decode.specs.Ends.{Stands}
+use Rattle.decode.proofs.Fields.{field-same}
+
+-- a written byte has the wanted bits where they are named
+named-kept : (a old w : ℕ) → a < 256 → merge 8 (named a) (byte a old w) 0 ≡ merge 8 (named a) w 0
+unfolding byte
+named-kept a old w h =
+    by-rule (by (var 2) (by (var 0) (var 5) (by (var 3) (var 5) (by (var 2) (var 6) (var 4)))) zeros) (by (var 2) (var 6) zeros) a (old ∷ w ∷ []) refl h
+
+abbrev undecided : ℕ → ℕ → Bool
+undecided a i = eqb (bit i (named a)) 1 && eqb (bit i (decided a)) 0
+
+named-bit : (a i old v w : ℕ) → a < 256 → i < 8 → undecided a i ≡ true → bit i (byte a old (merge 8 (decided a) v w)) ≡ bit i w
+named-bit a i old v w h l t =
+    let n : eqb (bit i (named a)) 1 ≡ true = both-left _ (eqb (bit i (decided a)) 0) t in
+    let d : bit i (decided a) ≡ 0 = eqb-true _ 0 (both-right (eqb (bit i (named a)) 1) _ t) in
+    let m : ℕ = merge 8 (decided a) v w in
+    let e : bit i (merge 8 (named a) (byte a old m) 0) ≡ bit i (merge 8 (named a) m 0) = ap (λ (x : ℕ). bit i x) (named-kept a old m h) in
+    let p : bit i (merge 8 (named a) (byte a old m) 0) ≡ bit i (byte a old m) = merge-bit 8 i (named a) (byte a old m) 0 l ∙ rw n in
+    let q : bit i (merge 8 (named a) m 0) ≡ bit i m = merge-bit 8 i (named a) m 0 l ∙ rw n in
+    sym p ∙ e ∙ q ∙ merge-bit 8 i (decided a) v w l ∙ rw d
+
+-- bits s to s + k - 1 of a register are named, and no step decides them
+abbrev pub clear : ℕ → ℕ → ℕ → Bool
+clear a s k = isWritten a && leb (k + s) 8 && below (λ j. undecided a (j + s)) k
+
+pub is-written : (a s k : ℕ) → clear a s k ≡ true → isWritten a ≡ true
+is-written a s k t = both-left _ (leb (k + s) 8) (both-left _ (below (λ j. undecided a (j + s)) k) t)
+
+merge-small : (k m a b : ℕ) → merge k m a b < 2 ^ k
+unfolding merge
+merge-small zero m a b = omega arith
+merge-small (suc k) m a b = go (eqb (m % 2) 1) (merge k (m / 2) (a / 2) (b / 2)) (merge-small k (m / 2) (a / 2) (b / 2))
+  where
+    go : (c : Bool) (q : ℕ) → q < 2 ^ k → cond c (a % 2) (b % 2) + 2 * q < 2 ^ suc k
+    go true q h = let p : 2 ^ suc k ≡ 2 * 2 ^ k = pow-succ' 2 k in omega arith
+    go false q h = let p : 2 ^ suc k ≡ 2 * 2 ^ k = pow-succ' 2 k in omega arith
+
+module _ (r : Request) (image : List ℕ) (st : Stands r image) where
+  abbrev v : ℕ → ℕ
+  v a = merge 8 (decided a) (cond (eqb a reg.gc) reg.clearAvMuteMask 0) (wanted r a)
+
+  -- a register that the list writes is as the list leaves it
+  there : (a : ℕ) → a < 256 → isWritten a ≡ true → byte a (getD image a 0) (v a) ≡ getD image a 0
+  unfolding finished written
+  there a h w = subst (λ (b : Bool). cond b (byte a (getD image a 0) (v a)) (getD image a 0) ≡ getD image a 0) w (st a h)
+
+  pub small-byte : (a : ℕ) → a < 256 → isWritten a ≡ true → getD image a 0 < 256
+  unfolding byte
+  small-byte a h w = subst (λ (x : ℕ). x < 256) (there a h w) (merge-small 8 _ _ _)
+
+  pub reads : (a s k : ℕ) → a < 256 → clear a s k ≡ true → getD image a 0 / 2 ^ s % 2 ^ k ≡ wanted r a / 2 ^ s % 2 ^ k
+  reads a s k h t =
+      let u : (isWritten a && leb (k + s) 8) ≡ true = both-left _ (below (λ j. undecided a (j + s)) k) t in
+      let w : isWritten a ≡ true = is-written a s k t in
+      let l : k + s ≤ 8 = leb-true _ _ (both-right (isWritten a) _ u) in
+      let b : below (λ j. undecided a (j + s)) k ≡ true = both-right (isWritten a && leb (k + s) 8) _ t in
+      field-same s k (getD image a 0) (wanted r a)
+      (λ j i. ap (λ (x : ℕ). bit (j + s) x) (sym (there a h w))
+      ∙ named-bit a (j + s) (getD image a 0) (cond (eqb a reg.gc) reg.clearAvMuteMask 0) (wanted r a) h (omega arith) (at-below (λ j. undecided a (j + s)) k j b i))

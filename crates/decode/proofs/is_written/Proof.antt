@@ -1,0 +1,22 @@
+-- `decode::is_written` meets its contract: the tests of the definition, in its order. Assumes nothing.
+use mathlib.Core.Bool.{or-false}
+use borrow.Author.Needs.{needs}
+use Rattle.plan.specs.List.{isWritten}
+use Rattle.decode.proofs.is_written.Statement.{statement}
+use Rattle.decode.proofs.is_written.Tie as tie
+
+named-requires : tie.Need-named-requires
+named-requires c κs = search needs
+
+add-result : tie.Need-add-result
+add-result c = search needs
+
+add-result-2 : tie.Need-add-result-2
+add-result-2 c = search needs
+
+returns : tie.Need-returns
+unfolding isWritten
+returns c = simp (c .named .ensures, or-false)
+
+pub is-written-spec : {M : Type 1} → statement M
+is-written-spec = tie.close (tie.spec named-requires add-result add-result-2 returns)

@@ -1,0 +1,4 @@
+pub mod Ends
+pub mod Extract
+pub mod Decode
+pub mod Theorems

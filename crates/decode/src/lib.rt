@@ -1,0 +1,225 @@
+// Decoding: from a finished image back to the request. Document 01, "Register classes", last paragraph.
+ghost use mathlib.Core.Path.{_≡_};
+ghost use mathlib.Core.Bool.{cond};
+ghost use mathlib.Core.List.{List};
+ghost use lib.Dec.{ltb};
+ghost use Prim.Native.Nat.{ℕ, _+_, _*_, _/_, _<_, _≤_};
+ghost use lib.ListN.{getD, length, take};
+ghost use lib.Seq.{sets};
+ghost use Rattle.matrix.specs.Matrix.{fields};
+ghost use Rattle.plan.specs.List.{isWritten};
+ghost use Rattle.decode.specs.Ends.{matrixSection, bytesOf};
+ghost use Rattle.decode.specs.Extract.{rateOf, soundIn, matrixIn, extract};
+ghost use Rattle.decode.specs.Theorems.{ExactlyWhen, AtMostOne, Refusals, ReadBack};
+use map::Map;
+use matrix::Matrix;
+use request::Request;
+use request::Sound;
+
+// The number of a refusal, 0 for none, and the count of bytes of the request.
+pub struct Decoded {
+    pub refusal: u8,
+    pub count: u32,
+}
+
+fn wide(x: u8) -> u16
+    ensures { λ r. ⌜ (r ≡ x) × (r < 256) ⌝ }
+{
+    x as u16
+}
+
+// The two bytes of coefficient i, high byte first.
+fn pair(part: &[u8], i: usize) -> u16
+    requires { ⌜ 2 * i + 1 < length (now part) ⌝ }
+    ensures { λ r. ⌜ r ≡ getD (now (part .entry)) (2 * i) 0 * 256 + getD (now (part .entry)) (2 * i + 1) 0 ⌝ }
+{
+    wide(part[2 * i]) * 256 + wide(part[2 * i + 1])
+}
+
+// The twelve fields of 24 registers.
+fn coefficients(part: &[u8]) -> [u16; 12]
+    requires { ⌜ length (now part) ≡ 24 ⌝ }
+    ensures { λ r. ⌜ r ≡ fields (now (part .entry)) ⌝ }
+{
+    let mut out = [0u16; 12];
+    let mut i: usize = 0;
+    while i < 12 {
+        out[i] = pair(part, i) % 8192;
+        i = i + 1;
+    }
+    out
+}
+
+const RATES: [u8; 16] = [1, 7, 2, 0, 7, 7, 7, 7, 3, 7, 4, 7, 5, 7, 6, 7];
+
+// The rate of a code.
+fn rate_of(code: u8) -> u8
+    requires { ⌜ code < 16 ⌝ }
+    ensures { λ r. ⌜ r ≡ rateOf code ⌝ }
+{
+    RATES[code as usize]
+}
+
+fn sound_in(image: &[u8]) -> Sound
+    requires { ⌜ length (now image) ≡ 256 ⌝ }
+    ensures { λ r. ⌜ r ≡ soundIn (now (image .entry)) ⌝ }
+{
+    if image[Map::PACKET_ENABLE1 as usize] / Map::AUDIO_SAMPLE_PACKET_ENABLE_MASK % 2 == 0 {
+        return Sound::Off;
+    }
+    let code = (image[Map::I2S_FREQ_ID_CFG as usize] >> Map::I2S_SAMPLING_FREQUENCY_SHIFT) % 16;
+    let rate = rate_of(code);
+    Sound::On {
+        rate: rate,
+        channels: image[Map::AUDIO_INFOFRAME_BYTE1 as usize] % 8 + 1,
+        coherent: image[Map::AUDIO_SOURCE as usize] / Map::CTS_SELECT_MASK % 2,
+    }
+}
+
+fn matrix_in(image: &[u8]) -> Matrix
+    requires { ⌜ length (now image) ≡ 256 ⌝ }
+    ensures { λ r. ⌜ r ≡ matrixIn (now (image .entry)) ⌝ }
+{
+    let first = image[Map::CSC as usize];
+    if first / Map::CSC_ENABLE_MASK % 2 == 0 {
+        return matrix::none();
+    }
+    let start = Map::CSC as usize;
+    let end = start + Map::CSC_COUNT as usize;
+    let fields = coefficients(&image[start..end]);
+    Matrix {
+        on: 1,
+        mode: (first >> Map::CSC_SCALING_FACTOR_SHIFT) % 4,
+        coefficients: fields,
+    }
+}
+
+// The request that the image's registers name, in family 0.
+fn extract(image: &[u8]) -> Request
+    requires { ⌜ length (now image) ≡ 256 ⌝ }
+    ensures { λ r. ⌜ r ≡ extract (now (image .entry)) ⌝ }
+{
+    let sound = sound_in(image);
+    let matrix = matrix_in(image);
+    Request {
+        vic: image[Map::VIC_MANUAL as usize] % 64,
+        family: 0,
+        encoding: (image[Map::AVI_INFOFRAME_BYTE1 as usize] >> Map::Y1Y0_SHIFT) % 4,
+        link: image[Map::HDCP_HDMI_CFG as usize] / Map::HDMI_DVI_MODE_SELECT_MASK % 2,
+        sound: sound,
+        matrix: matrix,
+    }
+}
+
+// Whether the list writes a register.
+fn is_written(a: u8) -> bool
+    ensures { λ r. ⌜ r ≡ isWritten a ⌝ }
+{
+    (registers::named(a) != 0)
+        | ((Map::AVI_INFOFRAME_VERSION <= a)
+            & (a < Map::AVI_INFOFRAME_VERSION + Map::AVI_INFOFRAME_COUNT))
+        | ((Map::AUDIO_INFOFRAME_VERSION <= a)
+            & (a < Map::AUDIO_INFOFRAME_VERSION + Map::AUDIO_INFOFRAME_COUNT))
+        | ((a == Map::FIXED_98)
+            | ((a == Map::FIXED_9A)
+                | ((a == Map::FIXED_9C)
+                    | ((a == Map::FIXED_9D)
+                        | ((a == Map::FIXED_A2)
+                            | ((a == Map::FIXED_A3)
+                                | ((a == Map::FIXED_E0) | (a == Map::FIXED_I2C_ADDRESS))))))))
+}
+
+// The bytes of a request, at the front of 35.
+struct Bytes {
+    bytes: [u8; 35],
+    count: usize,
+}
+
+// The high byte of a coefficient, of its 13 bits carried to 16.
+fn high_byte(field: u16) -> u8
+    requires { ⌜ field < 8192 ⌝ }
+    ensures { λ r. ⌜ r ≡ cond (ltb field 4096) (field / 256) (field / 256 + 224) ⌝ }
+{
+    let high = (field / 256) as u8;
+    if field < 4096 {
+        return high;
+    }
+    high + 224
+}
+
+// The matrix section, from a place on.
+fn with_matrix(out: [u8; 35], place: usize, m: Matrix) -> Bytes
+    requires { ⌜ (place ≤ 9) × ((i : ℕ) → getD (m .coefficients) i 0 < 8192) ⌝ }
+    ensures { λ r. ⌜ (r .count ≡ place + length (matrixSection m)) × (r .bytes ≡ sets out place (matrixSection m)) ⌝ }
+{
+    let mut next = out;
+    if m.on == 0 {
+        next[place] = 0;
+        return Bytes {
+            bytes: next,
+            count: place + 1,
+        };
+    }
+    let fields = m.coefficients;
+    next[place] = 25;
+    next[place + 1] = m.mode;
+    let mut i: usize = 0;
+    while i < 12 {
+        next[place + 2 + 2 * i] = high_byte(fields[i]);
+        next[place + 3 + 2 * i] = (fields[i] % 256) as u8;
+        i = i + 1;
+    }
+    Bytes {
+        bytes: next,
+        count: place + 26,
+    }
+}
+
+// The bytes of a request.
+fn bytes_of(q: Request) -> Bytes
+    requires { ⌜ ((i : ℕ) → getD (q .matrix .coefficients) i 0 < 8192) ⌝ }
+    ensures { λ r. ⌜ (r .count ≡ length (bytesOf q)) × (take (r .count) (r .bytes) ≡ bytesOf q) ⌝ }
+{
+    let sound = q.sound;
+    let matrix = q.matrix;
+    let mut out = [0u8; 35];
+    out[0] = 4;
+    out[1] = q.vic;
+    out[2] = q.family;
+    out[3] = q.encoding;
+    out[4] = q.link;
+    match sound {
+        Sound::Off => with_matrix(out, 6, matrix),
+        Sound::On {
+            rate,
+            channels,
+            coherent,
+        } => {
+            out[5] = 3;
+            out[6] = rate;
+            out[7] = channels;
+            out[8] = coherent;
+            with_matrix(out, 9, matrix)
+        }
+    }
+}
+
+// "Decoding answers a request exactly when .."
+pub fn exactly_when()
+    ensures { λ _. ⌜ ((image buffer : List ℕ) → ExactlyWhen image buffer) ⌝ }
+{}
+
+// No two requests end in an image: the family is answered as 0, and every other field has its register.
+pub fn at_most_one()
+    ensures { λ _. ⌜ ((image : List ℕ) → AtMostOne image) ⌝ }
+{}
+
+// "Decoding checks .. 7, 10 and 11": the lowest that applies is given, with count 0 and the buffer as it was.
+pub fn refusals_of_decoding()
+    ensures { λ _. ⌜ ((image buffer : List ℕ) → Refusals image buffer) ⌝ }
+{}
+
+// Demand 2: "the finished image reads back as the same request, but for the frame-rate family".
+pub fn read_back()
+    ensures { λ _. ⌜ ((input before image : List ℕ) → ReadBack input before image) ⌝ }
+{}
