@@ -1,15 +1,15 @@
 -- A VIC offers no family exactly when it is not listed. Assumes nothing.
-use mathlib.Core.Path.{_≡_, refl, sym, _∙_}
+use mathlib.Core.Path.{_≡_, refl, sym}
 use mathlib.Core.Logic.{_≢_}
-use mathlib.Core.Bool.{Bool, true, false, false≢true, cond, not}
+use mathlib.Core.Bool.{Bool, true, false, cond, not}
 use mathlib.Core.List.{List, [], _∷_, map}
 use Prim.Native.Nat.{ℕ}
 use lib.Dec.{eqb}
-use borrow.Author.Tests.{eqb-true, eqb-false, eq-eqb, ne-eqb, not-true, not-false}
+use borrow.Author.Tests.{eqb-true, eqb-false, eq-eqb, ne-eqb, not-true}
 use Rattle.lists.specs.Among.{among}
 use Rattle.lists.specs.Find.{every}
 use Rattle.lists.proofs.Both.{both-left, both-right}
-use Rattle.lists.proofs.Decides.{Decides}
+use Rattle.lists.proofs.Decides.{failing, Decides}
 use Rattle.clock.specs.declared.Mode.{Mode}
 use Rattle.clock.specs.Modes.{modes, listed, rowOf, modeOf}
 
@@ -27,10 +27,6 @@ unlisted-in vic (m ∷ ms) t = go (unlisted-in vic ms (both-right (offers m) (ev
     go ih false e =
         let n : vic ≢ m .vic = λ q. eqb-false (m .vic) vic e (sym q) in
         rw (ne-eqb vic (m .vic) n) ih
-
--- the statement that a test fails
-pub failing : (b : Bool) → Decides (not b) (b ≡ false)
-failing b = record { passes = not-true b; fails = λ n f. false≢true (sym f ∙ not-false b n) }
 
 pub not-listed : (vic : ℕ) → Decides (eqb (modeOf vic .families) 0) (among vic listed ≡ false)
 unfolding modeOf

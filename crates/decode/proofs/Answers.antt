@@ -28,7 +28,8 @@ use Rattle.plan.specs.List.{byte, decided, written, isWritten, finished}
 use Rattle.decode.specs.declared.Decoded.{Decoded}
 use Rattle.decode.specs.Ends.{bytesOf, inFamily, Acceptable, Stands, Ends}
 use Rattle.decode.specs.Extract.{at, matrixIn, extract}
-use Rattle.decode.specs.Decode.{standsBelow, endsIn, found, refusalOf, decodeRules, decodeOf, bufferOf}
+use Rattle.plan.specs.Stands.{standsBelow}
+use Rattle.decode.specs.Decode.{endsIn, found, refusalOf, decodeRules, decodeOf, bufferOf}
 use Rattle.decode.specs.Theorems.{Answered, ExactlyWhen, AtMostOne, Refusals, Ran, ReadBack}
 use Rattle.decode.proofs.Ranged.{ranged, length-fields}
 use Rattle.decode.proofs.Extracted.{extracted}
@@ -39,10 +40,12 @@ use Rattle.decode.proofs.Back.{back}
 
 module _ (r : Request) (image : List ℕ) where
   stands-tested : (n : ℕ) → ((a : ℕ) → a < n → finished (wanted r) image a ≡ getD image a 0) → standsBelow r image n ≡ true
+  unfolding standsBelow
   stands-tested zero f = refl
   stands-tested (suc n) f = rw (eq-eqb (finished (wanted r) image n) (getD image n 0) (f n (omega arith))) (stands-tested n (λ a h. f a (omega arith)))
 
   test-stands : (n : ℕ) → standsBelow r image n ≡ true → (a : ℕ) → a < n → finished (wanted r) image a ≡ getD image a 0
+  unfolding standsBelow
   test-stands zero t a h = absurd (not-suc-le-zero h)
   test-stands (suc n) t a h =
       go (eq-or-lt-of-le (le-of-suc-le-suc h)) (test-stands n (both-right (eqb (finished (wanted r) image n) (getD image n 0)) _ t) a)

@@ -8,16 +8,10 @@ use lib.ListN.{length, drop, getD}
 use Rattle.refusals.specs.Rows.{imageLength, bufferShort, noRequest, number, Condition, _when_}
 use Rattle.request.specs.declared.Request.{Request}
 use Rattle.request.specs.Read.{readOf, pairFor}
-use Rattle.plan.specs.Wanted.{wanted}
-use Rattle.plan.specs.List.{finished}
+use Rattle.plan.specs.Stands.{standsBelow}
 use Rattle.decode.specs.declared.Decoded.{Decoded}
 use Rattle.decode.specs.Ends.{bytesOf, inFamily, Ends}
 use Rattle.decode.specs.Extract.{extract}
-
--- the test of `Stands`: every register below n is as the list would leave it
-abbrev pub standsBelow : Request → List ℕ → ℕ → Bool
-standsBelow r image zero = true
-standsBelow r image (suc a) = eqb (finished (wanted r) image a) (getD image a 0) && standsBelow r image a
 
 -- the request in a family is acceptable, and stands in the image
 unfoldable pub endsIn : Request → ℕ → List ℕ → Bool

@@ -111,24 +111,6 @@ fn extract(image: &[u8]) -> Request
     }
 }
 
-// Whether the list writes a register.
-fn is_written(a: u8) -> bool
-    ensures { λ r. ⌜ r ≡ isWritten a ⌝ }
-{
-    (registers::named(a) != 0)
-        | ((Map::AVI_INFOFRAME_VERSION <= a)
-            & (a < Map::AVI_INFOFRAME_VERSION + Map::AVI_INFOFRAME_COUNT))
-        | ((Map::AUDIO_INFOFRAME_VERSION <= a)
-            & (a < Map::AUDIO_INFOFRAME_VERSION + Map::AUDIO_INFOFRAME_COUNT))
-        | ((a == Map::FIXED_98)
-            | ((a == Map::FIXED_9A)
-                | ((a == Map::FIXED_9C)
-                    | ((a == Map::FIXED_9D)
-                        | ((a == Map::FIXED_A2)
-                            | ((a == Map::FIXED_A3)
-                                | ((a == Map::FIXED_E0) | (a == Map::FIXED_I2C_ADDRESS))))))))
-}
-
 // The bytes of a request, at the front of 35.
 struct Bytes {
     bytes: [u8; 35],

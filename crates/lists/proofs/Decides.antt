@@ -1,11 +1,11 @@
 -- A test and the statement that it decides. A test made of tests decides the statement made of theirs. Assumes nothing.
 use mathlib.Core.Path.{_≡_, refl, sym, _∙_}
-use mathlib.Core.Logic.{_⊎_, inl, inr, ⊎-elim, _≢_}
+use mathlib.Core.Logic.{_⊎_, inl, inr, ⊎-elim}
 use mathlib.Core.Bool.{Bool, true, false, false≢true, not, _&&_, _||_}
-use Prim.Native.Nat.{ℕ, _<_, _≤_}
+use Prim.Native.Nat.{ℕ, _<_}
 use native.Mathlib.Omega.{arith}
-use lib.Dec.{eqb, ltb, leb}
-use borrow.Author.Tests.{eqb-true, eqb-false, ltb-true, ltb-false, leb-true, leb-false}
+use lib.Dec.{eqb, ltb}
+use borrow.Author.Tests.{eqb-true, eqb-false, ltb-true, ltb-false, not-true, not-false}
 
 pub record Decides (b : Bool) (P : Type 0) : Type 0 where
   pub passes : b ≡ true → P
@@ -13,6 +13,9 @@ pub record Decides (b : Bool) (P : Type 0) : Type 0 where
 
 pub itself : (b : Bool) → Decides b (b ≡ true)
 itself b = record { passes = λ t. t; fails = λ f t. false≢true (sym f ∙ t) }
+
+pub failing : (b : Bool) → Decides (not b) (b ≡ false)
+failing b = record { passes = not-true b; fails = λ n f. false≢true (sym f ∙ not-false b n) }
 
 pub equal : (m n : ℕ) → Decides (eqb m n) (m ≡ n)
 equal m n = record { passes = eqb-true m n; fails = eqb-false m n }

@@ -3,3 +3,4 @@ pub mod Among
 pub mod Find
 pub mod Decides
 pub mod Copy
+pub mod Emit

@@ -1,9 +1,8 @@
-pub mod Emit
 pub mod Stored
 pub mod Frame
 pub mod Columns
 pub mod Pairs
 pub mod Accepted
 pub mod Answer
-pub mod Tried
 pub mod Ordered
+pub mod Standing

@@ -19,7 +19,7 @@ use Rattle.request.proofs.Coherent.{rows}
 use Rattle.chip.specs.Machine.{up, avi, audio, gc, packets, holdsOf}
 use Rattle.plan.specs.List.{ready}
 use Rattle.plan.specs.Plan.{HoldsUp, planRules, laterRefusal, refusalOf, planOf, bufferOf, PlanRefusals}
-use Rattle.plan.proofs.Tried.{again, past}
+use Rattle.refusals.proofs.Again.{again, past}
 
 -- row 8
 one-of : (a b : Bool) → (a || b) ≡ not (not a && not b)

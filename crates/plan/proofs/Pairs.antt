@@ -10,7 +10,7 @@ use lib.Seq.{sets, take-suc, length-take-le}
 use Rattle.chip.specs.Machine.{Write, _gets_}
 use Rattle.plan.specs.List.{steps, middle, written}
 use Rattle.plan.specs.Plan.{flat, inOrder}
-use Rattle.plan.proofs.Emit.{sets-two, map-at}
+use Rattle.lists.proofs.Emit.{sets-two, map-at}
 
 pub length-flat : (ws : List Write) → length (flat ws) ≡ 2 * length ws
 unfolding flat

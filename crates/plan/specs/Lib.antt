@@ -1,3 +1,4 @@
 pub mod Wanted
 pub mod List
 pub mod Plan
+pub mod Stands

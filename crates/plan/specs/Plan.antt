@@ -58,10 +58,11 @@ refusalOf input image buffer =
 unfoldable pub writesOf : List ℕ → List ℕ → List Write
 writesOf input image = writeList (wanted (readOf input .request)) image
 
--- the answer: the number of the refusal, 0 for none, and the count of pairs
+-- a refusal has its number and count 0
 abbrev pub nothing : ℕ → Planned
 nothing number = record { refusal = number; count = 0 }
 
+-- the answer: the number of the refusal, 0 for none, and the count of pairs
 unfoldable pub planOf : List ℕ → List ℕ → List ℕ → Planned
 planOf input image buffer =
     cond (eqb (refusalOf input image buffer) 0) (record { refusal = 0; count = length (writesOf input image) })

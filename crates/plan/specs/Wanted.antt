@@ -69,11 +69,12 @@ cscBytes m =
     let k : List ℕ = m .coefficients in
     (m .on * 2 ^ reg.cscEnableShift + m .mode * 2 ^ reg.cscScalingFactorShift + high k 0) ∷ low k 0 ∷ halves k 1 11
 
--- the registers with a named bit, but for 0x4B, whose bits are the step's. A named field for which document 01 gives no value, Audio
--- Select, Audio Mode, I2S Format and Input ID, holds the map's default, 0; Output Format is that of the encoding.
+-- N and CTS
 abbrev pub clockBytes : Pair → List Write
 clockBytes p = run reg.n0 (twenty (p .n)) ++ run reg.ctsManual0 (twenty (p .cts))
 
+-- how sound arrives, and Output Format, which is that of the encoding. A named field for which document 01 gives no value, Audio Select,
+-- Audio Mode, I2S Format and Input ID, holds the map's default, 0.
 abbrev pub inputBytes : Request → List Write
 inputBytes r =
     reg.audioSource gets (ctsSelect (r .sound) * 2 ^ reg.ctsSelectShift) ∷
@@ -81,6 +82,7 @@ inputBytes r =
     reg.i2sFreqIdCfg gets (rateCode (r .sound) * 2 ^ reg.i2sSamplingFrequencyShift) ∷
     reg.videoInputCfg1 gets cond (eqb (r .encoding) 1) reg.outputFormatMask 0 ∷ []
 
+-- "0x3B[6:5] = 2", the VIC, the enables, "0x4A[7] is 1", HDMI or DVI
 abbrev pub enableBytes : Request → List Write
 enableBytes r =
     reg.pixelRepetition gets (2 * 2 ^ reg.prModeShift) ∷
@@ -91,10 +93,12 @@ enableBytes r =
     reg.infoframeUpdate gets reg.autoChecksumEnableMask ∷
     reg.hdcpHdmiCfg gets (r .link * reg.hdmiDviModeSelectMask) ∷ []
 
+-- the InfoFrames, whose first byte has no register
 abbrev pub frameBytes : Request → List Write
 frameBytes r =
     run reg.aviInfoframeVersion (drop 1 (aviFrame (r .vic) (r .encoding))) ++ run reg.audioInfoframeVersion (drop 1 (audioBytes (r .sound)))
 
+-- the registers with a named bit, but for 0x4B, whose bits are the step's
 abbrev pub wantedBytes : Request → List Write
 wantedBytes r = clockBytes (pairFor r) ++ inputBytes r ++ run reg.csc (cscBytes (r .matrix)) ++ enableBytes r ++ frameBytes r
 

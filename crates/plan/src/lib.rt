@@ -14,7 +14,9 @@ ghost use Rattle.matrix.specs.Matrix.{Bytes};
 ghost use Rattle.chip.specs.Machine.{_gets_, up, avi, audio, gc};
 ghost use Rattle.plan.specs.Wanted.{run, stores, twenty, ctsSelect, inputs, rateCode, withAudio, audioBytes, halves, cscBytes};
 ghost use Rattle.plan.specs.Wanted.{clockBytes, inputBytes, enableBytes, frameBytes, wantedImage, SoundFits, MatrixFits, Fits};
-ghost use Rattle.plan.specs.List.{steps, middle, decided, byte};
+ghost use Rattle.plan.specs.List.{steps, middle, decided, byte, isWritten};
+ghost use Rattle.plan.specs.Stands.{asWanted, standsIn};
+ghost use Rattle.map.specs.Map as reg;
 ghost use Rattle.plan.specs.Plan.{inOrder, fronted, nothing, planOf, bufferOf, PlanRefusals};
 use clock::Pair;
 use map::Map;
@@ -396,6 +398,73 @@ pub fn plan(input: &[u8], image: &[u8], writes: &mut [u8]) -> Planned
         refusal: Refusal::NONE,
         count: 84,
     }
+}
+
+// Whether the list writes a register.
+fn is_written(a: u8) -> bool
+    ensures { λ r. ⌜ r ≡ isWritten a ⌝ }
+{
+    (registers::named(a) != 0)
+        | ((Map::AVI_INFOFRAME_VERSION <= a)
+            & (a < Map::AVI_INFOFRAME_VERSION + Map::AVI_INFOFRAME_COUNT))
+        | ((Map::AUDIO_INFOFRAME_VERSION <= a)
+            & (a < Map::AUDIO_INFOFRAME_VERSION + Map::AUDIO_INFOFRAME_COUNT))
+        | ((a == Map::FIXED_98)
+            | ((a == Map::FIXED_9A)
+                | ((a == Map::FIXED_9C)
+                    | ((a == Map::FIXED_9D)
+                        | ((a == Map::FIXED_A2)
+                            | ((a == Map::FIXED_A3)
+                                | ((a == Map::FIXED_E0) | (a == Map::FIXED_I2C_ADDRESS))))))))
+}
+
+// The byte of a register in the finished image.
+fn finished_byte(a: u8, old: u8, wanted: u8) -> u8
+    ensures { λ r. ⌜ r ≡ cond (isWritten a) (byte a old (merge 8 (decided a) (cond (eqb a reg.gc) reg.clearAvMuteMask 0) wanted)) old ⌝ }
+{
+    if !is_written(a) {
+        return old;
+    }
+    if a == Map::GC {
+        return written_byte(a, old, wanted, Map::CLEAR_AV_MUTE_MASK);
+    }
+    written_byte(a, old, wanted, 0)
+}
+
+// Whether every register of an image is as a list of these wanted bytes would leave it.
+fn as_wanted(image: &[u8], wanted: [u8; 256]) -> bool
+    requires { ⌜ length (now image) ≡ 256 ⌝ }
+    ensures { λ r. ⌜ r ≡ asWanted wanted (now (image .entry)) 256 ⌝ }
+{
+    let mut a: usize = 0;
+    while a < 256 {
+        let old = image[a];
+        if finished_byte(a as u8, old, wanted[a]) != old {
+            return false;
+        }
+        a = a + 1;
+    }
+    true
+}
+
+// Whether an input is accepted on some image, and its list would leave this image as it is.
+pub fn stands(input: &[u8], image: &[u8]) -> bool
+    ensures { λ r. ⌜ r ≡ standsIn (now (input .entry)) (now (image .entry)) ⌝ }
+{
+    let checked = request::read(input);
+    if checked.refusal != Refusal::NONE {
+        return false;
+    }
+    if image.len() != 256 {
+        return false;
+    }
+    let r = checked.request;
+    let pair = request::pair_for(r);
+    if pair.refusal != Refusal::NONE {
+        return false;
+    }
+    let wanted = wanted_image(r);
+    as_wanted(image, wanted)
 }
 
 // The refusals of planning, in document 01's order.

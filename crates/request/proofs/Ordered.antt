@@ -7,12 +7,11 @@ use Prim.Native.Nat.{ℕ}
 use native.Mathlib.Omega.{arith}
 use lib.ListN.{length, drop, getD}
 use Rattle.refusals.specs.Rows.{Condition, at}
-use Rattle.lists.proofs.Decides.{Decides, itself, equal, less, opposite, either, together, restated}
+use Rattle.lists.proofs.Decides.{Decides, failing, itself, equal, less, opposite, either, together, restated}
 use Rattle.matrix.specs.Matrix.{isAllowed, Allowed, Bytes}
 use Rattle.matrix.proofs.Numbers.{numbers}
 use Rattle.refusals.proofs.First.{Tried, test}
 use Rattle.clock.specs.Modes.{offered}
-use Rattle.clock.proofs.Listed.{failing}
 use Rattle.request.specs.declared.Checked.{Checked}
 use Rattle.request.specs.Sections.{Walk, ends, notAllowed, whole, bodyOf}
 use Rattle.request.specs.Request.{Present, present, vic, family, encoding, link, rate, channels, coherent, AudioOutside, Outside, Combined, requestIn, readRules}

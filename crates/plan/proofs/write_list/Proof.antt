@@ -8,7 +8,7 @@ use lib.Seq.{sets, take-all}
 use borrow.Author.Needs.{needs}
 use Rattle.chip.specs.Machine.{Write, _gets_}
 use Rattle.plan.specs.Plan.{flat, inOrder}
-use Rattle.plan.proofs.Emit.{sets-front}
+use Rattle.lists.proofs.Emit.{sets-front}
 use Rattle.plan.proofs.Pairs.{length-flat, count, turn, at-address}
 use Rattle.plan.proofs.write_list.Statement.{statement}
 use Rattle.plan.proofs.write_list.Tie as tie

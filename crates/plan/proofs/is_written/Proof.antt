@@ -1,9 +1,9 @@
--- `decode::is_written` meets its contract: the tests of the definition, in its order. Assumes nothing.
+-- `plan::is_written` meets its contract: the tests of the definition, in its order. Assumes nothing.
 use mathlib.Core.Bool.{or-false}
 use borrow.Author.Needs.{needs}
 use Rattle.plan.specs.List.{isWritten}
-use Rattle.decode.proofs.is_written.Statement.{statement}
-use Rattle.decode.proofs.is_written.Tie as tie
+use Rattle.plan.proofs.is_written.Statement.{statement}
+use Rattle.plan.proofs.is_written.Tie as tie
 
 named-requires : tie.Need-named-requires
 named-requires c κs = search needs

@@ -1,4 +1,4 @@
--- From what a call gives back to its conditions gone through in order. These laws are of refusals alone and belong in `refusals`. Assumes nothing.
+-- From what a call gives back to its conditions gone through in order. Assumes nothing.
 --     again       what `Given` says of a call, its conditions gone through in order
 --     past        where some conditions fail, the others are left
 use mathlib.Core.Path.{_≡_, refl}

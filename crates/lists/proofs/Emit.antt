@@ -1,4 +1,4 @@
--- A buffer that is filled from the front: `sets d at xs` of lib.Seq is d with xs stored from index at. These laws are of lists alone and belong in `lists`.
+-- A buffer that is filled from the front: `sets d at xs` of lib.Seq is d with xs stored from index at.
 --     sets-append     a run of stores after another is one run
 --     sets-two        two stores more
 --     sets-front      a run from index 0: the list, and then what was there
