@@ -23,7 +23,8 @@ extern "C" {
  *   7  image not of 256 bytes
  *   8  GC hold up, or AVI and audio holds both up
  *   9  coherent audio, and no exact pair exists
- *  10  write buffer shorter than 256 bytes
+ *  10  write buffer shorter than 256 bytes; in decoding, request buffer shorter than the longest request, 35
+ *  11  no request ends in this image
  *  12  an input above 4095
  */
 struct station_count { uint32_t refusal, count; };
@@ -34,6 +35,10 @@ struct station_pixel { uint32_t refusal, a, b, c; };
  * least 256 bytes; the bytes after them stay. Refusals 1 to 10. */
 struct station_count station_plan(const uint8_t *request, size_t request_length, const uint8_t *image, size_t image_length,
                                   uint8_t *writes, size_t writes_length);
+
+/* The request that ends in a register image of 256 bytes: `count` bytes at the front of `request`, which has at least 35; the bytes after
+ * them stay. Its family is answered as 0, for no register names it. Refusals 7, 10 and 11. */
+struct station_count station_decode(const uint8_t *image, size_t image_length, uint8_t *request, size_t request_length);
 
 /* N and CTS for a request. Refusals 1 to 6 and 9. */
 struct station_pair station_ncts(const uint8_t *request, size_t length);

@@ -81,7 +81,7 @@ test-ends r f image h e t =
 -- ---- an image of 256 bytes
 
 module _ (image : List ℕ) (long : length image ≡ 256) where
-  shaped : Shaped (matrixIn image)
+  pub shaped : Shaped (matrixIn image)
   shaped = go (eqb (at image reg.csc / reg.cscEnableMask % 2) 0)
     where
       coefficients : List ℕ

@@ -3,22 +3,14 @@ use mathlib.Core.Path.{_≡_, refl, sym, ap, ap₂, _∙_}
 use mathlib.Core.Bool.{Bool, true, false, cond}
 use mathlib.Core.List.{List, [], _∷_, _++_}
 use Prim.Native.Nat.{ℕ, suc, _+_, _*_, _/_, _%_, _≤_, _<_}
-use native.Mathlib.Nat.{add-zero, add-suc, suc-add}
 use native.Mathlib.Numerals.{add-one}
 use native.Mathlib.Omega.{arith}
 use lib.Dec.{eqb, ltb, lit≤}
 use lib.ListN.{length, getD, take, drop, set, length-append}
 use lib.Seq.{sets, sets-eq, take-at, take-suc, take-all, length-take-le}
+use Rattle.lists.proofs.Emit.{sets-two}
 use Rattle.matrix.specs.declared.Matrix.{Matrix}
 use Rattle.decode.specs.Ends.{coefficientBytes, matrixSection}
-
-sets-append : (xs ys d : List ℕ) (at : ℕ) → sets d at (xs ++ ys) ≡ sets (sets d at xs) (at + length xs) ys
-sets-append [] ys d at = rw add-zero
-sets-append (x ∷ xs) ys d at =
-    sets-append xs ys (set d at x) (suc at) ∙ ap (λ (n : ℕ). sets (sets (set d at x) (suc at) xs) n ys) (suc-add at (length xs) ∙ sym (add-suc at (length xs)))
-
-two : (xs d : List ℕ) (at n m a b : ℕ) → at + length xs ≡ n → suc n ≡ m → set (set (sets d at xs) n a) m b ≡ sets d at (xs ++ (a ∷ b ∷ []))
-two xs d at n m a b e f = rw (← f, ← e) (sym (sets-append xs (a ∷ b ∷ []) d at))
 
 pub length-coefficients : (cs : List ℕ) → length (coefficientBytes cs) ≡ 2 * length cs
 length-coefficients [] = refl
@@ -29,12 +21,12 @@ bytes-append [] ys = refl
 bytes-append (x ∷ xs) ys = ap (λ (l : List ℕ). cond (ltb x 4096) (x / 256) (x / 256 + 224) ∷ x % 256 ∷ l) (bytes-append xs ys)
 
 -- a turn stores the two bytes of one coefficient more
-pub turn-bytes : (cs d : List ℕ) (at i n m a b : ℕ) → i < length cs → at + 2 * i ≡ n → suc n ≡ m
+pub turn-bytes : (cs d : List ℕ) (at i n m a b : ℕ) → i < length cs → at + 2 * i ≡ n → n + 1 ≡ m
     → a ≡ cond (ltb (getD cs i 0) 4096) (getD cs i 0 / 256) (getD cs i 0 / 256 + 224) → b ≡ getD cs i 0 % 256
     → set (set (sets d at (coefficientBytes (take i cs))) n a) m b ≡ sets d at (coefficientBytes (take (i + 1) cs))
 turn-bytes cs d at i n m a b h e f p q =
     let l : length (coefficientBytes (take i cs)) ≡ 2 * i = length-coefficients (take i cs) ∙ ap (λ (n : ℕ). 2 * n) (length-take-le i cs (omega arith)) in
-    two (coefficientBytes (take i cs)) d at n m a b (omega arith) f
+    rw (← f) (sets-two (coefficientBytes (take i cs)) d at n a b (omega arith))
     ∙ ap (sets d at) (ap₂ (λ (x y : ℕ). coefficientBytes (take i cs) ++ (x ∷ y ∷ [])) p q
     ∙ sym (ap (λ (n : ℕ). coefficientBytes (take n cs)) (add-one i) ∙ ap coefficientBytes (take-suc cs i 0 h) ∙ bytes-append (take i cs) (getD cs i 0 ∷ [])))
 

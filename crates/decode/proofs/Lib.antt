@@ -6,5 +6,6 @@ pub mod Extracted
 pub mod Says
 pub mod Back
 pub mod Answers
+pub mod Found
 pub mod Turns
 pub mod Emitted

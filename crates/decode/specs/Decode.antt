@@ -34,10 +34,14 @@ decodeRules image buffer =
     bufferShort when (length buffer < 35) ∷
     noRequest when ((r : Request) → Ends r image → ⊥) ∷ []
 
+-- a refusal has its number and count 0
+abbrev pub nothing : ℕ → Decoded
+nothing number = record { refusal = number; count = 0 }
+
 unfoldable pub decodeOf : List ℕ → List ℕ → Decoded
 decodeOf image buffer =
     cond (eqb (refusalOf image buffer) 0) (record { refusal = 0; count = length (bytesOf (extract image)) })
-    (record { refusal = refusalOf image buffer; count = 0 })
+    (nothing (refusalOf image buffer))
 
 -- the buffer: the request at its front, and "Buffer bytes after the request stay"
 unfoldable pub bufferOf : List ℕ → List ℕ → List ℕ

@@ -1,18 +1,20 @@
 // Decoding: from a finished image back to the request. Document 01, "Register classes", last paragraph.
 ghost use mathlib.Core.Path.{_≡_};
-ghost use mathlib.Core.Bool.{cond};
-ghost use mathlib.Core.List.{List};
+ghost use mathlib.Core.Bool.{cond, _||_};
+ghost use mathlib.Core.List.{List, _++_};
 ghost use lib.Dec.{ltb};
 ghost use Prim.Native.Nat.{ℕ, _+_, _*_, _/_, _<_, _≤_};
-ghost use lib.ListN.{getD, length, take};
+ghost use lib.ListN.{getD, length, take, drop, set};
 ghost use lib.Seq.{sets};
 ghost use Rattle.matrix.specs.Matrix.{fields};
-ghost use Rattle.plan.specs.List.{isWritten};
+ghost use Rattle.plan.specs.Stands.{standsIn};
 ghost use Rattle.decode.specs.Ends.{matrixSection, bytesOf};
 ghost use Rattle.decode.specs.Extract.{rateOf, soundIn, matrixIn, extract};
+ghost use Rattle.decode.specs.Decode.{nothing, decodeOf, bufferOf};
 ghost use Rattle.decode.specs.Theorems.{ExactlyWhen, AtMostOne, Refusals, ReadBack};
 use map::Map;
 use matrix::Matrix;
+use refusals::Refusal;
 use request::Request;
 use request::Sound;
 
@@ -183,6 +185,74 @@ fn bytes_of(q: Request) -> Bytes
             out[8] = coherent;
             with_matrix(out, 9, matrix)
         }
+    }
+}
+
+// Whether the request of these bytes, in a family, is accepted on some image and stands in this one.
+fn ends_in(bytes: [u8; 35], count: usize, family: u8, image: &[u8]) -> bool
+    requires { ⌜ count ≤ 35 ⌝ }
+    ensures { λ r. ⌜ r ≡ standsIn (take count (set bytes 2 family)) (now (image .entry)) ⌝ }
+{
+    let mut input = bytes;
+    input[2] = family;
+    plan::stands(&input[0..count], image)
+}
+
+// In one of its families.
+fn ends(bytes: [u8; 35], count: usize, image: &[u8]) -> bool
+    requires { ⌜ count ≤ 35 ⌝ }
+    ensures { λ r. ⌜ r ≡ (standsIn (take count (set bytes 2 0)) (now (image .entry)) || standsIn (take count (set bytes 2 1)) (now (image .entry))) ⌝ }
+{
+    if ends_in(bytes, count, 0, image) {
+        return true;
+    }
+    ends_in(bytes, count, 1, image)
+}
+
+// Bytes at the front of a buffer; those after them stay.
+fn put(bytes: [u8; 35], count: usize, buffer: &mut [u8])
+    requires { ⌜ (count ≤ 35) × (35 ≤ length (now buffer)) ⌝ }
+    ensures { λ _. ⌜ now (buffer .exit) ≡ take count bytes ++ drop count (now (buffer .entry)) ⌝ }
+{
+    let mut i: usize = 0;
+    while i < count {
+        buffer[i] = bytes[i];
+        i = i + 1;
+    }
+}
+
+// A refusal: its number, and no byte.
+fn refused(number: u8) -> Decoded
+    ensures { λ r. ⌜ r ≡ nothing number ⌝ }
+{
+    Decoded {
+        refusal: number,
+        count: 0,
+    }
+}
+
+// The request that ends in an image, in a lent buffer: refusals 7, 10 and 11.
+pub fn decode(image: &[u8], buffer: &mut [u8]) -> Decoded
+    ensures { λ r. ⌜ r ≡ decodeOf (now (image .entry)) (now (buffer .entry)) ⌝ }
+    ensures { λ _. ⌜ now (buffer .exit) ≡ bufferOf (now (image .entry)) (now (buffer .entry)) ⌝ }
+{
+    if image.len() != 256 {
+        return refused(Refusal::IMAGE_LENGTH);
+    }
+    if buffer.len() < 35 {
+        return refused(Refusal::BUFFER_SHORT);
+    }
+    let q = extract(image);
+    let said = bytes_of(q);
+    let bytes = said.bytes;
+    let count = said.count;
+    if !ends(bytes, count, image) {
+        return refused(Refusal::NO_REQUEST);
+    }
+    put(bytes, count, buffer);
+    Decoded {
+        refusal: Refusal::NONE,
+        count: count as u32,
     }
 }
 

@@ -12,7 +12,7 @@ use lib.ListN.{length, getD, take, drop, set, drop-of-length-le}
 use lib.Seq.{drop-cons, take-suc-set, append-snoc, take-all}
 use Rattle.lists.proofs.Both.{both-left, both-right}
 use Rattle.matrix.specs.Coefficient.{within, field}
-use Rattle.matrix.specs.Matrix.{fields, inRange, isAllowed, wordAt}
+use Rattle.matrix.specs.Matrix.{fields, inRange, isAllowed, wordAt, noMatrix}
 
 -- what is left of a body from coefficient i on
 abbrev pub rest : List ℕ → ℕ → List ℕ
@@ -73,3 +73,8 @@ fields-small [] i = lit< tt
 fields-small (high ∷ []) i = lit< tt
 fields-small (high ∷ low ∷ more) zero = omega arith
 fields-small (high ∷ low ∷ more) (suc i) = fields-small more i
+
+-- and those of no matrix
+pub none-small : (i : ℕ) → getD (noMatrix .coefficients) i 0 < 8192
+unfolding fields
+none-small i = fields-small (8 ∷ 0 ∷ 0 ∷ 0 ∷ 0 ∷ 0 ∷ 0 ∷ 0 ∷ 0 ∷ 0 ∷ 8 ∷ 0 ∷ 0 ∷ 0 ∷ 0 ∷ 0 ∷ 0 ∷ 0 ∷ 0 ∷ 0 ∷ 8 ∷ 0 ∷ 0 ∷ 0 ∷ []) i

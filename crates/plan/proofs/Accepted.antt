@@ -10,8 +10,8 @@ use lib.ListN.{getD}
 use borrow.Author.Tests.{eqb-true, ltb-true, ltb-false, not-false}
 use Rattle.lists.proofs.Both.{neither-left, neither-right}
 use Rattle.clock.specs.Modes.{offered, modeOf}
-use Rattle.matrix.specs.Matrix.{fields, isAllowed, matrixOf, noMatrix}
-use Rattle.matrix.proofs.Pairs.{mode-small, fields-small}
+use Rattle.matrix.specs.Matrix.{isAllowed, matrixOf, noMatrix}
+use Rattle.matrix.proofs.Pairs.{mode-small, fields-small, none-small}
 use Rattle.request.specs.declared.Sound.the-variants.{Off, On}
 use Rattle.request.specs.Sections.{Walk, walked, bodyOf}
 use Rattle.request.specs.Request.{present, vic, family, encoding, link, rate, channels, coherent, requestIn}
@@ -24,10 +24,6 @@ one-of : (a b : Bool) (m n k : ℕ) → eqb k m ≡ a → eqb k n ≡ b → (not
 one-of true b m n k e f h = inl (eqb-true k m e)
 one-of false true m n k e f h = inr (eqb-true k n f)
 one-of false false m n k e f h = absurd (false≢true (sym h))
-
-none-small : (i : ℕ) → getD (noMatrix .coefficients) i 0 < 8192
-unfolding fields
-none-small i = fields-small (8 ∷ 0 ∷ 0 ∷ 0 ∷ 0 ∷ 0 ∷ 0 ∷ 0 ∷ 0 ∷ 0 ∷ 8 ∷ 0 ∷ 0 ∷ 0 ∷ 0 ∷ 0 ∷ 0 ∷ 0 ∷ 0 ∷ 0 ∷ 8 ∷ 0 ∷ 0 ∷ 0 ∷ []) i
 
 module _ (v a m : List ℕ) where
   sound-fits : (b : Bool) → (b && audioOutside a) ≡ false → SoundFits (cond b (On (rate a) (channels a) (coherent a)) Off)

@@ -1,7 +1,8 @@
 // The C face: each call is a call of the library, taken apart. No logic. The C declarations are in include/station.h.
 ghost use mathlib.Core.Path.{_≡_};
-ghost use Rattle.station.specs.Face.{countOut, pairOut, pixelOut};
+ghost use Rattle.station.specs.Face.{countOut, requestOut, pairOut, pixelOut};
 ghost use Rattle.plan.specs.Plan.{planOf, bufferOf};
+ghost use Rattle.decode.specs.Decode as decoding;
 ghost use Rattle.request.specs.Read.{nctsOf};
 ghost use Rattle.matrix.specs.Preview.{previewOf};
 
@@ -39,6 +40,19 @@ pub extern "C" fn station_plan(request: &[u8], image: &[u8], writes: &mut [u8]) 
     CountOut {
         refusal: planned.refusal as u32,
         count: planned.count,
+    }
+}
+
+// The request that ends in an image, family 0: refusals 7, 10 and 11. The count is that of its bytes.
+#[no_mangle]
+pub extern "C" fn station_decode(image: &[u8], request: &mut [u8]) -> CountOut
+    ensures { λ r. ⌜ r ≡ requestOut (decoding.decodeOf (now (image .entry)) (now (request .entry))) ⌝ }
+    ensures { λ _. ⌜ now (request .exit) ≡ decoding.bufferOf (now (image .entry)) (now (request .entry)) ⌝ }
+{
+    let decoded = decode::decode(image, request);
+    CountOut {
+        refusal: decoded.refusal as u32,
+        count: decoded.count,
     }
 }
 

@@ -1,6 +1,5 @@
 -- `station::station_plan` meets its contract: the library's answer, field by field. Assumes nothing.
 use mathlib.Core.Path.{ap}
-use Rattle.plan.specs.declared.Planned.{Planned}
 use Rattle.station.specs.Face.{countOut}
 use borrow.Author.Needs.{needs}
 use Rattle.station.proofs.station_plan.Statement.{statement}
