@@ -1,20 +1,29 @@
--- Demand 3, tied to the planning entry. Assumes nothing.
+-- Demands 2 and 3, tied to the planning entry. Assumes nothing.
 use mathlib.Core.Path.{_≡_, refl, sym, ap, _∙_}
 use mathlib.Core.Bool.{Bool, true, false, false≢true, cond, not}
-use mathlib.Core.List.{List, _++_}
+use mathlib.Core.List.{List}
 use Prim.Native.Nat.{ℕ}
 use native.Mathlib.Omega.{arith}
 use lib.Dec.{eqb, ltb}
-use lib.ListN.{length, drop}
+use lib.ListN.{length}
+use lib.Seq.{take-length}
 use borrow.Author.Tests.{eqb-true, eq-eqb}
+use Rattle.matrix.specs.Matrix.{Bytes}
 use Rattle.chip.specs.declared.Chip.{Chip}
+use Rattle.chip.specs.Machine.{Write, after}
 use Rattle.request.specs.Read.{readOf, pairFor}
 use Rattle.plan.specs.declared.Planned.{Planned}
 use Rattle.plan.specs.List.{writeList, ready}
-use Rattle.plan.specs.Plan.{flat, laterRefusal, refusalOf, writesOf, planOf, bufferOf}
-use Rattle.cut.specs.Demand.{Demand3, cut}
+use Rattle.plan.specs.Plan.{laterRefusal, refusalOf, writesOf, planOf, bufferOf}
+use Rattle.plan.proofs.Ordered.{refusals}
+use Rattle.cut.specs.Demand.{Demand3, cut, done}
 use Rattle.cut.proofs.WriteList.{holds}
-use Rattle.promises.specs.AnyCut.{asked, AnyCut}
+use Rattle.cut.proofs.InOrder.{in-order}
+use Rattle.cut.proofs.Carries.{carried}
+use Rattle.decode.specs.Theorems.{Ran}
+use Rattle.decode.proofs.Answers.{read-back}
+use Rattle.promises.specs.Rules.{asked, Listed, Demand2}
+use Rattle.promises.specs.AnyCut.{AnyCut}
 
 -- an answer without a refusal comes from no refusal
 answered : (input image buffer : List ℕ) → planOf input image buffer .refusal ≡ 0 → refusalOf input image buffer ≡ 0
@@ -61,17 +70,45 @@ answer : (input image buffer : List ℕ) → refusalOf input image buffer ≡ 0 
 unfolding planOf
 answer input image buffer z = rw z
 
-pub any-cut : (input buffer : List ℕ) (s : Chip) → planOf input (s .image) buffer .refusal ≡ 0 → AnyCut input buffer s
+listed : (input image buffer : List ℕ) → refusalOf input image buffer ≡ 0 → Listed input image buffer
 unfolding planOf bufferOf writesOf
+listed input image buffer r = record { count = rw r; list = rw r }
+
+pub any-cut : (input buffer : List ℕ) (s : Chip) → planOf input (s .image) buffer .refusal ≡ 0 → AnyCut input buffer s
 any-cut input buffer s z =
     let r : refusalOf input (s .image) buffer ≡ 0 = answered input (s .image) buffer z in
     let f = fine input (s .image) buffer r in
     let d : Demand3 writeList (asked input) s = holds (asked input) s (f .whole) (f .clear) in
     record {
-      count = rw r;
-      list = rw r;
+      listed = listed input (s .image) buffer r;
       demand = d;
       again = λ k. answer input (cut writeList (asked input) s k .image) buffer
           (accepted input (cut writeList (asked input) s k .image) buffer
           (record { read = f .read; whole = d .whole k; clear = d .ready k; paired = f .paired; long = f .long }));
     }
+
+-- the end of a run is its cut after the last write
+at-end : (input : List ℕ) (s : Chip) → cut writeList (asked input) s (length (writeList (asked input) (s .image))) ≡ done writeList (asked input) s
+at-end input s = ap (λ (ws : List Write). after ws s) (take-length (writeList (asked input) (s .image)))
+
+pub rules : (input buffer : List ℕ) (s : Chip) → Demand2 input buffer s
+rules input buffer s = record {
+  accepted = λ b. refusals input b (s .image) buffer .given .none;
+  listed = λ z. listed input (s .image) buffer (answered input (s .image) buffer z);
+  order = in-order (asked input) (s .image);
+  carried = carried;
+  finished = λ z. any-cut input buffer s z .demand .registers;
+  readBack = λ b z room h. read-back input (s .image) (done writeList (asked input) s .image) .answered (ran b z) room h;
+}
+  where
+    ran : Bytes input → planOf input (s .image) buffer .refusal ≡ 0 → Ran input (s .image) (done writeList (asked input) s .image)
+    ran b z =
+        let c : AnyCut input buffer s = any-cut input buffer s z in
+        let f = fine input (s .image) buffer (answered input (s .image) buffer z) in
+        record {
+          bytes = b;
+          read = f .read;
+          paired = eqb-true _ _ (f .paired);
+          sized = ap (λ (t : Chip). length (t .image)) (sym (at-end input s)) ∙ c .demand .whole (length (writeList (asked input) (s .image)));
+          registers = c .demand .registers;
+        }

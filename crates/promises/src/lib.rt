@@ -6,10 +6,16 @@ ghost use Rattle.chip.specs.declared.Chip.{Chip};
 ghost use Rattle.plan.specs.Plan.{planOf};
 ghost use Rattle.promises.specs.AnyCut.{AnyCut};
 ghost use Rattle.promises.specs.Cases.{MarkedCases};
+ghost use Rattle.promises.specs.Rules.{Demand2};
 
 // Document 01, "Marked cases, proved together as one table".
 pub fn marked_cases()
     ensures { λ _. ⌜ MarkedCases ⌝ }
+{}
+
+// Demand 2: whatever is asked, whatever image and buffer are lent.
+pub fn demand_2()
+    ensures { λ _. ⌜ ((input buffer : List ℕ) (s : Chip) → Demand2 input buffer s) ⌝ }
 {}
 
 // Demand 3: whatever request is accepted, whatever the chip's two buffers hold, wherever the run is cut.

@@ -1,0 +1,45 @@
+-- Demand 2, of the planning and the decoding entry: "Exactly the rules".
+use mathlib.Core.Path.{_≡_}
+use mathlib.Core.Logic.{_↔_}
+use mathlib.Core.List.{List, _++_}
+use Prim.Native.Nat.{ℕ, _<_, _≤_}
+use lib.ListN.{length, getD, set, drop}
+use Rattle.refusals.specs.Rows.{Condition, at}
+use Rattle.matrix.specs.Matrix.{Bytes}
+use Rattle.chip.specs.declared.Chip.{Chip}
+use Rattle.request.specs.Read.{readOf}
+use Rattle.plan.specs.Wanted.{wanted}
+use Rattle.plan.specs.List.{writeList, finished}
+use Rattle.plan.specs.Plan.{planRules, flat, planOf, bufferOf}
+use Rattle.decode.specs.Theorems.{Answered}
+use Rattle.cut.specs.Demand.{done}
+use Rattle.cut.specs.Order.{Order}
+use Rattle.cut.specs.Carried.{Carried}
+
+-- what the request wants in each register
+abbrev pub asked : List ℕ → ℕ → ℕ
+asked input = wanted (readOf input .request)
+
+-- no row applies
+abbrev pub Permitted : List Condition → Type 0
+Permitted rules = (i : ℕ) → i < length rules → at rules i .When → ⊥
+
+-- the list of a request on an image stands at the front of the lent buffer, with its count; "buffer bytes after the list stay"
+pub record Listed (input image buffer : List ℕ) : Type 0 where
+  pub count : planOf input image buffer .count ≡ length (writeList (asked input) image)
+  pub list : bufferOf input image buffer ≡ flat (writeList (asked input) image) ++ drop (length (flat (writeList (asked input) image))) buffer
+
+pub record Demand2 (input buffer : List ℕ) (s : Chip) : Type 0 where
+  -- "A request is accepted exactly when document 01's rules .. permit it."
+  pub accepted : Bytes input → (planOf input (s .image) buffer .refusal ≡ 0) ↔ Permitted (planRules input (s .image) buffer)
+  -- "The writes are the ones those rules give": the list, its registers and their order, and what each byte of it carries
+  pub listed : planOf input (s .image) buffer .refusal ≡ 0 → Listed input (s .image) buffer
+  pub order : Order (asked input) (s .image)
+  pub carried : (a : ℕ) → a < 256 → (old wanted : ℕ) → Carried a old wanted
+  -- "the finished image", register by register, is what the list leaves on the chip
+  pub finished : planOf input (s .image) buffer .refusal ≡ 0
+      → (a : ℕ) → a < 256 → getD (done writeList (asked input) s .image) a 0 ≡ finished (asked input) (s .image) a
+  -- "and the finished image reads back as the same request, but for the frame-rate family, which no register names": byte for byte the
+  -- request, its family byte 0
+  pub readBack : Bytes input → planOf input (s .image) buffer .refusal ≡ 0
+      → (room : List ℕ) → 35 ≤ length room → Answered (set input 2 0) (done writeList (asked input) s .image) room
