@@ -1,11 +1,42 @@
--- A column of the steps, read at a place, is that field of the step. Assumes nothing.
-use mathlib.Core.Path.{_≡_, sym, ap, _∙_}
-use mathlib.Core.Bool.{Bool}
+-- The table of the steps has AVI before audio: a column of it at a step's place is that field of the step. Assumes nothing.
+use mathlib.Core.Path.{_≡_, refl, sym, ap, ap₂, _∙_, subst}
+use mathlib.Core.Bool.{Bool, true, false, cond, _&&_}
 use mathlib.Core.List.{map}
-use Prim.Native.Nat.{ℕ}
+use Prim.Native.Nat.{ℕ, _+_, _-_, _<_}
+use lib.Dec.{eqb, ltb}
 use lib.ListN.{getD, List·getD-map}
+use borrow.Author.Tests.{eqb-true}
+use Rattle.lists.proofs.Both.{both-left, both-right}
+use Rattle.bits.proofs.Below.{below, at-below}
 use Rattle.chip.specs.Machine.{Write, _gets_}
 use Rattle.plan.specs.List.{steps, middle}
 
-pub column : (f : Write → ℕ) {b c : Bool} (i : ℕ) → b ≡ c → getD (map f (steps (middle c))) i (f (0 gets 0)) ≡ f (getD (steps (middle b)) i (0 gets 0))
-column f {b} {c} i e = List·getD-map f (steps (middle c)) i (0 gets 0) ∙ ap (λ (x : Bool). f (getD (steps (middle x)) i (0 gets 0))) (sym e)
+abbrev step : Bool → ℕ → Write
+step b i = getD (steps (middle b)) i (0 gets 0)
+
+pub column : (f : Write → ℕ) {w : Write} (i : ℕ) → step false i ≡ w → getD (map f (steps (middle false))) i (f (0 gets 0)) ≡ f w
+column f i e = List·getD-map f (steps (middle false)) i (0 gets 0) ∙ ap f e
+
+-- where a step stands, audio first: the two packets change places
+abbrev pub moved : ℕ → ℕ
+moved i = cond (ltb i 35) i (cond (ltb i 50) (i + 18) (cond (ltb i 68) (i - 15) i))
+
+abbrev found : ℕ → Bool
+found i = eqb (step false (moved i) .address) (step true i .address) && eqb (step false (moved i) .value) (step true i .value)
+
+all-found : below found 84 ≡ true
+unfolding middle
+all-found = refl
+
+pub there : (i : ℕ) → i < 84 → step false (moved i) ≡ step true i
+there i h =
+    let t : found i ≡ true = at-below found 84 i all-found h in
+    let v : Bool = eqb (step false (moved i) .value) (step true i .value) in
+    ap₂ (λ (a b : ℕ). a gets b) (eqb-true _ _ (both-left _ v t)) (eqb-true _ _ (both-right (eqb (step false (moved i) .address) (step true i .address)) _ t))
+
+pub at-place : {b : Bool} (i r : ℕ) → b ≡ true → i < 84 → moved i ≡ r → r < 84 → (r < 84) × (step false r ≡ step b i)
+at-place {b} i r e h m l =
+    (l, subst (λ (x : Bool). step false r ≡ step x i) (sym e) (subst (λ (n : ℕ). step false n ≡ step true i) m (there i h)))
+
+pub unmoved : {b : Bool} (i : ℕ) → b ≡ false → step false i ≡ step b i
+unmoved i e = ap (λ (x : Bool). step x i) (sym e)

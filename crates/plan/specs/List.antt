@@ -1,14 +1,14 @@
 -- Document 01, "The write list". `want a` is the byte whose named bits are wanted in register a.
 use mathlib.Core.Bool.{Bool, cond, not, _&&_, _||_}
 use mathlib.Core.List.{List, [], _∷_, _++_, map}
-use Prim.Native.Nat.{ℕ, zero, suc, _+_}
-use lib.Dec.{eqb, leb, ltb}
+use Prim.Native.Nat.{ℕ, zero, suc, _+_, _-_}
+use lib.Dec.{eqb}
 use lib.ListN.{getD}
 use Rattle.lists.specs.Among.{among}
 use Rattle.bits.specs.Merge.{merge}
 use Rattle.map.specs.Map as reg
 use Rattle.registers.specs.Classes.{readOnly, free, named, bits}
-use Rattle.registers.specs.Steps.{table14, others, hasNamed}
+use Rattle.registers.specs.Steps.{table14, others, hasNamed, inRun}
 use Rattle.chip.specs.Machine.{Write, _gets_, Group, up, avi, audio, gc, packets, holdsOf}
 
 -- A step of the list is the register, and the bits that the step decides and not the request (holds, mute).
@@ -25,7 +25,8 @@ each (a ∷ rest) = a gets 0 ∷ each rest
 -- "coefficient hold up, 0x18 to 0x2F with the hold kept up, hold down"
 abbrev pub coefficientSteps : List Write
 coefficientSteps =
-    reg.coefficientUpdate gets reg.coefficientUpdateMask ∷ span reg.csc 2 ++ reg.coefficientUpdate gets reg.coefficientUpdateMask ∷ span 0x1B 21 ++
+    reg.coefficientUpdate gets reg.coefficientUpdateMask ∷
+    span reg.csc 2 ++ reg.coefficientUpdate gets reg.coefficientUpdateMask ∷ span (reg.coefficientUpdate + 1) (reg.cscCount - 3) ++
     reg.coefficientUpdate gets 0 ∷ []
 
 -- "AVI hold up, its registers, hold down; audio likewise"
@@ -72,7 +73,7 @@ writeList = listed planned
 
 -- the registers that the list writes: those with a named bit, those of the two packets, those of Table 14
 abbrev pub covers : Group → ℕ → Bool
-covers g a = leb (g .first) a && ltb a (g .first + g .count)
+covers g = inRun (g .first) (g .count)
 
 unfoldable pub isWritten : ℕ → Bool
 isWritten a = hasNamed a || covers avi a || covers audio a || among a table14

@@ -1,7 +1,7 @@
 // Planning: from a request and a register image to the write list. Document 01, "The write list".
 ghost use mathlib.Core.Path.{_≡_};
 ghost use mathlib.Core.Logic.{_≢_};
-ghost use mathlib.Core.Bool.{cond, not, _&&_};
+ghost use mathlib.Core.Bool.{false, cond, not, _&&_};
 ghost use mathlib.Core.List.{List};
 ghost use Prim.Native.Nat.{ℕ, _+_, _/_, _%_, _<_, _≤_};
 ghost use lib.Dec.{eqb};
@@ -25,8 +25,7 @@ use refusals::Refusal;
 use request::Request;
 use request::Sound;
 
-mod audio_then_avi;
-mod avi_then_audio;
+mod steps;
 
 // The number of a refusal, 0 for none, and the count of pairs written.
 pub struct Planned {
@@ -266,15 +265,39 @@ fn written_byte(a: u8, old: u8, wanted: u8, bits: u8) -> u8
     bits::merge(registers::read_only(a), old, free)
 }
 
+// The first step of the two packets, and how many steps each has: its registers, its hold up and down.
+const PACKETS: usize = 35;
+
+const AVI_STEPS: usize = Map::AVI_INFOFRAME_COUNT as usize + 2;
+
+const AUDIO_STEPS: usize = Map::AUDIO_INFOFRAME_COUNT as usize + 2;
+
+// The place of a step in the table, which has AVI before audio. "If the audio hold is up at the start, audio goes before AVI."
+fn place(audio_first: bool, i: usize) -> usize
+    requires { ⌜ i < 84 ⌝ }
+    ensures { λ r. ⌜ (r < 84) × (getD (steps (middle false)) r (0 gets 0) ≡ getD (steps (middle «audio_first»)) i (0 gets 0)) ⌝ }
+{
+    if !audio_first {
+        return i;
+    }
+    if i < PACKETS {
+        return i;
+    }
+    if i < PACKETS + AUDIO_STEPS {
+        return i + AVI_STEPS;
+    }
+    if i < PACKETS + AUDIO_STEPS + AVI_STEPS {
+        return i - AUDIO_STEPS;
+    }
+    i
+}
+
 // The register of a step.
 fn step_address(audio_first: bool, i: usize) -> u8
     requires { ⌜ i < 84 ⌝ }
     ensures { λ r. ⌜ r ≡ getD (steps (middle «audio_first»)) i (0 gets 0) .address ⌝ }
 {
-    if audio_first {
-        return audio_then_avi::ADDRESSES[i];
-    }
-    avi_then_audio::ADDRESSES[i]
+    steps::ADDRESSES[place(audio_first, i)]
 }
 
 // The bits that a step decides.
@@ -282,10 +305,7 @@ fn step_bits(audio_first: bool, i: usize) -> u8
     requires { ⌜ i < 84 ⌝ }
     ensures { λ r. ⌜ r ≡ getD (steps (middle «audio_first»)) i (0 gets 0) .value ⌝ }
 {
-    if audio_first {
-        return audio_then_avi::BITS[i];
-    }
-    avi_then_audio::BITS[i]
+    steps::BITS[place(audio_first, i)]
 }
 
 // The byte that a step writes.

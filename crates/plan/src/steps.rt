@@ -1,4 +1,4 @@
-// The steps of the list with AVI before audio: the register of each, and the bits that it decides. Document 01, "The write list".
+// The steps of the list, AVI before audio: the register of each, and the bits that it decides. Document 01, "The write list".
 use map::Map;
 
 pub const ADDRESSES: [u8; 84] = [
