@@ -1,3 +1,4 @@
 pub mod Writes
 pub mod Holds
 pub mod Seen
+pub mod Used

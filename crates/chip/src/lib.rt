@@ -9,8 +9,12 @@ ghost use Rattle.chip.specs.Step.{Step};
 use map::Map;
 use refusals::Refusal;
 
+mod converter;
 mod view;
 
+pub use converter::Count;
+pub use converter::converts;
+pub use converter::matrix_in_use;
 pub use view::Part;
 pub use view::State;
 pub use view::mute_of;
