@@ -2,3 +2,4 @@ pub mod Writes
 pub mod Holds
 pub mod Seen
 pub mod Used
+pub mod Lent

@@ -8,9 +8,9 @@ use native.Mathlib.Omega.{arith}
 use lib.Dec.{eqb, ltb, lit<}
 use lib.ListN.{length, getD, take, drop}
 use lib.Seq.{getD-take, getD-drop}
-use borrow.Author.Tests.{eq-eqb, ne-eqb, eqb-true, eqb-false, not-false}
+use borrow.Author.Tests.{eq-eqb, ne-eqb, eqb-true, not-false}
 use Rattle.lists.proofs.Both.{both-left, both-right}
-use Rattle.lists.proofs.Decides.{Decides, less}
+use Rattle.lists.proofs.Decides.{Decides, opposite, equal, less}
 use Rattle.refusals.specs.Rows.{at}
 use Rattle.refusals.proofs.First.{Tried, test, tried}
 use Rattle.chip.specs.declared.Chip.{Chip}
@@ -25,14 +25,17 @@ pub past : (b : Bool) (m n : ℕ) → m ≢ 0 → cond b m n ≡ 0 → (b ≡ fa
 past true m n h e = absurd (h e)
 past false m n h e = (refl, e)
 
--- two lengths as they are to be: a test for another one
-pub unlike : (a b m n : ℕ) → Decides (not (eqb a m && eqb b n)) ((a ≢ m) ⊎ (b ≢ n))
-unlike a b m n = go (eqb a m) refl (eqb b n) refl
+-- of two tests one fails
+pub one-fails : (s t : Bool) {P Q : Type 0} → Decides (not s) P → Decides (not t) Q → Decides (not (s && t)) (P ⊎ Q)
+one-fails s t {P} {Q} d e = go s d
   where
-    go : (s : Bool) → eqb a m ≡ s → (t : Bool) → eqb b n ≡ t → Decides (not (s && t)) ((a ≢ m) ⊎ (b ≢ n))
-    go true e true f = record { passes = λ x. absurd (false≢true x); fails = λ x. ⊎-elim (λ h. h (eqb-true a m e)) (λ h. h (eqb-true b n f)) }
-    go true e false f = record { passes = λ x. inr (eqb-false b n f); fails = λ x. absurd (false≢true (sym x)) }
-    go false e t f = record { passes = λ x. inl (eqb-false a m e); fails = λ x. absurd (false≢true (sym x)) }
+    go : (s : Bool) → Decides (not s) P → Decides (not (s && t)) (P ⊎ Q)
+    go true d = record { passes = λ x. inr (e .passes x); fails = λ x. ⊎-elim (d .fails refl) (e .fails x) }
+    go false d = record { passes = λ x. inl (d .passes refl); fails = λ x. absurd (false≢true (sym x)) }
+
+-- one of two lengths is another than it is to be; both are as they are to be
+pub unlike : (a b m n : ℕ) → Decides (not (eqb a m && eqb b n)) ((a ≢ m) ⊎ (b ≢ n))
+unlike a b m n = one-fails (eqb a m) (eqb b n) (opposite (equal a m)) (opposite (equal b n))
 
 pub both-long : (a b m n : ℕ) → not (eqb a m && eqb b n) ≡ false → (a ≡ m) × (b ≡ n)
 both-long a b m n e = let t = not-false (eqb a m && eqb b n) e in (eqb-true a m (both-left _ _ t), eqb-true b n (both-right (eqb a m) _ t))

@@ -2,3 +2,4 @@ pub mod Machine
 pub mod Step
 pub mod View
 pub mod Converter
+pub mod Entry

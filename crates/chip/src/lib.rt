@@ -10,11 +10,14 @@ use map::Map;
 use refusals::Refusal;
 
 mod converter;
+mod entry;
 mod view;
 
 pub use converter::Count;
 pub use converter::converts;
 pub use converter::matrix_in_use;
+pub use entry::enters;
+pub use entry::write_into;
 pub use view::Part;
 pub use view::State;
 pub use view::mute_of;
