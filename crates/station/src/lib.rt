@@ -5,6 +5,8 @@ ghost use Rattle.plan.specs.Plan.{planOf, bufferOf};
 ghost use Rattle.request.specs.Read.{nctsOf};
 ghost use Rattle.matrix.specs.Preview.{previewOf};
 
+mod machine;
+
 // struct station_count
 #[repr(C)]
 pub struct CountOut {
