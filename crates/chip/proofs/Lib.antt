@@ -1,2 +1,5 @@
 pub mod Writes
 pub mod Holds
+pub mod Seen
+pub mod Used
+pub mod Lent

@@ -23,7 +23,7 @@ use Rattle.chip.specs.Machine.{Group, Bank, avi, audio, gc, matrix, pack
 use Rattle.chip.specs.Step.{TwoUp, writeRules, Copies, Keeps, Step}
 
 -- a test for two packet holds decides that two are up
-two-up : (image : List ℕ) → Decides (two (holdsOf packets image)) (TwoUp image)
+pub two-up : (image : List ℕ) → Decides (two (holdsOf packets image)) (TwoUp image)
 two-up image =
     let n : ℕ = holdsOf packets image in
     either (together (itself (up avi n)) (itself (up audio n)))

@@ -1,2 +1,5 @@
 pub mod Machine
 pub mod Step
+pub mod View
+pub mod Converter
+pub mod Entry

@@ -9,6 +9,24 @@ ghost use Rattle.chip.specs.Step.{Step};
 use map::Map;
 use refusals::Refusal;
 
+mod converter;
+mod entry;
+mod view;
+
+pub use converter::Count;
+pub use converter::converts;
+pub use converter::matrix_in_use;
+pub use entry::enters;
+pub use entry::write_into;
+pub use view::Part;
+pub use view::State;
+pub use view::mute_of;
+pub use view::sent;
+pub use view::sent_part;
+pub use view::sent_refusal;
+pub use view::shown;
+pub use view::views;
+
 // The state: the register image, the packet buffer and the coefficient buffer.
 pub struct Chip {
     pub image: [u8; 256],

@@ -18,12 +18,16 @@ use Rattle.matrix.specs.Matrix.{fields, inRange, isAllowed, wordAt, noMa
 abbrev pub rest : List ℕ → ℕ → List ℕ
 rest body i = drop (2 * i + 1) body
 
+-- two elements of a list, and what is left of it
+pub two-left : (l : List ℕ) (n : ℕ) → suc n < length l → drop n l ≡ getD l n 0 ∷ getD l (suc n) 0 ∷ drop (suc (suc n)) l
+two-left l n h = drop-cons l n 0 (omega arith) ∙ ap (λ (m : List ℕ). getD l n 0 ∷ m) (drop-cons l (suc n) 0 h)
+
 next : (body : List ℕ) (i : ℕ) → 2 * i + 2 < length body
     → rest body i ≡ getD body (2 * i + 1) 0 ∷ getD body (2 * i + 2) 0 ∷ rest body (i + 1)
 next body i h =
     let e : 2 * i + 2 ≡ suc (2 * i + 1) = omega arith in
     let f : 2 * (i + 1) + 1 ≡ suc (suc (2 * i + 1)) = omega arith in
-    rw (e, f) (drop-cons body (2 * i + 1) 0 (omega arith) ∙ ap (λ (l : List ℕ). getD body (2 * i + 1) 0 ∷ l) (drop-cons body (suc (2 * i + 1)) 0 (omega arith)))
+    rw (e, f) (two-left body (2 * i + 1) (omega arith))
 
 pub range-more : (body : List ℕ) (i : ℕ) → 2 * i + 2 < length body → inRange (rest body i) ≡ (within (wordAt body i) && inRange (rest body (i + 1)))
 unfolding inRange

@@ -2,8 +2,8 @@
 -- Assumes nothing.
 use mathlib.Core.Path.{_≡_, refl, sym, ap, _∙_}
 use mathlib.Core.Logic.{_⊎_, inl, inr, ⊎-elim}
-use mathlib.Core.Bool.{Bool, true, false, _||_}
-use Prim.Native.Nat.{ℕ, suc, _-_, _%_, _^_, _<_, _≤_}
+use mathlib.Core.Bool.{Bool, true, false, cond, _||_}
+use Prim.Native.Nat.{ℕ, suc, _+_, _-_, _*_, _/_, _%_, _^_, _<_, _≤_}
 use native.Mathlib.Nat.{mod-eq-of-lt}
 use native.Mathlib.Omega.{arith}
 use lib.Dec.{ltb, leb}
@@ -11,7 +11,7 @@ use lib.IntN.{ℤ, pos, negsuc}
 use lib.Signed.{leZ-yes}
 use lib.Pow.{pow-pos}
 use borrow.Author.Tests.{lt-ltb, le-ltb, le-leb, ltb-true, ltb-false, leb-true}
-use Rattle.matrix.specs.Coefficient.{signed, bitsOf, within, field, Spans, TwosComplement, Sent}
+use Rattle.matrix.specs.Coefficient.{signed, bitsOf, within, field, word, Spans, TwosComplement, Sent, Carried}
 use Rattle.matrix.proofs.Order.{pos-le, of-pos-le, negsuc-le, of-negsuc-le}
 
 -- the two halves of the bits, at every width
@@ -81,3 +81,14 @@ sent w h = record {
       (λ l. high 12 (field w) (omega arith) (omega arith) ∙ ap negsuc (omega arith) ∙ sym (high 15 w (omega arith) h))
       (inside w e);
 }
+
+pub carried : (c : ℕ) → c < 8192 → Carried c
+carried c h = let r = go (ltb c 4096) refl in record { range = r .0; same = r .1 }
+  where
+    go : (b : Bool) → ltb c 4096 ≡ b
+        → let w : ℕ = word (cond b (c / 256) (c / 256 + 224)) (c % 256) in (within w ≡ true) × (field w ≡ c)
+    go true e = let l = ltb-true c 4096 e in (rw (lt-ltb (c / 256 * 256 + c % 256) 4096 (omega arith)), omega arith)
+    go false e =
+        let l = ltb-false c 4096 e in
+        let w : ℕ = (c / 256 + 224) * 256 + c % 256 in
+        (rw (le-ltb w 4096 (omega arith), le-leb 61440 w (omega arith)), omega arith)

@@ -2,7 +2,8 @@
 use mathlib.Core.Path.{_≡_}
 use mathlib.Core.Logic.{_↔_}
 use mathlib.Core.Bool.{Bool, true, cond, _||_}
-use Prim.Native.Nat.{ℕ, suc, _+_, _-_, _*_, _%_, _^_, _<_}
+use mathlib.Core.List.{List, [], _∷_}
+use Prim.Native.Nat.{ℕ, suc, _+_, _-_, _*_, _/_, _%_, _^_, _<_}
 use lib.Dec.{leb, ltb}
 use lib.IntN.{ℤ, pos, negsuc, subℕ}
 use lib.Signed.{_≤ℤ_}
@@ -32,6 +33,14 @@ within w = ltb w 4096 || leb 61440 w
 abbrev pub field : ℕ → ℕ
 field w = w % 8192
 
+-- a coefficient as the request has it: two bytes, high byte first, of its 13 bits carried to 16
+abbrev pub highByte : ℕ → ℕ
+highByte field = cond (ltb field 4096) (field / 256) (field / 256 + 224)
+
+abbrev pub coefficientBytes : List ℕ → List ℕ
+coefficientBytes [] = []
+coefficientBytes (c ∷ cs) = highByte c ∷ c % 256 ∷ coefficientBytes cs
+
 -- the numbers of k + 1 bits
 pub record Spans (k : ℕ) (z : ℤ) : Type 0 where
   pub low : negsuc (2 ^ k - 1) ≤ℤ z
@@ -47,3 +56,8 @@ pub record TwosComplement (k : ℕ) : Type 0 where
 pub record Sent (w : ℕ) : Type 0 where
   pub range : (within w ≡ true) ↔ Spans 12 (signed 15 w)
   pub same : within w ≡ true → valueOf (field w) ≡ signed 15 w
+
+-- the bytes of a field are within the request's range, and say that field
+pub record Carried (c : ℕ) : Type 0 where
+  pub range : within (word (highByte c) (c % 256)) ≡ true
+  pub same : field (word (highByte c) (c % 256)) ≡ c

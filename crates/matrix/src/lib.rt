@@ -7,7 +7,7 @@ ghost use lib.IntN.{ℤ};
 ghost use lib.Signed.{shrZ};
 ghost use Rattle.refusals.specs.Rows.{Given};
 ghost use Rattle.matrix.specs.declared.Matrix.{Matrix};
-ghost use Rattle.matrix.specs.Coefficient.{TwosComplement, Sent};
+ghost use Rattle.matrix.specs.Coefficient.{word, field, highByte, TwosComplement, Sent, Carried};
 ghost use Rattle.matrix.specs.Matrix.{isAllowed, readOf, noMatrix, wordAt, Bytes, Numbers};
 ghost use Rattle.matrix.specs.Preview.{held, codeOf, outputOf, previewOf, previewRules, RoundedDown, Clamped};
 use refusals::Refusal;
@@ -39,6 +39,25 @@ fn pair(body: &[u8], i: usize) -> u16
     ensures { λ r. ⌜ r ≡ wordAt (now (body .entry)) i ⌝ }
 {
     wide(body[2 * i + 1]) * 256 + wide(body[2 * i + 2])
+}
+
+// The field of two bytes, high byte first: their low 13 bits.
+pub fn field_of(high: u8, low: u8) -> u16
+    ensures { λ r. ⌜ r ≡ field (word high low) ⌝ }
+{
+    (wide(high) * 256 + wide(low)) % 8192
+}
+
+// The high byte of a field, of its 13 bits carried to 16.
+pub fn high_byte(bits: u16) -> u8
+    ensures { λ r. ⌜ r ≡ highByte (field bits) ⌝ }
+{
+    let field = bits % 8192;
+    let high = (field / 256) as u8;
+    if field < 4096 {
+        return high;
+    }
+    high + 224
 }
 
 // Whether a matrix section's body is in range: 25 bytes, mode, coefficients.
@@ -193,6 +212,11 @@ pub fn twos_complement()
 // What two bytes of a request say.
 pub fn sent_coefficient()
     ensures { λ _. ⌜ ((w : ℕ) → w < 65536 → Sent w) ⌝ }
+{}
+
+// The bytes of a field say that field.
+pub fn carried_coefficient()
+    ensures { λ _. ⌜ ((c : ℕ) → c < 8192 → Carried c) ⌝ }
 {}
 
 // What a body says, number by number.

@@ -6,6 +6,8 @@ ghost use Rattle.decode.specs.Decode as decoding;
 ghost use Rattle.request.specs.Read.{nctsOf};
 ghost use Rattle.matrix.specs.Preview.{previewOf};
 
+mod machine;
+
 // struct station_count
 #[repr(C)]
 pub struct CountOut {

@@ -1,0 +1,153 @@
+-- What the converter goes by, byte by byte. Assumes nothing.
+use mathlib.Core.Path.{_≡_, refl, sym, ap, _∙_}
+use mathlib.Core.Logic.{_≢_}
+use mathlib.Core.Bool.{Bool, true, false, cond, not, _&&_}
+use mathlib.Core.List.{List, [], _∷_, _++_}
+use Prim.Native.Nat.{ℕ, zero, suc, _+_, _*_, _/_, _%_, _≤_, _<_}
+use native.Mathlib.Omega.{arith}
+use lib.Dec.{eqb, ltb}
+use lib.ListN.{length, getD, set, take, drop, drop-of-length-le, length-drop}
+use lib.Seq.{sets, take-all, length-take-le}
+use borrow.Author.Tests.{eq-eqb, ne-eqb, lt-ltb, le-ltb, eqb-true}
+use Rattle.lists.proofs.Decides.{less}
+use Rattle.lists.proofs.Emit.{sets-front}
+use Rattle.refusals.specs.Rows.{at}
+use Rattle.refusals.proofs.First.{Tried, test, tried}
+use Rattle.matrix.specs.Coefficient.{word, field, highByte, coefficientBytes}
+use Rattle.matrix.specs.Matrix.{fields}
+use Rattle.matrix.proofs.Pairs.{two-left, fields-small}
+use Rattle.matrix.proofs.Signs.{carried}
+use Rattle.chip.specs.declared.Chip.{Chip}
+use Rattle.chip.specs.declared.converter.Count.{Count}
+use Rattle.chip.specs.Machine.{matrix, converter, part, up, holdsOf, inUse, coefficients, modeInUse}
+use Rattle.chip.specs.Converter.{lentTo, matrixBytes, matrixRefusal, matrixCount, matrixOut, matrixRules, Converts}
+use Rattle.chip.proofs.Holds.{matrix-bit}
+use Rattle.chip.proofs.Seen.{past, unlike, both-long}
+
+-- a turn stores one coefficient more: what is stored, and what is left to store, is the whole
+pub turn : (bytes out : List ℕ) (i h l f : ℕ) → 2 * i + 1 < length bytes → f ≡ field (word (getD bytes (2 * i) 0) (getD bytes (2 * i + 1) 0))
+    → h ≡ highByte (field f) → l ≡ f % 256
+    → sets (set (set out (2 * i + 1) h) (2 * i + 1 + 1) l) (2 * (i + 1) + 1) (coefficientBytes (fields (drop (2 * (i + 1)) bytes)))
+    ≡ sets out (2 * i + 1) (coefficientBytes (fields (drop (2 * i) bytes)))
+unfolding fields
+turn bytes out i h l f b e p q =
+    let n : 2 * (i + 1) + 1 ≡ suc (suc (2 * i + 1)) = omega arith in
+    let m : 2 * i + 1 + 1 ≡ suc (2 * i + 1) = omega arith in
+    let d : 2 * (i + 1) ≡ suc (suc (2 * i)) = omega arith in
+    let j : 2 * i + 1 ≡ suc (2 * i) = omega arith in
+    let s : field f ≡ f = omega arith in
+    rw (n, m, d, p, q, s, e, j) (sym (ap (λ (s : List ℕ). sets out (suc (2 * i)) (coefficientBytes (fields s))) (two-left bytes (2 * i) (omega arith))))
+
+-- after the last turn nothing is left
+pub turned : (bytes out whole : List ℕ) (i : ℕ) → length bytes ≤ 2 * i → sets out (2 * i + 1) (coefficientBytes (fields (drop (2 * i) bytes))) ≡ whole → out ≡ whole
+unfolding fields
+turned bytes out whole i h e = rw (drop-of-length-le bytes h) at e
+
+length-fields : (bytes : List ℕ) (n : ℕ) → length bytes ≡ 2 * n → length (fields bytes) ≡ n
+unfolding fields
+length-fields [] n e = omega arith
+length-fields (a ∷ []) n e = absurd (omega arith)
+length-fields (a ∷ b ∷ more) zero e = absurd (omega arith)
+length-fields (a ∷ b ∷ more) (suc n) e = ap suc (length-fields more n (omega arith))
+
+length-bytes : (cs : List ℕ) → length (coefficientBytes cs) ≡ 2 * length cs
+length-bytes [] = refl
+length-bytes (c ∷ cs) = omega (arith, length-bytes cs)
+
+-- the bytes of fields say those fields
+fields-said : (cs : List ℕ) → ((i : ℕ) → getD cs i 0 < 8192) → fields (coefficientBytes cs) ≡ cs
+unfolding fields
+fields-said [] h = refl
+fields-said (c ∷ cs) h = rw (carried c (h 0) .same, fields-said cs (λ i. h (suc i)))
+
+module _ (image buffer out : List ℕ) where
+  -- no refusal
+  refusal-tried : Tried (matrixRules image buffer out) (matrixRefusal image buffer out)
+  unfolding matrixRefusal
+  refusal-tried =
+      let rs = matrixRules image buffer out in
+      test (λ n. n) (at rs 0) (at rs 1 ∷ []) (not (eqb (length image) 256 && eqb (length buffer) 24)) 7 _ refl (unlike (length image) (length buffer) 256 24)
+      (λ f. test (λ n. n) (at rs 1) [] (ltb (length out) 25) 10 0 refl (less (length out) 25) (λ g. refl))
+
+  -- the answer, by the number of its refusal
+  counted : matrixCount image buffer out .refusal ≡ matrixRefusal image buffer out
+  unfolding matrixCount
+  counted = go (eqb (matrixRefusal image buffer out) 0) refl
+    where
+      go : (b : Bool) → eqb (matrixRefusal image buffer out) 0 ≡ b
+          → cond {A = Count} b (record { refusal = 0; count = 25 }) (record { refusal = matrixRefusal image buffer out; count = 0 }) .refusal ≡ matrixRefusal image buffer out
+      go true e = sym (eqb-true _ 0 e)
+      go false e = refl
+
+  pub refused : (n : ℕ) → n ≢ 0 → matrixRefusal image buffer out ≡ n
+      → (record { refusal = n; count = 0 } ≡ matrixCount image buffer out) × (out ≡ matrixOut image buffer out)
+  unfolding matrixCount matrixOut
+  refused n h e = rw (e, ne-eqb n 0 h) (refl, refl)
+
+  pub seven : not (eqb (length image) 256 && eqb (length buffer) 24) ≡ true → matrixRefusal image buffer out ≡ 7
+  unfolding matrixRefusal
+  seven e = rw e
+
+  module _ (l : length image ≡ 256) (k : length buffer ≡ 24) where
+    pub ten : length out < 25 → matrixRefusal image buffer out ≡ 10
+    unfolding matrixRefusal
+    ten h = rw (eq-eqb _ _ l, eq-eqb _ _ k, lt-ltb _ _ h)
+
+    -- the bytes in use, the buffer's where the hold is up, else the registers
+    pub held : getD image 0x1A 0 / 32 % 2 ≡ 1 → buffer ≡ inUse converter matrix (lentTo image buffer)
+    unfolding inUse
+    held h = sym (simp (matrix-bit (getD image 0x1A 0), eq-eqb _ _ h) (take-all 24 buffer (omega arith)))
+
+    pub down : getD image 0x1A 0 / 32 % 2 ≢ 1 → part matrix image ≡ inUse converter matrix (lentTo image buffer)
+    unfolding inUse
+    down h = sym (simp (matrix-bit (getD image 0x1A 0), ne-eqb _ _ h))
+
+    -- the 24 bytes that are in use
+    in-use-long : length (inUse converter matrix (lentTo image buffer)) ≡ 24
+    unfolding inUse
+    in-use-long = go (up matrix (holdsOf converter image))
+      where
+        go : (b : Bool) → length (cond b (take 24 buffer) (take 24 (drop 24 image))) ≡ 24
+        go true = length-take-le 24 buffer (omega arith)
+        go false = length-take-le 24 (drop 24 image) (simp length-drop (omega arith))
+
+    bytes-long : length (matrixBytes image buffer) ≡ 25
+    unfolding matrixBytes coefficients
+    bytes-long =
+        let f = length-fields (inUse converter matrix (lentTo image buffer)) 12 in-use-long in
+        omega (arith, length-bytes (fields (inUse converter matrix (lentTo image buffer))))
+
+    -- the mode stored first, and the coefficients of the bytes in use after it
+    pub written : (bytes : List ℕ) → bytes ≡ inUse converter matrix (lentTo image buffer) → 25 ≤ length out
+        → {after : List ℕ} → after ≡ sets (set out 0 (getD image 0x18 0 / 32 % 4)) 1 (coefficientBytes (fields bytes))
+        → (record { refusal = 0; count = 25 } ≡ matrixCount image buffer out) × (after ≡ matrixOut image buffer out)
+    unfolding matrixCount matrixOut matrixRefusal matrixBytes coefficients
+    written bytes e h f = rw (eq-eqb _ _ l, eq-eqb _ _ k, le-ltb _ _ h) (
+      refl,
+      f ∙ ap (λ (b : List ℕ). sets out 0 (getD image 0x18 0 / 32 % 4 ∷ coefficientBytes (fields b))) e
+          ∙ sets-front (matrixBytes image buffer) out (rw bytes-long h) ∙ ap (λ (n : ℕ). matrixBytes image buffer ++ drop n out) bytes-long,
+    )
+
+  sized : matrixRefusal image buffer out ≡ 0 → length (matrixBytes image buffer) ≡ 25
+  unfolding matrixRefusal
+  sized e =
+      let l = both-long (length image) (length buffer) 256 24 (past (not (eqb (length image) 256 && eqb (length buffer) 24)) 7 _ (λ z. omega arith) e .0) in
+      bytes-long (l .0) (l .1)
+
+  module _ (s : Chip) (p : s .image ≡ image) (q : s .coefficients ≡ buffer) where
+    shown : matrixBytes image buffer ≡ modeInUse s ∷ coefficientBytes (coefficients s)
+    unfolding matrixBytes coefficients inUse
+    shown = rw (← p, ← q)
+
+    said : fields (drop 1 (matrixBytes image buffer)) ≡ coefficients s
+    unfolding coefficients
+    said = rw shown (fields-said (coefficients s) (fields-small (inUse converter matrix s)))
+
+  pub converts : Converts image buffer out
+  converts = record {
+    refusals = rw counted (tried (matrixRules image buffer out) _ refl refusal-tried);
+    kept = λ h. let r = refused (matrixRefusal image buffer out) (λ e. h (counted ∙ e)) refl in (sym (ap (λ (c : Count). c .count) (r .0)), sym (r .1));
+    sized = λ e. sized (sym counted ∙ e);
+    shown = shown;
+    said = said;
+  }

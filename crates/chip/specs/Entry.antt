@@ -1,0 +1,34 @@
+-- Document 01, "The chip machine": a write over the slices that the host lends.
+use mathlib.Core.Path.{_≡_}
+use mathlib.Core.Logic.{_≢_, _⊎_}
+use mathlib.Core.Bool.{Bool, cond, not, _&&_}
+use mathlib.Core.List.{List, _∷_}
+use Prim.Native.Nat.{ℕ}
+use lib.Dec.{eqb}
+use lib.ListN.{length}
+use Rattle.refusals.specs.Rows.{imageLength, number, Condition, _when_, Given}
+use Rattle.chip.specs.declared.Chip.{Chip}
+use Rattle.chip.specs.declared.Wrote.{Wrote}
+use Rattle.chip.specs.Machine.{writeOf}
+use Rattle.chip.specs.Step.{writeRules}
+
+-- the three slices as a state
+abbrev pub lentAs : List ℕ → List ℕ → List ℕ → Chip
+lentAs image packet coefficients = record { image = image; packet = packet; coefficients = coefficients }
+
+abbrev pub isSized : Chip → Bool
+isSized s = eqb (length (s .image)) 256 && (eqb (length (s .packet)) 32 && eqb (length (s .coefficients)) 24)
+
+-- "image not of 256 bytes; in the machine also packet buffer not of 32, coefficient buffer not of 24"; else the machine's own write
+unfoldable pub enterOf : Chip → ℕ → ℕ → Wrote
+enterOf s address value = cond (not (isSized s)) (record { refusal = number imageLength; chip = s }) (writeOf s address value)
+
+-- "a machine write 7 and 13": when each applies, on the slices as they are lent
+abbrev pub enterRules : Chip → ℕ → ℕ → List Condition
+enterRules s address value =
+    imageLength when ((length (s .image) ≢ 256) ⊎ (length (s .packet) ≢ 32) ⊎ (length (s .coefficients) ≢ 24)) ∷ writeRules s address value
+
+pub record Enters (s : Chip) (address value : ℕ) : Type 0 where
+  pub refusals : Given (enterRules s address value) (enterOf s address value .refusal)
+  -- a refused write changes nothing
+  pub refused : enterOf s address value .refusal ≢ 0 → enterOf s address value .chip ≡ s

@@ -1,0 +1,103 @@
+// The C face of the chip machine and of the class table: each call is a call of the library, taken apart.
+ghost use mathlib.Core.Path.{_≡_};
+ghost use Rattle.registers.specs.Classes.{classAt};
+ghost use Rattle.chip.specs.Entry.{lentAs, enterOf};
+ghost use Rattle.chip.specs.View.{partOf, muteOf};
+ghost use Rattle.chip.specs.Converter.{matrixCount, matrixOut};
+ghost use Rattle.station.specs.Machine.{partOut, stateOut, bytesOut, classOut};
+use crate::CountOut;
+
+// struct station_part
+#[repr(C)]
+pub struct PartOut {
+    pub refusal: u32,
+    pub held: u32,
+    pub start: u32,
+    pub len: u32,
+}
+
+// struct station_state
+#[repr(C)]
+pub struct StateOut {
+    pub refusal: u32,
+    pub mute: u32,
+}
+
+// struct station_class
+#[repr(C)]
+pub struct ClassOut {
+    pub read_only: u32,
+    pub mandated: u32,
+    pub named: u32,
+    pub free: u32,
+    pub bits: u32,
+}
+
+// One write of the chip machine: refusals 7 and 13.
+#[no_mangle]
+pub extern "C" fn station_write(
+    image: &mut [u8],
+    packet: &mut [u8],
+    coefficients: &mut [u8],
+    address: u8,
+    value: u8,
+) -> u32
+    ensures { λ r. ⌜ r ≡ enterOf (lentAs (now (image .entry)) (now (packet .entry)) (now (coefficients .entry))) address value .refusal ⌝ }
+    ensures { λ _. ⌜ lentAs (now (image .exit)) (now (packet .exit)) (now (coefficients .exit)) ≡ enterOf (lentAs (now (image .entry)) (now (packet .entry)) (now (coefficients .entry))) address value .chip ⌝ }
+{
+    chip::write_into(image, packet, coefficients, address, value) as u32
+}
+
+// Where the packet that is sent stands: refusals 5, 7 and 13.
+#[no_mangle]
+pub extern "C" fn station_sent(image: &[u8], packet: &[u8], which: u32) -> PartOut
+    ensures { λ r. ⌜ r ≡ partOut (partOf (now (image .entry)) (now (packet .entry)) which) ⌝ }
+{
+    let part = chip::sent_part(image, packet, which);
+    PartOut {
+        refusal: part.refusal as u32,
+        held: part.held as u32,
+        start: part.start,
+        len: part.len,
+    }
+}
+
+// The mute bits: refusals 7 and 13.
+#[no_mangle]
+pub extern "C" fn station_mute(image: &[u8], packet: &[u8]) -> StateOut
+    ensures { λ r. ⌜ r ≡ stateOut (muteOf (now (image .entry)) (now (packet .entry))) ⌝ }
+{
+    let state = chip::mute_of(image, packet);
+    StateOut {
+        refusal: state.refusal as u32,
+        mute: state.mute as u32,
+    }
+}
+
+// The mode and the twelve coefficients in use, as a request has them: refusals 7 and 10.
+#[no_mangle]
+pub extern "C" fn station_matrix(image: &[u8], coefficients: &[u8], matrix: &mut [u8]) -> CountOut
+    ensures { λ r. ⌜ r ≡ bytesOut (matrixCount (now (image .entry)) (now (coefficients .entry)) (now (matrix .entry))) ⌝ }
+    ensures { λ _. ⌜ now (matrix .exit) ≡ matrixOut (now (image .entry)) (now (coefficients .entry)) (now (matrix .entry)) ⌝ }
+{
+    let count = chip::matrix_in_use(image, coefficients, matrix);
+    CountOut {
+        refusal: count.refusal as u32,
+        count: count.count,
+    }
+}
+
+// The class of a register's bits: four masks, and the mandated bits.
+#[no_mangle]
+pub extern "C" fn station_class(address: u8) -> ClassOut
+    ensures { λ r. ⌜ r ≡ classOut (classAt address) ⌝ }
+{
+    let class = registers::class_at(address);
+    ClassOut {
+        read_only: class.read_only as u32,
+        mandated: class.mandated as u32,
+        named: class.named as u32,
+        free: class.free as u32,
+        bits: class.bits as u32,
+    }
+}
