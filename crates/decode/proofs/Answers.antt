@@ -19,7 +19,7 @@ use Rattle.bits.proofs.Truth.{E, var, by, law}
 use Rattle.registers.specs.Classes.{readOnly, free, named, bits}
 use Rattle.map.specs.Map as reg
 use Rattle.matrix.specs.Matrix.{fields, noMatrix}
-use Rattle.matrix.proofs.Pairs.{fields-small}
+use Rattle.matrix.proofs.Pairs.{fields-small, length-fields}
 use Rattle.request.specs.declared.Request.{Request}
 use Rattle.request.specs.declared.Checked.{Checked}
 use Rattle.request.specs.Read.{readOf, pairFor}
@@ -31,7 +31,7 @@ use Rattle.decode.specs.Extract.{at, matrixIn, extract}
 use Rattle.plan.specs.Stands.{standsBelow}
 use Rattle.decode.specs.Decode.{endsIn, found, refusalOf, decodeRules, decodeOf, bufferOf}
 use Rattle.decode.specs.Theorems.{Answered, ExactlyWhen, AtMostOne, Refusals, Ran, ReadBack}
-use Rattle.decode.proofs.Ranged.{ranged, length-fields}
+use Rattle.decode.proofs.Ranged.{ranged}
 use Rattle.decode.proofs.Extracted.{extracted}
 use Rattle.decode.proofs.Says.{Shaped, said}
 use Rattle.decode.proofs.Back.{back}

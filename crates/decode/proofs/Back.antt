@@ -11,7 +11,7 @@ use lib.Seq.{length-take-le, take-all, getD-append-add, getD-drop, drop-cons}
 use borrow.Author.Tests.{eqb-true, leb-true, ltb-true, lt-ltb, le-ltb, not-false}
 use Rattle.lists.specs.Among.{among}
 use Rattle.lists.proofs.Both.{both-left, both-right, neither-right}
-use Rattle.matrix.specs.Coefficient.{word, within, field}
+use Rattle.matrix.specs.Coefficient.{word, within, field, coefficientBytes}
 use Rattle.matrix.specs.Matrix.{fields, inRange, isAllowed, matrixOf, noMatrix, Bytes}
 use Rattle.matrix.proofs.Pairs.{ranged}
 use Rattle.refusals.specs.Rows.{bytesAfter}
@@ -20,7 +20,7 @@ use Rattle.request.specs.Sections.{Walk, ends, notAllowed, whole, after, walk, 
 use Rattle.request.specs.Request.{present, encoding, link, soundOf, requestIn}
 use Rattle.request.specs.Read.{audioOutside, outside, judged, checked, refusedRequest, readOf}
 use Rattle.request.proofs.Ordered.{Judged, passed}
-use Rattle.decode.specs.Ends.{coefficientBytes, audioSection, matrixSection, bytesOf}
+use Rattle.decode.specs.Ends.{audioSection, matrixSection, bytesOf}
 use Rattle.decode.proofs.Stored.{each, window}
 
 -- ---- a walk that found the bodies: the input is each with its count before it

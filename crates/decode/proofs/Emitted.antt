@@ -10,22 +10,20 @@ use lib.ListN.{length, getD, take, drop, set, length-append}
 use lib.Seq.{sets, sets-eq, take-at, take-suc, take-all, length-take-le}
 use Rattle.lists.proofs.Emit.{sets-two}
 use Rattle.matrix.specs.declared.Matrix.{Matrix}
-use Rattle.decode.specs.Ends.{coefficientBytes, matrixSection}
-
-pub length-coefficients : (cs : List ℕ) → length (coefficientBytes cs) ≡ 2 * length cs
-length-coefficients [] = refl
-length-coefficients (c ∷ cs) = omega (arith, length-coefficients cs)
+use Rattle.matrix.specs.Coefficient.{highByte, coefficientBytes}
+use Rattle.matrix.proofs.Pairs.{length-bytes}
+use Rattle.decode.specs.Ends.{matrixSection}
 
 bytes-append : (xs ys : List ℕ) → coefficientBytes (xs ++ ys) ≡ coefficientBytes xs ++ coefficientBytes ys
 bytes-append [] ys = refl
-bytes-append (x ∷ xs) ys = ap (λ (l : List ℕ). cond (ltb x 4096) (x / 256) (x / 256 + 224) ∷ x % 256 ∷ l) (bytes-append xs ys)
+bytes-append (x ∷ xs) ys = ap (λ (l : List ℕ). highByte x ∷ x % 256 ∷ l) (bytes-append xs ys)
 
 -- a turn stores the two bytes of one coefficient more
 pub turn-bytes : (cs d : List ℕ) (at i n m a b : ℕ) → i < length cs → at + 2 * i ≡ n → n + 1 ≡ m
-    → a ≡ cond (ltb (getD cs i 0) 4096) (getD cs i 0 / 256) (getD cs i 0 / 256 + 224) → b ≡ getD cs i 0 % 256
+    → a ≡ highByte (getD cs i 0) → b ≡ getD cs i 0 % 256
     → set (set (sets d at (coefficientBytes (take i cs))) n a) m b ≡ sets d at (coefficientBytes (take (i + 1) cs))
 turn-bytes cs d at i n m a b h e f p q =
-    let l : length (coefficientBytes (take i cs)) ≡ 2 * i = length-coefficients (take i cs) ∙ ap (λ (n : ℕ). 2 * n) (length-take-le i cs (omega arith)) in
+    let l : length (coefficientBytes (take i cs)) ≡ 2 * i = length-bytes (take i cs) ∙ ap (λ (n : ℕ). 2 * n) (length-take-le i cs (omega arith)) in
     rw (← f) (sets-two (coefficientBytes (take i cs)) d at n a b (omega arith))
     ∙ ap (sets d at) (ap₂ (λ (x y : ℕ). coefficientBytes (take i cs) ++ (x ∷ y ∷ [])) p q
     ∙ sym (ap (λ (n : ℕ). coefficientBytes (take n cs)) (add-one i) ∙ ap coefficientBytes (take-suc cs i 0 h) ∙ bytes-append (take i cs) (getD cs i 0 ∷ [])))
@@ -48,7 +46,7 @@ section-length m h = go (eqb (m .on) 0)
   where
     go : (b : Bool) → length (cond b (0 ∷ []) (25 ∷ m .mode ∷ coefficientBytes (m .coefficients))) ≤ 26
     go true = lit≤ tt
-    go false = omega (arith, length-coefficients (m .coefficients))
+    go false = omega (arith, length-bytes (m .coefficients))
 
 pub whole : (m : Matrix) (out all bs : List ℕ) (place n : ℕ) → length (m .coefficients) ≡ 12 → length out ≡ 35 → place ≤ 9 → take place out ++ matrixSection m ≡ all
     → (n ≡ place + length (matrixSection m)) × (bs ≡ sets out place (matrixSection m)) → (n ≡ length all) × (take n bs ≡ all)

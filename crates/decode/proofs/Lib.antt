@@ -7,5 +7,4 @@ pub mod Says
 pub mod Back
 pub mod Answers
 pub mod Found
-pub mod Turns
 pub mod Emitted

@@ -14,7 +14,7 @@ use Rattle.clock.specs.declared.Mode.{Mode}
 use Rattle.clock.specs.Modes.{modes, rowOf, modeOf, offered}
 use Rattle.matrix.specs.declared.Matrix.{Matrix}
 use Rattle.matrix.specs.Matrix.{fields, isAllowed, matrixOf, noMatrix}
-use Rattle.matrix.proofs.Pairs.{sized, mode-small, fields-small}
+use Rattle.matrix.proofs.Pairs.{sized, mode-small, fields-small, length-fields}
 use Rattle.request.specs.declared.Sound.{Sound}
 use Rattle.request.specs.declared.Sound.the-variants.{Off, On}
 use Rattle.request.specs.declared.Request.{Request}
@@ -68,12 +68,6 @@ unfolding modeOf
 listed vic family o = row-small vic family modes refl (ltb-true family (rowOf vic modes .families) o)
 
 -- ---- the fields of a matrix
-
-pub length-fields : (l : List ℕ) → length (fields l) ≡ length l / 2
-unfolding fields
-length-fields [] = refl
-length-fields (x ∷ []) = refl
-length-fields (x ∷ y ∷ more) = omega (arith, length-fields more)
 
 pub filled : (body : List ℕ) → isAllowed body ≡ true → Filled (matrixOf body)
 filled body s =

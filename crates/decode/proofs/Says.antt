@@ -11,8 +11,9 @@ use lib.Seq.{take-at, drop-at}
 use borrow.Author.Tests.{ltb-true, ltb-false, le-leb, ne-eqb}
 use Rattle.lists.specs.Among.{among}
 use Rattle.matrix.specs.declared.Matrix.{Matrix}
-use Rattle.matrix.specs.Coefficient.{word, field}
-use Rattle.matrix.specs.Matrix.{fields, matrixOf, noMatrix}
+use Rattle.matrix.specs.Coefficient.{coefficientBytes}
+use Rattle.matrix.specs.Matrix.{matrixOf, noMatrix}
+use Rattle.matrix.proofs.Pairs.{length-bytes, fields-said}
 use Rattle.request.specs.declared.Sound.{Sound}
 use Rattle.request.specs.declared.Sound.the-variants.{Off, On}
 use Rattle.request.specs.declared.Request.{Request}
@@ -21,9 +22,8 @@ use Rattle.request.specs.Sections.{whole, after, walk, walked}
 use Rattle.request.specs.Request.{present, soundOf, requestIn}
 use Rattle.request.specs.Read.{judged, checked, readOf}
 use Rattle.request.proofs.Ordered.{accepted}
-use Rattle.decode.specs.Ends.{coefficientBytes, audioSection, matrixSection, bytesOf}
+use Rattle.decode.specs.Ends.{audioSection, matrixSection, bytesOf}
 use Rattle.decode.proofs.Ranged.{Filled}
-use Rattle.decode.proofs.Emitted.{length-coefficients}
 
 -- ---- a section is walked over
 
@@ -56,7 +56,7 @@ matrix-walked : (m : Matrix) → Shaped m → walk ((0 ∷ 25 ∷ []) ∷ []) (m
 unfolding walk
 matrix-walked m (inl e) = rw e
 matrix-walked m (inr f) =
-    let l : length (m .mode ∷ coefficientBytes (m .coefficients)) ≡ 25 = omega (arith, length-coefficients (m .coefficients), f .twelve) in
+    let l : length (m .mode ∷ coefficientBytes (m .coefficients)) ≡ 25 = omega (arith, length-bytes (m .coefficients), f .twelve) in
     rw (f .on) (ap (λ (b : List ℕ). walk ((0 ∷ 25 ∷ []) ∷ []) (25 ∷ b)) (sym (append-nil (m .mode ∷ coefficientBytes (m .coefficients))))
     ∙ section (0 ∷ 25 ∷ []) [] (m .mode ∷ coefficientBytes (m .coefficients)) [] 25 l refl)
 
@@ -68,18 +68,6 @@ bytes-walked r s =
 
 -- ---- what the bodies say
 
-field-back : (c : ℕ) → c < 8192 → field (word (cond (ltb c 4096) (c / 256) (c / 256 + 224)) (c % 256)) ≡ c
-field-back c h = go (ltb c 4096) refl
-  where
-    go : (b : Bool) → ltb c 4096 ≡ b → field (word (cond b (c / 256) (c / 256 + 224)) (c % 256)) ≡ c
-    go true e = omega (arith, ltb-true c 4096 e)
-    go false e = omega (arith, ltb-false c 4096 e)
-
-fields-back : (cs : List ℕ) → ((i : ℕ) → getD cs i 0 < 8192) → fields (coefficientBytes cs) ≡ cs
-unfolding fields
-fields-back [] h = refl
-fields-back (c ∷ cs) h = ap₂ (λ (x : ℕ) (l : List ℕ). x ∷ l) (field-back c (h 0)) (fields-back cs (λ i. h (suc i)))
-
 sound-said : (s : Sound) → soundOf (audio s) ≡ s
 sound-said Off = refl
 sound-said (On x y z) = refl
@@ -87,7 +75,7 @@ sound-said (On x y z) = refl
 matrix-said : (m : Matrix) → Shaped m → cond (present (matrix m)) (matrixOf (matrix m)) noMatrix ≡ m
 matrix-said m (inl e) = rw e
 matrix-said m (inr f) =
-    rw (f .on, ne-eqb (length (m .mode ∷ coefficientBytes (m .coefficients))) 0 (omega arith), fields-back (m .coefficients) (f .small), ← f .on)
+    rw (f .on, ne-eqb (length (m .mode ∷ coefficientBytes (m .coefficients))) 0 (omega arith), fields-said (m .coefficients) (f .small), ← f .on)
 
 pub said : (r : Request) → Shaped (r .matrix) → readOf (bytesOf r) .refusal ≡ 0 → readOf (bytesOf r) ≡ record { refusal = 0; request = r }
 unfolding readOf

@@ -2,21 +2,17 @@
 use mathlib.Core.Path.{_≡_}
 use mathlib.Core.Bool.{cond}
 use mathlib.Core.List.{List, [], _∷_, _++_}
-use Prim.Native.Nat.{ℕ, _+_, _/_, _%_, _<_}
-use lib.Dec.{eqb, ltb}
+use Prim.Native.Nat.{ℕ, _<_}
+use lib.Dec.{eqb}
 use lib.ListN.{getD}
 use Rattle.matrix.specs.declared.Matrix.{Matrix}
+use Rattle.matrix.specs.Coefficient.{coefficientBytes}
 use Rattle.request.specs.declared.Sound.{Sound}
 use Rattle.request.specs.declared.Sound.the-variants.{Off, On}
 use Rattle.request.specs.declared.Request.{Request}
 use Rattle.request.specs.Read.{readOf, pairFor}
 use Rattle.plan.specs.Wanted.{wanted}
 use Rattle.plan.specs.List.{finished}
-
--- a coefficient as the request has it: two bytes, high byte first, of its 13 bits carried to 16
-abbrev pub coefficientBytes : List ℕ → List ℕ
-coefficientBytes [] = []
-coefficientBytes (c ∷ cs) = cond (ltb c 4096) (c / 256) (c / 256 + 224) ∷ c % 256 ∷ coefficientBytes cs
 
 abbrev pub audioSection : Sound → List ℕ
 audioSection Off = 0 ∷ []

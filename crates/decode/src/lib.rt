@@ -1,12 +1,10 @@
 // Decoding: from a finished image back to the request. Document 01, "Register classes", last paragraph.
 ghost use mathlib.Core.Path.{_≡_};
-ghost use mathlib.Core.Bool.{cond, _||_};
+ghost use mathlib.Core.Bool.{_||_};
 ghost use mathlib.Core.List.{List, _++_};
-ghost use lib.Dec.{ltb};
-ghost use Prim.Native.Nat.{ℕ, _+_, _*_, _/_, _<_, _≤_};
+ghost use Prim.Native.Nat.{ℕ, _+_, _<_, _≤_};
 ghost use lib.ListN.{getD, length, take, drop, set};
 ghost use lib.Seq.{sets};
-ghost use Rattle.matrix.specs.Matrix.{fields};
 ghost use Rattle.plan.specs.Stands.{standsIn};
 ghost use Rattle.decode.specs.Ends.{matrixSection, bytesOf};
 ghost use Rattle.decode.specs.Extract.{rateOf, soundIn, matrixIn, extract};
@@ -22,34 +20,6 @@ use request::Sound;
 pub struct Decoded {
     pub refusal: u8,
     pub count: u32,
-}
-
-fn wide(x: u8) -> u16
-    ensures { λ r. ⌜ (r ≡ x) × (r < 256) ⌝ }
-{
-    x as u16
-}
-
-// The two bytes of coefficient i, high byte first.
-fn pair(part: &[u8], i: usize) -> u16
-    requires { ⌜ 2 * i + 1 < length (now part) ⌝ }
-    ensures { λ r. ⌜ r ≡ getD (now (part .entry)) (2 * i) 0 * 256 + getD (now (part .entry)) (2 * i + 1) 0 ⌝ }
-{
-    wide(part[2 * i]) * 256 + wide(part[2 * i + 1])
-}
-
-// The twelve fields of 24 registers.
-fn coefficients(part: &[u8]) -> [u16; 12]
-    requires { ⌜ length (now part) ≡ 24 ⌝ }
-    ensures { λ r. ⌜ r ≡ fields (now (part .entry)) ⌝ }
-{
-    let mut out = [0u16; 12];
-    let mut i: usize = 0;
-    while i < 12 {
-        out[i] = pair(part, i) % 8192;
-        i = i + 1;
-    }
-    out
 }
 
 const RATES: [u8; 16] = [1, 7, 2, 0, 7, 7, 7, 7, 3, 7, 4, 7, 5, 7, 6, 7];
@@ -88,7 +58,7 @@ fn matrix_in(image: &[u8]) -> Matrix
     }
     let start = Map::CSC as usize;
     let end = start + Map::CSC_COUNT as usize;
-    let fields = coefficients(&image[start..end]);
+    let fields = matrix::twelve(&image[start..end]);
     Matrix {
         on: 1,
         mode: (first >> Map::CSC_SCALING_FACTOR_SHIFT) % 4,
@@ -119,18 +89,6 @@ struct Bytes {
     count: usize,
 }
 
-// The high byte of a coefficient, of its 13 bits carried to 16.
-fn high_byte(field: u16) -> u8
-    requires { ⌜ field < 8192 ⌝ }
-    ensures { λ r. ⌜ r ≡ cond (ltb field 4096) (field / 256) (field / 256 + 224) ⌝ }
-{
-    let high = (field / 256) as u8;
-    if field < 4096 {
-        return high;
-    }
-    high + 224
-}
-
 // The matrix section, from a place on.
 fn with_matrix(out: [u8; 35], place: usize, m: Matrix) -> Bytes
     requires { ⌜ (place ≤ 9) × ((i : ℕ) → getD (m .coefficients) i 0 < 8192) ⌝ }
@@ -149,7 +107,7 @@ fn with_matrix(out: [u8; 35], place: usize, m: Matrix) -> Bytes
     next[place + 1] = m.mode;
     let mut i: usize = 0;
     while i < 12 {
-        next[place + 2 + 2 * i] = high_byte(fields[i]);
+        next[place + 2 + 2 * i] = matrix::high_byte(fields[i]);
         next[place + 3 + 2 * i] = (fields[i] % 256) as u8;
         i = i + 1;
     }

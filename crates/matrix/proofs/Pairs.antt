@@ -1,9 +1,9 @@
 -- A body, coefficient by coefficient: what a turn of a loop over them leaves.
 -- Assumes nothing.
-use mathlib.Core.Path.{_≡_, sym, ap, _∙_}
+use mathlib.Core.Path.{_≡_, refl, sym, ap, ap₂, _∙_}
 use mathlib.Core.Bool.{true, _&&_}
 use mathlib.Core.List.{List, [], _∷_, _++_, append-nil}
-use Prim.Native.Nat.{ℕ, zero, suc, _+_, _*_, _<_, _≤_}
+use Prim.Native.Nat.{ℕ, zero, suc, _+_, _*_, _/_, _<_, _≤_}
 use native.Mathlib.Numerals.{add-one}
 use native.Mathlib.Omega.{arith}
 use lib.Dec.{eqb, leb, lit<}
@@ -11,8 +11,9 @@ use borrow.Author.Tests.{eqb-true, leb-true}
 use lib.ListN.{length, getD, take, drop, set, drop-of-length-le}
 use lib.Seq.{drop-cons, take-suc-set, append-snoc, take-all}
 use Rattle.lists.proofs.Both.{both-left, both-right}
-use Rattle.matrix.specs.Coefficient.{within, field}
+use Rattle.matrix.specs.Coefficient.{word, within, field, coefficientBytes}
 use Rattle.matrix.specs.Matrix.{fields, inRange, isAllowed, wordAt, noMatrix}
+use Rattle.matrix.proofs.Signs.{carried}
 
 -- what is left of a body from coefficient i on
 abbrev pub rest : List ℕ → ℕ → List ℕ
@@ -41,21 +42,22 @@ pub range-end : (body : List ℕ) (i : ℕ) → length body ≤ 2 * i + 1 → in
 unfolding inRange
 range-end body i h = ap inRange (drop-of-length-le body h)
 
-pub fields-end : (body : List ℕ) (i : ℕ) → length body ≤ 2 * i + 1 → fields (rest body i) ≡ []
+-- a turn stores the field of one pair more: what is stored, and what is left to store, is the whole
+pub fields-turn : (out bytes : List ℕ) (i v : ℕ) → i < length out → 2 * i + 1 < length bytes → v ≡ field (word (getD bytes (2 * i) 0) (getD bytes (2 * i + 1) 0))
+    → take (i + 1) (set out i v) ++ fields (drop (2 * (i + 1)) bytes) ≡ take i out ++ fields (drop (2 * i) bytes)
 unfolding fields
-fields-end body i h = ap fields (drop-of-length-le body h)
+fields-turn out bytes i v h l e =
+    let f : 2 * (i + 1) ≡ suc (suc (2 * i)) = omega arith in
+    ap (λ (n : ℕ). take n (set out i v) ++ fields (drop (2 * (i + 1)) bytes)) (add-one i)
+    ∙ ap (λ (s : List ℕ). s ++ fields (drop (2 * (i + 1)) bytes)) (take-suc-set out i v h)
+    ∙ append-snoc (take i out) v (fields (drop (2 * (i + 1)) bytes))
+    ∙ ap₂ (λ (n : ℕ) (s : List ℕ). take i out ++ n ∷ fields s) (e ∙ ap (λ (n : ℕ). field (word (getD bytes (2 * i) 0) (getD bytes n 0))) (add-one (2 * i)))
+    (ap (λ (n : ℕ). drop n bytes) f)
+    ∙ ap (λ (s : List ℕ). take i out ++ fields s) (sym (two-left bytes (2 * i) (omega arith)))
 
--- a turn stores one field more: what is stored, and what is left to store, is the whole
-pub fields-turn : (out body : List ℕ) (i v : ℕ) → i < length out → 2 * i + 2 < length body → v ≡ field (wordAt body i)
-    → take (i + 1) (set out i v) ++ fields (rest body (i + 1)) ≡ take i out ++ fields (rest body i)
-fields-turn out body i v h l e =
-    ap (λ (n : ℕ). take n (set out i v) ++ fields (rest body (i + 1))) (add-one i)
-    ∙ ap (λ (s : List ℕ). s ++ fields (rest body (i + 1))) (take-suc-set out i v h)
-    ∙ append-snoc (take i out) v (fields (rest body (i + 1)))
-    ∙ ap (λ (s : List ℕ). take i out ++ s) (ap (λ (n : ℕ). n ∷ fields (rest body (i + 1))) e ∙ sym (fields-more body i l))
-
-pub fields-all : (out body : List ℕ) (i : ℕ) → length out ≤ i → length body ≤ 2 * i + 1 → take i out ++ fields (rest body i) ≡ out
-fields-all out body i h l = rw (fields-end body i l, take-all i out h) (append-nil out)
+pub fields-all : (out bytes : List ℕ) (i : ℕ) → length out ≤ i → length bytes ≤ 2 * i → take i out ++ fields (drop (2 * i) bytes) ≡ out
+unfolding fields
+fields-all out bytes i h l = rw (drop-of-length-le bytes l, take-all i out h) (append-nil out)
 
 -- what a isAllowed body is
 module _ (body : List ℕ) (s : isAllowed body ≡ true) where
@@ -82,3 +84,19 @@ fields-small (high ∷ low ∷ more) (suc i) = fields-small more i
 pub none-small : (i : ℕ) → getD (noMatrix .coefficients) i 0 < 8192
 unfolding fields
 none-small i = fields-small (8 ∷ 0 ∷ 0 ∷ 0 ∷ 0 ∷ 0 ∷ 0 ∷ 0 ∷ 0 ∷ 0 ∷ 8 ∷ 0 ∷ 0 ∷ 0 ∷ 0 ∷ 0 ∷ 0 ∷ 0 ∷ 0 ∷ 0 ∷ 8 ∷ 0 ∷ 0 ∷ 0 ∷ []) i
+
+pub length-fields : (l : List ℕ) → length (fields l) ≡ length l / 2
+unfolding fields
+length-fields [] = refl
+length-fields (x ∷ []) = refl
+length-fields (x ∷ y ∷ more) = omega (arith, length-fields more)
+
+-- the bytes of fields are two for each, and say those fields
+pub length-bytes : (cs : List ℕ) → length (coefficientBytes cs) ≡ 2 * length cs
+length-bytes [] = refl
+length-bytes (c ∷ cs) = omega (arith, length-bytes cs)
+
+pub fields-said : (cs : List ℕ) → ((i : ℕ) → getD cs i 0 < 8192) → fields (coefficientBytes cs) ≡ cs
+unfolding fields
+fields-said [] h = refl
+fields-said (c ∷ cs) h = rw (carried c (h 0) .same, fields-said cs (λ i. h (suc i)))

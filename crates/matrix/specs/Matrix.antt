@@ -6,7 +6,7 @@ use mathlib.Core.List.{List, [], _∷_}
 use Prim.Native.Nat.{ℕ, _+_, _*_, _<_, _≤_}
 use lib.Dec.{eqb, leb}
 use lib.IntN.{ℤ}
-use lib.ListN.{getD, length, drop}
+use lib.ListN.{getD, length, drop, replicate}
 use Rattle.matrix.specs.declared.Matrix.{Matrix}
 use Rattle.matrix.specs.Coefficient.{word, within, field, signed, valueOf, Spans}
 
@@ -15,6 +15,10 @@ unfoldable pub fields : List ℕ → List ℕ
 fields [] = []
 fields (high ∷ []) = []
 fields (high ∷ low ∷ more) = field (word high low) ∷ fields more
+
+-- those of 24 bytes; zeros where they are not 24
+abbrev pub twelveOf : List ℕ → List ℕ
+twelveOf bytes = cond (eqb (length bytes) 24) (fields bytes) (replicate 12 0)
 
 unfoldable pub inRange : List ℕ → Bool
 inRange [] = true

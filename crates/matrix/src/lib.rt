@@ -8,7 +8,7 @@ ghost use lib.Signed.{shrZ};
 ghost use Rattle.refusals.specs.Rows.{Given};
 ghost use Rattle.matrix.specs.declared.Matrix.{Matrix};
 ghost use Rattle.matrix.specs.Coefficient.{word, field, highByte, TwosComplement, Sent, Carried};
-ghost use Rattle.matrix.specs.Matrix.{isAllowed, readOf, noMatrix, wordAt, Bytes, Numbers};
+ghost use Rattle.matrix.specs.Matrix.{twelveOf, isAllowed, readOf, noMatrix, wordAt, Bytes, Numbers};
 ghost use Rattle.matrix.specs.Preview.{held, codeOf, outputOf, previewOf, previewRules, RoundedDown, Clamped};
 use refusals::Refusal;
 
@@ -46,6 +46,22 @@ pub fn field_of(high: u8, low: u8) -> u16
     ensures { λ r. ⌜ r ≡ field (word high low) ⌝ }
 {
     (wide(high) * 256 + wide(low)) % 8192
+}
+
+// The twelve fields of 24 bytes; zeros where they are not 24.
+pub fn twelve(bytes: &[u8]) -> [u16; 12]
+    ensures { λ r. ⌜ r ≡ twelveOf (now (bytes .entry)) ⌝ }
+{
+    let mut out = [0u16; 12];
+    if bytes.len() != 24 {
+        return out;
+    }
+    let mut i: usize = 0;
+    while i < 12 {
+        out[i] = field_of(bytes[2 * i], bytes[2 * i + 1]);
+        i = i + 1;
+    }
+    out
 }
 
 // The high byte of a field, of its 13 bits carried to 16.
@@ -89,16 +105,11 @@ pub fn read(body: &[u8]) -> Matrix
         return none();
     }
     let mode = body[0];
-    let mut coefficients = [0u16; 12];
-    let mut i: usize = 0;
-    while i < 12 {
-        coefficients[i] = pair(body, i) % 8192;
-        i = i + 1;
-    }
+    let fields = twelve(&body[1..]);
     Matrix {
         on: 1,
         mode: mode,
-        coefficients: coefficients,
+        coefficients: fields,
     }
 }
 

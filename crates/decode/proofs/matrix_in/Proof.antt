@@ -1,4 +1,8 @@
 -- `decode::matrix_in` meets its contract. Assumes nothing.
+use mathlib.Core.Path.{_≡_}
+use native.Mathlib.Omega.{arith}
+use lib.ListN.{length, take, drop, length-drop}
+use lib.Seq.{length-take-le}
 use borrow.Author.Tests.{eq-eqb, ne-eqb}
 use borrow.Author.Needs.{needs}
 use Rattle.decode.proofs.matrix_in.Statement.{statement}
@@ -25,20 +29,23 @@ cast-end c = search needs
 add-end : tie.Need-add-end
 add-end c = search needs
 
-sub-coefficients : tie.Need-sub-coefficients
-sub-coefficients c = search needs
+sub-twelve : tie.Need-sub-twelve
+sub-twelve c = search needs
 
-part-coefficients-start : tie.Need-part-coefficients-start
-part-coefficients-start c = search needs
+part-twelve-start : tie.Need-part-twelve-start
+part-twelve-start c = search needs
 
-part-coefficients-end : tie.Need-part-coefficients-end
-part-coefficients-end c = search needs
+part-twelve-end : tie.Need-part-twelve-end
+part-twelve-end c = search needs
 
-coefficients-requires : tie.Need-coefficients-requires
-coefficients-requires c κs = search needs
+twelve-requires : tie.Need-twelve-requires
+twelve-requires c κs = search needs
 
 returns-2 : tie.Need-returns-2
-returns-2 c = simp (ne-eqb _ _ (c .before .before .if1 .left), c .coefficients .ensures)
+returns-2 c =
+    let image = c .before .before .before .before .before .args .image .now in
+    let l : length (take 24 (drop 0x18 image)) ≡ 24 = length-take-le 24 (drop 0x18 image) (simp length-drop (omega arith)) in
+    simp (ne-eqb _ _ (c .before .before .if1 .left), c .twelve .ensures, eq-eqb _ _ l)
 
 pub matrix-in-spec : {M : Type 1} → statement M
 matrix-in-spec =
@@ -51,8 +58,8 @@ matrix-in-spec =
     cast-start
     cast-end
     add-end
-    sub-coefficients
-    part-coefficients-start
-    part-coefficients-end
-    coefficients-requires
+    sub-twelve
+    part-twelve-start
+    part-twelve-end
+    twelve-requires
     returns-2)

@@ -1,13 +1,15 @@
 -- `decode::with_matrix` meets its contract: before turn i the bytes of the first i coefficients are stored. Assumes nothing.
-use mathlib.Core.Path.{_≡_, refl, _∙_}
+use mathlib.Core.Path.{_≡_, refl, ap, _∙_}
 use Prim.Native.Nat.{_≤_, _+_, _-_}
+use native.Mathlib.Nat.{mod-eq-of-lt}
 use native.Mathlib.Omega.{arith}
 use lib.ListN.{length, take}
 use lib.Seq.{sets}
 use borrow.Author.Tests.{eq-eqb, ne-eqb}
 use borrow.Author.Needs.{needs}
-use Rattle.decode.specs.Ends.{coefficientBytes}
-use Rattle.decode.proofs.Emitted.{turn-bytes, section-bytes, length-coefficients}
+use Rattle.matrix.specs.Coefficient.{highByte, coefficientBytes}
+use Rattle.matrix.proofs.Pairs.{length-bytes}
+use Rattle.decode.proofs.Emitted.{turn-bytes, section-bytes}
 use Rattle.decode.proofs.with_matrix.Statement.{statement}
 use Rattle.decode.proofs.with_matrix.Tie as tie
 
@@ -46,7 +48,7 @@ array-read-high-byte : tie.Need-array-read-high-byte Inv-loop μ-loop
 array-read-high-byte c = search needs
 
 high-byte-requires : tie.Need-high-byte-requires Inv-loop μ-loop
-high-byte-requires c κs = c .before .before .before .before .before .pre .1 (c .before .loop .i)
+high-byte-requires c κs = search needs
 
 add-next-2 : tie.Need-add-next-2 Inv-loop μ-loop
 add-next-2 c = search needs
@@ -94,7 +96,7 @@ loop-again c =
       search needs,
       search needs,
       search needs,
-      rw (l .inv .3) (turn-bytes (a .m .coefficients) _ (a .place + 2) (l .i) _ _ _ _ (omega arith) (omega arith) (omega arith) (c .high-byte .ensures) refl),
+      rw (l .inv .3) (turn-bytes (a .m .coefficients) _ (a .place + 2) (l .i) _ _ _ _ (omega arith) (omega arith) (omega arith) (c .high-byte .ensures ∙ ap highByte (mod-eq-of-lt (c .before .before .before .before .before .before .pre .1 (l .i)))) refl),
     )
 
 add-t14 : tie.Need-add-t14 Inv-loop μ-loop
@@ -105,7 +107,7 @@ returns-2 c =
     let l = c .before .loop in
     let a = c .before .before .before .before .before .args in
     simp (ne-eqb _ _ (c .before .before .before .if1 .left))
-    (omega (arith, length-coefficients (a .m .coefficients)), l .inv .3 ∙ section-bytes (a .m .coefficients) (a .out) (a .place) (a .m .mode) (l .i) (omega arith))
+    (omega (arith, length-bytes (a .m .coefficients)), l .inv .3 ∙ section-bytes (a .m .coefficients) (a .out) (a .place) (a .m .mode) (l .i) (omega arith))
 
 pub with-matrix-spec : {M : Type 1} → statement M
 with-matrix-spec =
