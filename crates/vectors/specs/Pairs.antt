@@ -1,5 +1,5 @@
 -- Tables 80 to 82 of source document 000 as printed, the misprints that are named, and how the library's answers stand to them.
-use mathlib.Core.Bool.{Bool, false, cond, _&&_, _||_}
+use mathlib.Core.Bool.{Bool, true, false, cond, _&&_}
 use mathlib.Core.List.{List, [], _∷_}
 use Prim.Native.Nat.{ℕ, zero, suc}
 use lib.Dec.{eqb}
@@ -85,7 +85,7 @@ isThis at rate p m = eqb (m .row) at && eqb (m .rate) rate && eqb (m .refusal) (
 
 abbrev pub namedIn : ℕ → ℕ → Pair → List Misprint → Bool
 namedIn at rate p [] = false
-namedIn at rate p (m ∷ ms) = isThis at rate p m || namedIn at rate p ms
+namedIn at rate p (m ∷ ms) = cond (isThis at rate p m) true (namedIn at rate p ms)
 
 unfoldable pub namedOf : ℕ → ℕ → Pair → Bool
 namedOf at rate p = namedIn at rate p misprints

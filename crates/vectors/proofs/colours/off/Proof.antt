@@ -18,4 +18,7 @@ returns-2 c =
     rw (eq-eqb _ _ (r .before .before .if1 .left), c .larger2 .ensures, c .before .larger .ensures, p .apart3 .ensures, q .apart2 .ensures, r .apart .ensures)
 
 pub off-spec : {M : Type 1} → statement M
-off-spec = tie.close (tie.spec returns (λ c. search needs) (λ c κs. search needs) (λ c. search needs) (λ c κs. search needs) (λ c. search needs) (λ c κs. search needs) (λ c κs. search needs) (λ c κs. search needs) returns-2)
+off-spec =
+    tie.close
+    (tie.spec returns (λ c. search needs) (λ c κs. search needs) (λ c. search needs) (λ c κs. search needs) (λ c. search needs)
+    (λ c κs. search needs) (λ c κs. search needs) (λ c κs. search needs) returns-2)

@@ -13,4 +13,7 @@ returns-2 : tie.Need-returns-2
 returns-2 c = rw (← c .before .run .ensures, le-ltb _ _ (c .if1 .left))
 
 pub run-again-spec : {M : Type 1} → statement M
-run-again-spec = tie.close (tie.spec (λ c. search needs) (λ c κs. search needs) (λ c κs. search needs) (λ c. search needs) (λ c κs. search needs) (λ c κs. search needs) (λ c. search needs) (λ c κs. search needs) returns returns-2)
+run-again-spec =
+    tie.close
+    (tie.spec (λ c. search needs) (λ c κs. search needs) (λ c κs. search needs) (λ c. search needs) (λ c κs. search needs) (λ c κs. search needs)
+    (λ c. search needs) (λ c κs. search needs) returns returns-2)

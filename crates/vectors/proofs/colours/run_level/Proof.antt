@@ -12,4 +12,7 @@ returns c =
     rw (p .off .ensures, p .before .preview .ensures, q .codes2 .ensures, q .before .codes .ensures)
 
 pub run-level-spec : {M : Type 1} → statement M
-run-level-spec = tie.close (tie.spec (λ c κs. search needs) (λ c κs. search needs) (λ c. search needs) (λ c κs. search needs) (λ c κs. search needs) (λ c κs. search needs) (λ c κs. search needs) returns)
+run-level-spec =
+    tie.close
+    (tie.spec (λ c κs. search needs) (λ c κs. search needs) (λ c. search needs) (λ c κs. search needs) (λ c κs. search needs)
+    (λ c κs. search needs) (λ c κs. search needs) returns)

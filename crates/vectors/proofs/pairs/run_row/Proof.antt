@@ -18,4 +18,7 @@ returns-2 c =
     rw (← p .before .before .row-at .ensures, ne-eqb _ _ (p .if1 .left), c .both .ensures, c .before .run-mode2 .ensures, c .before .before .run-mode .ensures)
 
 pub run-row-spec : {M : Type 1} → statement M
-run-row-spec = tie.close (tie.spec (λ c κs. search needs) (λ c κs. search needs) (λ c. search needs) (λ c κs. search needs) (λ c κs. search needs) returns (λ c κs. search needs) (λ c κs. search needs) (λ c κs. search needs) returns-2)
+run-row-spec =
+    tie.close
+    (tie.spec (λ c κs. search needs) (λ c κs. search needs) (λ c. search needs) (λ c κs. search needs) (λ c κs. search needs) returns
+    (λ c κs. search needs) (λ c κs. search needs) (λ c κs. search needs) returns-2)

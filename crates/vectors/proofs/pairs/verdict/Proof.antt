@@ -37,4 +37,7 @@ returns-3 c =
     sym (judged (a .at) (a .rate) (a .pair) _ (p .before .row-at .ensures) _ _ (c .before .before .if1 .left) (sym (c .before .named .ensures) ∙ c .if2 .left))
 
 pub verdict-spec : {M : Type 1} → statement M
-verdict-spec = tie.close (tie.spec (λ c κs. search needs) (λ c. search needs) (λ c. search needs) (λ c. search needs) (λ c. search needs) returns (λ c κs. search needs) returns-2 returns-3)
+verdict-spec =
+    tie.close
+    (tie.spec (λ c κs. search needs) (λ c. search needs) (λ c. search needs) (λ c. search needs) (λ c. search needs) returns
+    (λ c κs. search needs) returns-2 returns-3)
