@@ -1,10 +1,10 @@
 // Modes, the exact clock fraction, Euclid's rule, and N and CTS: document 01, "Modes and clocks" and "N and CTS".
 ghost use mathlib.Core.Path.{_≡_};
-ghost use Prim.Native.Nat.{_<_, _≤_, _+_, _*_, min};
+ghost use Prim.Native.Nat.{_<_, _≤_, _+_, _-_, _*_, min};
 ghost use Rattle.clock.specs.Modes.{modeOf, clockOf, Sized};
 ghost use Rattle.clock.specs.Pairs.{reference, recommendedOf, audioOff};
 ghost use Rattle.clock.specs.Gcd.{gcdOf};
-ghost use Rattle.clock.specs.Found.{recommendedAt, numbered, given, nearestK, nearestIn, nearestOf, exactly, coherentOf, pairOf};
+ghost use Rattle.clock.specs.Found.{recommendedAt, numbered, given, nearestK, leastK, mostK, nearestIn, nearestOf, exactly, coherentOf, pairOf};
 ghost use Rattle.clock.specs.Theorems.{EuclidsRule, CoherentPairs, ClockRefusals, PairRefusals};
 use refusals::Refusal;
 
@@ -349,6 +349,22 @@ fn lesser(a: u64, b: u64) -> u64
     b
 }
 
+// How far below f/1000 the number n lies, in thousandths.
+fn below_by(f: u64, n: u64) -> u64
+    requires { ⌜ (1000 * n ≤ f) × (f ≤ 24576000) ⌝ }
+    ensures { λ r. ⌜ r ≡ f - 1000 * n ⌝ }
+{
+    f - 1000 * n
+}
+
+// How far above f/1000 it lies, likewise.
+fn above_by(f: u64, n: u64) -> u64
+    requires { ⌜ (f ≤ 1000 * n) × (n ≤ 24625152000) ⌝ }
+    ensures { λ r. ⌜ r ≡ 1000 * n - f ⌝ }
+{
+    1000 * n - f
+}
+
 // k of the nearest pair, where `below` is the last k with k·v at most f/1000.
 fn nearest_k(f: u64, v: u64, least: u64, most: u64, below: u64) -> u64
     requires { ⌜ (v ≤ 24600576000) × (f ≤ 24576000) ⌝ }
@@ -361,12 +377,29 @@ fn nearest_k(f: u64, v: u64, least: u64, most: u64, below: u64) -> u64
     if below < least {
         return least;
     }
-    let after = 1000 * ((below + 1) * v) - f;
-    let before = f - 1000 * (below * v);
+    let after = above_by(f, (below + 1) * v);
+    let before = below_by(f, below * v);
     if after < before {
         return below + 1;
     }
     below
+}
+
+// The first k whose N is in range.
+fn least_k(f: u64, v: u64) -> u64
+    requires { ⌜ f ≤ 24576000 ⌝ }
+    requires { ⌜ (0 < v) × (v ≤ 24600576000) ⌝ }
+    ensures { λ r. ⌜ r ≡ leastK f v ⌝ }
+{
+    (f + (1500 * v - 1)) / (1500 * v)
+}
+
+// The last k whose N is in range and whose CTS is at most 1,048,575.
+fn most_k(f: u64, u: u64, v: u64) -> u64
+    requires { ⌜ (0 < u) × (0 < v) × (v ≤ 24600576000) ⌝ }
+    ensures { λ r. ⌜ r ≡ mostK f u v ⌝ }
+{
+    lesser(f / (300 * v), 1048575 / u)
 }
 
 // The nearest of the pairs (k·v, k·u), or refusal 9. No f is above 128·192000, no u above a clock's num, no v above 1001·f.
@@ -376,8 +409,8 @@ fn nearest_in(f: u64, u: u64, v: u64) -> Pair
     requires { ⌜ (0 < v) × (v ≤ 24600576000) ⌝ }
     ensures { λ r. ⌜ r ≡ nearestIn f u v ⌝ }
 {
-    let least = (f + (1500 * v - 1)) / (1500 * v);
-    let most = lesser(f / (300 * v), 1048575 / u);
+    let least = least_k(f, v);
+    let most = most_k(f, u, v);
     if most < least {
         return refused(Refusal::NO_EXACT_PAIR);
     }

@@ -1,5 +1,5 @@
 -- A search in a table: what every entry passes, and what stands in for none, the entry found passes. Assumes nothing.
-use mathlib.Core.Path.{_≡_}
+use mathlib.Core.Path.{_≡_, ap, _∙_}
 use mathlib.Core.Bool.{Bool, true, false, cond}
 use mathlib.Core.List.{List, [], _∷_}
 use Prim.Native.Nat.{ℕ, _+_, _<_}
@@ -22,3 +22,12 @@ module _ {A : Type 0} (rule : A → Bool) where
 -- the entries that a search has not passed yet: the next one, and those after it
 pub next : {A : Type 0} (l : List A) (i : ℕ) (d : A) → i < length l → drop i l ≡ getD l i d ∷ drop (i + 1) l
 next l i d h = rw (add-one i) (drop-cons l i d h)
+
+-- a search that a loop makes entry by entry: where entry i passes, what is found from there on is its value; where it fails, what is found after it
+module _ {A B : Type 0} (seek : List A → B) (test : A → Bool) (value : A → B)
+    (step : (x : A) (xs : List A) → seek (x ∷ xs) ≡ cond (test x) (value x) (seek xs)) (l : List A) (d : A) (i : ℕ) (h : i < length l) where
+  pub passes : test (getD l i d) ≡ true → seek (drop i l) ≡ value (getD l i d)
+  passes e = ap seek (next l i d h) ∙ step _ _ ∙ rw e
+
+  pub fails : test (getD l i d) ≡ false → seek (drop i l) ≡ seek (drop (i + 1) l)
+  fails e = ap seek (next l i d h) ∙ step _ _ ∙ rw e

@@ -1,20 +1,21 @@
 // Tables 39 to 64 against the preview of the library.
 ghost use mathlib.Core.Path.{_≡_};
-ghost use mathlib.Core.Logic.{_⊎_};
-ghost use Prim.Native.Nat.{_+_, _-_, _/_, _%_, _<_, _≤_, max};
-ghost use Rattle.vectors.specs.Total.{total};
+ghost use mathlib.Core.Bool.{cond, true};
+ghost use Prim.Native.Nat.{_+_, _-_, _%_, _<_, max};
+ghost use lib.Dec.{ltb};
+ghost use Rattle.vectors.specs.Colours.{lightOf, codesOf, printedOf, correctsThis, correctedOf, pairOf, modeOf, highOf, bodyOf, offOf, levelOf, farTo, verdictOf, tableAt, coloursTally};
 use crate::counts::Tally;
 use crate::counts::Verdict;
 use crate::counts::counted;
 use crate::counts::nothing;
-use crate::counts::show;
+use crate::number;
+use crate::say;
+use crate::show;
 use crate::tables::CORRECTIONS;
+use crate::tables::Correction;
 use crate::tables::TABLES;
 use crate::tables::Table;
-use crate::text::hex;
-use crate::text::number;
-use crate::text::say;
-use crate::text::three;
+use libc::STDOUT_FILENO;
 use matrix::Pixel;
 use refusals::Refusal;
 
@@ -38,6 +39,7 @@ struct Triple {
 
 fn light(space: u8, level: usize) -> u32
     requires { ⌜ level < 3 ⌝ }
+    ensures { λ r. ⌜ r ≡ lightOf space level ⌝ }
 {
     if space % 2 == 0 {
         return LIMITED[level];
@@ -48,6 +50,7 @@ fn light(space: u8, level: usize) -> u32
 // Black, white or grey in a space.
 fn codes(space: u8, level: usize) -> Triple
     requires { ⌜ level < 3 ⌝ }
+    ensures { λ r. ⌜ r ≡ codesOf space level ⌝ }
 {
     let x = light(space, level);
     if space < 2 {
@@ -60,43 +63,38 @@ fn codes(space: u8, level: usize) -> Triple
     }
 }
 
-fn last_pair(x: u64) -> u16
-    ensures { λ r. ⌜ r ≡ x % 65536 ⌝ }
-{
-    (x % 65536) as u16
-}
-
-// Register pair i of a row of four.
-fn pair_in(row: u64, i: usize) -> u16 {
-    if i == 0 {
-        return last_pair(row / 0x1_0000_0000_0000);
-    }
-    if i == 1 {
-        return last_pair(row / 0x1_0000_0000);
-    }
-    if i == 2 {
-        return last_pair(row / 0x1_0000);
-    }
-    last_pair(row)
-}
-
 // Register pair i of a table, as printed.
-fn printed_pair(t: Table, i: usize) -> u16 {
+fn printed_pair(t: Table, i: usize) -> u16
+    requires { ⌜ i < 12 ⌝ }
+    ensures { λ r. ⌜ r ≡ printedOf t i ⌝ }
+{
+    let a = t.a;
+    let b = t.b;
+    let c = t.c;
     if i < 4 {
-        return pair_in(t.a, i);
+        return a[i];
     }
     if i < 8 {
-        return pair_in(t.b, i - 4);
+        return b[i - 4];
     }
-    pair_in(t.c, i - 8)
+    c[i - 8]
+}
+
+// Whether a correction is that of register pair i of a table.
+fn corrects(k: Correction, table: u8, i: usize) -> bool
+    ensures { λ r. ⌜ r ≡ correctsThis table i k ⌝ }
+{
+    (k.table == table) & (k.pair as usize == i)
 }
 
 // The correction of register pair i, or what is printed, where there is none.
-fn corrected(table: u8, i: usize, printed: u16) -> u16 {
+fn corrected(table: u8, i: usize, printed: u16) -> u16
+    ensures { λ r. ⌜ r ≡ correctedOf table i printed ⌝ }
+{
     let mut j: usize = 0;
     while j < 8 {
         let k = CORRECTIONS[j];
-        if (k.table == table) & (k.pair as usize == i) {
+        if corrects(k, table, i) {
             return k.value;
         }
         j = j + 1;
@@ -105,7 +103,10 @@ fn corrected(table: u8, i: usize, printed: u16) -> u16 {
 }
 
 // Register pair i of a table: as printed, or, `again`, as corrected.
-fn pair_of(t: Table, i: usize, again: bool) -> u16 {
+fn pair_of(t: Table, i: usize, again: bool) -> u16
+    requires { ⌜ i < 12 ⌝ }
+    ensures { λ r. ⌜ r ≡ pairOf t again i ⌝ }
+{
     let printed = printed_pair(t, i);
     if again {
         return corrected(t.number, i, printed);
@@ -115,14 +116,10 @@ fn pair_of(t: Table, i: usize, again: bool) -> u16 {
 
 // The high byte of a pair's low 13 bits, as 16 bits in two's complement.
 fn high(pair: u16) -> u8
-    ensures { λ r. ⌜ r % 32 ≡ pair / 256 % 32 ⌝ }
-    ensures { λ r. ⌜ (r < 16) ⊎ (240 ≤ r) ⌝ }
+    ensures { λ r. ⌜ r ≡ highOf pair ⌝ }
 {
     let h = (pair / 256 % 32) as u8;
-    if h < 16 {
-        return h;
-    }
-    h + 224
+    h + h / 16 * 224
 }
 
 fn low(pair: u16) -> u8
@@ -133,20 +130,23 @@ fn low(pair: u16) -> u8
 
 // The mode in 0x18, beside A1.
 fn mode(pair: u16) -> u8
-    ensures { λ r. ⌜ r ≡ pair / 8192 % 4 ⌝ }
+    ensures { λ r. ⌜ r ≡ modeOf pair ⌝ }
 {
     (pair / 8192 % 4) as u8
 }
 
 // The matrix body of a request for a table: mode, then the twelve coefficients.
-fn body_of(t: Table, again: bool) -> [u8; 25] {
+fn body_of(t: Table, again: bool) -> [u8; 25]
+    ensures { λ r. ⌜ r ≡ bodyOf t again ⌝ }
+{
     let mut body = [0u8; 25];
     body[0] = mode(pair_of(t, 0, again));
     let mut i: usize = 0;
     while i < 12 {
         let pair = pair_of(t, i, again);
-        body[2 * i + 1] = high(pair);
-        body[2 * i + 2] = low(pair);
+        let at = 2 * i + 1;
+        body[at] = high(pair);
+        body[at + 1] = low(pair);
         i = i + 1;
     }
     body
@@ -172,7 +172,9 @@ fn larger(x: u32, y: u32) -> u32
 }
 
 // How far a previewed pixel is from the wanted one; a refusal is farther than any.
-fn off(p: Pixel, want: Triple) -> u32 {
+fn off(p: Pixel, want: Triple) -> u32
+    ensures { λ r. ⌜ r ≡ offOf p want ⌝ }
+{
     if p.refusal != Refusal::NONE {
         return 4096;
     }
@@ -180,6 +182,20 @@ fn off(p: Pixel, want: Triple) -> u32 {
     let b = apart(p.b as u32, want.b);
     let c = apart(p.c as u32, want.c);
     larger(a, larger(b, c))
+}
+
+// Two bytes.
+fn hex(x: u16) {
+    io::print_hex(STDOUT_FILENO, x as u64, 4);
+}
+
+// Three codes.
+fn three(a: u32, b: u32, c: u32) {
+    number(a);
+    say(b" ");
+    number(b);
+    say(b" ");
+    number(c);
 }
 
 fn show_level(level: usize) {
@@ -222,12 +238,13 @@ fn show_off(p: Pixel, far: u32) {
 }
 
 // One pixel through a table's matrix.
-fn run_level(t: Table, body: &[u8; 25], level: usize) -> u32
+fn run_level(t: Table, body: [u8; 25], level: usize) -> u32
     requires { ⌜ level < 3 ⌝ }
+    ensures { λ r. ⌜ r ≡ levelOf t body level ⌝ }
 {
     let into = codes(t.from, level);
     let want = codes(t.to, level);
-    let out = matrix::preview(body, into.a, into.b, into.c);
+    let out = matrix::preview(&body, into.a, into.b, into.c);
     let far = off(out, want);
     show_line(level, into, out, want);
     show_off(out, far);
@@ -235,12 +252,14 @@ fn run_level(t: Table, body: &[u8; 25], level: usize) -> u32
 }
 
 // Black, white and grey through a table's matrix, as printed or `again`: the farthest that a code is off.
-fn run(t: Table, again: bool) -> u32 {
+fn run(t: Table, again: bool) -> u32
+    ensures { λ r. ⌜ r ≡ farTo t again 3 ⌝ }
+{
     let body = body_of(t, again);
     let mut far: u32 = 0;
     let mut level: usize = 0;
     while level < 3 {
-        far = larger(far, run_level(t, &body, level));
+        far = larger(far, run_level(t, body, level));
         level = level + 1;
     }
     far
@@ -292,7 +311,9 @@ fn show_title(t: Table) {
 }
 
 // A table that does not agree, again with its named misprints corrected.
-fn run_again(t: Table) -> u8 {
+fn run_again(t: Table) -> u8
+    ensures { λ r. ⌜ r ≡ cond (ltb 16 (farTo t true 3)) 2 1 ⌝ }
+{
     say(b"  differs; again with");
     show_corrections(t.number);
     say(b":\n");
@@ -304,7 +325,9 @@ fn run_again(t: Table) -> u8 {
     Verdict::NAMED
 }
 
-fn run_table(t: Table) -> u8 {
+fn run_table(t: Table) -> u8
+    ensures { λ r. ⌜ r ≡ verdictOf t ⌝ }
+{
     show_title(t);
     let far = run(t, false);
     if far > TOLERANCE {
@@ -315,6 +338,7 @@ fn run_table(t: Table) -> u8 {
 
 fn table_at(at: usize) -> Table
     requires { ⌜ at < 25 ⌝ }
+    ensures { λ r. ⌜ r ≡ tableAt at ⌝ }
 {
     TABLES[at]
 }
@@ -346,7 +370,7 @@ fn show_named() {
 
 // Every table from 39 to 64 but 55.
 pub fn run_all() -> Tally
-    ensures { λ r. ⌜ total r ≡ 25 ⌝ }
+    ensures { λ r. ⌜ r ≡ coloursTally ⌝ }
 {
     show_head();
     show_named();

@@ -1,9 +1,6 @@
 // How many comparisons agree, how many differ by a named misprint, and how many differ unexplained.
 ghost use mathlib.Core.Path.{_≡_};
-ghost use Prim.Native.Nat.{_+_, _≤_};
-ghost use Rattle.vectors.specs.Total.{total};
-use crate::text::number;
-use crate::text::say;
+ghost use Rattle.vectors.specs.Counts.{sumOf, none, countedOf, bothOf};
 
 pub struct Verdict {
     pub number: u8,
@@ -23,8 +20,18 @@ pub struct Tally {
     pub unexplained: u32,
 }
 
+// A sum, held at the largest number of 32 bits.
+fn sum(a: u32, b: u32) -> u32
+    ensures { λ r. ⌜ r ≡ sumOf a b ⌝ }
+{
+    if 4294967295 - a < b {
+        return 4294967295;
+    }
+    a + b
+}
+
 pub fn nothing() -> Tally
-    ensures { λ r. ⌜ total r ≡ 0 ⌝ }
+    ensures { λ r. ⌜ r ≡ none ⌝ }
 {
     Tally {
         agree: 0,
@@ -33,50 +40,47 @@ pub fn nothing() -> Tally
     }
 }
 
-// One comparison more.
-pub fn counted(t: Tally, verdict: u8) -> Tally
-    requires { ⌜ total t ≤ 1000 ⌝ }
-    ensures { λ r. ⌜ total r ≡ total t + 1 ⌝ }
-{
-    if verdict == Verdict::AGREES {
-        return Tally {
-            agree: t.agree + 1,
-            named: t.named,
-            unexplained: t.unexplained,
-        };
-    }
-    if verdict == Verdict::NAMED {
-        return Tally {
-            agree: t.agree,
-            named: t.named + 1,
-            unexplained: t.unexplained,
-        };
-    }
-    Tally {
-        agree: t.agree,
-        named: t.named,
-        unexplained: t.unexplained + 1,
-    }
-}
-
 // Two counts as one.
 pub fn both(s: Tally, t: Tally) -> Tally
-    requires { ⌜ total s ≤ 1000 ⌝ }
-    requires { ⌜ total t ≤ 1000 ⌝ }
-    ensures { λ r. ⌜ total r ≡ total s + total t ⌝ }
+    ensures { λ r. ⌜ r ≡ bothOf s t ⌝ }
 {
     Tally {
-        agree: s.agree + t.agree,
-        named: s.named + t.named,
-        unexplained: s.unexplained + t.unexplained,
+        agree: sum(s.agree, t.agree),
+        named: sum(s.named, t.named),
+        unexplained: sum(s.unexplained, t.unexplained),
     }
 }
 
-pub fn show(t: Tally) {
-    number(t.agree);
-    say(b" agree, ");
-    number(t.named);
-    say(b" named, ");
-    number(t.unexplained);
-    say(b" unexplained\n");
+// One comparison more.
+pub fn counted(t: Tally, verdict: u8) -> Tally
+    ensures { λ r. ⌜ r ≡ countedOf t verdict ⌝ }
+{
+    if verdict == Verdict::AGREES {
+        return both(
+            t,
+            Tally {
+                agree: 1,
+                named: 0,
+                unexplained: 0,
+            },
+        );
+    }
+    if verdict == Verdict::NAMED {
+        return both(
+            t,
+            Tally {
+                agree: 0,
+                named: 1,
+                unexplained: 0,
+            },
+        );
+    }
+    both(
+        t,
+        Tally {
+            agree: 0,
+            named: 0,
+            unexplained: 1,
+        },
+    )
 }

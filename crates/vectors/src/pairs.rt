@@ -1,42 +1,51 @@
 // Tables 80 to 82 against N and CTS of the library.
 ghost use mathlib.Core.Path.{_≡_};
-ghost use Prim.Native.Nat.{_<_, _≤_};
-ghost use Rattle.vectors.specs.Total.{total};
+ghost use Prim.Native.Nat.{_<_};
+ghost use Rattle.clock.specs.Found.{pairOf};
+ghost use Rattle.vectors.specs.Pairs.{rowAt, isThis, namedOf, verdictOf, ratesTo, modeOf, rowOf, pairsTally};
 use crate::counts::Tally;
 use crate::counts::Verdict;
 use crate::counts::both;
 use crate::counts::counted;
 use crate::counts::nothing;
-use crate::counts::show;
+use crate::number;
+use crate::say;
+use crate::show;
 use crate::tables::By;
 use crate::tables::MISPRINTS;
+use crate::tables::Misprint;
 use crate::tables::RATES;
 use crate::tables::ROWS;
 use crate::tables::Row;
-use crate::text::hundredths;
-use crate::text::number;
-use crate::text::say;
-use crate::text::tenths;
 use clock::Pair;
 use refusals::Refusal;
 
 fn row_at(at: usize) -> Row
     requires { ⌜ at < 11 ⌝ }
+    ensures { λ r. ⌜ r ≡ rowAt at ⌝ }
 {
     ROWS[at]
 }
 
-// Whether a pair is what the list of misprints has for a row and rate.
-fn named(at: usize, rate: usize, pair: Pair) -> bool {
+// Whether a pair is what a misprint has for a row and rate.
+fn is_this(m: Misprint, at: usize, rate: usize, pair: Pair) -> bool
+    ensures { λ r. ⌜ r ≡ isThis at rate pair m ⌝ }
+{
+    (m.row == at)
+        & (m.rate == rate)
+        & (m.refusal == pair.refusal)
+        & (m.n == pair.n)
+        & (m.cts == pair.cts)
+}
+
+// Whether one of the list of misprints has it.
+fn named(at: usize, rate: usize, pair: Pair) -> bool
+    ensures { λ r. ⌜ r ≡ namedOf at rate pair ⌝ }
+{
     let mut i: usize = 0;
     while i < 6 {
         let m = MISPRINTS[i];
-        if (m.row == at)
-            & (m.rate == rate)
-            & (m.refusal == pair.refusal)
-            & (m.n == pair.n)
-            & (m.cts == pair.cts)
-        {
+        if is_this(m, at, rate, pair) {
             return true;
         }
         i = i + 1;
@@ -47,6 +56,7 @@ fn named(at: usize, rate: usize, pair: Pair) -> bool {
 // What the library answers beside what row `at` prints.
 fn verdict(at: usize, rate: usize, pair: Pair) -> u8
     requires { ⌜ (at < 11) × (rate < 7) ⌝ }
+    ensures { λ r. ⌜ r ≡ verdictOf at rate pair ⌝ }
 {
     let printed = row_at(at);
     let n = printed.n;
@@ -63,6 +73,7 @@ fn verdict(at: usize, rate: usize, pair: Pair) -> u8
 // The library's answer for a mode at a rate.
 fn answer(at: usize, vic: u8, family: u8, rate: usize) -> Pair
     requires { ⌜ (at < 11) × (rate < 7) ⌝ }
+    ensures { λ r. ⌜ r ≡ pairOf vic family rate (rowAt at .coherent) ⌝ }
 {
     let printed = row_at(at);
     clock::pair_of(vic, family, rate as u8, printed.coherent)
@@ -71,7 +82,7 @@ fn answer(at: usize, vic: u8, family: u8, rate: usize) -> Pair
 // The seven rates of a row, counted.
 fn count(at: usize, vic: u8, family: u8) -> Tally
     requires { ⌜ at < 11 ⌝ }
-    ensures { λ r. ⌜ total r ≡ 7 ⌝ }
+    ensures { λ r. ⌜ r ≡ ratesTo at vic family 7 ⌝ }
 {
     let mut tally = nothing();
     let mut rate: usize = 0;
@@ -82,6 +93,21 @@ fn count(at: usize, vic: u8, family: u8) -> Tally
         rate = rate + 1;
     }
     tally
+}
+
+// A number of hundredths, with two places.
+fn hundredths(n: u32) {
+    number(n / 100);
+    say(b".");
+    number(n / 10 % 10);
+    number(n % 10);
+}
+
+// A number of tenths, with one place.
+fn tenths(n: u32) {
+    number(n / 10);
+    say(b".");
+    number(n % 10);
 }
 
 fn show_clock(at: usize)
@@ -171,7 +197,7 @@ fn tell_all(at: usize, vic: u8, family: u8)
 // A mode whose clock is that of row `at`, at the seven rates.
 fn run(at: usize, vic: u8, family: u8) -> Tally
     requires { ⌜ at < 11 ⌝ }
-    ensures { λ r. ⌜ total r ≡ 7 ⌝ }
+    ensures { λ r. ⌜ r ≡ ratesTo at vic family 7 ⌝ }
 {
     show_clock(at);
     say(b", VIC ");
@@ -188,7 +214,7 @@ fn run(at: usize, vic: u8, family: u8) -> Tally
 // A mode of a row, or none (VIC 0).
 fn run_mode(at: usize, vic: u8, family: u8) -> Tally
     requires { ⌜ at < 11 ⌝ }
-    ensures { λ r. ⌜ total r ≤ 7 ⌝ }
+    ensures { λ r. ⌜ r ≡ modeOf at vic family ⌝ }
 {
     if vic == 0 {
         return nothing();
@@ -199,7 +225,7 @@ fn run_mode(at: usize, vic: u8, family: u8) -> Tally
 // The modes of a row.
 fn run_row(at: usize) -> Tally
     requires { ⌜ at < 11 ⌝ }
-    ensures { λ r. ⌜ total r ≤ 14 ⌝ }
+    ensures { λ r. ⌜ r ≡ rowOf at ⌝ }
 {
     let printed = row_at(at);
     if printed.vic == 0 {
@@ -208,13 +234,13 @@ fn run_row(at: usize) -> Tally
         return nothing();
     }
     let first = run_mode(at, printed.vic, printed.family);
-    let second = run_mode(at, printed.second_vic, printed.second_family);
+    let second = run_mode(at, printed.vic2, printed.family2);
     both(first, second)
 }
 
 // Every row of Tables 80 to 82.
 pub fn run_all() -> Tally
-    ensures { λ r. ⌜ total r ≤ 154 ⌝ }
+    ensures { λ r. ⌜ r ≡ pairsTally ⌝ }
 {
     say(b"Tables 80 to 82: N and CTS as printed, and as the library answers\n");
     let mut tally = nothing();

@@ -1,15 +1,13 @@
 -- `clock::mode_of` meets its contract: the rows not passed yet hold the answer. Assumes nothing.
-use mathlib.Core.Path.{_≡_, refl, sym, ap, _∙_}
-use mathlib.Core.Bool.{cond}
-use Prim.Native.Nat.{ℕ, _+_, _-_, _≤_, _<_}
+use mathlib.Core.Path.{_≡_, refl, sym, _∙_}
+use Prim.Native.Nat.{_-_, _≤_}
 use native.Mathlib.Omega.{arith}
 use borrow.Author.Needs.{needs}
 use borrow.Author.Tests.{eq-eqb, ne-eqb}
 use lib.Dec.{eqb}
-use lib.ListN.{drop, getD}
-use Rattle.clock.specs.declared.Mode.{Mode}
+use lib.ListN.{drop}
 use Rattle.clock.specs.Modes.{modes, modeOf, rowOf, unlisted}
-use Rattle.lists.proofs.Find.{next}
+use Rattle.lists.proofs.Find.{passes, fails}
 use Rattle.clock.proofs.mode_of.Statement.{statement}
 use Rattle.clock.proofs.mode_of.Tie as tie
 
@@ -18,12 +16,6 @@ Inv-loop vic i₀ i = (i ≤ 15) × (modeOf vic ≡ rowOf vic (drop i modes))
 
 abbrev μ-loop : tie.MeasureT-loop
 μ-loop vic i₀ i = 15 - i
-
-abbrev at : ℕ → Mode
-at i = getD modes i unlisted
-
-one-more : (vic i : ℕ) → i < 15 → rowOf vic (drop i modes) ≡ cond (eqb (at i .vic) vic) (at i) (rowOf vic (drop (i + 1) modes))
-one-more vic i h = ap (rowOf vic) (next modes i unlisted h)
 
 loop-holds : tie.Need-loop-holds Inv-loop μ-loop
 unfolding modeOf
@@ -39,7 +31,7 @@ returns : tie.Need-returns Inv-loop μ-loop
 returns c =
     let vic = c .before .before .before .before .before .args .vic in
     let l = c .before .before .before .before .loop in
-    sym (l .inv .1 ∙ one-more vic (l .i) (search needs) ∙ rw (eq-eqb (at (l .i) .vic) vic (c .if1 .taken)))
+    sym (l .inv .1 ∙ passes (rowOf vic) (λ m. eqb (m .vic) vic) (λ m. m) (λ x xs. refl) modes unlisted (l .i) (search needs) (eq-eqb _ _ (c .if1 .taken)))
 
 add-i : tie.Need-add-i Inv-loop μ-loop
 add-i c = search needs
@@ -51,7 +43,7 @@ loop-again : tie.Need-loop-again Inv-loop μ-loop
 loop-again c =
     let vic = c .before .before .before .before .before .args .vic in
     let l = c .before .before .before .before .loop in
-    (search needs, l .inv .1 ∙ one-more vic (l .i) (search needs) ∙ rw (ne-eqb (at (l .i) .vic) vic (c .if1 .left)))
+    (search needs, l .inv .1 ∙ fails (rowOf vic) (λ m. eqb (m .vic) vic) (λ m. m) (λ x xs. refl) modes unlisted (l .i) (search needs) (ne-eqb _ _ (c .if1 .left)))
 
 returns-2 : tie.Need-returns-2 Inv-loop μ-loop
 returns-2 c =

@@ -9,32 +9,11 @@ use Rattle.clock.proofs.Range.{between, most-in, below-low, below-high}
 use Rattle.clock.proofs.nearest_in.Statement.{statement}
 use Rattle.clock.proofs.nearest_in.Tie as tie
 
-mul-least : tie.Need-mul-least
-mul-least c = search needs
+least-k-requires : tie.Need-least-k-requires
+least-k-requires c κs = search needs
 
-sub-least : tie.Need-sub-least
-sub-least c = search needs
-
-add-least : tie.Need-add-least
-add-least c = search needs
-
-mul-least-2 : tie.Need-mul-least-2
-mul-least-2 c = search needs
-
-div-least : tie.Need-div-least
-div-least c = search needs
-
-mul-lesser : tie.Need-mul-lesser
-mul-lesser c = search needs
-
-div-lesser : tie.Need-div-lesser
-div-lesser c = search needs
-
-div-lesser-2 : tie.Need-div-lesser-2
-div-lesser-2 c = search needs
-
-lesser-requires : tie.Need-lesser-requires
-lesser-requires c κs = search needs
+most-k-requires : tie.Need-most-k-requires
+most-k-requires c κs = search needs
 
 refused-requires : tie.Need-refused-requires
 refused-requires c κs = search needs
@@ -43,7 +22,7 @@ returns : tie.Need-returns
 unfolding nearestIn
 returns c =
     let p = c .before .before in
-    rw (c .refused .ensures, ← p .lesser .ensures, lt-ltb _ _ (c .before .if1 .taken))
+    rw (c .refused .ensures, ← p .before .least-k .ensures, ← p .most-k .ensures, lt-ltb _ _ (c .before .if1 .taken))
 
 mul-nearest-k : tie.Need-mul-nearest-k
 mul-nearest-k c = search needs
@@ -53,18 +32,18 @@ div-nearest-k c = search needs
 
 nearest-k-requires : tie.Need-nearest-k-requires
 nearest-k-requires c κs =
-    let a = c .before .before .args in
-    let q = c .before .before .pre in
+    let a = c .before .before .before .args in
+    let q = c .before .before .before .pre in
     ((q .1 .1 .1, q .0), (below-low (a .f) (a .v), below-high (a .f) (a .v) (q .1 .1 .0)))
 
 -- what is taken is in range, so both products are small
-small : (c : tie.After-nearest-k) → let a = c .before .before .before .args in (300 * (c .nearest-k .result * a .v) ≤ a .f) × (c .nearest-k .result * a .u ≤ 1048575)
+small : (c : tie.After-nearest-k) → let a = c .before .before .before .before .args in (300 * (c .nearest-k .result * a .v) ≤ a .f) × (c .nearest-k .result * a .u ≤ 1048575)
 small c =
-    let a = c .before .before .before .args in
-    let q = c .before .before .before .pre in
+    let a = c .before .before .before .before .args in
+    let q = c .before .before .before .before .pre in
     let b = between (a .f) (a .v) _ _ (a .f / (1000 * a .v)) (c .before .if1 .left) .1 in
     most-in (a .f) (a .u) (a .v) (c .nearest-k .result) (q .1 .0 .0) (q .1 .1 .0) .0
-    (subst (λ (m : ℕ). c .nearest-k .result ≤ m) (c .before .before .lesser .ensures) (rw (← c .nearest-k .ensures) at b))
+    (subst (λ (m : ℕ). c .nearest-k .result ≤ m) (c .before .before .most-k .ensures) (rw (← c .nearest-k .ensures) at b))
 
 mul-given : tie.Need-mul-given
 mul-given c = let s = small c in omega arith
@@ -84,22 +63,15 @@ given-requires c κs = search needs
 returns-2 : tie.Need-returns-2
 unfolding nearestIn
 returns-2 c =
-    let p = c .before in
-    rw (c .given .ensures, p .nearest-k .ensures, ← p .before .before .lesser .ensures, le-ltb _ _ (p .before .if1 .left))
+    let p = c .before .before in
+    rw (c .given .ensures, c .before .nearest-k .ensures, ← p .before .before .least-k .ensures, ← p .before .most-k .ensures, le-ltb _ _ (p .if1 .left))
 
 pub nearest-in-spec : {M : Type 1} → statement M
 nearest-in-spec =
     tie.close
     (tie.spec
-    mul-least
-    sub-least
-    add-least
-    mul-least-2
-    div-least
-    mul-lesser
-    div-lesser
-    div-lesser-2
-    lesser-requires
+    least-k-requires
+    most-k-requires
     refused-requires
     returns
     mul-nearest-k

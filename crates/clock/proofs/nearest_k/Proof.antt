@@ -13,37 +13,35 @@ returns-2 : tie.Need-returns-2
 unfolding nearestK
 returns-2 c = rw (lt-leb _ _ (c .before .if1 .left), lt-ltb _ _ (c .if2 .taken))
 
-add-after : tie.Need-add-after
-add-after c = search needs
+add-above-by : tie.Need-add-above-by
+add-above-by c = search needs
 
-mul-after : tie.Need-mul-after
-mul-after c = search needs
+mul-above-by : tie.Need-mul-above-by
+mul-above-by c = search needs
 
-mul-after-2 : tie.Need-mul-after-2
-mul-after-2 c = search needs
+above-by-requires : tie.Need-above-by-requires
+above-by-requires c κs = search needs
 
-sub-after : tie.Need-sub-after
-sub-after c = search needs
+mul-below-by : tie.Need-mul-below-by
+mul-below-by c = search needs
 
-mul-before : tie.Need-mul-before
-mul-before c = search needs
-
-mul-before-2 : tie.Need-mul-before-2
-mul-before-2 c = search needs
-
-sub-before : tie.Need-sub-before
-sub-before c = search needs
+below-by-requires : tie.Need-below-by-requires
+below-by-requires c κs = search needs
 
 add-result : tie.Need-add-result
 add-result c = search needs
 
 returns-3 : tie.Need-returns-3
 unfolding nearestK
-returns-3 c = rw (lt-leb _ _ (c .before .before .if1 .left), le-ltb _ _ (c .before .if2 .left), lt-ltb _ _ (c .if3 .taken))
+returns-3 c =
+    let p = c .before .before .before in
+    rw (lt-leb _ _ (p .before .if1 .left), le-ltb _ _ (p .if2 .left), ← c .before .before .above-by .ensures, ← c .before .below-by .ensures, lt-ltb _ _ (c .if3 .taken))
 
 returns-4 : tie.Need-returns-4
 unfolding nearestK
-returns-4 c = rw (lt-leb _ _ (c .before .before .if1 .left), le-ltb _ _ (c .before .if2 .left), le-ltb _ _ (c .if3 .left))
+returns-4 c =
+    let p = c .before .before .before in
+    rw (lt-leb _ _ (p .before .if1 .left), le-ltb _ _ (p .if2 .left), ← c .before .before .above-by .ensures, ← c .before .below-by .ensures, le-ltb _ _ (c .if3 .left))
 
 pub nearest-k-spec : {M : Type 1} → statement M
 nearest-k-spec =
@@ -51,13 +49,11 @@ nearest-k-spec =
     (tie.spec
     returns
     returns-2
-    add-after
-    mul-after
-    mul-after-2
-    sub-after
-    mul-before
-    mul-before-2
-    sub-before
+    add-above-by
+    mul-above-by
+    above-by-requires
+    mul-below-by
+    below-by-requires
     add-result
     returns-3
     returns-4)

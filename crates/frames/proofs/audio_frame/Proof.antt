@@ -15,7 +15,7 @@ array-write-bytes : tie.Need-array-write-bytes
 array-write-bytes c = search needs
 
 returns : tie.Need-returns
-returns c = rw (c .checksum .ensures, kept audioHeader (audioPayload (c .before .before .args .count) (c .before .before .args .allocation)))
+returns c = simp (c .checksum .ensures, kept audioHeader (audioPayload (c .before .before .args .count) (c .before .before .args .allocation)))
 
 pub audio-frame-spec : {M : Type 1} → statement M
 audio-frame-spec =

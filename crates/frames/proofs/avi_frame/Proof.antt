@@ -33,7 +33,7 @@ array-write-bytes : tie.Need-array-write-bytes
 array-write-bytes c = search needs
 
 returns : tie.Need-returns
-returns c = rw (c .checksum .ensures, kept aviHeader (aviPayload (c .before .before .args .y) (c .before .before .args .c) (c .before .before .args .m) (c .before .before .args .vic)))
+returns c = simp (c .checksum .ensures, kept aviHeader (aviPayload (c .before .before .args .y) (c .before .before .args .c) (c .before .before .args .m) (c .before .before .args .vic)))
 
 pub avi-frame-spec : {M : Type 1} → statement M
 avi-frame-spec =

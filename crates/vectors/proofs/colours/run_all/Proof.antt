@@ -1,76 +1,39 @@
--- `vectors::colours::run_all` meets its contract. Assumes nothing.
-use Prim.Native.Nat.{_-_, _≤_}
+-- `vectors::colours::run_all` meets its contract: the tables so far are counted. Assumes nothing.
 use mathlib.Core.Path.{_≡_}
-use Rattle.vectors.specs.Total.{total}
+use Prim.Native.Nat.{_-_, _≤_}
+use native.Mathlib.Numerals.{add-one}
+use native.Mathlib.Omega.{arith}
+use Rattle.vectors.specs.Colours.{tablesTo}
 use borrow.Author.Needs.{needs}
 use Rattle.vectors.proofs.colours.run_all.Statement.{statement}
 use Rattle.vectors.proofs.colours.run_all.Tie as tie
 
 abbrev Inv-loop : tie.InvT-loop
-Inv-loop tally₀ at₀ t4 tally at = (at ≤ 25) × (total tally ≡ at)
+Inv-loop tally₀ at₀ t4 tally at = (at ≤ 25) × (tally ≡ tablesTo at)
 
 abbrev μ-loop : tie.MeasureT-loop
 μ-loop tally₀ at₀ t4 tally at = 25 - at
 
-show-head-requires : tie.Need-show-head-requires Inv-loop μ-loop
-show-head-requires c κs = search needs
-
-show-named-requires : tie.Need-show-named-requires Inv-loop μ-loop
-show-named-requires c κs = search needs
-
-nothing-requires : tie.Need-nothing-requires Inv-loop μ-loop
-nothing-requires c κs = search needs
-
 loop-holds : tie.Need-loop-holds Inv-loop μ-loop
-loop-holds c = search needs
-
-table-at-requires : tie.Need-table-at-requires Inv-loop μ-loop
-table-at-requires c κs = search needs
-
-run-table-requires : tie.Need-run-table-requires Inv-loop μ-loop
-run-table-requires c κs = search needs
-
-counted-requires : tie.Need-counted-requires Inv-loop μ-loop
-counted-requires c κs = search needs
-
-add-at : tie.Need-add-at Inv-loop μ-loop
-add-at c = search needs
-
-loop-less : tie.Need-loop-less Inv-loop μ-loop
-loop-less c = search needs
+unfolding tablesTo
+loop-holds c = (search needs, c .nothing .ensures)
 
 loop-again : tie.Need-loop-again Inv-loop μ-loop
-loop-again c = search needs
-
-slice-aggregate-say : tie.Need-slice-aggregate-say Inv-loop μ-loop
-slice-aggregate-say c = search needs
-
-say-requires : tie.Need-say-requires Inv-loop μ-loop
-say-requires c κs = search needs
-
-show-requires : tie.Need-show-requires Inv-loop μ-loop
-show-requires c κs = search needs
+unfolding tablesTo
+loop-again c =
+    let p = c .before in
+    let l = p .before .before .before .loop in
+    (search needs, rw (add-one (l .at), c .counted .ensures, l .inv .1, p .run-table .ensures, p .before .table-at .ensures))
 
 returns : tie.Need-returns Inv-loop μ-loop
-returns c = search needs
+returns c =
+    let l = c .before .before .before .before .loop in
+    let e : l .at ≡ 25 = omega arith in
+    rw e at (l .inv .1)
 
 pub run-all-spec : {M : Type 1} → statement M
 run-all-spec =
     tie.close
-    (tie.spec
-    Inv-loop
-    μ-loop
-    show-head-requires
-    show-named-requires
-    nothing-requires
-    loop-holds
-    table-at-requires
-    run-table-requires
-    counted-requires
-    add-at
-    loop-less
-    loop-again
-    slice-aggregate-say
-    say-requires
-    show-requires
-    returns)
+    (tie.spec Inv-loop μ-loop (λ c κs. search needs) (λ c κs. search needs) (λ c κs. search needs) loop-holds (λ c κs. search needs)
+    (λ c κs. search needs) (λ c κs. search needs) (λ c. search needs) (λ c. search needs) loop-again (λ c. search needs) (λ c κs. search needs)
+    (λ c κs. search needs) returns)
