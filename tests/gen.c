@@ -17,7 +17,10 @@ uint32_t any(uint32_t below) {
 }
 
 void any_bytes(uint8_t *bytes, size_t length) {
-    for (size_t i = 0; i < length; i++) bytes[i] = (uint8_t)any(256);
+    for (size_t i = 0; i < length; i++) {
+        if (i % 4 == 0) any(1);
+        bytes[i] = (uint8_t)(state >> (8 * (i % 4) + 16));
+    }
 }
 
 const uint8_t table_39[25] = { 1, 0x0C, 0x53, 0x08, 0x00, 0x00, 0x00, 0xF9, 0xD6, 0xFC, 0x56, 0x08, 0x00, 0xFE, 0x88, 0x02, 0x91,
@@ -54,18 +57,21 @@ void any_fields(struct fields *f) {
 /* Fields that are likely to be refused 4, 5 or 6. */
 static void loose_fields(struct fields *f) {
     any_fields(f);
-    switch (any(10)) {
-    case 0: f->vic = (int)any(256); break;
-    case 1: f->family = (int)any(4); break;
-    case 2: f->encoding = (int)any(5); break;
-    case 3: f->link = (int)any(4); break;
-    case 4: f->rate = (int)any(10); break;
-    case 5: f->channels = (int)any(12); break;
-    case 6: f->coherent = (int)any(4); break;
-    case 7: f->mode = (int)any(6); break;
-    case 8: f->coefficient[any(12)] = (int)any(65536) - 32768; break;
-    default: f->coefficient[any(12)] = any(2) ? 4096 : -4097; break;
-    }
+    for (uint32_t n = 1 + any(3); n > 0; n--)           /* more than one, so that the order of the refusals shows */
+        switch (any(12)) {
+        case 0: f->vic = (int)any(256); break;
+        case 1: f->family = (int)any(4); break;
+        case 2: f->encoding = (int)any(5); break;
+        case 3: f->link = (int)any(4); break;
+        case 4: f->rate = (int)any(10); break;
+        case 5: f->channels = (int)any(12); break;
+        case 6: f->coherent = (int)any(4); break;
+        case 7: f->mode = (int)any(6); break;
+        case 8: f->coefficient[any(12)] = (int)any(65536) - 32768; break;
+        case 9: f->coefficient[any(12)] = any(2) ? 4096 : -4097; break;
+        case 10: f->matrix = !f->matrix; break;
+        default: f->sound = !f->sound; break;
+        }
 }
 
 size_t any_request(uint8_t *bytes, size_t room) {

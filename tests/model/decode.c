@@ -1,5 +1,6 @@
-/* Decoding, as document 01 has it: is there a request, in one of its families, that ends in this image? Every kind of request is tried;
- * only the VIC and the matrix are read off the image, since no other value of them could stand there. */
+/* Decoding, as document 01 has it: is there a request, in one of its families, that ends in this image? Every kind of request is tried.
+ * Only the matrix is read off the image, since no other value of it could stand there; without `all` also the VIC, the encoding, the link
+ * and whether there is a matrix, for speed. The harness compares the two. */
 #include <string.h>
 #include "model.h"
 
@@ -52,6 +53,8 @@ int model_ends(const uint8_t *image, int all, struct fields *f) {
             f->encoding = rest % 3, rest /= 3;
             f->link = rest % 2, rest /= 2;
             f->matrix = rest % 2, rest /= 2;
+            int could = f->encoding == (image[0x55] >> 5 & 3) && f->link == (image[0xAF] >> 1 & 1) && f->matrix == image[0x18] >> 7;
+            if (!all && !could) continue;
             sound = rest;                                   /* 0 off, then rate, channels, coherent */
             if (sound > 0) {
                 f->sound = 1;

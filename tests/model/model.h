@@ -46,7 +46,8 @@ int  model_stands(const uint8_t *wanted, const uint8_t *image);
 int      model_holds(uint8_t byte_4a);
 uint32_t model_step(uint8_t *image, uint8_t *packet, uint8_t *coefficients, uint8_t address, uint8_t value);
 
-/* decode.c: the request that ends in an image, family 0. `all` tries every listed VIC and not only that of 0x3C. */
+/* decode.c: the request that ends in an image, family 0. `all` tries every kind of request, also those whose VIC,
+ * encoding, link or matrix enable are plainly not the image's. */
 int model_ends(const uint8_t *image, int all, struct fields *f);
 
 /* face.c: the C face, by the model. */

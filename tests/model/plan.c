@@ -40,12 +40,11 @@ void model_wanted(const struct fields *f, struct pair p, uint8_t *wanted) {
     wanted[0xAF] = f->link ? 0x02 : 0x00;
 }
 
-static const uint8_t table_14[8] = { 0x98, 0x9A, 0x9C, 0x9D, 0xA2, 0xA3, 0xE0, 0xF9 };
-
 static int in_table_14(int address) {
-    for (int i = 0; i < 8; i++)
-        if (table_14[i] == address) return 1;
-    return 0;
+    switch (address) {
+    case 0x98: case 0x9A: case 0x9C: case 0x9D: case 0xA2: case 0xA3: case 0xE0: case 0xF9: return 1;
+    default: return 0;
+    }
 }
 static int in_matrix(int address) { return address >= 0x18 && address <= 0x2F; }
 static int in_avi(int address) { return address >= 0x52 && address <= 0x61; }

@@ -59,15 +59,15 @@ DECODE(family_1_refused) {
 }
 PUT(decode, family_1_refused)
 
-DECODE(identity_matrix) {   /* a matrix that is on and equals the one for "off" answered as off */
+DECODE(matrix_dropped) {
     struct station_count c = RIGHT;
-    if (!c.refusal && r[3] == 0 && r[c.count - 26] == 25 && c.count > 30 && r[c.count - 25] == 2) {
+    if (!c.refusal && c.count > 30 && r[3] == 0 && r[c.count - 25] == 2) {
         r[c.count - 26] = 0;
         c.count -= 25;
     }
     return c;
 }
-PUT(decode, identity_matrix)
+PUT(decode, matrix_dropped)
 
 DECODE(rest_cleared) {
     struct station_count c = RIGHT;
@@ -108,20 +108,20 @@ DECODE(count_in_sections) {
 PUT(decode, count_in_sections)
 
 const struct wrong wrong_decodes[] = {
-    { "decoding ignores a mandated bit (0xAF[2])", put_mandated_ignored },
-    { "decoding ignores a Table 14 register (0xE0)", put_table_14_ignored },
-    { "decoding ignores a reserved byte (0x7C)", put_reserved_byte_ignored },
-    { "decoding ignores the AVI hold", put_hold_ignored },
-    { "decoding takes a muted picture", put_muted_is_open },
-    { "decoding minds free bits", put_free_bits_count },
-    { "decoding minds read-only bits", put_read_only_counts },
-    { "decoding answers family 1", put_family_1 },
-    { "decoding knows family 0 alone", put_family_1_refused },
-    { "decoding drops a matrix of mode 2", put_identity_matrix },
-    { "decoding clears the rest of the buffer", put_rest_cleared },
-    { "refusal 11 writes the buffer", put_refusal_writes },
-    { "a buffer of 34 bytes accepted", put_buffer_of_34 },
-    { "a coefficient's sign lost", put_sign_lost },
-    { "the decoded count counts sections", put_count_in_sections },
-    { NULL, NULL },
+    { "decoding ignores a mandated bit (0xAF[2])", put_mandated_ignored, 0 },
+    { "decoding ignores a Table 14 register (0xE0)", put_table_14_ignored, 0 },
+    { "decoding ignores a reserved byte (0x7C)", put_reserved_byte_ignored, 0 },
+    { "decoding ignores the AVI hold", put_hold_ignored, 0 },
+    { "decoding takes a muted picture", put_muted_is_open, 0 },
+    { "decoding minds free bits", put_free_bits_count, 0 },
+    { "decoding minds read-only bits", put_read_only_counts, 0 },
+    { "decoding answers family 1", put_family_1, 1 },
+    { "decoding knows family 0 alone", put_family_1_refused, 1 },
+    { "decoding drops a matrix of mode 2", put_matrix_dropped, 0 },
+    { "decoding clears the rest of the buffer", put_rest_cleared, 0 },
+    { "refusal 11 writes the buffer", put_refusal_writes, 0 },
+    { "a buffer of 34 bytes accepted", put_buffer_of_34, 0 },
+    { "a coefficient's sign lost", put_sign_lost, 0 },
+    { "the decoded count counts sections", put_count_in_sections, 0 },
+    { NULL, NULL, 0 },
 };

@@ -87,16 +87,16 @@ WRITE(nothing_written) {
 PUT(write, nothing_written)
 
 const struct wrong wrong_machines[] = {
-    { "the copy taken after the write", put_copy_after },
-    { "read-only bits written (0xC7)", put_read_only_written },
-    { "the buffer filled when a hold falls", put_fills_on_fall },
-    { "the buffer filled again while the hold is up", put_fills_while_up },
-    { "a write that leaves two holds up accepted", put_two_holds_left },
-    { "the GC hold not counted", put_gc_hold_not_counted },
-    { "refusal 13 writes the image", put_refusal_writes },
-    { "the rest of the packet buffer cleared", put_rest_of_packet_cleared },
-    { "a GC packet of seven bytes", put_gc_packet_of_seven },
-    { "a packet buffer of 31 bytes accepted", put_packet_of_31 },
-    { "nothing written", put_nothing_written },
-    { NULL, NULL },
+    { "the copy taken after the write", put_copy_after, 1 },
+    { "read-only bits written (0xC7)", put_read_only_written, 0 },
+    { "the buffer filled when a hold falls", put_fills_on_fall, 0 },
+    { "the buffer filled again while the hold is up", put_fills_while_up, 1 },
+    { "a write that leaves two holds up accepted", put_two_holds_left, 0 },
+    { "the GC hold not counted", put_gc_hold_not_counted, 0 },
+    { "refusal 13 writes the image", put_refusal_writes, 0 },
+    { "the rest of the packet buffer cleared", put_rest_of_packet_cleared, 0 },
+    { "a GC packet of seven bytes", put_gc_packet_of_seven, 0 },
+    { "a packet buffer of 31 bytes accepted", put_packet_of_31, 0 },
+    { "nothing written", put_nothing_written, 1 },
+    { NULL, NULL, 0 },
 };

@@ -115,7 +115,7 @@ PLAN(other_hold_kept) {
 }
 PUT(plan, other_hold_kept)
 
-/* Adv: the coefficients are never held, only hold writes are there. */
+/* The writes to 0x1A are there, the hold is not. */
 PLAN(hold_never_raised) {
     struct station_count c = RIGHT;
     if (!c.refusal)
@@ -237,32 +237,32 @@ PLAN(never_ends) {
 PUT(plan, never_ends)
 
 const struct wrong wrong_plans[] = {
-    { "AVI before audio over a held audio packet", put_avi_first },
-    { "mute cleared before 0x3C is written", put_early_open },
-    { "the hold dropped at 0x1A", put_hold_dropped },
-    { "a register missed (0x16)", put_register_missed },
-    { "the matrix not written when it is off", put_matrix_not_written_when_off },
-    { "free bits not kept (0x0C[7:6])", put_free_bits_not_kept },
-    { "a copy-protection bit cleared (0xAF[7])", put_copy_protection_touched },
-    { "mandated bits of the map not set (0x9D[7:4])", put_mandated_not_set },
-    { "addresses that do not rise in a step", put_addresses_not_rising },
-    { "a hold write that keeps the other hold", put_other_hold_kept },
-    { "the coefficient hold never raised", put_hold_never_raised },
-    { "a checksum one too small", put_checksum_off },
-    { "colorimetry given for RGB", put_colorimetry_always },
-    { "an invented count", put_count_invented },
-    { "the buffer cleared after the list", put_rest_cleared },
-    { "a refusal that writes the buffer", put_refusal_writes },
-    { "a count beside a refusal", put_count_beside_refusal },
-    { "refusal 10 before 9", put_buffer_before_pair },
-    { "an image of 257 bytes accepted", put_longer_image },
-    { "a buffer as long as the list accepted", put_shorter_buffer },
-    { "the GC hold not refused", put_gc_hold_passed },
-    { "every request refused", put_refuses_all },
-    { "the lent image changed", put_input_changed },
-    { "a read one byte past the request", put_reads_past_request },
-    { "a read one byte before the image", put_reads_before_image },
-    { "a write one byte past the buffer", put_writes_past_buffer },
-    { "a call that does not end on a long request", put_never_ends },
-    { NULL, NULL },
+    { "AVI before audio over a held audio packet", put_avi_first, 1 },
+    { "mute cleared before 0x3C is written", put_early_open, 1 },
+    { "the hold dropped at 0x1A", put_hold_dropped, 1 },
+    { "a register missed (0x16)", put_register_missed, 1 },
+    { "the matrix not written when it is off", put_matrix_not_written_when_off, 1 },
+    { "free bits not kept (0x0C[7:6])", put_free_bits_not_kept, 1 },
+    { "a copy-protection bit cleared (0xAF[7])", put_copy_protection_touched, 1 },
+    { "mandated bits of the map not set (0x9D[7:4])", put_mandated_not_set, 1 },
+    { "addresses that do not rise in a step", put_addresses_not_rising, 0 },
+    { "a hold write that keeps the other hold", put_other_hold_kept, 1 },
+    { "the coefficient hold never raised", put_hold_never_raised, 1 },
+    { "a checksum one too small", put_checksum_off, 1 },
+    { "colorimetry given for RGB", put_colorimetry_always, 1 },
+    { "an invented count", put_count_invented, 0 },
+    { "the buffer cleared after the list", put_rest_cleared, 0 },
+    { "a refusal that writes the buffer", put_refusal_writes, 0 },
+    { "a count beside a refusal", put_count_beside_refusal, 0 },
+    { "refusal 10 before 9", put_buffer_before_pair, 0 },
+    { "an image of 257 bytes accepted", put_longer_image, 0 },
+    { "a buffer as long as the list accepted", put_shorter_buffer, 0 },
+    { "the GC hold not refused", put_gc_hold_passed, 0 },
+    { "every request refused", put_refuses_all, 1 },
+    { "the lent image changed", put_input_changed, 0 },
+    { "a read one byte past the request", put_reads_past_request, 0 },
+    { "a read one byte before the image", put_reads_before_image, 0 },
+    { "a write one byte past the buffer", put_writes_past_buffer, 0 },
+    { "a call that does not end on a long request", put_never_ends, 0 },
+    { NULL, NULL, 0 },
 };

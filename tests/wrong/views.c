@@ -81,16 +81,16 @@ MATRIX(matrix_hold_ignored) {
 PUT(matrix, matrix_hold_ignored)
 
 const struct wrong wrong_views[] = {
-    { "the registers shown while the hold is up", put_hold_ignored },
-    { "the audio packet without its reserved bytes", put_reserved_left_out },
-    { "refusal 7 before 5", put_length_before_number },
-    { "packet 256 taken for packet 0", put_number_in_one_byte },
-    { "a part beside a refusal", put_part_beside_refusal },
-    { "the mute read off 0x4B while GC is held", put_gc_hold_ignored },
-    { "set and clear changed over", put_bits_swapped },
-    { "the mode taken from the coefficient buffer", put_mode_held },
-    { "a coefficient's sign lost in the view", put_sign_lost },
-    { "a coefficient of 16 bits in the view", put_whole_bytes },
-    { "the coefficient hold ignored in the view", put_matrix_hold_ignored },
-    { NULL, NULL },
+    { "the registers shown while the hold is up", put_hold_ignored, 1 },
+    { "the audio packet without its reserved bytes", put_reserved_left_out, 0 },
+    { "refusal 7 before 5", put_length_before_number, 0 },
+    { "packet 256 taken for packet 0", put_number_in_one_byte, 0 },
+    { "a part beside a refusal", put_part_beside_refusal, 0 },
+    { "the mute read off 0x4B while GC is held", put_gc_hold_ignored, 0 },
+    { "set and clear changed over", put_bits_swapped, 1 },
+    { "the mode taken from the coefficient buffer", put_mode_held, 0 },
+    { "a coefficient's sign lost in the view", put_sign_lost, 0 },
+    { "a coefficient of 16 bits in the view", put_whole_bytes, 0 },
+    { "the coefficient hold ignored in the view", put_matrix_hold_ignored, 1 },
+    { NULL, NULL, 0 },
 };

@@ -5,7 +5,8 @@
 #include "../model/model.h"
 #include <string.h>
 
-struct wrong { const char *fault; void (*put)(struct face *); };
+/* `on_cuts`: the replay of the cuts must catch it by itself. */
+struct wrong { const char *fault; void (*put)(struct face *); int on_cuts; };
 extern const struct wrong wrong_plans[], wrong_numbers[], wrong_decodes[], wrong_machines[], wrong_views[];
 extern const struct wrong *const wrong_sets[];
 
