@@ -1,12 +1,10 @@
 /* The benchmark: planning and decoding, the library and plain C in one run, ns for each call and the ratio. The two take turns, and each
  * keeps its best round. `bench check` only compares their answers. */
-#define _POSIX_C_SOURCE 199309L
 #include "plain.h"
 #include <stdio.h>
 #include <stdlib.h>
 #include <string.h>
 #include <time.h>
-#include "../tests/face.h"
 
 enum { INPUTS = 64, CALLS = 20000, ROUNDS = 12 };
 
