@@ -1,10 +1,12 @@
 /* tests: `tests lib` compares the library with the model; `tests self` the model with itself, which tries the harness; `tests wrong` runs
- * every wrong library of tests/wrong and says how many were caught, after two right ones (the model, and the plain C of bench/). Each ends with 'N passed, M failed'. */
+ * every wrong library of tests/wrong and says how many were caught, after two right ones (the model, and the plain C of bench/). Each
+ * ends with 'N passed, M failed'. */
 #include "../bench/plain.h"
 #include "harness.h"
 #include "model/model.h"
 #include "wrong/wrong.h"
 #include <stdio.h>
+#include <stdlib.h>
 #include <string.h>
 
 static const struct face model = { model_plan, model_decode, model_ncts,    model_write,  model_sent,
@@ -23,17 +25,17 @@ static const char missing[] = ""
 #ifdef MISSING_write
                               " write"
 #endif
-#ifdef MISSING_sent
+#if defined MISSING_sent || defined MISSING_mute || defined MISSING_matrix
                               " sent mute matrix"
 #endif
     ;
 
-static int compared(const char *what, const struct face *f, const char *not_there) {
+static int compared(const char *what, const struct face *f, unsigned share, const char *not_there) {
     struct section s[SECTIONS];
     uint64_t cases = 0;
     int all = 0, failed = 0;
     printf("%s against the model\n", what);
-    harness(f, ALL, 1000, 0, 1, s);
+    harness(f, ALL, share, 0, 1, s);
     for (int i = 0; i < SECTIONS; i++) {
         if (s[i].call[0] && strstr(not_there, s[i].call)) {
             printf("  not counted: %s\n", s[i].name);
@@ -83,9 +85,10 @@ static int caught(void) {
 }
 
 int main(int count, char **words) {
-    if (count == 2 && !strcmp(words[1], "lib")) return compared("the library", &library, missing);
-    if (count == 2 && !strcmp(words[1], "self")) return compared("the model", &model, "");
+    unsigned share = count == 3 ? (unsigned)strtoul(words[2], NULL, 10) : 1000;
+    if (count >= 2 && !strcmp(words[1], "lib")) return compared("the library", &library, share, missing);
+    if (count >= 2 && !strcmp(words[1], "self")) return compared("the model", &model, share, "");
     if (count == 2 && !strcmp(words[1], "wrong")) return caught();
-    fprintf(stderr, "usage: tests lib|self|wrong\n");
+    fprintf(stderr, "usage: tests lib|self [SHARE OF THE RANDOM CASES IN 1/1000]\n       tests wrong\n");
     return 2;
 }

@@ -5,8 +5,9 @@
 #define RIGHT model_write(i, il, p, pl, c, cl, address, value)
 
 WRITE(copy_after) {
+    int was_up = il == 256 && (i[0x1A] & 0x20);
     uint32_t refusal = RIGHT;
-    if (!refusal && address == 0x1A && (value & 0x20) && c[2] != i[0x1A] && !((c[2] ^ i[0x1A]) & 0x1F ? 0 : 1)) c[2] = i[0x1A];
+    if (!refusal && address == 0x1A && !was_up && (value & 0x20)) memcpy(c, i + 0x18, 24);
     return refusal;
 }
 PUT(write, copy_after)
