@@ -1,0 +1,188 @@
+/* The planner and the decoder as a C programmer would write them with speed in mind: constant tables, one pass. Nothing is proved of it;
+ * the benchmark compares its answers with the library's before it takes the time. */
+#include "plain.h"
+#include <string.h>
+
+/* For each VIC: the row of `pairs` at family 0 and 1 (0 where it is not offered), 4:3, ITU-R 601. */
+static const struct { uint8_t row[2], narrow, itu601; } modes[64] = {
+    [1] = { { 1, 2 }, 1, 1 },   [2] = { { 3, 4 }, 1, 1 },   [3] = { { 3, 4 }, 0, 1 },   [4] = { { 5, 6 }, 0, 0 },
+    [5] = { { 5, 6 }, 0, 0 },   [16] = { { 7, 8 }, 0, 0 },  [17] = { { 4, 0 }, 1, 1 },  [18] = { { 4, 0 }, 0, 1 },
+    [19] = { { 5, 0 }, 0, 0 },  [20] = { { 5, 0 }, 0, 0 },  [31] = { { 7, 0 }, 0, 0 },  [32] = { { 5, 6 }, 0, 0 },
+    [34] = { { 5, 6 }, 0, 0 },  [60] = { { 9, 10 }, 0, 0 }, [62] = { { 5, 6 }, 0, 0 },
+};
+
+/* N and CTS for coherent audio, by clock and rate; row 0 is for audio that is not coherent. N 0: no exact pair. */
+static const struct { uint32_t n, cts; } pairs[11][7] = {
+    { { 4096, 0 }, { 6272, 0 }, { 6144, 0 }, { 12544, 0 }, { 12288, 0 }, { 25088, 0 }, { 24576, 0 } },
+    { { 4096, 25200 }, { 6272, 28000 }, { 6144, 25200 }, { 12544, 28000 }, { 12288, 25200 }, { 25088, 28000 }, { 24576, 25200 } },
+    { { 4576, 28125 }, { 7007, 31250 }, { 6864, 28125 }, { 14014, 31250 }, { 13728, 28125 }, { 28028, 31250 }, { 27456, 28125 } },
+    { { 4096, 27027 }, { 6272, 30030 }, { 6144, 27027 }, { 12544, 30030 }, { 12288, 27027 }, { 25088, 30030 }, { 24576, 27027 } },
+    { { 4096, 27000 }, { 6272, 30000 }, { 6144, 27000 }, { 12544, 30000 }, { 12288, 27000 }, { 25088, 30000 }, { 24576, 27000 } },
+    { { 4096, 74250 }, { 6272, 82500 }, { 6144, 74250 }, { 12544, 82500 }, { 12288, 74250 }, { 25088, 82500 }, { 24576, 74250 } },
+    { { 0, 0 }, { 17836, 234375 }, { 11648, 140625 }, { 35672, 234375 }, { 23296, 140625 }, { 71344, 234375 }, { 46592, 140625 } },
+    { { 4096, 148500 }, { 6272, 165000 }, { 6144, 148500 }, { 12544, 165000 }, { 12288, 148500 }, { 25088, 165000 }, { 24576, 148500 } },
+    { { 11648, 421875 }, { 8918, 234375 }, { 5824, 140625 }, { 17836, 234375 }, { 11648, 140625 }, { 35672, 234375 }, { 23296, 140625 } },
+    { { 4096, 59400 }, { 5488, 57750 }, { 6144, 59400 }, { 10976, 57750 }, { 12288, 59400 }, { 21952, 57750 }, { 24576, 59400 } },
+    { { 5824, 84375 }, { 4459, 46875 }, { 5824, 56250 }, { 8918, 46875 }, { 11648, 56250 }, { 17836, 46875 }, { 23296, 56250 } },
+};
+static const uint8_t rate_codes[7] = { 0x30, 0x00, 0x20, 0x80, 0xA0, 0xC0, 0xE0 };
+
+/* The writes in order: address, the bits kept from the image, bits added to the finished byte (a hold). Audio first is the same list with
+ * the two packets changed over. */
+struct step { uint8_t address, keep, add; };
+#define HIGH(a) { a, 0xE0, 0 }, { a + 1, 0, 0 }
+#define AVI \
+    { 0x4A, 0x1F, 0x40 }, { 0x52, 0xF8, 0 }, { 0x53, 0xE0, 0 }, { 0x54, 0, 0 }, { 0x55, 0, 0 }, { 0x56, 0, 0 }, { 0x57, 0, 0 }, \
+    { 0x58, 0, 0 }, { 0x59, 0, 0 }, { 0x5A, 0, 0 }, { 0x5B, 0, 0 }, { 0x5C, 0, 0 }, { 0x5D, 0, 0 }, { 0x5E, 0, 0 }, { 0x5F, 0, 0 }, \
+    { 0x60, 0, 0 }, { 0x61, 0, 0 }, { 0x4A, 0x1F, 0 }
+#define AUDIO \
+    { 0x4A, 0x1F, 0x20 }, { 0x70, 0xF8, 0 }, { 0x71, 0xE0, 0 }, { 0x72, 0, 0 }, { 0x73, 0, 0 }, { 0x74, 0, 0 }, { 0x75, 0, 0 }, \
+    { 0x76, 0, 0 }, { 0x77, 0, 0 }, { 0x78, 0, 0 }, { 0x79, 0, 0 }, { 0x7A, 0, 0 }, { 0x7B, 0, 0 }, { 0x7C, 0, 0 }, { 0x4A, 0x1F, 0 }
+#define BEFORE \
+    { 0x98, 0, 0 }, { 0x9A, 0x01, 0 }, { 0x9C, 0, 0 }, { 0x9D, 0x0C, 0 }, { 0xA2, 0, 0 }, { 0xA3, 0, 0 }, { 0xE0, 0, 0 }, { 0xF9, 0, 0 }, \
+    { 0x1A, 0xC0, 0x20 }, { 0x18, 0, 0 }, { 0x19, 0, 0 }, { 0x1A, 0xC0, 0x20 }, { 0x1B, 0, 0 }, HIGH(0x1C), HIGH(0x1E), HIGH(0x20), \
+    HIGH(0x22), HIGH(0x24), HIGH(0x26), HIGH(0x28), HIGH(0x2A), HIGH(0x2C), HIGH(0x2E), { 0x1A, 0xC0, 0 }
+#define AFTER \
+    { 0x01, 0xF0, 0 }, { 0x02, 0, 0 }, { 0x03, 0, 0 }, { 0x07, 0xF0, 0 }, { 0x08, 0, 0 }, { 0x09, 0, 0 }, { 0x0A, 0x03, 0 }, \
+    { 0x0C, 0xC0, 0 }, { 0x15, 0, 0 }, { 0x16, 0x3F, 0 }, { 0x3B, 0, 0 }, { 0x3C, 0xC0, 0 }, { 0x40, 0x7F, 0 }, { 0x44, 0x01, 0 }, \
+    { 0xAF, 0x90, 0 }, { 0x4B, 0x3F, 0 }
+enum { STEPS = 83, COUNT = STEPS + 1 };     /* the mute is written before them */
+static const struct step steps[2][STEPS] = { { BEFORE, AVI, AUDIO, AFTER }, { BEFORE, AUDIO, AVI, AFTER } };
+
+/* The finished bytes that no request changes. */
+static const uint8_t always[256] = {
+    [0x3B] = 0xC0, [0x4A] = 0x80, [0x4B] = 0x80, [0x52] = 0x02, [0x53] = 0x0D, [0x70] = 0x01, [0x71] = 0x0A, [0x98] = 0x03,
+    [0x9A] = 0xE0, [0x9C] = 0x30, [0x9D] = 0x61, [0xA2] = 0xA4, [0xA3] = 0xA4, [0xE0] = 0xD0, [0xAF] = 0x04,
+};
+
+struct asked { uint8_t vic, family, encoding, link; const uint8_t *sound, *matrix; };
+
+static uint32_t read(const uint8_t *r, size_t length, struct asked *q) {
+    size_t at = 6;
+    if (length < 1) return 1;
+    if (r[0] != 4) return 2;
+    if (length < 6) return 1;
+    q->sound = q->matrix = NULL;
+    if (r[5] == 3) {
+        if (length < 9) return 1;
+        q->sound = r + 6;
+        at = 9;
+    } else if (r[5] != 0) return 2;
+    if (length < at + 1) return 1;
+    if (r[at] == 25) {
+        if (length < at + 26) return 1;
+        q->matrix = r + at + 1;
+        at += 26;
+    } else if (r[at] != 0) return 2;
+    else at++;
+    if (length != at) return 3;
+    q->vic = r[1], q->family = r[2], q->encoding = r[3], q->link = r[4];
+    if (q->vic > 63 || q->family > 1 || !modes[q->vic].row[q->family]) return 4;
+    if (q->encoding > 2 || q->link > 1) return 5;
+    if (q->sound && (q->sound[0] > 6 || (q->sound[1] != 2 && q->sound[1] != 8) || q->sound[2] > 1)) return 5;
+    if (q->matrix) {
+        if (q->matrix[0] > 2) return 5;
+        for (int k = 1; k < 25; k += 2)
+            if (q->matrix[k] > 0x0F && q->matrix[k] < 0xF0) return 5;
+    }
+    if ((q->encoding && !q->matrix) || (!q->link && (q->sound || q->encoding))) return 6;
+    return 0;
+}
+
+/* The finished bytes for a request, free bits 0. Answers 0 where no exact pair exists. */
+static int want(const struct asked *q, uint8_t *b) {
+    uint32_t n = 6144, cts = 0;
+    unsigned sum;
+    if (q->sound) {
+        unsigned row = q->sound[2] ? modes[q->vic].row[q->family] : 0;
+        n = pairs[row][q->sound[0]].n;
+        cts = pairs[row][q->sound[0]].cts;
+        if (!n) return 0;
+    }
+    memcpy(b, always, 256);
+    b[0x01] = (uint8_t)(n >> 16), b[0x02] = (uint8_t)(n >> 8), b[0x03] = (uint8_t)n;
+    b[0x07] = (uint8_t)(cts >> 16), b[0x08] = (uint8_t)(cts >> 8), b[0x09] = (uint8_t)cts;
+    b[0x15] = 0x20;
+    if (q->sound) {
+        b[0x0A] = (uint8_t)(q->sound[2] << 7);
+        b[0x0C] = q->sound[1] == 2 ? 0x04 : 0x3C;
+        b[0x15] = rate_codes[q->sound[0]];
+        b[0x73] = (uint8_t)(q->sound[1] - 1);
+        b[0x76] = q->sound[1] == 8 ? 0x13 : 0x00;
+    }
+    b[0x16] = q->encoding == 1 ? 0x80 : 0x00;
+    if (q->matrix) {
+        memcpy(b + 0x18, q->matrix + 1, 24);
+        for (int a = 0x18; a < 0x30; a += 2) b[a] &= 0x1F;
+        b[0x18] |= (uint8_t)(0x80 | q->matrix[0] << 5);
+    } else b[0x18] = 0x28, b[0x22] = 0x08, b[0x2C] = 0x08;
+    b[0x3C] = q->vic;
+    if (q->link) b[0x40] = 0x80, b[0x44] = q->sound ? 0x78 : 0x10, b[0xAF] |= 0x02;
+    b[0x55] = (uint8_t)(q->encoding << 5 | 0x10);
+    b[0x56] = (uint8_t)((q->encoding ? modes[q->vic].itu601 ? 0x40 : 0x80 : 0) | (modes[q->vic].narrow ? 0x18 : 0x28));
+    b[0x58] = q->vic;
+    sum = 0x82 + 0x02 + 0x0D + b[0x55] + b[0x56] + b[0x58];
+    b[0x54] = (uint8_t)-sum;
+    sum = 0x84 + 0x01 + 0x0A + b[0x73] + b[0x76];
+    b[0x72] = (uint8_t)-sum;
+    return 1;
+}
+
+struct station_count plain_plan(const uint8_t *request, size_t request_length, const uint8_t *image, size_t image_length, uint8_t *writes,
+                                size_t writes_length) {
+    struct asked q;
+    uint8_t b[256];
+    uint32_t refusal = read(request, request_length, &q);
+    if (refusal) return (struct station_count){ refusal, 0 };
+    if (image_length != 256) return (struct station_count){ 7, 0 };
+    if ((image[0x4A] & 0x10) || (image[0x4A] & 0x60) == 0x60) return (struct station_count){ 8, 0 };
+    if (!want(&q, b)) return (struct station_count){ 9, 0 };
+    if (writes_length < 256) return (struct station_count){ 10, 0 };
+    const struct step *s = steps[image[0x4A] >> 5 & 1];
+    writes[0] = 0x4B;
+    writes[1] = (uint8_t)((image[0x4B] & 0x3F) | 0x40);
+    for (int k = 0; k < STEPS; k++) {
+        writes[2 * k + 2] = s[k].address;
+        writes[2 * k + 3] = (uint8_t)((image[s[k].address] & s[k].keep) | b[s[k].address] | s[k].add);
+    }
+    return (struct station_count){ 0, COUNT };
+}
+
+static int stands(const struct asked *q, const uint8_t *image) {
+    uint8_t b[256], wrong = 0;
+    if (!want(q, b)) return 0;
+    for (int k = 0; k < STEPS; k++) wrong |= (uint8_t)((image[steps[0][k].address] ^ b[steps[0][k].address]) & ~steps[0][k].keep);
+    return wrong == 0;
+}
+
+struct station_count plain_decode(const uint8_t *image, size_t image_length, uint8_t *request, size_t request_length) {
+    static const uint8_t rates[16] = { 1, 9, 2, 0, 9, 9, 9, 9, 3, 9, 4, 9, 5, 9, 6, 9 };
+    uint8_t r[35] = { 4, image_length == 256 ? image[0x3C] & 0x3F : 0 };
+    size_t at = 5;
+    struct asked q;
+    if (image_length != 256) return (struct station_count){ 7, 0 };
+    if (request_length < 35) return (struct station_count){ 10, 0 };
+    r[3] = image[0x55] >> 5 & 3;
+    r[4] = image[0xAF] >> 1 & 1;
+    if (image[0x44] & 0x20) {
+        r[at++] = 3;
+        r[at++] = rates[image[0x15] >> 4];
+        r[at++] = (uint8_t)(image[0x73] + 1);
+        r[at++] = image[0x0A] >> 7;
+    } else r[at++] = 0;
+    if (image[0x18] & 0x80) {
+        r[at++] = 25;
+        r[at++] = image[0x18] >> 5 & 3;
+        for (int a = 0x18; a < 0x30; a += 2) {
+            r[at++] = (uint8_t)(((image[a] & 0x1F) ^ 0x10) - 0x10);
+            r[at++] = image[a + 1];
+        }
+    } else r[at++] = 0;
+    if (read(r, at, &q)) return (struct station_count){ 11, 0 };
+    if (!stands(&q, image)) {
+        q.family = 1;
+        if (!q.sound || !q.sound[2] || !modes[q.vic].row[1] || !stands(&q, image)) return (struct station_count){ 11, 0 };
+    }
+    memcpy(request, r, at);
+    return (struct station_count){ 0, (uint32_t)at };
+}

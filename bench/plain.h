@@ -1,0 +1,11 @@
+/* The same planner and decoder in plain C, for the benchmark to compare with. */
+#ifndef PLAIN_H
+#define PLAIN_H
+
+#include "station.h"
+
+struct station_count plain_plan(const uint8_t *request, size_t request_length, const uint8_t *image, size_t image_length, uint8_t *writes,
+                                size_t writes_length);
+struct station_count plain_decode(const uint8_t *image, size_t image_length, uint8_t *request, size_t request_length);
+
+#endif

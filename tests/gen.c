@@ -1,0 +1,214 @@
+#include "gen.h"
+#include <string.h>
+
+static uint64_t state;
+
+void seed(uint64_t s) {
+    state = (s + 1) * 0x9E3779B97F4A7C15u;
+    state ^= state >> 29;
+    state |= 1;
+}
+
+uint32_t any(uint32_t below) {
+    state ^= state >> 12;
+    state ^= state << 25;
+    state ^= state >> 27;
+    return (uint32_t)(((state * 0x2545F4914F6CDD1Du) >> 32) % below);
+}
+
+void any_bytes(uint8_t *bytes, size_t length) {
+    for (size_t i = 0; i < length; i++) {
+        if (i % 4 == 0) any(1);
+        bytes[i] = (uint8_t)(state >> (8 * (i % 4) + 16));
+    }
+}
+
+const uint8_t table_39[25] = { 1, 0x0C, 0x53, 0x08, 0x00, 0x00, 0x00, 0xF9, 0xD6, 0xFC, 0x56, 0x08, 0x00, 0xFE, 0x88, 0x02, 0x91,
+                               0xFF, 0xFF, 0x08, 0x00, 0x0E, 0x85, 0xF8, 0xBE };
+
+static void any_matrix(struct fields *f) {
+    static const int edge[] = { -4096, -4095, -1, 0, 1, 2047, 2048, 4094, 4095 };
+    f->matrix = 1;
+    f->mode = (int)any(3);
+    uint32_t how = any(4);
+    for (int i = 0; i < 12; i++) {
+        if (how == 0) f->coefficient[i] = edge[any(9)];
+        else if (how == 1) f->coefficient[i] = model_coefficient(table_39 + 1 + 2 * i);
+        else f->coefficient[i] = (int)any(8192) - 4096;
+    }
+}
+
+void any_fields(struct fields *f) {
+    memset(f, 0, sizeof *f);
+    f->vic = model_vics[any(15)];
+    f->family = (int)any(2);
+    if (!model_offers(f->vic, f->family)) f->family = 0;
+    f->link = any(5) != 0;
+    if (f->link && any(4)) {
+        f->sound = 1;
+        f->rate = (int)any(7);
+        f->channels = any(2) ? 8 : 2;
+        f->coherent = (int)any(2);
+    }
+    if (any(2)) any_matrix(f);
+    if (f->link && f->matrix) f->encoding = (int)any(3);
+}
+
+/* Fields that are likely to be refused 4, 5 or 6. */
+static void loose_fields(struct fields *f) {
+    any_fields(f);
+    for (uint32_t n = 1 + any(3); n > 0; n--)           /* more than one, so that the order of the refusals shows */
+        switch (any(12)) {
+        case 0: f->vic = (int)any(256); break;
+        case 1: f->family = (int)any(4); break;
+        case 2: f->encoding = (int)any(5); break;
+        case 3: f->link = (int)any(4); break;
+        case 4: f->rate = (int)any(10); break;
+        case 5: f->channels = (int)any(12); break;
+        case 6: f->coherent = (int)any(4); break;
+        case 7: f->mode = (int)any(6); break;
+        case 8: f->coefficient[any(12)] = (int)any(65536) - 32768; break;
+        case 9: f->coefficient[any(12)] = any(2) ? 4096 : -4097; break;
+        case 10: f->matrix = !f->matrix; break;
+        default: f->sound = !f->sound; break;
+        }
+}
+
+size_t any_request(uint8_t *bytes, size_t room) {
+    struct fields f;
+    size_t length;
+    uint32_t how = any(16);
+    if (how == 0) {                                     /* noise, mostly short */
+        length = any(8) ? any(50) : any((uint32_t)room);
+        any_bytes(bytes, length);
+        if (length && any(2)) bytes[0] = 4;
+        return length;
+    }
+    if (how <= 4) loose_fields(&f);
+    else any_fields(&f);
+    length = model_bytes(&f, bytes);
+    if (how == 5) return any((uint32_t)length);         /* cut */
+    if (how == 6) {                                     /* bytes after the last section, few or very many */
+        size_t more = 1 + (any(8) ? any(40) : any((uint32_t)(room - length - 1)));
+        any_bytes(bytes + length, more);
+        return length + more;
+    }
+    if (how == 7) bytes[any((uint32_t)length)] = (uint8_t)any(256);
+    if (how == 8) {                                     /* a count that is not allowed, often the count of another section */
+        static const uint8_t counts[] = { 0, 3, 4, 25, 1, 2, 5, 24, 26, 255 };
+        size_t at[3] = { 0, 5, 6 + bytes[5] };
+        bytes[at[any(3)]] = counts[any(10)];
+    }
+    if (how == 9) bytes[any((uint32_t)length)] ^= (uint8_t)(1u << any(8));
+    return length;
+}
+
+void finish(uint8_t *image, const struct fields *f) {
+    struct pair p = model_pair(f);
+    uint8_t wanted[256], done[256];
+    if (!p.exists) return;
+    model_wanted(f, p, wanted);
+    model_finished(wanted, image, done);
+    memcpy(image, done, 256);
+}
+
+/* The image as a list leaves it after some of its writes. */
+static void cut(uint8_t *image, const struct fields *f) {
+    struct pair p = model_pair(f);
+    struct list l;
+    uint8_t wanted[256];
+    if (!p.exists) return;
+    model_wanted(f, p, wanted);
+    model_list(wanted, image, &l);
+    uint32_t writes = any(l.count + 1);
+    for (uint32_t i = 0; i < writes; i++) {
+        uint8_t fixed = model_classes[l.pairs[2 * i]].read_only, *byte = &image[l.pairs[2 * i]];
+        *byte = (uint8_t)((*byte & fixed) | (l.pairs[2 * i + 1] & ~fixed));
+    }
+}
+
+static void any_holds(uint8_t *image) {
+    static const uint8_t up[8] = { 0x00, 0x40, 0x20, 0x10, 0x60, 0x50, 0x30, 0x70 };
+    image[0x4A] = (uint8_t)((image[0x4A] & ~0x70) | up[any(2) ? any(3) : any(8)]);
+}
+
+void any_image(uint8_t *image) {
+    struct fields f;
+    any_fields(&f);
+    switch (any(8)) {
+    case 0: memset(image, 0x00, 256); break;
+    case 1: memset(image, 0xFF, 256); break;
+    default: any_bytes(image, 256); break;
+    }
+    switch (any(8)) {
+    case 0: any_holds(image); break;
+    case 1: any_holds(image); cut(image, &f); break;
+    case 2: case 3: finish(image, &f); break;
+    case 4:
+        finish(image, &f);
+        for (uint32_t n = 1 + any(3); n > 0; n--) image[any(256)] ^= (uint8_t)(1u << any(8));
+        break;
+    case 5:                                             /* damaged where a request writes */
+        finish(image, &f);
+        for (;;) {
+            uint32_t a = any(256);
+            if (!model_written((int)a)) continue;
+            image[a] ^= (uint8_t)(1u << any(8));
+            break;
+        }
+        break;
+    case 6:                                             /* one register of another request */
+        {
+            uint8_t other[256];
+            struct fields g;
+            any_fields(&g);
+            finish(image, &f);
+            memcpy(other, image, 256);
+            finish(other, &g);
+            uint32_t a = any(256), n = 1 + any(4);
+            for (; n > 0 && a < 256; n--, a++) image[a] = other[a];
+        }
+        break;
+    default: image[0x4A] &= 0x8F; break;
+    }
+}
+
+void any_start(uint8_t *image, uint8_t *packet, uint8_t *coefficients) {
+    static const uint8_t up[3] = { 0x00, 0x40, 0x20 };
+    struct fields f;
+    any_bytes(image, 256);
+    any_bytes(packet, PACKET_BYTES);
+    any_bytes(coefficients, COEFFICIENT_BYTES);
+    any_fields(&f);
+    if (any(2)) finish(image, &f);
+    image[0x4A] = (uint8_t)((image[0x4A] & 0x8F) | up[any(3)]);
+    image[0x1A] = (uint8_t)((image[0x1A] & 0xDF) | (any(2) ? 0x20 : 0));
+}
+
+int kind_of_request(int number, struct fields *f) {
+    for (int v = 0; v < 15; v++)
+        for (int family = 0; family < 2; family++)
+            for (int link = 0; link < 2; link++)
+                for (int matrix = 0; matrix < 2; matrix++)
+                    for (int encoding = 0; encoding < 3; encoding++)
+                        for (int sound = 0; sound < 29; sound++) {
+                            if (!model_offers(model_vics[v], family)) continue;
+                            if (encoding && (!matrix || !link)) continue;
+                            if (sound && !link) continue;
+                            if (number-- > 0) continue;
+                            memset(f, 0, sizeof *f);
+                            if (matrix) any_matrix(f);
+                            f->vic = model_vics[v];
+                            f->family = family;
+                            f->link = link;
+                            f->encoding = encoding;
+                            if (sound) {
+                                f->sound = 1;
+                                f->rate = (sound - 1) / 4;
+                                f->channels = (sound - 1) / 2 % 2 ? 8 : 2;
+                                f->coherent = (sound - 1) % 2;
+                            }
+                            return 1;
+                        }
+    return 0;
+}

@@ -1,0 +1,21 @@
+/* Inputs: requests and images of every kind, from a fixed seed. */
+#ifndef GEN_H
+#define GEN_H
+
+#include "model/model.h"
+
+extern const uint8_t table_39[25];  /* the guide's Table 39 as a request's matrix */
+
+void     seed(uint64_t s);
+uint32_t any(uint32_t below);                           /* 0 .. below - 1 */
+void     any_bytes(uint8_t *bytes, size_t length);
+void     any_fields(struct fields *f);                  /* fields of a request that 1 to 6 let pass (9 may apply) */
+size_t   any_request(uint8_t *bytes, size_t room);      /* valid, damaged, cut, too long, or plain noise */
+void     any_image(uint8_t *image);                     /* noise, finished, cut, damaged, bare; holds of every kind */
+void     any_start(uint8_t *image, uint8_t *packet, uint8_t *coefficients);     /* a state that planning accepts */
+void     finish(uint8_t *image, const struct fields *f);
+
+/* Every kind of request: each VIC in each family, encoding, link, sound, matrix on or off. `number` from 0; 0 when there are no more. */
+int kind_of_request(int number, struct fields *f);
+
+#endif

@@ -1,0 +1,641 @@
+#include "harness.h"
+#include "gen.h"
+#include "lent.h"
+#include <setjmp.h>
+#include <signal.h>
+#include <stdarg.h>
+#include <stdio.h>
+#include <string.h>
+#include <sys/time.h>
+
+char first_difference[160];
+
+static struct {
+    const struct face *f;
+    unsigned share;
+    int stop, loud;
+    struct section *now;
+} run;
+
+/* A call that touches a page it was not lent, or does not end, is a difference too. */
+static sigjmp_buf out;
+static volatile uint64_t seen;
+static volatile int still;
+static volatile sig_atomic_t why;
+
+static void differs(const char *text, ...) {
+    char line[160];
+    va_list list;
+    va_start(list, text);
+    vsnprintf(line, sizeof line, text, list);
+    va_end(list);
+    if (run.now->failed++ == 0) snprintf(first_difference, sizeof first_difference, "%.24s: %.120s", run.now->name, line);
+    if (run.loud && run.now->failed <= 5)
+        printf("    difference in %s, case %llu: %s\n", run.now->name, (unsigned long long)run.now->cases, line);
+    if (run.stop) {
+        why = 1;
+        siglongjmp(out, 1);
+    }
+}
+
+static void on_fault(int number) {
+    (void)number;
+    why = 2;
+    siglongjmp(out, 1);
+}
+
+static void on_tick(int number) {
+    (void)number;
+    if (run.now && run.now->cases == seen) {
+        if (++still >= 3) {
+            why = 3;
+            siglongjmp(out, 1);
+        }
+    } else {
+        still = 0;
+        seen = run.now ? run.now->cases : 0;
+    }
+}
+
+static uint32_t times(uint32_t n) { return (uint32_t)((uint64_t)n * run.share / 1000) + 1; }
+
+static int side(void) { return any(4) ? ENDS : BEGINS; }
+
+/* Comparisons, one for each call: lend, call both, compare the answer and every lent byte. ------------------------------------------ */
+
+static uint8_t expected[ROOM];
+
+static void check_plan(const uint8_t *request, size_t rl, const uint8_t *image, size_t il, const uint8_t *writes, size_t wl) {
+    run.now->cases++;
+    memcpy(expected, writes, wl);
+    struct station_count want = model_plan(request, rl, image, il, expected, wl);
+    struct station_count got = run.f->plan(lend(REQUEST, request, rl, side()), rl, lend(IMAGE, image, il, side()), il,
+                                           lend(WRITES, writes, wl, side()), wl);
+    if (got.refusal != want.refusal) differs("refusal %u, the model has %u", got.refusal, want.refusal);
+    else if (got.count != want.count) differs("count %u, the model has %u", got.count, want.count);
+    else if (!holds(WRITES, expected)) differs("the write buffer is another");
+    else if (!holds(REQUEST, request) || !holds(IMAGE, image)) differs("an input was changed");
+}
+
+static void check_ncts(const uint8_t *request, size_t rl) {
+    run.now->cases++;
+    struct station_pair want = model_ncts(request, rl), got = run.f->ncts(lend(REQUEST, request, rl, side()), rl);
+    if (got.refusal != want.refusal || got.n != want.n || got.cts != want.cts)
+        differs("%u, N %u, CTS %u, the model has %u, %u, %u", got.refusal, got.n, got.cts, want.refusal, want.n, want.cts);
+    else if (!holds(REQUEST, request)) differs("the input was changed");
+}
+
+static void check_decode(const uint8_t *image, size_t il, const uint8_t *buffer, size_t bl) {
+    run.now->cases++;
+    memcpy(expected, buffer, bl);
+    struct station_count want = model_decode(image, il, expected, bl);
+    struct station_count got = run.f->decode(lend(IMAGE, image, il, side()), il, lend(REQUEST, buffer, bl, side()), bl);
+    if (got.refusal != want.refusal) differs("refusal %u, the model has %u", got.refusal, want.refusal);
+    else if (got.count != want.count) differs("count %u, the model has %u", got.count, want.count);
+    else if (!holds(REQUEST, expected)) differs("the request buffer is another");
+    else if (!holds(IMAGE, image)) differs("the image was changed");
+}
+
+static void check_write(const uint8_t *image, size_t il, const uint8_t *packet, size_t pl, const uint8_t *coefficients, size_t cl,
+                        uint8_t address, uint8_t value) {
+    static uint8_t i2[ROOM], p2[ROOM], c2[ROOM];
+    run.now->cases++;
+    memcpy(i2, image, il);
+    memcpy(p2, packet, pl);
+    memcpy(c2, coefficients, cl);
+    uint32_t want = model_write(i2, il, p2, pl, c2, cl, address, value);
+    uint32_t got = run.f->write(lend(IMAGE, image, il, side()), il, lend(PACKET, packet, pl, side()), pl,
+                                lend(COEFFICIENTS, coefficients, cl, side()), cl, address, value);
+    if (got != want) differs("%02x = %02x: refusal %u, the model has %u", address, value, got, want);
+    else if (!holds(IMAGE, i2)) differs("%02x = %02x: the image is another", address, value);
+    else if (!holds(PACKET, p2)) differs("%02x = %02x: the packet buffer is another", address, value);
+    else if (!holds(COEFFICIENTS, c2)) differs("%02x = %02x: the coefficient buffer is another", address, value);
+}
+
+static void check_sent(const uint8_t *image, size_t il, const uint8_t *packet, size_t pl, uint32_t which) {
+    run.now->cases++;
+    struct station_part want = model_sent(image, il, packet, pl, which);
+    struct station_part got = run.f->sent(lend(IMAGE, image, il, side()), il, lend(PACKET, packet, pl, side()), pl, which);
+    if (got.refusal != want.refusal || got.held != want.held || got.start != want.start || got.len != want.len)
+        differs("packet %u: %u, held %u, %u +%u, the model has %u, %u, %u +%u", which, got.refusal, got.held, got.start, got.len,
+                want.refusal, want.held, want.start, want.len);
+    else if (!holds(IMAGE, image) || !holds(PACKET, packet)) differs("an input was changed");
+}
+
+static void check_mute(const uint8_t *image, size_t il, const uint8_t *packet, size_t pl) {
+    run.now->cases++;
+    struct station_state want = model_mute(image, il, packet, pl);
+    struct station_state got = run.f->mute(lend(IMAGE, image, il, side()), il, lend(PACKET, packet, pl, side()), pl);
+    if (got.refusal != want.refusal || got.mute != want.mute)
+        differs("%u, mute %u, the model has %u, %u", got.refusal, got.mute, want.refusal, want.mute);
+    else if (!holds(IMAGE, image) || !holds(PACKET, packet)) differs("an input was changed");
+}
+
+static void check_matrix(const uint8_t *image, size_t il, const uint8_t *coefficients, size_t cl, const uint8_t *matrix, size_t ml) {
+    run.now->cases++;
+    memcpy(expected, matrix, ml);
+    struct station_count want = model_matrix(image, il, coefficients, cl, expected, ml);
+    struct station_count got = run.f->matrix(lend(IMAGE, image, il, side()), il, lend(COEFFICIENTS, coefficients, cl, side()), cl,
+                                             lend(MATRIX, matrix, ml, side()), ml);
+    if (got.refusal != want.refusal || got.count != want.count)
+        differs("%u, count %u, the model has %u, %u", got.refusal, got.count, want.refusal, want.count);
+    else if (!holds(MATRIX, expected)) differs("the matrix buffer is another");
+    else if (!holds(IMAGE, image) || !holds(COEFFICIENTS, coefficients)) differs("an input was changed");
+}
+
+static void check_preview(const uint8_t *matrix, size_t ml, uint32_t a, uint32_t b, uint32_t c) {
+    run.now->cases++;
+    struct station_pixel want = model_preview(matrix, ml, a, b, c), got = run.f->preview(lend(MATRIX, matrix, ml, side()), ml, a, b, c);
+    if (got.refusal != want.refusal || got.a != want.a || got.b != want.b || got.c != want.c)
+        differs("%u: %u, %u, %u, the model has %u: %u, %u, %u", got.refusal, got.a, got.b, got.c, want.refusal, want.a, want.b, want.c);
+    else if (!holds(MATRIX, matrix)) differs("the input was changed");
+}
+
+/* Sections. ------------------------------------------------------------------------------------------------------------------------- */
+
+/* All 1,280 numbers, and the one rule of the table. */
+static void classes(void) {
+    for (int a = 0; a < 256; a++) {
+        struct station_class want = model_class((uint8_t)a), got = run.f->class_of((uint8_t)a);
+        const uint32_t w[5] = { want.read_only, want.mandated, want.named, want.free, want.bits };
+        const uint32_t g[5] = { got.read_only, got.mandated, got.named, got.free, got.bits };
+        static const char *const names[5] = { "read-only", "mandated", "named", "free", "mandated bits" };
+        for (int i = 0; i < 5; i++) {
+            run.now->cases++;
+            if (g[i] != w[i]) differs("%02x, %s: %02x, the model has %02x", a, names[i], g[i], w[i]);
+        }
+        if (g[0] + g[1] + g[2] + g[3] != 0xFF || (g[0] | g[1] | g[2] | g[3]) != 0xFF || (g[4] & ~g[1]))
+            differs("%02x: the masks share a bit or do not cover", a);
+    }
+}
+
+/* Document 01's marked cases: its own numbers, not the model's. */
+static void marked(void) {
+    static const struct { uint8_t bytes[12]; size_t length; uint32_t refusal, n, cts; } cases[] = {
+        { { 0x04 }, 1, 1, 0, 0 },
+        { { 0x05, 0x10, 0, 0, 1 }, 5, 2, 0, 0 },
+        { { 0x04, 0x10, 0, 0, 1, 0, 0, 0 }, 8, 3, 0, 0 },
+        { { 0x04, 19, 1, 0, 1, 0, 0 }, 7, 4, 0, 0 },
+        { { 0x04, 0x10, 0, 1, 1, 0, 0 }, 7, 6, 0, 0 },
+        { { 0x04, 16, 0, 0, 1, 3, 2, 2, 1, 0 }, 10, 0, 6144, 148500 },
+        { { 0x04, 60, 0, 0, 1, 3, 1, 2, 1, 0 }, 10, 0, 5488, 57750 },
+        { { 0x04, 60, 1, 0, 1, 3, 0, 2, 1, 0 }, 10, 0, 5824, 84375 },
+        { { 0x04, 4, 1, 0, 1, 3, 0, 2, 1, 0 }, 10, 9, 0, 0 },
+    };
+    uint8_t image[256] = { 0 }, writes[256], coefficients[24] = { 0 }, matrix[25];
+    for (size_t i = 0; i < sizeof cases / sizeof cases[0]; i++) {
+        run.now->cases++;
+        struct station_pair p = run.f->ncts(cases[i].bytes, cases[i].length);
+        struct station_count c = run.f->plan(cases[i].bytes, cases[i].length, image, 256, writes, 256);
+        if (p.refusal != cases[i].refusal || p.n != cases[i].n || p.cts != cases[i].cts) differs("case %zu, N and CTS", i + 1);
+        if (c.refusal != cases[i].refusal) differs("case %zu, planning: %u", i + 1, c.refusal);
+    }
+    /* 10 and 11: checksums, read off the list's bytes for 0x54 and 0x72. */
+    static const struct { uint8_t bytes[10]; size_t length; uint8_t avi, audio; } sums[] = {
+        { { 0x04, 16, 0, 0, 1, 3, 2, 8, 1, 0 }, 10, 0x27, 0x57 },
+        { { 0x04, 16, 0, 0, 1, 0, 0 }, 7, 0x27, 0x71 },
+        { { 0x04, 16, 0, 0, 1, 3, 2, 2, 1, 0 }, 10, 0x27, 0x70 },
+    };
+    for (int i = 0; i < 3; i++) {
+        run.now->cases++;
+        struct station_count c = run.f->plan(sums[i].bytes, sums[i].length, image, 256, writes, 256);
+        for (uint32_t w = 0; w < c.count && w < 128; w++) {
+            if (writes[2 * w] == 0x54 && writes[2 * w + 1] != sums[i].avi) differs("case 10: AVI checksum %02x", writes[2 * w + 1]);
+            if (writes[2 * w] == 0x72 && writes[2 * w + 1] != sums[i].audio) differs("case 11: audio checksum %02x", writes[2 * w + 1]);
+        }
+    }
+    /* 12: -1578 and -1 as the chip has them in 13 bits. */
+    run.now->cases++;
+    image[0x1E] = 0x19, image[0x1F] = 0xD6, image[0x28] = 0x1F, image[0x29] = 0xFF;
+    struct station_count m = run.f->matrix(image, 256, coefficients, 24, matrix, 25);
+    if (m.refusal != 0 || model_coefficient(matrix + 7) != -1578 || model_coefficient(matrix + 17) != -1) differs("case 12");
+    run.now->cases++;
+    struct station_pixel p = run.f->preview(table_39, 25, 2048, 3760, 2048);
+    if (p.refusal != 0 || p.a != 3759 || p.b != 3760 || p.c != 3760) differs("case 13: %u, %u, %u", p.a, p.b, p.c);
+}
+
+/* Every value of every field, one at a time, in every kind of request; every cut of each, and one byte more. */
+static void fields(void) {
+    uint8_t image[256] = { 0 }, writes[256] = { 0 };
+    for (int i = 0; i < 118 * 25; i += (int)(1 + 250 / times(250))) {
+        struct fields f;
+        uint8_t bytes[64];
+        seed(0x100000u + (unsigned)i);
+        if (!kind_of_request(i, &f)) break;
+        size_t length = model_bytes(&f, bytes);
+        check_ncts(bytes, length);
+        if (i % 16) continue;
+        for (size_t cut = 0; cut <= length + 1; cut++) {
+            if (cut == length + 1) bytes[length] = (uint8_t)any(256);
+            check_ncts(bytes, cut);
+            check_plan(bytes, cut, image, 256, writes, 256);
+        }
+        for (size_t at = 0; at < length; at++) {
+            uint8_t was = bytes[at];
+            for (int v = 0; v < 256; v++) {
+                bytes[at] = (uint8_t)v;
+                check_ncts(bytes, length);
+            }
+            bytes[at] = was;
+        }
+    }
+}
+
+static void ncts(void) {
+    static uint8_t bytes[ROOM];
+    for (uint32_t i = times(100000); i > 0; i--) {
+        seed(0x200000u + i);
+        size_t length = any_request(bytes, 4096);
+        check_ncts(bytes, length);
+    }
+    memset(bytes, 4, sizeof bytes);         /* a very long one */
+    check_ncts(bytes, ROOM - 64);
+}
+
+static size_t any_length(size_t right, size_t room) {
+    if (any(8)) return right;
+    return any(2) ? right - 1 + any(3) : any((uint32_t)room);
+}
+
+static void plan(void) {
+    static uint8_t request[4096], image[1024], writes[1024];
+    for (uint32_t i = times(200000); i > 0; i--) {
+        seed(0x300000u + i);
+        struct fields f;
+        size_t rl;
+        if (any(3)) {
+            any_fields(&f);
+            rl = model_bytes(&f, request);
+        } else rl = any_request(request, sizeof request);
+        any_bytes(image + 256, 8);
+        any_image(image);
+        if (any(2)) image[0x4A] &= any(2) ? 0xCF : 0xAF;
+        memset(writes, (int)any(256), sizeof writes);
+        size_t wl = any(2) ? 256 : any_length(256, sizeof writes);
+        check_plan(request, rl, image, any_length(256, sizeof image), writes, wl);
+    }
+}
+
+/* Every length of every buffer up to 600, and the order of the refusals where two apply. */
+static void lengths(void) {
+    static uint8_t image[600], buffer[600], packet[64], coefficients[64];
+    uint8_t request[64];
+    uint32_t step = 1 + 3 * (run.share < 1000);
+    for (uint32_t i = 0; i < 6; i++) {
+        struct fields f;
+        seed(0x400000u + i);
+        any_bytes(image, sizeof image);
+        any_bytes(buffer, sizeof buffer);
+        any_bytes(packet, sizeof packet);
+        any_bytes(coefficients, sizeof coefficients);
+        do any_fields(&f); while (!model_pair(&f).exists);
+        if (i % 3 == 1) f = (struct fields){ .vic = 4, .family = 1, .link = 1, .sound = 1, .rate = 0, .channels = 2, .coherent = 1 };
+        if (i % 3 != 2) finish(image, &f), image[0x4A] &= 0x8F;
+        size_t rl = model_bytes(&f, request);
+        for (uint32_t n = 0; n < 600; n += n > 300 ? step : 1) {
+            check_plan(request, rl, image, n, buffer, 256);
+            check_plan(request, rl, image, n, buffer, 255);
+            check_plan(request, rl, image, 256, buffer, n);
+            check_plan(request, rl, image, 255, buffer, n);
+            check_decode(image, n, buffer, 35);
+            check_decode(image, n, buffer, 34);
+            check_decode(image, 256, buffer, n);
+            check_decode(image, 257, buffer, n);
+            check_write(image, n, packet, 32, coefficients, 24, 0x4A, 0xC0);
+            check_sent(image, n, packet, 32, n % 3);
+            check_mute(image, n, packet, 32);
+            check_matrix(image, n, coefficients, 24, buffer, 25);
+            check_matrix(image, n, coefficients, 24, buffer, 24);
+            check_matrix(image, 256, coefficients, 24, buffer, n);
+            check_preview(buffer, n, 1, 2, 3);
+            if (n >= 64) continue;
+            check_write(image, 256, packet, n, coefficients, 24, 0x4A, 0xA0);
+            check_write(image, 256, packet, 32, coefficients, n, 0x1A, 0x20);
+            check_sent(image, 256, packet, n, n % 3);
+            check_mute(image, 256, packet, n);
+            check_matrix(image, 256, coefficients, n, buffer, 25);
+        }
+    }
+}
+
+static void decode(void) {
+    static uint8_t image[1024], buffer[256];
+    for (uint32_t i = times(150000); i > 0; i--) {
+        seed(0x500000u + i);
+        any_bytes(image + 256, 8);
+        any_image(image);
+        any_bytes(buffer, sizeof buffer);
+        check_decode(image, any(16) ? 256 : any_length(256, sizeof image), buffer, any(4) ? 35 + any(30) : any_length(35, sizeof buffer));
+    }
+}
+
+/* Each of the 2,048 bits of some finished images turned over. */
+static void flips(void) {
+    uint8_t image[256], buffer[40];
+    for (uint32_t i = times(24); i > 0; i--) {
+        struct fields f;
+        seed(0x600000u + i);
+        any_bytes(image, 256);
+        any_bytes(buffer, sizeof buffer);
+        do any_fields(&f); while (!model_pair(&f).exists);
+        finish(image, &f);
+        check_decode(image, 256, buffer, sizeof buffer);
+        for (int bit = 0; bit < 2048; bit++) {
+            image[bit / 8] ^= (uint8_t)(1 << bit % 8);
+            check_decode(image, 256, buffer, sizeof buffer);
+            image[bit / 8] ^= (uint8_t)(1 << bit % 8);
+        }
+    }
+}
+
+/* The model's own short cut in decoding, against the search over every kind of request. */
+static void whole_search(void) {
+    uint8_t image[256], one[LONGEST], two[LONGEST];
+    for (uint32_t i = times(1500); i > 0; i--) {
+        struct fields f, g;
+        seed(0x700000u + i);
+        run.now->cases++;
+        any_image(image);
+        int short_cut = model_ends(image, 0, &f), whole = model_ends(image, 1, &g);
+        if (short_cut != whole) differs("the model's two searches");
+        else if (whole && (model_bytes(&f, one) != model_bytes(&g, two) || memcmp(one, two, model_bytes(&f, one)) != 0))
+            differs("the model's two requests");
+    }
+}
+
+static void any_chip(uint8_t *image, uint8_t *packet, uint8_t *coefficients) {
+    any_image(image);
+    any_bytes(packet, PACKET_BYTES);
+    any_bytes(coefficients, COEFFICIENT_BYTES);
+    if (any(4)) {
+        static const uint8_t up[4] = { 0, 0x40, 0x20, 0x10 };
+        image[0x4A] = (uint8_t)((image[0x4A] & 0x8F) | up[any(4)]);
+    }
+}
+
+static void writes(void) {
+    uint8_t image[256], packet[64], coefficients[64];
+    static const uint8_t often[] = { 0x4A, 0x4A, 0x4A, 0x1A, 0x4B, 0x18 };
+    for (uint32_t i = times(150000); i > 0; i--) {
+        seed(0x800000u + i);
+        any_bytes(packet, sizeof packet);
+        any_bytes(coefficients, sizeof coefficients);
+        any_chip(image, packet, coefficients);
+        uint8_t address = any(2) ? often[any(6)] : (uint8_t)any(256);
+        check_write(image, 256, packet, any_length(32, sizeof packet), coefficients, any_length(24, sizeof coefficients), address,
+                    (uint8_t)any(256));
+    }
+    /* Every address with every value, on some states. */
+    for (uint32_t i = times(3); i > 0; i--) {
+        seed(0x900000u + i);
+        any_chip(image, packet, coefficients);
+        if (model_holds(image[0x4A]) > 1) image[0x4A] &= 0xCF;
+        for (int v = 0; v < 65536; v++) {
+            int near = (v >> 8) == 0x4A || (v >> 8) == 0x1A;
+            if (run.share < 1000 && !near && v % 7) continue;
+            check_write(image, 256, packet, 32, coefficients, 24, (uint8_t)(v >> 8), (uint8_t)v);
+        }
+    }
+}
+
+static void views(void) {
+    uint8_t image[300], packet[64], coefficients[64], matrix[64];
+    for (uint32_t i = times(60000); i > 0; i--) {
+        seed(0xA00000u + i);
+        any_bytes(image + 256, 44);
+        any_bytes(packet, sizeof packet);
+        any_bytes(coefficients, sizeof coefficients);
+        any_bytes(matrix, sizeof matrix);
+        any_chip(image, packet, coefficients);
+        size_t il = any_length(256, sizeof image), pl = any_length(32, sizeof packet);
+        check_sent(image, il, packet, pl, any(8) ? any(2) : any(3) ? 2 + any(2) : 1u << any(32));
+        check_mute(image, il, packet, pl);
+        check_matrix(image, il, coefficients, any_length(24, sizeof coefficients), matrix, any(2) ? 25 + any(20) : any_length(25, 64));
+    }
+}
+
+static void preview(void) {
+    uint8_t matrix[64], request[64];
+    for (uint32_t i = times(100000); i > 0; i--) {
+        struct fields f;
+        uint32_t in[3];
+        seed(0xB00000u + i);
+        do any_fields(&f); while (!f.matrix);
+        memcpy(matrix, request + model_bytes(&f, request) - 25, 25);
+        if (any(8) == 0) matrix[any(25)] ^= (uint8_t)(1u << any(8));
+        if (any(16) == 0) matrix[0] = (uint8_t)any(256);
+        for (int c = 0; c < 3; c++) in[c] = any(8) ? any(4096) : any(2) ? 4095 + any(2) : any(4) * 0x55555555u + any(3);
+        check_preview(matrix, any_length(25, sizeof matrix), in[0], in[1], in[2]);
+    }
+}
+
+/* Demand 3, with the library's own planning, machine and views. --------------------------------------------------------------------- */
+
+struct chip { uint8_t image[256], packet[PACKET_BYTES], coefficients[COEFFICIENT_BYTES]; };
+struct groups { uint8_t avi[AVI_BYTES], audio[AUDIO_BYTES], matrix[24]; uint32_t mute; };
+
+/* What is in use, by the library's views. The chip lies at guard pages. */
+static int look(const struct chip *c, struct groups *g) {
+    uint8_t matrix[25];
+    const uint8_t *image = lend(IMAGE, c->image, 256, ENDS), *packet = lend(PACKET, c->packet, PACKET_BYTES, ENDS);
+    struct station_part avi = run.f->sent(image, 256, packet, PACKET_BYTES, 0), audio = run.f->sent(image, 256, packet, PACKET_BYTES, 1);
+    struct station_state mute = run.f->mute(image, 256, packet, PACKET_BYTES);
+    struct station_count m = run.f->matrix(image, 256, lend(COEFFICIENTS, c->coefficients, 24, ENDS), 24, matrix, sizeof matrix);
+    if (avi.refusal || audio.refusal || mute.refusal || m.refusal || avi.len != AVI_BYTES || audio.len != AUDIO_BYTES) return 0;
+    memcpy(g->avi, (avi.held ? c->packet : c->image) + avi.start, AVI_BYTES);
+    memcpy(g->audio, (audio.held ? c->packet : c->image) + audio.start, AUDIO_BYTES);
+    memcpy(g->matrix, matrix + 1, 24);
+    g->mute = mute.mute;
+    return 1;
+}
+
+static int old_or_new(const struct groups *g, const struct groups *old, const struct groups *new) {
+    return (!memcmp(g->avi, old->avi, AVI_BYTES) || !memcmp(g->avi, new->avi, AVI_BYTES)) &&
+           (!memcmp(g->audio, old->audio, AUDIO_BYTES) || !memcmp(g->audio, new->audio, AUDIO_BYTES)) &&
+           (!memcmp(g->matrix, old->matrix, 24) || !memcmp(g->matrix, new->matrix, 24));
+}
+
+static int same(const struct groups *a, const struct groups *b) {
+    return !memcmp(a->avi, b->avi, AVI_BYTES) && !memcmp(a->audio, b->audio, AUDIO_BYTES) && !memcmp(a->matrix, b->matrix, 24);
+}
+
+static struct station_count planned(const uint8_t *request, size_t rl, const struct chip *c, uint8_t *list) {
+    return run.f->plan(request, rl, c->image, 256, list, 256);
+}
+
+static int sent_to(struct chip *c, const uint8_t *list, uint32_t from, uint32_t to) {
+    for (uint32_t w = from; w < to; w++)
+        if (run.f->write(c->image, 256, c->packet, PACKET_BYTES, c->coefficients, COEFFICIENT_BYTES, list[2 * w], list[2 * w + 1])) return 0;
+    return 1;
+}
+
+/* Document 01's own words for the finished image, the groups in it, and the request that it decodes to. */
+static void finished(const uint8_t *bytes, size_t length, const struct fields *f, const struct chip *start, const struct chip *end,
+                     const struct groups *new) {
+    uint8_t wanted[256], done[256], avi[AVI_BYTES], audio[AUDIO_BYTES], back[LONGEST], asked[LONGEST];
+    model_wanted(f, model_pair(f), wanted);
+    model_finished(wanted, start->image, done);
+    model_avi(f, avi);
+    model_audio(f, audio);
+    if (memcmp(done, end->image, 256)) differs("VIC %d: the finished image is another", f->vic);
+    /* The reserved bits beside version and length are free, so they are the image's. */
+    if (memcmp(avi + 2, new->avi + 2, AVI_BYTES - 2) || (new->avi[0] & 7) != 2 || (new->avi[1] & 31) != 13) differs("the AVI group at the end");
+    if (memcmp(audio + 2, new->audio + 2, AUDIO_BYTES - 2) || (new->audio[0] & 7) != 1 || (new->audio[1] & 31) != 10)
+        differs("the audio group at the end");
+    if (f->matrix && memcmp(new->matrix, bytes + length - 24, 24)) differs("the matrix group at the end");
+    memcpy(asked, bytes, length);
+    asked[2] = 0;
+    struct station_count d = run.f->decode(end->image, 256, back, sizeof back);
+    if (d.refusal || d.count != length || memcmp(asked, back, length)) differs("VIC %d: the finished image decodes otherwise", f->vic);
+}
+
+/* Every cut of every kind of request: muted, old or new, planned again. */
+static void cuts(void) {
+    struct fields f;
+    for (int i = 0; ; i += run.share < 1000 ? 1 + 2950 / (int)times(2950) : 1) {
+        uint8_t bytes[LONGEST], list[256], again[256];
+        struct chip start, c, end, redone;
+        struct groups old, new, g;
+        seed(0xC00000u + (unsigned)i);
+        if (!kind_of_request(i, &f)) break;
+        size_t length = model_bytes(&f, bytes);
+        any_start(start.image, start.packet, start.coefficients);
+        start.image[0x4A] = (uint8_t)((start.image[0x4A] & 0x8F) | (const uint8_t[]){ 0, 0x20, 0x40 }[i % 3]);
+        struct station_count n = planned(bytes, length, &start, list);
+        if (!model_pair(&f).exists) {
+            run.now->cases++;
+            if (n.refusal != 9) differs("VIC %d: refusal %u for 9", f.vic, n.refusal);
+            continue;
+        }
+        if (n.refusal || n.count > 128) {
+            differs("VIC %d: refused %u, count %u", f.vic, n.refusal, n.count);
+            continue;
+        }
+        end = start;
+        if (!sent_to(&end, list, 0, n.count) || !look(&start, &old) || !look(&end, &new)) {
+            differs("VIC %d: the machine refused", f.vic);
+            continue;
+        }
+        finished(bytes, length, &f, &start, &end, &new);
+        c = start;
+        for (uint32_t cut = 0; cut <= n.count; cut++) {
+            run.now->cases++;
+            if (cut && !sent_to(&c, list, cut - 1, cut)) differs("write %u refused", cut);
+            if (!look(&c, &g)) {
+                differs("a view refused after write %u", cut);
+                break;
+            }
+            if (cut == 0 && (!same(&g, &old) || g.mute != old.mute)) differs("moved before the first write");
+            if (cut > 0 && cut < n.count && g.mute != 1) differs("VIC %d: not muted after write %u of %u", f.vic, cut, n.count);
+            if (!old_or_new(&g, &old, &new)) differs("VIC %d: a group is neither old nor new after write %u", f.vic, cut);
+            if (cut == n.count && (g.mute != 2 || !same(&g, &new))) differs("not open or not new after the last write");
+            redone = c;
+            struct station_count m = planned(bytes, length, &redone, again);
+            if (m.refusal || m.count > 128 || !sent_to(&redone, again, 0, m.count) || !look(&redone, &g)) {
+                differs("VIC %d: planned again after write %u: refused", f.vic, cut);
+                continue;
+            }
+            if (memcmp(redone.image, end.image, 256)) differs("VIC %d: planned again after write %u: another image", f.vic, cut);
+            if (!same(&g, &new) || g.mute != 2) differs("VIC %d: planned again after write %u: another group", f.vic, cut);
+        }
+    }
+}
+
+/* Cut, planned again, cut again, some times over; then another request over the ruins. */
+static void chains(void) {
+    for (uint32_t i = times(6000); i > 0; i--) {
+        uint8_t bytes[LONGEST], list[256];
+        struct chip start, c, end;
+        struct groups old, new, g;
+        struct fields f;
+        seed(0xD00000u + i);
+        any_start(start.image, start.packet, start.coefficients);
+        for (int turn = 0; turn < 2; turn++) {
+            do any_fields(&f); while (!model_pair(&f).exists);
+            size_t length = model_bytes(&f, bytes);
+            struct station_count n = planned(bytes, length, &start, list);
+            end = c = start;
+            if (n.refusal || n.count > 128 || !sent_to(&end, list, 0, n.count) || !look(&start, &old) || !look(&end, &new)) {
+                differs("refused %u on a state left by a cut", n.refusal);
+                break;
+            }
+            for (uint32_t again = 1 + any(4); again > 0; again--) {
+                run.now->cases++;
+                n = planned(bytes, length, &c, list);
+                if (n.refusal || n.count > 128 || !sent_to(&c, list, 0, any(n.count)) || !look(&c, &g)) {
+                    differs("refused %u after a cut", n.refusal);
+                    break;
+                }
+                if (!old_or_new(&g, &old, &new)) differs("a group is neither old nor new after more than one cut");
+            }
+            struct chip left = c;
+            n = planned(bytes, length, &c, list);
+            if (n.refusal || n.count > 128 || !sent_to(&c, list, 0, n.count) || !look(&c, &g)) differs("refused at the end");
+            else if (memcmp(c.image, end.image, 256) || !same(&g, &new) || g.mute != 2) differs("another end after more than one cut");
+            start = left;
+        }
+    }
+}
+
+static const struct { const char *name, *call; void (*run)(void); } sections[SECTIONS] = {
+    { "class table", "class", classes },
+    { "marked cases", "", marked },
+    { "every field, every cut", "ncts plan", fields },
+    { "N and CTS", "ncts", ncts },
+    { "planning", "plan", plan },
+    { "every length", "", lengths },
+    { "decoding", "decode", decode },
+    { "every bit of finished images", "decode", flips },
+    { "the model's search", "", whole_search },
+    { "machine writes", "write", writes },
+    { "views", "sent mute matrix", views },
+    { "preview", "preview", preview },
+    { "every cut of every mode", "", cuts },
+    { "more than one cut", "", chains },
+};
+
+int harness(const struct face *f, int first, unsigned share, int stop, int loud, struct section *result) {
+    static char stack[1 << 16];
+    static int open;
+    volatile int bad = 0;
+    if (!open) {
+        struct sigaction fault = { .sa_handler = on_fault, .sa_flags = SA_ONSTACK }, tick = { .sa_handler = on_tick };
+        stack_t s = { .ss_sp = stack, .ss_size = sizeof stack };
+        struct itimerval second = { { 1, 0 }, { 1, 0 } };
+        open = 1;
+        lent_open();
+        sigaltstack(&s, NULL);
+        sigaction(SIGSEGV, &fault, NULL);
+        sigaction(SIGBUS, &fault, NULL);
+        sigaction(SIGALRM, &tick, NULL);
+        setitimer(ITIMER_REAL, &second, NULL);
+    }
+    run.f = f;
+    run.share = share;
+    run.stop = stop;
+    run.loud = loud;
+    first_difference[0] = 0;
+    for (volatile int i = first; i < SECTIONS; i++) {
+        struct timeval from, to;
+        result[i] = (struct section){ sections[i].name, sections[i].call, 0, 0 };
+        still = 0;
+        gettimeofday(&from, NULL);
+        if (sigsetjmp(out, 1) == 0) {
+            run.now = &result[i];
+            sections[i].run();
+        } else if (why > 1) {
+            run.stop = 0;
+            differs(why == 2 ? "a byte outside what was lent was touched" : "the call does not end");
+            run.stop = stop;
+        }
+        gettimeofday(&to, NULL);
+        bad += result[i].failed != 0;
+        if (loud)
+            printf("  %-30s %9llu cases %6.1f s  %s\n", result[i].name, (unsigned long long)result[i].cases,
+                   (double)(to.tv_sec - from.tv_sec) + (double)(to.tv_usec - from.tv_usec) / 1e6, result[i].failed ? "FAILED" : "equal");
+        fflush(stdout);
+        if (stop && bad) break;
+    }
+    run.now = NULL;
+    return bad;
+}

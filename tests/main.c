@@ -1,0 +1,94 @@
+/* tests: `tests lib` compares the library with the model; `tests self` the model with itself, which tries the harness; `tests wrong` runs
+ * every wrong library of tests/wrong and says how many were caught, after two right ones (the model, and the plain C of bench/). Each
+ * ends with 'N passed, M failed'. */
+#include "../bench/plain.h"
+#include "harness.h"
+#include "model/model.h"
+#include "wrong/wrong.h"
+#include <stdio.h>
+#include <stdlib.h>
+#include <string.h>
+
+static const struct face model = { model_plan, model_decode, model_ncts,    model_write,  model_sent,
+                                   model_mute, model_matrix, model_preview, model_class };
+static const struct face library = { station_plan, station_decode, station_ncts,    station_write,  station_sent,
+                                     station_mute, station_matrix, station_preview, station_class };
+
+/* The calls that are stood in for by the model, so that a section on them alone shows nothing. */
+static const char missing[] = ""
+#ifdef MISSING_class
+                              " class"
+#endif
+#ifdef MISSING_decode
+                              " decode"
+#endif
+#ifdef MISSING_write
+                              " write"
+#endif
+#if defined MISSING_sent || defined MISSING_mute || defined MISSING_matrix
+                              " sent mute matrix"
+#endif
+    ;
+
+static int compared(const char *what, const struct face *f, unsigned share, const char *not_there) {
+    struct section s[SECTIONS];
+    uint64_t cases = 0;
+    int all = 0, failed = 0;
+    printf("%s against the model\n", what);
+    harness(f, ALL, share, 0, 1, s);
+    for (int i = 0; i < SECTIONS; i++) {
+        if (s[i].call[0] && strstr(not_there, s[i].call)) {
+            printf("  not counted: %s\n", s[i].name);
+            continue;
+        }
+        cases += s[i].cases;
+        failed += s[i].failed != 0;
+        all++;
+    }
+    if (not_there[0]) printf("  not in include/station.h yet, and stood in for by the model:%s\n", not_there);
+    printf("  %llu cases in %d sections\n", (unsigned long long)cases, all);
+    printf("%d passed, %d failed\n", all - failed, failed);
+    return failed != 0;
+}
+
+/* The same run, with fewer cases, on the model itself and on each wrong library. */
+enum { SHARE = 20 };
+
+static int caught(void) {
+    struct section s[SECTIONS];
+    int all = 0, missed = 0, cuts = 0;
+    printf("wrong libraries, each with one fault\n");
+    int control = harness(&model, ALL, SHARE, 1, 0, s);
+    printf("  the right one: %s\n", control ? first_difference : "no difference");
+    struct face plain = model;
+    plain.plan = plain_plan;
+    plain.decode = plain_decode;
+    control += harness(&plain, ALL, 5 * SHARE, 1, 0, s);
+    printf("  the plain planner and decoder of bench/: %s\n", first_difference[0] ? first_difference : "no difference");
+    for (const struct wrong *const *set = wrong_sets; *set; set++)
+        for (const struct wrong *w = *set; w->fault; w++, all++) {
+            struct face f = model;
+            w->put(&f);
+            int bad = harness(&f, ALL, SHARE, 1, 0, s);
+            printf("  %-6s %-48.48s %.100s\n", bad ? "caught" : "MISSED", w->fault, first_difference);
+            if (bad && w->on_cuts) {        /* demand 3 must show it too, without the model's list */
+                bad = harness(&f, ON_CUTS, SHARE, 1, 0, s);
+                cuts += bad != 0;
+                printf("  %-6s %-48.48s %.100s\n", bad ? "caught" : "MISSED", "  the same, by demand 3 alone", first_difference);
+            }
+            missed += bad == 0;
+            fflush(stdout);
+        }
+    printf("  %d of %d wrong libraries caught, %d of them by demand 3 alone as well\n", all - missed, all, cuts);
+    printf("%d passed, %d failed\n", all - missed + 2 - control, missed + control);
+    return missed != 0 || control != 0;
+}
+
+int main(int count, char **words) {
+    unsigned share = count == 3 ? (unsigned)strtoul(words[2], NULL, 10) : 1000;
+    if (count >= 2 && !strcmp(words[1], "lib")) return compared("the library", &library, share, missing);
+    if (count >= 2 && !strcmp(words[1], "self")) return compared("the model", &model, share, "");
+    if (count == 2 && !strcmp(words[1], "wrong")) return caught();
+    fprintf(stderr, "usage: tests lib|self [SHARE OF THE RANDOM CASES IN 1/1000]\n       tests wrong\n");
+    return 2;
+}

@@ -1,0 +1,82 @@
+/* The C face by the model: lengths, the order of the refusals, what is written to the lent buffers. */
+#include "model.h"
+
+struct station_count model_plan(const uint8_t *request, size_t request_length, const uint8_t *image, size_t image_length, uint8_t *writes,
+                                size_t writes_length) {
+    struct fields f;
+    struct pair p;
+    struct list l;
+    uint8_t wanted[256];
+    uint32_t refusal = model_read(request, request_length, &f);
+    if (refusal) return (struct station_count){ refusal, 0 };
+    if (image_length != IMAGE_BYTES) return (struct station_count){ 7, 0 };
+    if ((image[0x4A] & 0x10) || (image[0x4A] & 0x60) == 0x60) return (struct station_count){ 8, 0 };
+    p = model_pair(&f);
+    if (!p.exists) return (struct station_count){ 9, 0 };
+    if (writes_length < 256) return (struct station_count){ 10, 0 };
+    model_wanted(&f, p, wanted);
+    model_list(wanted, image, &l);
+    for (uint32_t i = 0; i < 2 * l.count; i++) writes[i] = l.pairs[i];
+    return (struct station_count){ 0, l.count };
+}
+
+struct station_pair model_ncts(const uint8_t *request, size_t length) {
+    struct fields f;
+    uint32_t refusal = model_read(request, length, &f);
+    if (refusal) return (struct station_pair){ refusal, 0, 0 };
+    struct pair p = model_pair(&f);
+    if (!p.exists) return (struct station_pair){ 9, 0, 0 };
+    return (struct station_pair){ 0, p.n, p.cts };
+}
+
+struct station_count model_decode(const uint8_t *image, size_t image_length, uint8_t *request, size_t request_length) {
+    struct fields f;
+    if (image_length != IMAGE_BYTES) return (struct station_count){ 7, 0 };
+    if (request_length < LONGEST) return (struct station_count){ 10, 0 };
+    if (!model_ends(image, 0, &f)) return (struct station_count){ 11, 0 };
+    return (struct station_count){ 0, (uint32_t)model_bytes(&f, request) };
+}
+
+uint32_t model_write(uint8_t *image, size_t image_length, uint8_t *packet, size_t packet_length, uint8_t *coefficients,
+                     size_t coefficients_length, uint8_t address, uint8_t value) {
+    if (image_length != IMAGE_BYTES || packet_length != PACKET_BYTES || coefficients_length != COEFFICIENT_BYTES) return 7;
+    return model_step(image, packet, coefficients, address, value);
+}
+
+struct station_part model_sent(const uint8_t *image, size_t image_length, const uint8_t *packet, size_t packet_length, uint32_t which) {
+    (void)packet;
+    if (which > 1) return (struct station_part){ 5, 0, 0, 0 };
+    if (image_length != IMAGE_BYTES || packet_length != PACKET_BYTES) return (struct station_part){ 7, 0, 0, 0 };
+    if (model_holds(image[0x4A]) >= 2) return (struct station_part){ 13, 0, 0, 0 };
+    int held = image[0x4A] & (which == 0 ? 0x40 : 0x20);
+    uint32_t len = which == 0 ? AVI_BYTES : AUDIO_BYTES;
+    if (held) return (struct station_part){ 0, 1, 0, len };
+    return (struct station_part){ 0, 0, which == 0 ? 0x52 : 0x70, len };
+}
+
+struct station_state model_mute(const uint8_t *image, size_t image_length, const uint8_t *packet, size_t packet_length) {
+    if (image_length != IMAGE_BYTES || packet_length != PACKET_BYTES) return (struct station_state){ 7, 0 };
+    if (model_holds(image[0x4A]) >= 2) return (struct station_state){ 13, 0 };
+    uint8_t gc = image[0x4A] & 0x10 ? packet[0] : image[0x4B];     /* the GC byte in use */
+    uint32_t set = gc >> 6 & 1, clear = gc >> 7 & 1;
+    return (struct station_state){ 0, set + 2 * clear };
+}
+
+struct station_count model_matrix(const uint8_t *image, size_t image_length, const uint8_t *coefficients, size_t coefficients_length,
+                                  uint8_t *matrix, size_t matrix_length) {
+    if (image_length != IMAGE_BYTES || coefficients_length != COEFFICIENT_BYTES) return (struct station_count){ 7, 0 };
+    if (matrix_length < 25) return (struct station_count){ 10, 0 };
+    const uint8_t *in_use = image[0x1A] & 0x20 ? coefficients : image + 0x18;
+    matrix[0] = image[0x18] >> 5 & 3;                       /* the mode acts at once, hold or no hold */
+    for (int i = 0; i < 12; i++) {
+        uint8_t high = in_use[2 * i] & 0x1F;
+        matrix[1 + 2 * i] = high & 0x10 ? high | 0xE0 : high;
+        matrix[2 + 2 * i] = in_use[2 * i + 1];
+    }
+    return (struct station_count){ 0, 25 };
+}
+
+struct station_class model_class(uint8_t address) {
+    const struct model_class *c = &model_classes[address];
+    return (struct station_class){ c->read_only, c->mandated, c->named, c->free, c->bits };
+}

@@ -1,0 +1,127 @@
+/* Wrong decoders. */
+#include "wrong.h"
+
+#define DECODE(name) static struct station_count name(const uint8_t *i, size_t il, uint8_t *r, size_t rl)
+#define RIGHT model_decode(i, il, r, rl)
+
+/* Decoding of an image that is like the lent one but for some bits of one register. */
+static struct station_count as_if(const uint8_t *i, size_t il, uint8_t *r, size_t rl, int address, uint8_t mask, uint8_t bits) {
+    uint8_t other[256];
+    if (il != 256) return RIGHT;
+    memcpy(other, i, 256);
+    other[address] = (uint8_t)((other[address] & ~mask) | bits);
+    return model_decode(other, 256, r, rl);
+}
+
+DECODE(mandated_ignored) { return as_if(i, il, r, rl, 0xAF, 0x04, 0x04); }
+PUT(decode, mandated_ignored)
+DECODE(table_14_ignored) { return as_if(i, il, r, rl, 0xE0, 0xFF, 0xD0); }
+PUT(decode, table_14_ignored)
+DECODE(reserved_byte_ignored) { return as_if(i, il, r, rl, 0x7C, 0xFF, 0x00); }
+PUT(decode, reserved_byte_ignored)
+DECODE(hold_ignored) { return as_if(i, il, r, rl, 0x4A, 0x40, 0x00); }
+PUT(decode, hold_ignored)
+DECODE(muted_is_open) { return as_if(i, il, r, rl, 0x4B, 0xC0, 0x80); }
+PUT(decode, muted_is_open)
+
+DECODE(free_bits_count) {
+    struct station_count c = { 11, 0 };
+    return il == 256 && rl >= 35 && (i[0x4B] & 0x3F) ? c : RIGHT;
+}
+PUT(decode, free_bits_count)
+
+DECODE(read_only_counts) {
+    struct station_count c = { 11, 0 };
+    return il == 256 && rl >= 35 && (i[0x4C] & 1) ? c : RIGHT;
+}
+PUT(decode, read_only_counts)
+
+DECODE(family_1) {
+    uint8_t back[35];
+    struct fields f;
+    struct station_count c = RIGHT;
+    if (c.refusal || !r[5]) return c;
+    memcpy(back, r, c.count);
+    if (model_read(back, c.count, &f) == 0 && f.coherent && model_pair(&f).cts != (uint32_t)(i[7] % 16 * 65536 + i[8] * 256 + i[9])) r[2] = 1;
+    return c;
+}
+PUT(decode, family_1)
+
+DECODE(family_1_refused) {
+    struct fields f;
+    uint8_t back[35];
+    if (il != 256 || rl < 35) return RIGHT;
+    struct station_count c = model_decode(i, 256, back, 35);
+    if (!c.refusal && model_read(back, c.count, &f) == 0 && f.coherent &&
+        model_pair(&f).cts != (uint32_t)(i[7] % 16 * 65536 + i[8] * 256 + i[9]))
+        return (struct station_count){ 11, 0 };
+    return RIGHT;
+}
+PUT(decode, family_1_refused)
+
+DECODE(matrix_dropped) {
+    struct station_count c = RIGHT;
+    if (!c.refusal && c.count > 30 && r[3] == 0 && r[c.count - 25] == 2) {
+        r[c.count - 26] = 0;
+        c.count -= 25;
+    }
+    return c;
+}
+PUT(decode, matrix_dropped)
+
+DECODE(rest_cleared) {
+    struct station_count c = RIGHT;
+    if (!c.refusal) memset(r + c.count, 0, rl - c.count);
+    return c;
+}
+PUT(decode, rest_cleared)
+
+DECODE(refusal_writes) {
+    struct station_count c = RIGHT;
+    if (c.refusal == 11) r[0] = 4;
+    return c;
+}
+PUT(decode, refusal_writes)
+
+DECODE(buffer_of_34) {
+    uint8_t back[35];
+    if (il != 256 || rl != 34) return RIGHT;
+    struct station_count c = model_decode(i, il, back, 35);
+    if (!c.refusal && c.count <= rl) memcpy(r, back, c.count);
+    return c;
+}
+PUT(decode, buffer_of_34)
+
+DECODE(sign_lost) {
+    struct station_count c = RIGHT;
+    if (!c.refusal && c.count > 30)
+        for (uint32_t k = c.count - 24; k < c.count; k += 2) r[k] &= 0x1F;
+    return c;
+}
+PUT(decode, sign_lost)
+
+DECODE(count_in_sections) {
+    struct station_count c = RIGHT;
+    if (!c.refusal) c.count = 3;
+    return c;
+}
+PUT(decode, count_in_sections)
+
+const struct wrong wrong_decodes[] = {
+    { "decoding ignores a mandated bit (0xAF[2])", put_mandated_ignored, 0 },
+    { "decoding ignores a Table 14 register (0xE0)", put_table_14_ignored, 0 },
+    { "decoding ignores a reserved byte (0x7C)", put_reserved_byte_ignored, 0 },
+    { "decoding ignores the AVI hold", put_hold_ignored, 0 },
+    { "decoding takes a muted picture", put_muted_is_open, 0 },
+    { "decoding minds free bits", put_free_bits_count, 0 },
+    { "decoding minds read-only bits", put_read_only_counts, 0 },
+    { "decoding answers family 1", put_family_1, 1 },
+    { "decoding knows family 0 alone", put_family_1_refused, 1 },
+    { "decoding drops a matrix of mode 2", put_matrix_dropped, 0 },
+    { "decoding clears the rest of the buffer", put_rest_cleared, 0 },
+    { "refusal 11 writes the buffer", put_refusal_writes, 0 },
+    { "a buffer of 34 bytes accepted", put_buffer_of_34, 0 },
+    { "a coefficient's sign lost", put_sign_lost, 0 },
+    { "the decoded count counts sections", put_count_in_sections, 0 },
+    { NULL, NULL, 0 },
+};

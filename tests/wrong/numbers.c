@@ -1,0 +1,119 @@
+/* Wrong N and CTS, wrong previews, a wrong class. */
+#include "wrong.h"
+
+#define NCTS(name) static struct station_pair name(const uint8_t *r, size_t rl)
+#define RIGHT model_ncts(r, rl)
+
+/* The error list's "reading CTS to the nearest whole and calling it exact". */
+NCTS(cts_rounded) {
+    struct station_pair p = RIGHT;
+    return p.refusal == 9 ? (struct station_pair){ 0, 11648, 210938 } : p;
+}
+PUT(ncts, cts_rounded)
+
+NCTS(misprint) {
+    struct station_pair p = RIGHT;
+    if (p.cts == 165000) p.cts = 16500;
+    return p;
+}
+PUT(ncts, misprint)
+
+NCTS(family_ignored) {
+    uint8_t other[35];
+    if (RIGHT.refusal || r[2] == 0) return RIGHT;
+    memcpy(other, r, rl);
+    other[2] = 0;
+    return model_ncts(other, rl);
+}
+PUT(ncts, family_ignored)
+
+NCTS(other_row) {
+    struct station_pair p = RIGHT;
+    if (!p.refusal && r[1] == 60 && p.cts) p.n = 6144;
+    return p;
+}
+PUT(ncts, other_row)
+
+NCTS(measured_cts) {
+    struct station_pair p = RIGHT;
+    if (!p.refusal && !p.cts && r[5]) p.cts = p.n;
+    return p;
+}
+PUT(ncts, measured_cts)
+
+NCTS(off_is_zero) {
+    struct station_pair p = RIGHT;
+    if (!p.refusal && !r[5]) p.n = 0;
+    return p;
+}
+PUT(ncts, off_is_zero)
+
+NCTS(count_before_end) { return rl == 0 ? (struct station_pair){ 2, 0, 0 } : RIGHT; }
+PUT(ncts, count_before_end)
+
+NCTS(five_before_four) {
+    struct station_pair p = RIGHT;
+    if (p.refusal == 4 && r[3] > 2) p.refusal = 5;
+    return p;
+}
+PUT(ncts, five_before_four)
+
+NCTS(long_request_cut) { return model_ncts(r, rl > 35 ? 35 : rl); }
+PUT(ncts, long_request_cut)
+
+#define PREVIEW(name) static struct station_pixel name(const uint8_t *m, size_t ml, uint32_t a, uint32_t b, uint32_t c)
+
+PREVIEW(rounds_up) {
+    struct station_pixel p = model_preview(m, ml, a, b, c);
+    if (!p.refusal && p.b > 0 && p.b < 4095) {
+        int64_t k[4];
+        for (int i = 0; i < 4; i++) k[i] = model_coefficient(m + 9 + 2 * i);
+        p.b = (uint32_t)(((a * k[0] + b * k[1] + c * k[2] + 4096 * k[3]) * (1 << m[0]) + 2048) >> 12);
+    }
+    return p;
+}
+PUT(preview, rounds_up)
+
+PREVIEW(mode_3) {
+    uint8_t two[25];
+    if (ml != 25 || m[0] != 3) return model_preview(m, ml, a, b, c);
+    memcpy(two, m, 25);
+    two[0] = 2;
+    return model_preview(two, 25, a, b, c);
+}
+PUT(preview, mode_3)
+
+PREVIEW(input_of_4096) { return model_preview(m, ml, a == 4096 ? 4095 : a, b, c); }
+PUT(preview, input_of_4096)
+
+PREVIEW(twelve_before_five) {
+    struct station_pixel p = model_preview(m, ml, a, b, c);
+    if (p.refusal == 5 && a > 4095) p.refusal = 12;
+    return p;
+}
+PUT(preview, twelve_before_five)
+
+static struct station_class class_off(uint8_t address) {
+    struct station_class c = model_class(address);
+    if (address == 0xDE) c.mandated = 0xF7, c.free = 0x08;
+    return c;
+}
+PUT(class_of, class_off)
+
+const struct wrong wrong_numbers[] = {
+    { "CTS rounded and called exact", put_cts_rounded, 0 },
+    { "the guide's misprint, CTS 16500", put_misprint, 0 },
+    { "the family ignored", put_family_ignored, 0 },
+    { "the row Other for coherent audio", put_other_row, 0 },
+    { "a CTS for audio that is not coherent", put_measured_cts, 0 },
+    { "N 0 with sound off", put_off_is_zero, 0 },
+    { "refusal 2 for an empty request", put_count_before_end, 0 },
+    { "refusal 5 before 4", put_five_before_four, 0 },
+    { "a long request read only to its 35th byte", put_long_request_cut, 0 },
+    { "a preview that rounds to the nearest", put_rounds_up, 0 },
+    { "a preview that takes mode 3", put_mode_3, 0 },
+    { "a preview that takes an input of 4096", put_input_of_4096, 0 },
+    { "refusal 12 before 5", put_twelve_before_five, 0 },
+    { "a class of a bit that the map does not list", put_class_off, 0 },
+    { NULL, NULL, 0 },
+};

@@ -1,0 +1,20 @@
+/* Wrong libraries: the model's face with one call replaced by one that has one fault. The harness must catch each. */
+#ifndef WRONG_H
+#define WRONG_H
+
+#include "../model/model.h"
+#include <string.h>
+
+/* `on_cuts`: the replay of the cuts must catch it by itself. */
+struct wrong { const char *fault; void (*put)(struct face *); int on_cuts; };
+extern const struct wrong wrong_plans[], wrong_numbers[], wrong_decodes[], wrong_machines[], wrong_views[];
+extern const struct wrong *const wrong_sets[];
+
+/* The two argument lists that are long. */
+#define PLAN_ARGUMENTS const uint8_t *r, size_t rl, const uint8_t *i, size_t il, uint8_t *w, size_t wl
+#define WRITE_ARGUMENTS uint8_t *i, size_t il, uint8_t *p, size_t pl, uint8_t *c, size_t cl, uint8_t address, uint8_t value
+
+/* put_NAME: the call of that name in place of the model's. */
+#define PUT(call, name) static void put_##name(struct face *f) { f->call = name; }
+
+#endif
