@@ -1,2 +1,3 @@
 pub mod Cases
 pub mod AnyCut
+pub mod AnyInput

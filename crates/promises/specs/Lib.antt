@@ -1,3 +1,5 @@
 pub mod Cases
+pub mod AnyInput
+pub mod Settled
 pub mod Rules
 pub mod AnyCut

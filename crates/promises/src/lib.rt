@@ -5,12 +5,24 @@ ghost use Prim.Native.Nat.{ℕ};
 ghost use Rattle.chip.specs.declared.Chip.{Chip};
 ghost use Rattle.plan.specs.Plan.{planOf};
 ghost use Rattle.promises.specs.AnyCut.{AnyCut};
+ghost use Rattle.promises.specs.AnyInput.{Demand1};
 ghost use Rattle.promises.specs.Cases.{MarkedCases};
 ghost use Rattle.promises.specs.Rules.{Demand2};
+ghost use Rattle.promises.specs.Settled.{Settled};
 
 // Document 01, "Marked cases, proved together as one table".
 pub fn marked_cases()
     ensures { λ _. ⌜ MarkedCases ⌝ }
+{}
+
+// Demand 1: a refusal has its number, a count of zero, and every lent byte as it was.
+pub fn demand_1()
+    ensures { λ _. ⌜ Demand1 ⌝ }
+{}
+
+// Document 01, "What each entry point owes": any two outcomes that a promise allows are equal.
+pub fn settled()
+    ensures { λ _. ⌜ Settled ⌝ }
 {}
 
 // Demand 2: whatever is asked, whatever image and buffer are lent.

@@ -1,0 +1,103 @@
+-- Demand 1, and that each promise settles its outcome. Assumes nothing.
+use mathlib.Core.Path.{_≡_, refl, sym, ap₂, _∙_}
+use mathlib.Core.Logic.{_≢_}
+use mathlib.Core.Bool.{Bool, true, false, cond, not, _||_}
+use mathlib.Core.List.{List}
+use Prim.Native.Nat.{ℕ}
+use lib.Dec.{eqb, ltb}
+use Rattle.clock.specs.declared.Pair.{Pair}
+use Rattle.clock.specs.declared.Clock.{Clock}
+use Rattle.clock.specs.declared.NCts.{NCts}
+use Rattle.clock.specs.Modes.{offered, clockOf}
+use Rattle.clock.specs.Pairs.{recommendedOf}
+use Rattle.clock.specs.Found.{numbered, leastK, mostK, nearestIn, nearestOf, exactly, coherentOf, pairOf}
+use Rattle.matrix.proofs.Codes.{given}
+use Rattle.request.specs.declared.Sound.{Sound}
+use Rattle.request.specs.declared.Sound.the-variants.{Off, On}
+use Rattle.request.specs.Read.{readOf, nctsOf, pairIn, pairFor}
+use Rattle.request.proofs.Coherent.{rows}
+use Rattle.chip.proofs.Lent.{entered}
+use Rattle.chip.proofs.Seen.{views}
+use Rattle.chip.proofs.Used.{converts}
+use Rattle.plan.proofs.Ordered as planning
+use Rattle.decode.proofs.Answers as decoding
+use Rattle.promises.specs.AnyInput.{Demand1}
+use Rattle.promises.specs.Settled.{Settles, Is, And, Settled}
+
+-- the one law: an equation settles
+one : {A : Type 0} (a : A) → Settles (Is a)
+one a x y e f = e ∙ sym f
+
+two : {A B : Type 0} (a : A) (b : B) → Settles (And a b)
+two a b x y e f = ap₂ (λ u v. (u, v)) (e .0 ∙ sym (f .0)) (e .1 ∙ sym (f .1))
+
+pub settled : Settled
+settled = record {
+  plan = λ request image writes. two _ _;
+  decode = λ image request. two _ _;
+  read = λ request. one _;
+  ncts = λ request. one _;
+  line = λ request. one _;
+  preview = λ matrix a b c. one _;
+  clock = λ vic family. one _;
+  pair = λ vic family rate coherent. one _;
+  avi = λ vic encoding. one _;
+  audio = λ channels. one _;
+  write = λ s address value. one _;
+  enter = λ s address value. two _ _;
+  sent = λ image packet which i p. two _ _;
+  part = λ image packet which. one _;
+  refusal = λ image packet which. one _;
+  mute = λ image packet. one _;
+  matrix = λ image buffer out. two _ _;
+  class = λ address. one _;
+}
+
+-- ---- zeros beside a refusal
+
+abbrev Zeroed : Pair → Type 0
+Zeroed p = p .refusal ≢ 0 → (p .n ≡ 0) × (p .cts ≡ 0)
+
+one-of : (b : Bool) {p q : Pair} → Zeroed p → Zeroed q → Zeroed (cond b p q)
+one-of true y z = y
+one-of false y z = z
+
+refusal-zeroed : (n : ℕ) → Zeroed (numbered n)
+refusal-zeroed n h = (refl, refl)
+
+nearest-zeroed : (f u v : ℕ) → Zeroed (nearestIn f u v)
+unfolding nearestIn
+nearest-zeroed f u v = one-of (ltb (mostK f u v) (leastK f v)) (refusal-zeroed 9) (λ h. absurd (h refl))
+
+coherent-zeroed : (clock : Clock) (rate : ℕ) → Zeroed (coherentOf clock rate)
+unfolding coherentOf nearestOf
+coherent-zeroed clock rate =
+    let r : NCts = recommendedOf clock rate in
+    one-of (exactly clock rate (r .n) (r .cts)) (λ h. absurd (h refl)) (nearest-zeroed _ _ _)
+
+pair-zeroed : (vic family rate coherent : ℕ) → Zeroed (pairOf vic family rate coherent)
+unfolding pairOf
+pair-zeroed vic family rate coherent =
+    one-of (not (offered vic family)) (refusal-zeroed 4)
+    (one-of (ltb 6 rate || ltb 1 coherent) (refusal-zeroed 5)
+    (one-of (eqb coherent 1) (coherent-zeroed (clockOf vic family) rate) (λ h. absurd (h refl))))
+
+ncts-zeroed : (request : List ℕ) → Zeroed (nctsOf request)
+unfolding nctsOf pairFor
+ncts-zeroed request = one-of (eqb (readOf request .refusal) 0) (of (readOf request .request .sound)) (refusal-zeroed (readOf request .refusal))
+  where
+    of : (s : Sound) → Zeroed (pairIn (readOf request .request) s)
+    of Off = λ h. absurd (h refl)
+    of (On rate channels coherent) = pair-zeroed _ _ rate coherent
+
+pub any-input : Demand1
+any-input = record {
+  planning = λ request image buffer b. planning.refusals request b image buffer;
+  decoding = decoding.refusals;
+  request = rows;
+  pair = ncts-zeroed;
+  preview = given;
+  write = entered;
+  view = views;
+  matrix = converts;
+}
