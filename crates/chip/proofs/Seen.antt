@@ -8,7 +8,7 @@ use native.Mathlib.Omega.{arith}
 use lib.Dec.{eqb, ltb, lit<}
 use lib.ListN.{length, getD, take, drop}
 use lib.Seq.{getD-take, getD-drop}
-use borrow.Author.Tests.{eq-eqb, ne-eqb, eqb-true, not-false}
+use borrow.Author.Tests.{lt-ltb, le-ltb, eq-eqb, ne-eqb, eqb-true, not-false}
 use Rattle.lists.proofs.Both.{both-left, both-right}
 use Rattle.lists.proofs.Decides.{Decides, opposite, equal, less}
 use Rattle.refusals.specs.Rows.{at}
@@ -69,6 +69,14 @@ module _ (image packet : List ℕ) where
   view-tried which = test (λ n. n) (at (viewRules image packet which) 0) (lentRules image packet) (ltb 1 which) 5 _ refl (less 1 which) (λ f. lent-tried)
 
   module _ (which : ℕ) where
+    pub five : 1 < which → viewRefusal image packet which ≡ 5
+    unfolding viewRefusal
+    five h = rw (lt-ltb 1 which h)
+
+    pub later : which ≤ 1 → viewRefusal image packet which ≡ lentRefusal image packet
+    unfolding viewRefusal
+    later h = rw (le-ltb 1 which h)
+
     pub none : viewRefusal image packet which ≡ 0 → lentRefusal image packet ≡ 0
     unfolding viewRefusal
     none e = past (ltb 1 which) 5 _ (λ z. omega arith) e .1
@@ -98,21 +106,21 @@ module _ (image packet : List ℕ) where
         go true false = refl
         go false t = refl
 
-    -- a part lies within its slice
+    -- a part lies within its slice, and one of the buffer would lie within the image too
     pub within : (p : Part) → p ≡ partOf image packet which
-        → (p .held ≡ 1 → p .start + p .len ≤ length packet) × (p .held ≢ 1 → p .start + p .len ≤ length image)
+        → (p .held ≡ 1 → (p .start + p .len ≤ length packet) × (p .start + p .len ≤ length image)) × (p .held ≢ 1 → p .start + p .len ≤ length image)
     unfolding partOf
     within p e = rw e (go (eqb (viewRefusal image packet which) 0) refl (up g (holdsOf packets image)) (eqb which 0))
       where
         go : (b : Bool) → eqb (viewRefusal image packet which) 0 ≡ b → (t w : Bool)
             → let g : Group = cond w avi audio in
             let p : Part = cond b (placed t (g .first) (g .count)) (record { refusal = viewRefusal image packet which; held = 0; start = 0; len = 0 }) in
-            (p .held ≡ 1 → p .start + p .len ≤ length packet) × (p .held ≢ 1 → p .start + p .len ≤ length image)
-        go true e true true = let k = clear (none (eqb-true _ 0 e)) .lengths in ((λ h. omega arith), λ h. omega arith)
-        go true e true false = let k = clear (none (eqb-true _ 0 e)) .lengths in ((λ h. omega arith), λ h. omega arith)
-        go true e false true = let k = clear (none (eqb-true _ 0 e)) .lengths in ((λ h. omega arith), λ h. omega arith)
-        go true e false false = let k = clear (none (eqb-true _ 0 e)) .lengths in ((λ h. omega arith), λ h. omega arith)
-        go false e t w = ((λ h. omega arith), λ h. omega arith)
+            (p .held ≡ 1 → (p .start + p .len ≤ length packet) × (p .start + p .len ≤ length image)) × (p .held ≢ 1 → p .start + p .len ≤ length image)
+        go true e true true = let k = clear (none (eqb-true _ 0 e)) .lengths in ((λ h. (omega arith, omega arith)), λ h. omega arith)
+        go true e true false = let k = clear (none (eqb-true _ 0 e)) .lengths in ((λ h. (omega arith, omega arith)), λ h. omega arith)
+        go true e false true = let k = clear (none (eqb-true _ 0 e)) .lengths in ((λ h. (omega arith, omega arith)), λ h. omega arith)
+        go true e false false = let k = clear (none (eqb-true _ 0 e)) .lengths in ((λ h. (omega arith, omega arith)), λ h. omega arith)
+        go false e t w = ((λ h. (omega arith, omega arith)), λ h. omega arith)
 
     -- the bytes from its start to its end are those that are sent, and it starts where its numbers say
     pub reads : (p : Part) → p ≡ partOf image packet which → (i k : ℕ × ℕ) (from : List ℕ) (at : ℕ × ℕ)
