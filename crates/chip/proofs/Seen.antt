@@ -8,13 +8,14 @@ use native.Mathlib.Omega.{arith}
 use lib.Dec.{eqb, ltb, lit<}
 use lib.ListN.{length, getD, take, drop}
 use lib.Seq.{getD-take, getD-drop}
-use borrow.Author.Tests.{eq-eqb, ne-eqb, eqb-true, not-false}
+use borrow.Author.Tests.{lt-ltb, le-ltb, eq-eqb, ne-eqb, eqb-true, not-false}
 use Rattle.lists.proofs.Both.{both-left, both-right}
 use Rattle.lists.proofs.Decides.{Decides, opposite, equal, less}
 use Rattle.refusals.specs.Rows.{at}
 use Rattle.refusals.proofs.First.{Tried, test, tried}
 use Rattle.chip.specs.declared.Chip.{Chip}
 use Rattle.chip.specs.declared.view.Part.{Part}
+use Rattle.chip.specs.declared.view.State.{State}
 use Rattle.chip.specs.Machine.{Group, avi, audio, packets, up, holdsOf, two, inUse, mute, part}
 use Rattle.chip.specs.View.{asked, lentRefusal, viewRefusal, sentOf, placed, partOf, bytesOf, startOf, muteOf, lentRules, viewRules, Views, Shown}
 use Rattle.chip.proofs.Holds.{gc-bit}
@@ -24,6 +25,14 @@ use Rattle.chip.proofs.Writes.{two-up}
 pub past : (b : Bool) (m n : ℕ) → m ≢ 0 → cond b m n ≡ 0 → (b ≡ false) × (n ≡ 0)
 past true m n h e = absurd (h e)
 past false m n h e = (refl, e)
+
+-- an answer by the number of its refusal has that number
+pub numbered : {X : Type 0} (f : X → ℕ) (n : ℕ) (x y : X) → f x ≡ 0 → f y ≡ n → f (cond (eqb n 0) x y) ≡ n
+numbered f n x y p q = go (eqb n 0) refl
+  where
+    go : (b : Bool) → eqb n 0 ≡ b → f (cond b x y) ≡ n
+    go true e = p ∙ sym (eqb-true n 0 e)
+    go false e = q
 
 -- of two tests one fails
 pub one-fails : (s t : Bool) {P Q : Type 0} → Decides (not s) P → Decides (not t) Q → Decides (not (s && t)) (P ⊎ Q)
@@ -69,6 +78,14 @@ module _ (image packet : List ℕ) where
   view-tried which = test (λ n. n) (at (viewRules image packet which) 0) (lentRules image packet) (ltb 1 which) 5 _ refl (less 1 which) (λ f. lent-tried)
 
   module _ (which : ℕ) where
+    pub five : 1 < which → viewRefusal image packet which ≡ 5
+    unfolding viewRefusal
+    five h = rw (lt-ltb 1 which h)
+
+    pub later : which ≤ 1 → viewRefusal image packet which ≡ lentRefusal image packet
+    unfolding viewRefusal
+    later h = rw (le-ltb 1 which h)
+
     pub none : viewRefusal image packet which ≡ 0 → lentRefusal image packet ≡ 0
     unfolding viewRefusal
     none e = past (ltb 1 which) 5 _ (λ z. omega arith) e .1
@@ -98,21 +115,29 @@ module _ (image packet : List ℕ) where
         go true false = refl
         go false t = refl
 
-    -- a part lies within its slice
+    part-numbered : partOf image packet which .refusal ≡ viewRefusal image packet which
+    unfolding partOf
+    part-numbered = numbered (λ (p : Part). p .refusal) (viewRefusal image packet which) _ _ (go (up g (holdsOf packets image))) refl
+      where
+        go : (b : Bool) → placed b (g .first) (g .count) .refusal ≡ 0
+        go true = refl
+        go false = refl
+
+    -- a part lies within its slice, and one of the buffer would lie within the image too
     pub within : (p : Part) → p ≡ partOf image packet which
-        → (p .held ≡ 1 → p .start + p .len ≤ length packet) × (p .held ≢ 1 → p .start + p .len ≤ length image)
+        → (p .held ≡ 1 → (p .start + p .len ≤ length packet) × (p .start + p .len ≤ length image)) × (p .held ≢ 1 → p .start + p .len ≤ length image)
     unfolding partOf
     within p e = rw e (go (eqb (viewRefusal image packet which) 0) refl (up g (holdsOf packets image)) (eqb which 0))
       where
         go : (b : Bool) → eqb (viewRefusal image packet which) 0 ≡ b → (t w : Bool)
             → let g : Group = cond w avi audio in
             let p : Part = cond b (placed t (g .first) (g .count)) (record { refusal = viewRefusal image packet which; held = 0; start = 0; len = 0 }) in
-            (p .held ≡ 1 → p .start + p .len ≤ length packet) × (p .held ≢ 1 → p .start + p .len ≤ length image)
-        go true e true true = let k = clear (none (eqb-true _ 0 e)) .lengths in ((λ h. omega arith), λ h. omega arith)
-        go true e true false = let k = clear (none (eqb-true _ 0 e)) .lengths in ((λ h. omega arith), λ h. omega arith)
-        go true e false true = let k = clear (none (eqb-true _ 0 e)) .lengths in ((λ h. omega arith), λ h. omega arith)
-        go true e false false = let k = clear (none (eqb-true _ 0 e)) .lengths in ((λ h. omega arith), λ h. omega arith)
-        go false e t w = ((λ h. omega arith), λ h. omega arith)
+            (p .held ≡ 1 → (p .start + p .len ≤ length packet) × (p .start + p .len ≤ length image)) × (p .held ≢ 1 → p .start + p .len ≤ length image)
+        go true e true true = let k = clear (none (eqb-true _ 0 e)) .lengths in ((λ h. (omega arith, omega arith)), λ h. omega arith)
+        go true e true false = let k = clear (none (eqb-true _ 0 e)) .lengths in ((λ h. (omega arith, omega arith)), λ h. omega arith)
+        go true e false true = let k = clear (none (eqb-true _ 0 e)) .lengths in ((λ h. (omega arith, omega arith)), λ h. omega arith)
+        go true e false false = let k = clear (none (eqb-true _ 0 e)) .lengths in ((λ h. (omega arith, omega arith)), λ h. omega arith)
+        go false e t w = ((λ h. (omega arith, omega arith)), λ h. omega arith)
 
     -- the bytes from its start to its end are those that are sent, and it starts where its numbers say
     pub reads : (p : Part) → p ≡ partOf image packet which → (i k : ℕ × ℕ) (from : List ℕ) (at : ℕ × ℕ)
@@ -138,10 +163,16 @@ module _ (image packet : List ℕ) where
     mute-down h =
         sym (simp (eq-eqb _ _ e, gc-bit (getD image 0x4A 0), ne-eqb _ _ h, getD-take 1 (drop 0x4B image) 0 0 (lit< tt), getD-drop 0x4B image 0 0))
 
+  state-numbered : muteOf image packet .refusal ≡ lentRefusal image packet
+  unfolding muteOf
+  state-numbered = numbered (λ (s : State). s .refusal) (lentRefusal image packet) _ _ refl refl
+
   pub views : Views image packet
   views = record {
     view = λ which. tried (viewRules image packet which) _ refl (view-tried which);
     mute = tried (lentRules image packet) _ refl lent-tried;
+    part = part-numbered;
+    state = state-numbered;
     bytes = bytes;
   }
 

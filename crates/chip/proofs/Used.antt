@@ -8,7 +8,7 @@ use native.Mathlib.Omega.{arith}
 use lib.Dec.{eqb, ltb}
 use lib.ListN.{length, getD, set, take, drop, drop-of-length-le, length-drop}
 use lib.Seq.{sets, take-all, length-take-le}
-use borrow.Author.Tests.{eq-eqb, ne-eqb, lt-ltb, le-ltb, eqb-true}
+use borrow.Author.Tests.{eq-eqb, ne-eqb, lt-ltb, le-ltb}
 use Rattle.lists.proofs.Decides.{less}
 use Rattle.lists.proofs.Emit.{sets-front}
 use Rattle.refusals.specs.Rows.{at}
@@ -20,9 +20,10 @@ use Rattle.matrix.proofs.Signs.{carried}
 use Rattle.chip.specs.declared.Chip.{Chip}
 use Rattle.chip.specs.declared.converter.Count.{Count}
 use Rattle.chip.specs.Machine.{matrix, converter, part, up, holdsOf, inUse, coefficients, modeInUse}
-use Rattle.chip.specs.Converter.{lentTo, matrixBytes, matrixRefusal, matrixCount, matrixOut, matrixRules, Converts}
+use Rattle.chip.specs.Converter.{matrixBytes, matrixRefusal, matrixCount, matrixOut, matrixRules, Converts}
+use Rattle.chip.specs.Entry.{lentAs}
 use Rattle.chip.proofs.Holds.{matrix-bit}
-use Rattle.chip.proofs.Seen.{past, unlike, both-long}
+use Rattle.chip.proofs.Seen.{past, numbered, unlike, both-long}
 
 -- a turn stores one coefficient more: what is stored, and what is left to store, is the whole
 pub turn : (bytes out : List ℕ) (i h l f : ℕ) → 2 * i + 1 < length bytes → f ≡ field (word (getD bytes (2 * i) 0) (getD bytes (2 * i + 1) 0))
@@ -72,12 +73,7 @@ module _ (image buffer out : List ℕ) where
   -- the answer, by the number of its refusal
   counted : matrixCount image buffer out .refusal ≡ matrixRefusal image buffer out
   unfolding matrixCount
-  counted = go (eqb (matrixRefusal image buffer out) 0) refl
-    where
-      go : (b : Bool) → eqb (matrixRefusal image buffer out) 0 ≡ b
-          → cond {A = Count} b (record { refusal = 0; count = 25 }) (record { refusal = matrixRefusal image buffer out; count = 0 }) .refusal ≡ matrixRefusal image buffer out
-      go true e = sym (eqb-true _ 0 e)
-      go false e = refl
+  counted = numbered (λ (c : Count). c .refusal) (matrixRefusal image buffer out) _ _ refl refl
 
   pub refused : (n : ℕ) → n ≢ 0 → matrixRefusal image buffer out ≡ n
       → (record { refusal = n; count = 0 } ≡ matrixCount image buffer out) × (out ≡ matrixOut image buffer out)
@@ -94,16 +90,16 @@ module _ (image buffer out : List ℕ) where
     ten h = rw (eq-eqb _ _ l, eq-eqb _ _ k, lt-ltb _ _ h)
 
     -- the bytes in use, the buffer's where the hold is up, else the registers
-    pub held : getD image 0x1A 0 / 32 % 2 ≡ 1 → buffer ≡ inUse converter matrix (lentTo image buffer)
+    pub held : getD image 0x1A 0 / 32 % 2 ≡ 1 → buffer ≡ inUse converter matrix (lentAs image [] buffer)
     unfolding inUse
     held h = sym (simp (matrix-bit (getD image 0x1A 0), eq-eqb _ _ h) (take-all 24 buffer (omega arith)))
 
-    pub down : getD image 0x1A 0 / 32 % 2 ≢ 1 → part matrix image ≡ inUse converter matrix (lentTo image buffer)
+    pub down : getD image 0x1A 0 / 32 % 2 ≢ 1 → part matrix image ≡ inUse converter matrix (lentAs image [] buffer)
     unfolding inUse
     down h = sym (simp (matrix-bit (getD image 0x1A 0), ne-eqb _ _ h))
 
     -- the 24 bytes that are in use
-    in-use-long : length (inUse converter matrix (lentTo image buffer)) ≡ 24
+    in-use-long : length (inUse converter matrix (lentAs image [] buffer)) ≡ 24
     unfolding inUse
     in-use-long = go (up matrix (holdsOf converter image))
       where
@@ -114,11 +110,11 @@ module _ (image buffer out : List ℕ) where
     bytes-long : length (matrixBytes image buffer) ≡ 25
     unfolding matrixBytes coefficients
     bytes-long =
-        let f = length-fields (inUse converter matrix (lentTo image buffer)) 12 in-use-long in
-        omega (arith, length-bytes (fields (inUse converter matrix (lentTo image buffer))))
+        let f = length-fields (inUse converter matrix (lentAs image [] buffer)) 12 in-use-long in
+        omega (arith, length-bytes (fields (inUse converter matrix (lentAs image [] buffer))))
 
     -- the mode stored first, and the coefficients of the bytes in use after it
-    pub written : (bytes : List ℕ) → bytes ≡ inUse converter matrix (lentTo image buffer) → 25 ≤ length out
+    pub written : (bytes : List ℕ) → bytes ≡ inUse converter matrix (lentAs image [] buffer) → 25 ≤ length out
         → {after : List ℕ} → after ≡ sets (set out 0 (getD image 0x18 0 / 32 % 4)) 1 (coefficientBytes (fields bytes))
         → (record { refusal = 0; count = 25 } ≡ matrixCount image buffer out) × (after ≡ matrixOut image buffer out)
     unfolding matrixCount matrixOut matrixRefusal matrixBytes coefficients

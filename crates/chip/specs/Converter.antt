@@ -12,14 +12,11 @@ use Rattle.matrix.specs.Matrix.{fields}
 use Rattle.chip.specs.declared.Chip.{Chip}
 use Rattle.chip.specs.declared.converter.Count.{Count}
 use Rattle.chip.specs.Machine.{coefficients, modeInUse}
+use Rattle.chip.specs.Entry.{lentAs}
 
--- what is lent: this asks nothing of the packet buffer
-abbrev pub lentTo : List ℕ → List ℕ → Chip
-lentTo image buffer = record { image = image; packet = []; coefficients = buffer }
-
--- mode and the twelve in use, 25 bytes as the request has them
+-- mode and the twelve in use, 25 bytes as the request has them. The packet buffer is not lent, and plays no part.
 unfoldable pub matrixBytes : List ℕ → List ℕ → List ℕ
-matrixBytes image buffer = modeInUse (lentTo image buffer) ∷ coefficientBytes (coefficients (lentTo image buffer))
+matrixBytes image buffer = modeInUse (lentAs image [] buffer) ∷ coefficientBytes (coefficients (lentAs image [] buffer))
 
 -- rows 7 and 10
 unfoldable pub matrixRefusal : List ℕ → List ℕ → List ℕ → ℕ

@@ -1,5 +1,5 @@
 pub mod Machine
 pub mod Step
+pub mod Entry
 pub mod View
 pub mod Converter
-pub mod Entry

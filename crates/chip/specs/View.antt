@@ -12,10 +12,7 @@ use Rattle.chip.specs.declared.view.Part.{Part}
 use Rattle.chip.specs.declared.view.State.{State}
 use Rattle.chip.specs.Machine.{Group, avi, audio, packets, up, holdsOf, two, inUse, mute}
 use Rattle.chip.specs.Step.{TwoUp}
-
--- what a view is lent: it asks nothing of the coefficient buffer
-abbrev pub lent : List ℕ → List ℕ → Chip
-lent image packet = record { image = image; packet = packet; coefficients = [] }
+use Rattle.chip.specs.Entry.{lentAs}
 
 -- "it is asked for by number, 0 AVI or 1 audio"
 abbrev pub asked : ℕ → Group
@@ -29,9 +26,9 @@ lentRefusal image packet =
 unfoldable pub viewRefusal : List ℕ → List ℕ → ℕ → ℕ
 viewRefusal image packet which = cond (ltb 1 which) (number fieldOutOfRange) (lentRefusal image packet)
 
--- "a refused view is an empty part": the bytes that are sent
+-- "a refused view is an empty part": the bytes that are sent. A view is not lent the coefficient buffer, and asks nothing of it.
 unfoldable pub sentOf : List ℕ → List ℕ → ℕ → List ℕ
-sentOf image packet which = cond (eqb (viewRefusal image packet which) 0) (inUse packets (asked which) (lent image packet)) []
+sentOf image packet which = cond (eqb (viewRefusal image packet which) 0) (inUse packets (asked which) (lentAs image packet [])) []
 
 -- "a part of the register image or of the buffer, whichever the chip reads": the buffer's front where the hold is up, else the registers
 abbrev pub placed : Bool → ℕ → ℕ → Part
@@ -43,21 +40,21 @@ partOf image packet which =
     cond (eqb (viewRefusal image packet which) 0) (placed (up (asked which) (holdsOf packets image)) (asked which .first) (asked which .count))
     (record { refusal = viewRefusal image packet which; held = 0; start = 0; len = 0 })
 
--- what of two is read, by a part's number
-abbrev pub either : {A : Type 0} → Part → A → A → A
-either p image packet = cond (eqb (p .held) 1) packet image
+-- "whichever the chip reads", by a part's number
+abbrev pub whichever : {A : Type 0} → Part → A → A → A
+whichever p image packet = cond (eqb (p .held) 1) packet image
 
 -- the bytes of a part, and where in memory it starts, by where the two slices start
 abbrev pub bytesOf : Part → List ℕ → List ℕ → List ℕ
-bytesOf p image packet = take (p .len) (drop (p .start) (either p image packet))
+bytesOf p image packet = take (p .len) (drop (p .start) (whichever p image packet))
 
 abbrev pub startOf : Part → ℕ × ℕ → ℕ × ℕ → ℕ × ℕ
-startOf p image packet = (either p image packet .0, p .start + either p image packet .1)
+startOf p image packet = (whichever p image packet .0, p .start + whichever p image packet .1)
 
 -- the mute bits of the GC byte in use
 unfoldable pub muteOf : List ℕ → List ℕ → State
 muteOf image packet =
-    cond (eqb (lentRefusal image packet) 0) (record { refusal = 0; mute = mute (lent image packet) })
+    cond (eqb (lentRefusal image packet) 0) (record { refusal = 0; mute = mute (lentAs image packet []) })
     (record { refusal = lentRefusal image packet; mute = 0 })
 
 -- "a view 5, 7 and 13": when each applies, on the slices as they are lent
@@ -67,10 +64,13 @@ lentRules image packet = imageLength when ((length image ≢ 256) ⊎ (length pa
 abbrev pub viewRules : List ℕ → List ℕ → ℕ → List Condition
 viewRules image packet which = fieldOutOfRange when (1 < which) ∷ lentRules image packet
 
--- what is refused, on any slices
+-- what is refused, on any slices, and what a part's numbers name
 pub record Views (image packet : List ℕ) : Type 0 where
   pub view : (which : ℕ) → Given (viewRules image packet which) (viewRefusal image packet which)
   pub mute : Given (lentRules image packet) (lentRefusal image packet)
+  -- beside each answer stands the number of its refusal
+  pub part : (which : ℕ) → partOf image packet which .refusal ≡ viewRefusal image packet which
+  pub state : muteOf image packet .refusal ≡ lentRefusal image packet
   -- the numbers of a part name its bytes
   pub bytes : (which : ℕ) → bytesOf (partOf image packet which) image packet ≡ sentOf image packet which
 

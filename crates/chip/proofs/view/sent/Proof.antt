@@ -1,5 +1,6 @@
 -- `chip::view::sent` meets its contract. Assumes nothing.
 use mathlib.Core.Path.{refl}
+use native.Mathlib.Omega.{arith}
 use borrow.Author.Tests.{eq-eqb, ne-eqb}
 use Rattle.chip.proofs.Seen.{within, reads}
 use borrow.Author.Needs.{needs}
@@ -28,7 +29,8 @@ part-result-end : tie.Need-part-result-end
 part-result-end c =
     let s = c .before .before .before .before in
     let a = s .before .before .before .args in
-    within (a .image .now) (a .packet .now) (a .which) (s .sent-part .result) (s .sent-part .ensures) .0 (c .if1 .taken)
+    let w = within (a .image .now) (a .packet .now) (a .which) (s .sent-part .result) (s .sent-part .ensures) .0 (c .if1 .taken) in
+    omega arith
 
 returns : tie.Need-returns
 returns c =
