@@ -12,41 +12,41 @@ use Rattle.vectors.specs.declared.tables.Table.{Table}
 use Rattle.vectors.specs.declared.tables.Correction.{Correction}
 use Rattle.vectors.specs.Counts.{none, countedOf}
 
--- a table's number, from which space to which, and its register pairs: A1 to A4, B1 to B4, C1 to C4. A space is 0 for RGB, 2 for HDTV YCbCr and
+-- a table's number, from which space to which, and its rows A1 to A4, B1 to B4, C1 to C4, four pairs each. A space is 0 for RGB, 2 for HDTV YCbCr and
 -- 4 for SDTV YCbCr in limited range (16 to 235), and one more in full range (0 to 255)
-abbrev pub table : ℕ → ℕ → ℕ → List ℕ → List ℕ → List ℕ → Table
+abbrev pub table : ℕ → ℕ → ℕ → ℕ → ℕ → ℕ → Table
 table number from to a b c = record { number = number; from = from; to = to; a = a; b = b; c = c }
 
 abbrev pub tables : List Table
 tables =
-    table 39 2 0 (0xAC53 ∷ 0x0800 ∷ 0x0000 ∷ 0x19D6 ∷ []) (0x1C56 ∷ 0x0800 ∷ 0x1E88 ∷ 0x0291 ∷ []) (0x1FFF ∷ 0x0800 ∷ 0x0E85 ∷ 0x18BE ∷ []) ∷
-    table 40 2 1 (0xE734 ∷ 0x04AD ∷ 0x0000 ∷ 0x1C1B ∷ []) (0x1DDC ∷ 0x04AD ∷ 0x1F24 ∷ 0x0135 ∷ []) (0x0000 ∷ 0x04AD ∷ 0x087C ∷ 0x1B77 ∷ []) ∷
-    table 41 4 0 (0xAAF8 ∷ 0x0800 ∷ 0x0000 ∷ 0x1A84 ∷ []) (0x1A6A ∷ 0x0800 ∷ 0x1D50 ∷ 0x0423 ∷ []) (0x1FFC ∷ 0x0800 ∷ 0x0DDE ∷ 0x1913 ∷ []) ∷
-    table 42 4 1 (0xE669 ∷ 0x04AC ∷ 0x0000 ∷ 0x1C81 ∷ []) (0x1CBC ∷ 0x04AD ∷ 0x1E6E ∷ 0x0220 ∷ []) (0x1FFE ∷ 0x04AD ∷ 0x081A ∷ 0x1BA9 ∷ []) ∷
-    table 43 0 2 (0x882E ∷ 0x1893 ∷ 0x1F3F ∷ 0x0800 ∷ []) (0x0367 ∷ 0x0B71 ∷ 0x0128 ∷ 0x0000 ∷ []) (0x1E21 ∷ 0x19B2 ∷ 0x082D ∷ 0x0800 ∷ []) ∷
-    table 44 1 2 (0x86FF ∷ 0x19A6 ∷ 0x1F5B ∷ 0x0800 ∷ []) (0x02E9 ∷ 0x09CB ∷ 0x00FD ∷ 0x0100 ∷ []) (0x1E66 ∷ 0x1A9B ∷ 0x06FF ∷ 0x0800 ∷ []) ∷
-    table 45 0 4 (0x882E ∷ 0x1926 ∷ 0x1EAC ∷ 0x0800 ∷ []) (0x04C9 ∷ 0x0965 ∷ 0x01D2 ∷ 0x0000 ∷ []) (0x1D3F ∷ 0x1A93 ∷ 0x082E ∷ 0x0800 ∷ []) ∷
-    table 46 1 4 (0x86FF ∷ 0x1A24 ∷ 0x1EDD ∷ 0x0800 ∷ []) (0x0418 ∷ 0x080A ∷ 0x018F ∷ 0x0100 ∷ []) (0x1DA5 ∷ 0x1B5C ∷ 0x06FF ∷ 0x0800 ∷ []) ∷
-    table 47 2 4 (0xA7DD ∷ 0x0000 ∷ 0x1F6C ∷ 0x005B ∷ []) (0x0188 ∷ 0x0800 ∷ 0x00CB ∷ 0x1ED6 ∷ []) (0x1F1D ∷ 0x0000 ∷ 0x07EB ∷ 0x007B ∷ []) ∷
-    table 48 2 5 (0xA8EB ∷ 0x0000 ∷ 0x1F58 ∷ 0x1FDE ∷ []) (0x01C9 ∷ 0x0950 ∷ 0x00EC ∷ 0x1F25 ∷ []) (0x1EFF ∷ 0x0000 ∷ 0x08FA ∷ 0x031F ∷ []) ∷
-    table 49 4 2 (0xA833 ∷ 0x0000 ∷ 0x0099 ∷ 0x1F99 ∷ []) (0x1E56 ∷ 0x0800 ∷ 0x1F13 ∷ 0x014B ∷ []) (0x00EA ∷ 0x0000 ∷ 0x0826 ∷ 0x1F78 ∷ []) ∷
-    table 50 5 2 (0xC39D ∷ 0x0000 ∷ 0x0043 ∷ 0x0F26 ∷ []) (0x1F44 ∷ 0x036F ∷ 0x1F97 ∷ 0x00D2 ∷ []) (0x0067 ∷ 0x0000 ∷ 0x0397 ∷ 0x004D ∷ []) ∷
-    table 51 4 5 (0xA91B ∷ 0x0000 ∷ 0x0000 ∷ 0x1F6E ∷ []) (0x0000 ∷ 0x0950 ∷ 0x0000 ∷ 0x1F6B ∷ []) (0x0000 ∷ 0x0000 ∷ 0x091B ∷ 0x1F6E ∷ []) ∷
-    table 52 3 4 (0x8E0D ∷ 0x0000 ∷ 0x0000 ∷ 0x0100 ∷ []) (0x0000 ∷ 0x0DBC ∷ 0x0000 ∷ 0x0100 ∷ []) (0x0000 ∷ 0x0000 ∷ 0x0E0D ∷ 0x0100 ∷ []) ∷
-    table 53 1 0 (0x8DBC ∷ 0x0000 ∷ 0x0000 ∷ 0x0100 ∷ []) (0x0000 ∷ 0x0DBC ∷ 0x0000 ∷ 0x0100 ∷ []) (0x0000 ∷ 0x0000 ∷ 0x0DBC ∷ 0x0100 ∷ []) ∷
-    table 54 0 1 (0xA950 ∷ 0x0000 ∷ 0x0000 ∷ 0x1F6B ∷ []) (0x0000 ∷ 0x0950 ∷ 0x0000 ∷ 0x1F6B ∷ []) (0x0000 ∷ 0x0000 ∷ 0x0950 ∷ 0x1F6B ∷ []) ∷
-    table 56 2 0 (0xAC53 ∷ 0x0800 ∷ 0x0000 ∷ 0x19D6 ∷ []) (0x1C56 ∷ 0x0800 ∷ 0x1E88 ∷ 0x0291 ∷ []) (0x1FFF ∷ 0x0800 ∷ 0x0E85 ∷ 0x18BE ∷ []) ∷
-    table 57 2 1 (0xE734 ∷ 0x04AD ∷ 0x0000 ∷ 0x1C1B ∷ []) (0x1DDC ∷ 0x04AD ∷ 0x1F24 ∷ 0x0135 ∷ []) (0x0000 ∷ 0x04AD ∷ 0x087C ∷ 0x1B77 ∷ []) ∷
-    table 58 4 0 (0xAAF8 ∷ 0x0800 ∷ 0x0000 ∷ 0x1A84 ∷ []) (0x1A6A ∷ 0x0800 ∷ 0x1D50 ∷ 0x0423 ∷ []) (0x1FFC ∷ 0x0800 ∷ 0x0DDE ∷ 0x1913 ∷ []) ∷
-    table 59 4 1 (0xE669 ∷ 0x04AC ∷ 0x0000 ∷ 0x1C81 ∷ []) (0x1CBC ∷ 0x04AD ∷ 0x1E6E ∷ 0x0220 ∷ []) (0x1FFE ∷ 0x04AD ∷ 0x081A ∷ 0x1BA9 ∷ []) ∷
-    table 60 0 2 (0x882E ∷ 0x1893 ∷ 0x1F3F ∷ 0x0800 ∷ []) (0x0367 ∷ 0x0B71 ∷ 0x0128 ∷ 0x0000 ∷ []) (0x1E21 ∷ 0x19B2 ∷ 0x082D ∷ 0x0800 ∷ []) ∷
-    table 61 1 2 (0x86FF ∷ 0x19A6 ∷ 0x1F5B ∷ 0x0800 ∷ []) (0x02E9 ∷ 0x09CB ∷ 0x00FD ∷ 0x0100 ∷ []) (0x1E66 ∷ 0x1A9B ∷ 0x06FF ∷ 0x0800 ∷ []) ∷
-    table 62 0 4 (0x882E ∷ 0x1926 ∷ 0x1EAC ∷ 0x0800 ∷ []) (0x04C9 ∷ 0x0965 ∷ 0x01D2 ∷ 0x0000 ∷ []) (0x1D3F ∷ 0x1A93 ∷ 0x082E ∷ 0x0800 ∷ []) ∷
-    table 63 1 4 (0x86FF ∷ 0x1A24 ∷ 0x1EDD ∷ 0x0800 ∷ []) (0x0418 ∷ 0x080A ∷ 0x018F ∷ 0x0100 ∷ []) (0x1DA5 ∷ 0x1B5C ∷ 0x06FF ∷ 0x0800 ∷ []) ∷
-    table 64 1 1 (0xA800 ∷ 0x0000 ∷ 0x0000 ∷ 0x0000 ∷ []) (0x0000 ∷ 0x0800 ∷ 0x0000 ∷ 0x0000 ∷ []) (0x0000 ∷ 0x0000 ∷ 0x0800 ∷ 0x0000 ∷ []) ∷ []
+    table 39 2 0 0xAC530800000019D6 0x1C5608001E880291 0x1FFF08000E8518BE ∷
+    table 40 2 1 0xE73404AD00001C1B 0x1DDC04AD1F240135 0x000004AD087C1B77 ∷
+    table 41 4 0 0xAAF8080000001A84 0x1A6A08001D500423 0x1FFC08000DDE1913 ∷
+    table 42 4 1 0xE66904AC00001C81 0x1CBC04AD1E6E0220 0x1FFE04AD081A1BA9 ∷
+    table 43 0 2 0x882E18931F3F0800 0x03670B7101280000 0x1E2119B2082D0800 ∷
+    table 44 1 2 0x86FF19A61F5B0800 0x02E909CB00FD0100 0x1E661A9B06FF0800 ∷
+    table 45 0 4 0x882E19261EAC0800 0x04C9096501D20000 0x1D3F1A93082E0800 ∷
+    table 46 1 4 0x86FF1A241EDD0800 0x0418080A018F0100 0x1DA51B5C06FF0800 ∷
+    table 47 2 4 0xA7DD00001F6C005B 0x0188080000CB1ED6 0x1F1D000007EB007B ∷
+    table 48 2 5 0xA8EB00001F581FDE 0x01C9095000EC1F25 0x1EFF000008FA031F ∷
+    table 49 4 2 0xA833000000991F99 0x1E5608001F13014B 0x00EA000008261F78 ∷
+    table 50 5 2 0xC39D000000430F26 0x1F44036F1F9700D2 0x006700000397004D ∷
+    table 51 4 5 0xA91B000000001F6E 0x0000095000001F6B 0x00000000091B1F6E ∷
+    table 52 3 4 0x8E0D000000000100 0x00000DBC00000100 0x000000000E0D0100 ∷
+    table 53 1 0 0x8DBC000000000100 0x00000DBC00000100 0x000000000DBC0100 ∷
+    table 54 0 1 0xA950000000001F6B 0x0000095000001F6B 0x0000000009501F6B ∷
+    table 56 2 0 0xAC530800000019D6 0x1C5608001E880291 0x1FFF08000E8518BE ∷
+    table 57 2 1 0xE73404AD00001C1B 0x1DDC04AD1F240135 0x000004AD087C1B77 ∷
+    table 58 4 0 0xAAF8080000001A84 0x1A6A08001D500423 0x1FFC08000DDE1913 ∷
+    table 59 4 1 0xE66904AC00001C81 0x1CBC04AD1E6E0220 0x1FFE04AD081A1BA9 ∷
+    table 60 0 2 0x882E18931F3F0800 0x03670B7101280000 0x1E2119B2082D0800 ∷
+    table 61 1 2 0x86FF19A61F5B0800 0x02E909CB00FD0100 0x1E661A9B06FF0800 ∷
+    table 62 0 4 0x882E19261EAC0800 0x04C9096501D20000 0x1D3F1A93082E0800 ∷
+    table 63 1 4 0x86FF1A241EDD0800 0x0418080A018F0100 0x1DA51B5C06FF0800 ∷
+    table 64 1 1 0xA800000000000000 0x0000080000000000 0x0000000008000000 ∷ []
 
 unfoldable pub tableAt : ℕ → Table
-tableAt at = getD tables at (table 0 0 0 [] [] [])
+tableAt at = getD tables at (table 0 0 0 0 0 0)
 
 -- a misprinted pair: its table, which of the twelve, and one that gives the codes of the table's title
 abbrev pub correction : ℕ → ℕ → ℕ → Correction
@@ -73,9 +73,13 @@ correctedIn table i printed (k ∷ ks) = cond (correctsThis table i k) (k .value
 unfoldable pub correctedOf : ℕ → ℕ → ℕ → ℕ
 correctedOf table i printed = correctedIn table i printed corrections
 
--- register pair i of a table as printed; and, `again`, as corrected
+-- register pair i of a row; of a table as printed; and, `again`, as corrected
+unfoldable pub pairIn : ℕ → ℕ → ℕ
+pairIn row i =
+    cond (eqb i 0) (row / 0x1000000000000 % 65536) (cond (eqb i 1) (row / 0x100000000 % 65536) (cond (eqb i 2) (row / 0x10000 % 65536) (row % 65536)))
+
 unfoldable pub printedOf : Table → ℕ → ℕ
-printedOf t i = cond (ltb i 4) (getD (t .a) i 0) (cond (ltb i 8) (getD (t .b) (i - 4) 0) (getD (t .c) (i - 8) 0))
+printedOf t i = cond (ltb i 4) (pairIn (t .a) i) (cond (ltb i 8) (pairIn (t .b) (i - 4)) (pairIn (t .c) (i - 8)))
 
 unfoldable pub pairOf : Table → Bool → ℕ → ℕ
 pairOf t again i = cond again (correctedOf (t .number) i (printedOf t i)) (printedOf t i)

@@ -3,7 +3,7 @@ ghost use mathlib.Core.Path.{_≡_};
 ghost use mathlib.Core.Bool.{cond, true};
 ghost use Prim.Native.Nat.{_+_, _-_, _%_, _<_, max};
 ghost use lib.Dec.{ltb};
-ghost use Rattle.vectors.specs.Colours.{lightOf, codesOf, printedOf, correctsThis, correctedOf, pairOf, modeOf, highOf, bodyOf, offOf, levelOf, farTo, verdictOf, tableAt, coloursTally};
+ghost use Rattle.vectors.specs.Colours.{lightOf, codesOf, pairIn, printedOf, correctsThis, correctedOf, pairOf, modeOf, highOf, bodyOf, offOf, levelOf, farTo, verdictOf, tableAt, coloursTally};
 use crate::counts::Tally;
 use crate::counts::Verdict;
 use crate::counts::counted;
@@ -63,21 +63,39 @@ fn codes(space: u8, level: usize) -> Triple
     }
 }
 
+fn last_pair(x: u64) -> u16
+    ensures { λ r. ⌜ r ≡ x % 65536 ⌝ }
+{
+    (x % 65536) as u16
+}
+
+// Register pair i of a row of four.
+fn pair_in(row: u64, i: usize) -> u16
+    ensures { λ r. ⌜ r ≡ pairIn row i ⌝ }
+{
+    if i == 0 {
+        return last_pair(row / 0x1_0000_0000_0000);
+    }
+    if i == 1 {
+        return last_pair(row / 0x1_0000_0000);
+    }
+    if i == 2 {
+        return last_pair(row / 0x1_0000);
+    }
+    last_pair(row)
+}
+
 // Register pair i of a table, as printed.
 fn printed_pair(t: Table, i: usize) -> u16
-    requires { ⌜ i < 12 ⌝ }
     ensures { λ r. ⌜ r ≡ printedOf t i ⌝ }
 {
-    let a = t.a;
-    let b = t.b;
-    let c = t.c;
     if i < 4 {
-        return a[i];
+        return pair_in(t.a, i);
     }
     if i < 8 {
-        return b[i - 4];
+        return pair_in(t.b, i - 4);
     }
-    c[i - 8]
+    pair_in(t.c, i - 8)
 }
 
 // Whether a correction is that of register pair i of a table.
@@ -104,7 +122,6 @@ fn corrected(table: u8, i: usize, printed: u16) -> u16
 
 // Register pair i of a table: as printed, or, `again`, as corrected.
 fn pair_of(t: Table, i: usize, again: bool) -> u16
-    requires { ⌜ i < 12 ⌝ }
     ensures { λ r. ⌜ r ≡ pairOf t again i ⌝ }
 {
     let printed = printed_pair(t, i);

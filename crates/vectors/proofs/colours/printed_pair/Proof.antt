@@ -7,18 +7,15 @@ use Rattle.vectors.proofs.colours.printed_pair.Tie as tie
 
 returns : tie.Need-returns
 unfolding printedOf
-returns c = rw (lt-ltb _ _ (c .if1 .taken))
+returns c = rw (lt-ltb _ _ (c .before .if1 .taken), c .pair-in .ensures)
 
 returns-2 : tie.Need-returns-2
 unfolding printedOf
-returns-2 c = rw (le-ltb _ _ (c .before .if1 .left), lt-ltb _ _ (c .if2 .taken))
+returns-2 c = rw (le-ltb _ _ (c .before .before .if1 .left), lt-ltb _ _ (c .before .if2 .taken), c .pair-in2 .ensures)
 
 returns-3 : tie.Need-returns-3
 unfolding printedOf
-returns-3 c = rw (le-ltb _ _ (c .before .if1 .left), le-ltb _ _ (c .if2 .left))
+returns-3 c = rw (le-ltb _ _ (c .before .before .if1 .left), le-ltb _ _ (c .before .if2 .left), c .pair-in3 .ensures)
 
 pub printed-pair-spec : {M : Type 1} → statement M
-printed-pair-spec =
-    tie.close
-    (tie.spec (λ c. search needs) (λ c. search needs) returns (λ c. search needs) (λ c. search needs) returns-2 (λ c. search needs)
-    (λ c. search needs) returns-3)
+printed-pair-spec = tie.close (tie.spec (λ c κs. search needs) returns (λ c κs. search needs) returns-2 (λ c κs. search needs) returns-3)
