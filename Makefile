@@ -11,6 +11,7 @@ HEADERS = include/station.h $(wildcard tests/*.h tests/*/*.h bench/*.h)
 
 .PHONY: host bench tests
 host: target/c/host
+	@echo "target/c/host is built; run it by host/run [--cut K] [--brief] [BYTE...]"
 bench: target/c/bench
 	@setup=$$(tools/setup) && eval "$$setup" && $$RUN target/c/bench
 tests:

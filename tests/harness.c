@@ -29,7 +29,7 @@ static void differs(const char *text, ...) {
     va_start(list, text);
     vsnprintf(line, sizeof line, text, list);
     va_end(list);
-    if (run.now->failed++ == 0) snprintf(first_difference, sizeof first_difference, "%.24s: %.120s", run.now->name, line);
+    if (run.now->failed++ == 0) snprintf(first_difference, sizeof first_difference, "%.30s: %.120s", run.now->name, line);
     if (run.loud && run.now->failed <= 5)
         printf("    difference in %s, case %llu: %s\n", run.now->name, (unsigned long long)run.now->cases, line);
     if (run.stop) {
