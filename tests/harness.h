@@ -6,8 +6,9 @@
 
 struct section { const char *name, *call; uint64_t cases; uint32_t failed; };
 
-/* Runs every section on an implementation, or those on cuts alone (ON_CUTS). `share` is the part of the random cases, in 1/1000. With `stop`, the first difference ends it.
- * `loud` prints each section and the first differences. Answers the number of sections with a difference; `sections` gets their counts. */
+/* Runs every section on an implementation, or those on cuts alone (ON_CUTS). `share` is the part of the random cases, in 1/1000. With
+ * `stop`, the first difference ends it. `loud` prints each section and the first differences. Answers the number of sections with a
+ * difference; `sections` gets their counts. */
 enum { SECTIONS = 14, ALL = 0, ON_CUTS = 12 };
 int harness(const struct face *f, int first, unsigned share, int stop, int loud, struct section *sections);
 

@@ -124,6 +124,7 @@ PLAN(hold_never_raised) {
 }
 PUT(plan, hold_never_raised)
 
+/* The error list's checksum 256 shows in no request today: no packet's sum is already zero. So a plain wrong one. */
 PLAN(checksum_off) {
     struct station_count c = RIGHT;
     if (!c.refusal) w[2 * place(w, c.count, 0x54, 0) + 1]--;
