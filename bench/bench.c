@@ -1,10 +1,11 @@
 /* The benchmark: planning and decoding, the library and plain C in one run, ns for each call and the ratio. The two take turns, and each
- * keeps its best round. `bench check` only compares their answers. */
+ * keeps its best round. `bench check` only compares their answers, `bench stack` only measures the stack that the library uses. */
 #include "plain.h"
 #include <stdio.h>
 #include <stdlib.h>
 #include <string.h>
 #include <time.h>
+#include <ucontext.h>
 
 enum { INPUTS = 64, CALLS = 20000, ROUNDS = 12 };
 
@@ -102,6 +103,31 @@ static int alike(void) {
     return 1;
 }
 
+/* The library's calls on a painted stack: how many bytes of it are no longer as they were painted, over all inputs. */
+static uint8_t stack[1 << 16];
+static ucontext_t here, there;
+static int at, decoding;
+
+static void call(void) {
+    if (decoding) sum += station_decode(in[at].finished, 256, room, sizeof room).count;
+    else sum += station_plan(in[at].request, in[at].length, in[at].start, 256, room, sizeof room).count;
+}
+
+static size_t deepest(int decode) {
+    size_t most = 0;
+    for (at = 0, decoding = decode; at < INPUTS; at++) {
+        size_t clean = 0;
+        memset(stack, 0xA5, sizeof stack);
+        getcontext(&there);
+        there.uc_stack.ss_sp = stack, there.uc_stack.ss_size = sizeof stack, there.uc_link = &here;
+        makecontext(&there, call, 0);
+        swapcontext(&here, &there);
+        while (clean < sizeof stack && stack[clean] == 0xA5) clean++;
+        if (sizeof stack - clean > most) most = sizeof stack - clean;
+    }
+    return most;
+}
+
 int main(int count, char **words) {
     make_inputs();
     if (!alike()) {
@@ -109,6 +135,9 @@ int main(int count, char **words) {
         return 1;
     }
     if (count > 1 && !strcmp(words[1], "check")) return 0;
+    size_t planning = deepest(0), back = deepest(1);
+    printf("stack: planning %zu bytes, decoding %zu bytes\n", planning, back);
+    if (count > 1 && !strcmp(words[1], "stack")) return 0;
     printf("best of %d rounds of %d calls, over %d requests and images\n", ROUNDS, CALLS, INPUTS);
     printf("%-34s %-12s %12s %12s %8s\n", "", "buffer", "library", "plain C -O2", "ratio");
     for (int clear = 0; clear < 2; clear++) {
