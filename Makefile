@@ -3,10 +3,7 @@
 #   make bench     planning and decoding, the library against plain C
 #   make tests     tests/run
 LIB     = target/staticlib/libstation.a
-MISSING := $(shell tests/missing)
-# While include/station.h lacks some calls, the model stands in for them.
-STANDIN := $(if $(strip $(MISSING)),tests/standin.c $(wildcard tests/model/*.c))
-FLAGS   = -std=c99 -D_GNU_SOURCE -Wall -Wextra -O2 -Iinclude $(MISSING) $(if $(strip $(MISSING)),-include tests/face.h)
+FLAGS   = -std=c99 -D_GNU_SOURCE -Wall -Wextra -O2 -Iinclude
 HEADERS = include/station.h $(wildcard tests/*.h tests/*/*.h bench/*.h)
 
 .PHONY: host bench tests
@@ -17,8 +14,8 @@ bench: target/c/bench
 tests:
 	@tests/run
 
-target/c/host: host/host.c $(STANDIN)
-target/c/bench: bench/bench.c bench/plain.c $(STANDIN)
+target/c/host: host/host.c
+target/c/bench: bench/bench.c bench/plain.c
 target/c/tests: $(wildcard tests/*.c tests/model/*.c tests/wrong/*.c) bench/plain.c
 target/c/host target/c/bench target/c/tests: $(HEADERS) $(LIB) Makefile
 	@mkdir -p target/c

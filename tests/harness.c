@@ -577,21 +577,21 @@ static void chains(void) {
     }
 }
 
-static const struct { const char *name, *call; void (*run)(void); } sections[SECTIONS] = {
-    { "class table", "class", classes },
-    { "marked cases", "", marked },
-    { "every field, every cut", "ncts plan", fields },
-    { "N and CTS", "ncts", ncts },
-    { "planning", "plan", plan },
-    { "every length", "", lengths },
-    { "decoding", "decode", decode },
-    { "every bit of finished images", "decode", flips },
-    { "the model's search", "", whole_search },
-    { "machine writes", "write", writes },
-    { "views", "sent mute matrix", views },
-    { "preview", "preview", preview },
-    { "every cut of every mode", "", cuts },
-    { "more than one cut", "", chains },
+static const struct { const char *name; void (*run)(void); } sections[SECTIONS] = {
+    { "class table", classes },
+    { "marked cases", marked },
+    { "every field, every cut", fields },
+    { "N and CTS", ncts },
+    { "planning", plan },
+    { "every length", lengths },
+    { "decoding", decode },
+    { "every bit of finished images", flips },
+    { "the model's search", whole_search },
+    { "machine writes", writes },
+    { "views", views },
+    { "preview", preview },
+    { "every cut of every mode", cuts },
+    { "more than one cut", chains },
 };
 
 int harness(const struct face *f, int first, unsigned share, int stop, int loud, struct section *result) {
@@ -617,7 +617,7 @@ int harness(const struct face *f, int first, unsigned share, int stop, int loud,
     first_difference[0] = 0;
     for (volatile int i = first; i < SECTIONS; i++) {
         struct timeval from, to;
-        result[i] = (struct section){ sections[i].name, sections[i].call, 0, 0 };
+        result[i] = (struct section){ sections[i].name, 0, 0 };
         still = 0;
         gettimeofday(&from, NULL);
         if (sigsetjmp(out, 1) == 0) {

@@ -4,7 +4,7 @@
 
 #include "face.h"
 
-struct section { const char *name, *call; uint64_t cases; uint32_t failed; };
+struct section { const char *name; uint64_t cases; uint32_t failed; };
 
 /* Runs every section on an implementation, or those on cuts alone (ON_CUTS). `share` is the part of the random cases, in 1/1000. With
  * `stop`, the first difference ends it. `loud` prints each section and the first differences. Answers the number of sections with a
