@@ -109,15 +109,19 @@ static void call(void) {
     else sum += station_plan(in[at].request, in[at].length, in[at].start, 256, room, sizeof room).count;
 }
 
+static void call_there(void) {
+    memset(stack, 0xA5, sizeof stack);
+    getcontext(&there);
+    there.uc_stack.ss_sp = stack, there.uc_stack.ss_size = sizeof stack, there.uc_link = &here;
+    makecontext(&there, call, 0);
+    swapcontext(&here, &there);
+}
+
 static size_t deepest(int decode) {
     size_t most = 0;
     for (at = 0, decoding = decode; at < INPUTS; at++) {
         size_t clean = 0;
-        memset(stack, 0xA5, sizeof stack);
-        getcontext(&there);
-        there.uc_stack.ss_sp = stack, there.uc_stack.ss_size = sizeof stack, there.uc_link = &here;
-        makecontext(&there, call, 0);
-        swapcontext(&here, &there);
+        call_there();
         while (clean < sizeof stack && stack[clean] == 0xA5) clean++;
         if (sizeof stack - clean > most) most = sizeof stack - clean;
     }
