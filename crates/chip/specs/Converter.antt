@@ -31,6 +31,10 @@ matrixCount image buffer out =
 unfoldable pub matrixOut : List ℕ → List ℕ → List ℕ → List ℕ
 matrixOut image buffer out = cond (eqb (matrixRefusal image buffer out) 0) (matrixBytes image buffer ++ drop 25 out) out
 
+-- what is promised: the answer, and what is left in the lent bytes
+abbrev pub Shows : List ℕ → List ℕ → List ℕ → Count → List ℕ → Type 0
+Shows image buffer out answer left = (answer ≡ matrixCount image buffer out) × (left ≡ matrixOut image buffer out)
+
 -- when each row applies, on the slices as they are lent
 abbrev pub matrixRules : List ℕ → List ℕ → List ℕ → List Condition
 matrixRules image buffer out = imageLength when ((length image ≢ 256) ⊎ (length buffer ≢ 24)) ∷ bufferShort when (length out < 25) ∷ []

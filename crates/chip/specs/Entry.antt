@@ -23,6 +23,10 @@ isSized s = eqb (length (s .image)) 256 && (eqb (length (s .packet)) 32 && eqb (
 unfoldable pub enterOf : Chip → ℕ → ℕ → Wrote
 enterOf s address value = cond (not (isSized s)) (record { refusal = number imageLength; chip = s }) (writeOf s address value)
 
+-- what a write over slices promises: its number, and the three slices after it
+abbrev pub Writes : Chip → ℕ → ℕ → ℕ → Chip → Type 0
+Writes s address value given left = (given ≡ enterOf s address value .refusal) × (left ≡ enterOf s address value .chip)
+
 -- "a machine write 7 and 13": when each applies, on the slices as they are lent
 abbrev pub enterRules : Chip → ℕ → ℕ → List Condition
 enterRules s address value =

@@ -6,7 +6,7 @@ ghost use lib.ListN.{length};
 ghost use lib.Seq.{sets};
 ghost use Rattle.matrix.specs.Coefficient.{coefficientBytes};
 ghost use Rattle.matrix.specs.Matrix.{fields};
-ghost use Rattle.chip.specs.Converter.{matrixCount, matrixOut, Converts};
+ghost use Rattle.chip.specs.Converter.{Shows, Converts};
 use map::Map;
 use refusals::Refusal;
 
@@ -33,8 +33,7 @@ fn store_coefficients(bytes: &[u8], out: &mut [u8])
 
 // The mode, which acts at once, and the twelve coefficients in use, 25 bytes as the request has them: refusals 7 and 10.
 pub fn matrix_in_use(image: &[u8], coefficients: &[u8], out: &mut [u8]) -> Count
-    ensures { λ r. ⌜ r ≡ matrixCount (now (image .entry)) (now (coefficients .entry)) (now (out .entry)) ⌝ }
-    ensures { λ _. ⌜ now (out .exit) ≡ matrixOut (now (image .entry)) (now (coefficients .entry)) (now (out .entry)) ⌝ }
+    ensures { λ r. ⌜ Shows (now (image .entry)) (now (coefficients .entry)) (now (out .entry)) r (now (out .exit)) ⌝ }
 {
     if !((image.len() == 256) & (coefficients.len() == 24)) {
         return Count {

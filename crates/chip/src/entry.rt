@@ -3,7 +3,7 @@ ghost use mathlib.Core.Path.{_≡_};
 ghost use Prim.Native.Nat.{ℕ};
 ghost use lib.ListN.{length};
 ghost use Rattle.chip.specs.declared.Chip.{Chip};
-ghost use Rattle.chip.specs.Entry.{lentAs, enterOf, Enters};
+ghost use Rattle.chip.specs.Entry.{lentAs, Writes, Enters};
 use crate::Chip;
 use refusals::Refusal;
 
@@ -58,8 +58,8 @@ pub fn write_into(
     address: u8,
     value: u8,
 ) -> u8
-    ensures { λ r. ⌜ r ≡ enterOf (lentAs (now (image .entry)) (now (packet .entry)) (now (coefficients .entry))) address value .refusal ⌝ }
-    ensures { λ _. ⌜ lentAs (now (image .exit)) (now (packet .exit)) (now (coefficients .exit)) ≡ enterOf (lentAs (now (image .entry)) (now (packet .entry)) (now (coefficients .entry))) address value .chip ⌝ }
+    ensures { λ r. ⌜ Writes (lentAs (now (image .entry)) (now (packet .entry)) (now (coefficients .entry))) address value r
+        (lentAs (now (image .exit)) (now (packet .exit)) (now (coefficients .exit))) ⌝ }
 {
     if !((image.len() == 256) & ((packet.len() == 32) & (coefficients.len() == 24))) {
         return Refusal::IMAGE_LENGTH;

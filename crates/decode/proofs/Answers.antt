@@ -195,7 +195,7 @@ unfolding byte
 again a old w =
     law (by (var 0) once (by (var 1) once (by (var 2) (var 5) (var 3)))) once 8 (readOnly a ∷ free a ∷ named a ∷ bits a ∷ old ∷ w ∷ []) refl
 
-finished-again : (want : ℕ → ℕ) (before image : List ℕ) (a : ℕ) → getD image a 0 ≡ finished want before a → finished want image a ≡ getD image a 0
+pub finished-again : (want : ℕ → ℕ) (before image : List ℕ) (a : ℕ) → getD image a 0 ≡ finished want before a → finished want image a ≡ getD image a 0
 unfolding finished written
 finished-again want before image a e = go (isWritten a) e
   where

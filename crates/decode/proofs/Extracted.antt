@@ -141,7 +141,7 @@ module _ (r : Request) (image : List ℕ) (long : length image ≡ 256) (g : Ran
       ap₂ (λ (c : ℕ) (l : List ℕ). c ∷ l) (omega arith)
       (fields-read (suc (suc i)) n (omega arith) (both-right (clear i 0 5 && clear (suc i) 0 8) _ t))
 
-  coefficients-read : length (r .matrix .coefficients) ≡ 12 → ((i : ℕ) → getD (r .matrix .coefficients) i 0 < 8192)
+  pub coefficients-read : length (r .matrix .coefficients) ≡ 12 → ((i : ℕ) → getD (r .matrix .coefficients) i 0 < 8192)
       → fields (take reg.cscCount (drop reg.csc image)) ≡ r .matrix .coefficients
   unfolding isWritten decided classAt
   coefficients-read t s =

@@ -3,6 +3,7 @@ pub mod Stored
 pub mod Standing
 pub mod Ranged
 pub mod Extracted
+pub mod Groups
 pub mod Says
 pub mod Back
 pub mod Answers

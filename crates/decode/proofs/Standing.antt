@@ -62,7 +62,7 @@ module _ (r : Request) (image : List ℕ) (st : Stands r image) where
   v a = merge 8 (decided a) (cond (eqb a reg.gc) reg.clearAvMuteMask 0) (wanted r a)
 
   -- a register that the list writes is as the list leaves it
-  there : (a : ℕ) → a < 256 → isWritten a ≡ true → byte a (getD image a 0) (v a) ≡ getD image a 0
+  pub there : (a : ℕ) → a < 256 → isWritten a ≡ true → byte a (getD image a 0) (v a) ≡ getD image a 0
   unfolding finished written
   there a h w = subst (λ (b : Bool). cond b (byte a (getD image a 0) (v a)) (getD image a 0) ≡ getD image a 0) w (st a h)
 

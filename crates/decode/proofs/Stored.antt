@@ -14,7 +14,7 @@ use Rattle.chip.specs.Machine.{Write}
 use Rattle.request.specs.declared.Sound.{Sound}
 use Rattle.request.specs.declared.Sound.the-variants.{Off, On}
 use Rattle.request.specs.declared.Request.{Request}
-use Rattle.plan.specs.Wanted.{stores, wantedBytes, wantedImage, wanted, cscBytes, withAudio, rateCode, ctsSelect}
+use Rattle.plan.specs.Wanted.{stores, wantedBytes, wantedImage, wanted, cscBytes, withAudio, rateCode, ctsSelect, audioBytes}
 
 -- the last value stored at a, and d where none is
 abbrev look : ℕ → List Write → ℕ → ℕ
@@ -67,6 +67,9 @@ pub record Wants (r : Request) : Type 0 where
   pub channels : wanted r reg.audioInfoframeByte1 ≡ cc (r .sound)
   pub coherent : wanted r reg.audioSource ≡ ctsSelect (r .sound) * 128
   pub csc : each (wanted r) reg.csc 24 ≡ cscBytes (r .matrix)
+  -- the checksum and the data bytes of the two InfoFrames, but for the reserved ones
+  pub aviBytes : each (wanted r) reg.aviInfoframeChecksum 14 ≡ drop 3 (aviFrame (r .vic) (r .encoding))
+  pub soundBytes : each (wanted r) reg.audioInfoframeChecksum 6 ≡ take 6 (drop 3 (audioBytes (r .sound)))
 
 module _ (r : Request) where
   abbrev sounding : Sound → Request
@@ -75,8 +78,9 @@ module _ (r : Request) where
   low : {a : ℕ} {v : ℕ} → (s : Sound) → a < 256 → look a (wantedBytes (sounding s)) 0 ≡ v → wanted (sounding s) a ≡ v
   low {a} s h e = stored (sounding s) a h ∙ e
 
-  run : (s : Sound) → each (λ a. look a (wantedBytes (sounding s)) 0) reg.csc 24 ≡ cscBytes (r .matrix) → each (wanted (sounding s)) reg.csc 24 ≡ cscBytes (r .matrix)
-  run s e = each-same (wanted (sounding s)) (λ a. look a (wantedBytes (sounding s)) 0) reg.csc 24 (lit≤ tt) (stored (sounding s)) ∙ e
+  run : (first count : ℕ) {bytes : List ℕ} (s : Sound) → first + count ≤ 256 → each (λ a. look a (wantedBytes (sounding s)) 0) first count ≡ bytes
+      → each (wanted (sounding s)) first count ≡ bytes
+  run first count s h e = each-same (wanted (sounding s)) (λ a. look a (wantedBytes (sounding s)) 0) first count h (stored (sounding s)) ∙ e
 
   sound : (s : Sound) → Wants (sounding s)
   unfolding aviFrame audioFrame audioOffFrame
@@ -88,7 +92,9 @@ module _ (r : Request) where
     rate = low Off (lit< tt) refl;
     channels = low Off (lit< tt) refl;
     coherent = low Off (lit< tt) refl;
-    csc = run Off refl;
+    csc = run reg.csc 24 Off (lit≤ tt) refl;
+    aviBytes = run reg.aviInfoframeChecksum 14 Off (lit≤ tt) refl;
+    soundBytes = run reg.audioInfoframeChecksum 6 Off (lit≤ tt) refl;
   }
   sound (On x y z) = let s : Sound = On x y z in record {
     vic = low s (lit< tt) refl;
@@ -98,7 +104,9 @@ module _ (r : Request) where
     rate = low s (lit< tt) refl;
     channels = low s (lit< tt) refl;
     coherent = low s (lit< tt) refl;
-    csc = run s refl;
+    csc = run reg.csc 24 s (lit≤ tt) refl;
+    aviBytes = run reg.aviInfoframeChecksum 14 s (lit≤ tt) refl;
+    soundBytes = run reg.audioInfoframeChecksum 6 s (lit≤ tt) refl;
   }
 
   pub wants : Wants r

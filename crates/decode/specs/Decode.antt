@@ -1,4 +1,5 @@
 -- What decoding answers: refusals 7, 10 and 11.
+use mathlib.Core.Path.{_≡_}
 use mathlib.Core.Logic.{_≢_}
 use mathlib.Core.Bool.{Bool, true, cond, not, _&&_, _||_}
 use mathlib.Core.List.{List, [], _∷_, _++_}
@@ -47,3 +48,7 @@ decodeOf image buffer =
 unfoldable pub bufferOf : List ℕ → List ℕ → List ℕ
 bufferOf image buffer =
     cond (eqb (refusalOf image buffer) 0) (bytesOf (extract image) ++ drop (length (bytesOf (extract image))) buffer) buffer
+
+-- what decoding promises: its answer, and what it leaves in the lent buffer
+abbrev pub Decodes : List ℕ → List ℕ → Decoded → List ℕ → Type 0
+Decodes image buffer answer left = (answer ≡ decodeOf image buffer) × (left ≡ bufferOf image buffer)

@@ -8,7 +8,7 @@ ghost use lib.Seq.{sets};
 ghost use Rattle.plan.specs.Stands.{standsIn};
 ghost use Rattle.decode.specs.Ends.{matrixSection, bytesOf};
 ghost use Rattle.decode.specs.Extract.{rateOf, soundIn, matrixIn, extract};
-ghost use Rattle.decode.specs.Decode.{nothing, decodeOf, bufferOf};
+ghost use Rattle.decode.specs.Decode.{nothing, Decodes};
 ghost use Rattle.decode.specs.Theorems.{ExactlyWhen, AtMostOne, Refusals, ReadBack};
 use map::Map;
 use matrix::Matrix;
@@ -191,8 +191,7 @@ fn refused(number: u8) -> Decoded
 
 // The request that ends in an image, in a lent buffer: refusals 7, 10 and 11.
 pub fn decode(image: &[u8], buffer: &mut [u8]) -> Decoded
-    ensures { λ r. ⌜ r ≡ decodeOf (now (image .entry)) (now (buffer .entry)) ⌝ }
-    ensures { λ _. ⌜ now (buffer .exit) ≡ bufferOf (now (image .entry)) (now (buffer .entry)) ⌝ }
+    ensures { λ r. ⌜ Decodes (now (image .entry)) (now (buffer .entry)) r (now (buffer .exit)) ⌝ }
 {
     if image.len() != 256 {
         return refused(Refusal::IMAGE_LENGTH);

@@ -73,6 +73,10 @@ unfoldable pub bufferOf : List ℕ → List ℕ → List ℕ → List ℕ
 bufferOf input image buffer =
     cond (eqb (refusalOf input image buffer) 0) (fronted (writesOf input image) buffer) buffer
 
+-- what planning promises: its answer, and what it leaves in the lent buffer
+abbrev pub Plans : List ℕ → List ℕ → List ℕ → Planned → List ℕ → Type 0
+Plans input image buffer answer left = (answer ≡ planOf input image buffer) × (left ≡ bufferOf input image buffer)
+
 -- "the lowest that applies is given, and none is given otherwise. Each returns its number and count 0 and changes no lent byte."
 pub record PlanRefusals (input image buffer : List ℕ) : Type 0 where
   pub given : Given (planRules input image buffer) (planOf input image buffer .refusal)

@@ -17,7 +17,7 @@ ghost use Rattle.plan.specs.Wanted.{clockBytes, inputBytes, enableBytes,
 ghost use Rattle.plan.specs.List.{steps, middle, decided, byte, isWritten};
 ghost use Rattle.plan.specs.Stands.{asWanted, standsIn};
 ghost use Rattle.map.specs.Map as reg;
-ghost use Rattle.plan.specs.Plan.{inOrder, fronted, nothing, planOf, bufferOf, PlanRefusals};
+ghost use Rattle.plan.specs.Plan.{inOrder, fronted, nothing, Plans, PlanRefusals};
 use clock::Pair;
 use map::Map;
 use matrix::Matrix;
@@ -390,8 +390,7 @@ fn refused(number: u8) -> Planned
 
 // The write list of a request on an image, as pairs of address and value in a lent buffer: refusals 1 to 10.
 pub fn plan(input: &[u8], image: &[u8], writes: &mut [u8]) -> Planned
-    ensures { λ r. ⌜ r ≡ planOf (now (input .entry)) (now (image .entry)) (now (writes .entry)) ⌝ }
-    ensures { λ _. ⌜ now (writes .exit) ≡ bufferOf (now (input .entry)) (now (image .entry)) (now (writes .entry)) ⌝ }
+    ensures { λ r. ⌜ Plans (now (input .entry)) (now (image .entry)) (now (writes .entry)) r (now (writes .exit)) ⌝ }
 {
     let checked = request::read(input);
     if checked.refusal != Refusal::NONE {

@@ -1,17 +1,20 @@
 -- Demands 2 and 3, tied to the planning entry. Assumes nothing.
-use mathlib.Core.Path.{_≡_, refl, sym, ap, _∙_}
+use mathlib.Core.Path.{_≡_, refl, sym, ap, ap₂, _∙_}
 use mathlib.Core.Bool.{Bool, true, false, false≢true, cond, not}
 use mathlib.Core.List.{List}
 use Prim.Native.Nat.{ℕ}
 use native.Mathlib.Omega.{arith}
 use lib.Dec.{eqb, ltb}
-use lib.ListN.{length}
+use lib.ListN.{length, drop, replicate}
 use lib.Seq.{take-length}
 use borrow.Author.Tests.{eqb-true, eq-eqb}
 use Rattle.matrix.specs.Matrix.{Bytes}
 use Rattle.chip.specs.declared.Chip.{Chip}
 use Rattle.chip.specs.Machine.{Write, after}
+use Rattle.request.specs.declared.Request.{Request}
+use Rattle.request.specs.declared.Checked.{Checked}
 use Rattle.request.specs.Read.{readOf, pairFor}
+use Rattle.plan.specs.Wanted.{wanted}
 use Rattle.plan.specs.declared.Planned.{Planned}
 use Rattle.plan.specs.List.{writeList, ready}
 use Rattle.plan.specs.Plan.{laterRefusal, refusalOf, writesOf, planOf, bufferOf}
@@ -20,9 +23,12 @@ use Rattle.cut.specs.Demand.{Demand3, cut, done}
 use Rattle.cut.proofs.WriteList.{holds}
 use Rattle.cut.proofs.InOrder.{in-order}
 use Rattle.cut.proofs.Carries.{carried}
+use Rattle.decode.specs.Ends.{bytesOf, Acceptable, Stands}
 use Rattle.decode.specs.Theorems.{Ran}
-use Rattle.decode.proofs.Answers.{read-back}
-use Rattle.promises.specs.Rules.{asked, Listed, Demand2}
+use Rattle.decode.proofs.Ranged.{Ranged, read-ranged}
+use Rattle.decode.proofs.Groups.{avi-in, audio-in, matrix-in}
+use Rattle.decode.proofs.Answers.{finished-again, read-back}
+use Rattle.promises.specs.Rules.{asked, Listed, Demand2, Accepted, OnSomeImage}
 use Rattle.promises.specs.AnyCut.{AnyCut}
 
 -- an answer without a refusal comes from no refusal
@@ -74,22 +80,33 @@ listed : (input image buffer : List ℕ) → refusalOf input image buffer ≡ 0 
 unfolding planOf bufferOf writesOf
 listed input image buffer r = record { count = rw r; list = rw r }
 
+-- the end of a run is its cut after the last write
+at-end : (input : List ℕ) (s : Chip) → cut writeList (asked input) s (length (writeList (asked input) (s .image))) ≡ done writeList (asked input) s
+at-end input s = ap (λ (ws : List Write). after ws s) (take-length (writeList (asked input) (s .image)))
+
+whole-end : (input : List ℕ) (s : Chip) → Demand3 writeList (asked input) s → length (done writeList (asked input) s .image) ≡ 256
+whole-end input s d = ap (λ (t : Chip). length (t .image)) (sym (at-end input s)) ∙ d .whole (length (writeList (asked input) (s .image)))
+
 pub any-cut : (input buffer : List ℕ) (s : Chip) → planOf input (s .image) buffer .refusal ≡ 0 → AnyCut input buffer s
 any-cut input buffer s z =
     let r : refusalOf input (s .image) buffer ≡ 0 = answered input (s .image) buffer z in
     let f = fine input (s .image) buffer r in
     let d : Demand3 writeList (asked input) s = holds (asked input) s (f .whole) (f .clear) in
+    let q : Request = readOf input .request in
+    let e : Chip = done writeList (asked input) s in
+    let sized : length (e .image) ≡ 256 = whole-end input s d in
+    let stands : Stands q (e .image) = λ a h. finished-again (wanted q) (s .image) (e .image) a (d .registers a h) in
+    let g : Ranged q = read-ranged input (f .read) in
     record {
       listed = listed input (s .image) buffer r;
       demand = d;
+      newAvi = ap (drop 2) (d .ended .avi) ∙ avi-in q (e .image) sized g stands;
+      newAudio = ap (drop 2) (d .ended .audio) ∙ audio-in q (e .image) sized g stands;
+      newMatrix = d .ended .matrix ∙ matrix-in q (e .image) sized g stands;
       again = λ k. answer input (cut writeList (asked input) s k .image) buffer
           (accepted input (cut writeList (asked input) s k .image) buffer
           (record { read = f .read; whole = d .whole k; clear = d .ready k; paired = f .paired; long = f .long }));
     }
-
--- the end of a run is its cut after the last write
-at-end : (input : List ℕ) (s : Chip) → cut writeList (asked input) s (length (writeList (asked input) (s .image))) ≡ done writeList (asked input) s
-at-end input s = ap (λ (ws : List Write). after ws s) (take-length (writeList (asked input) (s .image)))
 
 pub rules : (input buffer : List ℕ) (s : Chip) → Demand2 input buffer s
 rules input buffer s = record {
@@ -109,6 +126,39 @@ rules input buffer s = record {
           bytes = b;
           read = f .read;
           paired = eqb-true _ _ (f .paired);
-          sized = ap (λ (t : Chip). length (t .image)) (sym (at-end input s)) ∙ c .demand .whole (length (writeList (asked input) (s .image)));
+          sized = whole-end input s (c .demand);
           registers = c .demand .registers;
+        }
+
+-- ---- accepted on some image: on zeros
+
+pub on-some-image : (r : Request) → OnSomeImage r
+on-some-image r = (there, back)
+  where
+    there : Acceptable r → Accepted r
+    there a =
+        let says : readOf (bytesOf r) .request ≡ r = ap (λ (c : Checked). c .request) (a .read) in
+        let z : List ℕ = replicate 256 0 in
+        record {
+          image = z;
+          buffer = z;
+          says = says;
+          accepted = answer (bytesOf r) z z (accepted (bytesOf r) z z (record {
+            read = ap (λ (c : Checked). c .refusal) (a .read);
+            whole = refl;
+            clear = refl;
+            paired = eq-eqb _ 0 (ap (λ (q : Request). pairFor q .refusal) says ∙ a .paired);
+            long = refl;
+          }));
+        }
+
+    the : ℕ → Request → Checked
+    the n q = record { refusal = n; request = q }
+
+    back : Accepted r → Acceptable r
+    back b =
+        let f = fine (bytesOf r) (b .image) (b .buffer) (answered (bytesOf r) (b .image) (b .buffer) (b .accepted)) in
+        record {
+          read = ap₂ the (f .read) (b .says);
+          paired = ap (λ (q : Request). pairFor q .refusal) (sym (b .says)) ∙ eqb-true _ _ (f .paired);
         }

@@ -22,13 +22,13 @@ use Rattle.chip.proofs.Used.{converts}
 use Rattle.plan.proofs.Ordered as planning
 use Rattle.decode.proofs.Answers as decoding
 use Rattle.promises.specs.AnyInput.{Demand1}
-use Rattle.promises.specs.Settled.{Settles, Is, And, Settled}
+use Rattle.promises.specs.Settled.{Settles, Is, Settled}
 
 -- the one law: an equation settles
 one : {A : Type 0} (a : A) → Settles (Is a)
 one a x y e f = e ∙ sym f
 
-two : {A B : Type 0} (a : A) (b : B) → Settles (And a b)
+two : {A B : Type 0} (a : A) (b : B) → Settles {A = A × B} (λ o. (o .0 ≡ a) × (o .1 ≡ b))
 two a b x y e f = ap₂ (λ u v. (u, v)) (e .0 ∙ sym (f .0)) (e .1 ∙ sym (f .1))
 
 pub settled : Settled

@@ -1,4 +1,4 @@
--- Demand 2, of the planning and the decoding entry: "Exactly the rules".
+-- Demand 2, of the planning and the decoding entry.
 use mathlib.Core.Path.{_≡_}
 use mathlib.Core.Logic.{_↔_}
 use mathlib.Core.List.{List, _++_}
@@ -7,10 +7,12 @@ use lib.ListN.{length, getD, set, drop}
 use Rattle.refusals.specs.Rows.{Condition, at}
 use Rattle.matrix.specs.Matrix.{Bytes}
 use Rattle.chip.specs.declared.Chip.{Chip}
+use Rattle.request.specs.declared.Request.{Request}
 use Rattle.request.specs.Read.{readOf}
 use Rattle.plan.specs.Wanted.{wanted}
 use Rattle.plan.specs.List.{writeList, finished}
 use Rattle.plan.specs.Plan.{planRules, flat, planOf, bufferOf}
+use Rattle.decode.specs.Ends.{bytesOf, Acceptable}
 use Rattle.decode.specs.Theorems.{Answered}
 use Rattle.cut.specs.Demand.{done}
 use Rattle.cut.specs.Order.{Order}
@@ -43,3 +45,14 @@ pub record Demand2 (input buffer : List ℕ) (s : Chip) : Type 0 where
   -- request, its family byte 0
   pub readBack : Bytes input → planOf input (s .image) buffer .refusal ≡ 0
       → (room : List ℕ) → 35 ≤ length room → Answered (set input 2 0) (done writeList (asked input) s .image) room
+
+-- "accepted on some image", of a request and its bytes
+pub record Accepted (r : Request) : Type 0 where
+  pub image : List ℕ
+  pub buffer : List ℕ
+  pub says : readOf (bytesOf r) .request ≡ r
+  pub accepted : planOf (bytesOf r) image buffer .refusal ≡ 0
+
+-- decoding's `Acceptable`, which speaks of the request alone, is that
+abbrev pub OnSomeImage : Request → Type 0
+OnSomeImage r = Acceptable r ↔ Accepted r

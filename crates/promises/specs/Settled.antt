@@ -23,29 +23,27 @@ use Rattle.chip.specs.declared.view.Part.{Part}
 use Rattle.chip.specs.declared.view.State.{State}
 use Rattle.chip.specs.declared.converter.Count.{Count}
 use Rattle.chip.specs.Machine.{writeOf}
-use Rattle.chip.specs.Entry.{enterOf}
+use Rattle.chip.specs.Entry.{Writes}
 use Rattle.chip.specs.View.{viewRefusal, sentOf, partOf, startOf, muteOf}
-use Rattle.chip.specs.Converter.{matrixCount, matrixOut}
+use Rattle.chip.specs.Converter.{Shows}
 use Rattle.plan.specs.declared.Planned.{Planned}
-use Rattle.plan.specs.Plan as planning
+use Rattle.plan.specs.Plan.{Plans}
 use Rattle.decode.specs.declared.Decoded.{Decoded}
-use Rattle.decode.specs.Decode as decoding
+use Rattle.decode.specs.Decode.{Decodes}
 
 -- any two outcomes that a promise allows are equal
 abbrev pub Settles : {A : Type 0} → (A → Type 0) → Type 0
 Settles {A} Allows = (x y : A) → Allows x → Allows y → x ≡ y
 
--- a promise of one value; of a result and what is left in a lent buffer
+-- a promise of one value
 abbrev pub Is : {A : Type 0} → A → A → Type 0
 Is a x = x ≡ a
 
-abbrev pub And : {A B : Type 0} → A → B → A × B → Type 0
-And a b x = (x .0 ≡ a) × (x .1 ≡ b)
-
--- what the contract of each entry point allows
+-- What the contract of each entry point allows: the result and, where a lent buffer may change, what is left in it. `Plans`, `Decodes`, `Writes`
+-- and `Shows` are the contracts' own words; the others are one equation each.
 pub record Settled : Type 0 where
-  pub plan : (request image writes : List ℕ) → Settles {A = Planned × List ℕ} (And (planning.planOf request image writes) (planning.bufferOf request image writes))
-  pub decode : (image request : List ℕ) → Settles {A = Decoded × List ℕ} (And (decoding.decodeOf image request) (decoding.bufferOf image request))
+  pub plan : (request image writes : List ℕ) → Settles {A = Planned × List ℕ} (λ o. Plans request image writes (o .0) (o .1))
+  pub decode : (image request : List ℕ) → Settles {A = Decoded × List ℕ} (λ o. Decodes image request (o .0) (o .1))
   pub read : (request : List ℕ) → Settles {A = Checked} (Is (readOf request))
   pub ncts : (request : List ℕ) → Settles {A = Pair} (Is (nctsOf request))
   pub line : (request : List ℕ) → Settles {A = Line} (Is (lineOf request))
@@ -56,12 +54,12 @@ pub record Settled : Type 0 where
   pub audio : (channels : ℕ) → Settles {A = Audio} (Is (audioOf channels))
   pub write : (s : Chip) (address value : ℕ) → Settles {A = Wrote} (Is (writeOf s address value))
   -- over slices: the number, and the three slices as a state
-  pub enter : (s : Chip) (address value : ℕ) → Settles {A = ℕ × Chip} (And (enterOf s address value .refusal) (enterOf s address value .chip))
+  pub enter : (s : Chip) (address value : ℕ) → Settles {A = ℕ × Chip} (λ o. Writes s address value (o .0) (o .1))
   -- the part: its bytes, and where it starts, by where the two slices start; and the same in numbers
   pub sent : (image packet : List ℕ) (which : ℕ) (i p : ℕ × ℕ)
-      → Settles {A = List ℕ × (ℕ × ℕ)} (And (sentOf image packet which) (startOf (partOf image packet which) i p))
+      → Settles {A = List ℕ × (ℕ × ℕ)} (λ o. (o .0 ≡ sentOf image packet which) × (o .1 ≡ startOf (partOf image packet which) i p))
   pub part : (image packet : List ℕ) (which : ℕ) → Settles {A = Part} (Is (partOf image packet which))
   pub refusal : (image packet : List ℕ) (which : ℕ) → Settles {A = ℕ} (Is (viewRefusal image packet which))
   pub mute : (image packet : List ℕ) → Settles {A = State} (Is (muteOf image packet))
-  pub matrix : (image buffer out : List ℕ) → Settles {A = Count × List ℕ} (And (matrixCount image buffer out) (matrixOut image buffer out))
+  pub matrix : (image buffer out : List ℕ) → Settles {A = Count × List ℕ} (λ o. Shows image buffer out (o .0) (o .1))
   pub class : (address : ℕ) → Settles {A = Class} (Is (classAt address))

@@ -2,12 +2,13 @@
 ghost use mathlib.Core.Path.{_≡_};
 ghost use mathlib.Core.List.{List};
 ghost use Prim.Native.Nat.{ℕ};
+ghost use Rattle.request.specs.declared.Request.{Request};
 ghost use Rattle.chip.specs.declared.Chip.{Chip};
 ghost use Rattle.plan.specs.Plan.{planOf};
 ghost use Rattle.promises.specs.AnyCut.{AnyCut};
 ghost use Rattle.promises.specs.AnyInput.{Demand1};
 ghost use Rattle.promises.specs.Cases.{MarkedCases};
-ghost use Rattle.promises.specs.Rules.{Demand2};
+ghost use Rattle.promises.specs.Rules.{Demand2, OnSomeImage};
 ghost use Rattle.promises.specs.Settled.{Settled};
 
 // Document 01, "Marked cases, proved together as one table".
@@ -28,6 +29,11 @@ pub fn settled()
 // Demand 2: whatever is asked, whatever image and buffer are lent.
 pub fn demand_2()
     ensures { λ _. ⌜ ((input buffer : List ℕ) (s : Chip) → Demand2 input buffer s) ⌝ }
+{}
+
+// "accepted on some image": what decoding asks of a request, which no image decides.
+pub fn on_some_image()
+    ensures { λ _. ⌜ ((r : Request) → OnSomeImage r) ⌝ }
 {}
 
 // Demand 3: whatever request is accepted, whatever the chip's two buffers hold, wherever the run is cut.

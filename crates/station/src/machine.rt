@@ -1,7 +1,7 @@
 // The C face of the chip machine and of the class table: each call is a call of the library, taken apart.
 ghost use mathlib.Core.Path.{_≡_};
 ghost use Rattle.registers.specs.Classes.{classAt};
-ghost use Rattle.chip.specs.Entry.{lentAs, enterOf};
+ghost use Rattle.chip.specs.Entry.{lentAs, Writes};
 ghost use Rattle.chip.specs.View.{partOf, muteOf};
 ghost use Rattle.chip.specs.Converter.{matrixCount, matrixOut};
 ghost use Rattle.station.specs.Machine.{partOut, stateOut, bytesOut, classOut};
@@ -42,8 +42,8 @@ pub extern "C" fn station_write(
     address: u8,
     value: u8,
 ) -> u32
-    ensures { λ r. ⌜ r ≡ enterOf (lentAs (now (image .entry)) (now (packet .entry)) (now (coefficients .entry))) address value .refusal ⌝ }
-    ensures { λ _. ⌜ lentAs (now (image .exit)) (now (packet .exit)) (now (coefficients .exit)) ≡ enterOf (lentAs (now (image .entry)) (now (packet .entry)) (now (coefficients .entry))) address value .chip ⌝ }
+    ensures { λ r. ⌜ Writes (lentAs (now (image .entry)) (now (packet .entry)) (now (coefficients .entry))) address value r
+        (lentAs (now (image .exit)) (now (packet .exit)) (now (coefficients .exit))) ⌝ }
 {
     chip::write_into(image, packet, coefficients, address, value) as u32
 }
