@@ -91,11 +91,17 @@ struct List {
     writes: [u8; 256],
 }
 
+// A chip after some writes, and how many of them were refused.
+struct Ran {
+    chip: Chip,
+    refused: u32,
+}
+
 // At how many cuts a group was all old, all new, and neither.
 struct Tally {
     old: u32,
     new: u32,
-    mixed: u32,
+    neither: u32,
 }
 
 fn say(text: &[u8]) {
@@ -139,37 +145,33 @@ fn written(s: Chip, address: u8, value: u8) -> Chip {
     wrote.chip
 }
 
-// The chip after so many writes of a list.
-fn after(s: Chip, list: List, cut: usize) -> Chip
+// The chip after so many writes of a list, and how many of them the machine refused.
+fn run(s: Chip, list: List, cut: usize) -> Ran
     requires { ⌜ cut ≤ 128 ⌝ }
 {
     let writes = list.writes;
     let mut now = s;
+    let mut refused: u32 = 0;
     let mut i: usize = 0;
     while i < cut {
-        now = written(now, writes[2 * i], writes[2 * i + 1]);
-        i = i + 1;
-    }
-    now
-}
-
-// How many writes of a list the machine refuses.
-fn refused(s: Chip, list: List, count: usize) -> u32
-    requires { ⌜ count ≤ 128 ⌝ }
-{
-    let writes = list.writes;
-    let mut now = s;
-    let mut n: u32 = 0;
-    let mut i: usize = 0;
-    while i < count {
         let wrote = now.write(writes[2 * i], writes[2 * i + 1]);
         if wrote.refusal != 0 {
-            n = one_more(n);
+            refused = one_more(refused);
         }
         now = wrote.chip;
         i = i + 1;
     }
-    n
+    Ran {
+        chip: now,
+        refused: refused,
+    }
+}
+
+fn after(s: Chip, list: List, cut: usize) -> Chip
+    requires { ⌜ cut ≤ 128 ⌝ }
+{
+    let ran = run(s, list, cut);
+    ran.chip
 }
 
 // The old way: the first registers of the converter as they are to be, with no hold.
@@ -257,59 +259,53 @@ fn counted(t: Tally, is_old: bool, is_new: bool) -> Tally {
         return Tally {
             old: one_more(t.old),
             new: t.new,
-            mixed: t.mixed,
+            neither: t.neither,
         };
     }
     if is_new {
         return Tally {
             old: t.old,
             new: one_more(t.new),
-            mixed: t.mixed,
+            neither: t.neither,
         };
     }
     Tally {
         old: t.old,
         new: t.new,
-        mixed: one_more(t.mixed),
+        neither: one_more(t.neither),
     }
+}
+
+// A cut more: of the picture (group 3), open stands for old and muted for new.
+fn judged(t: Tally, now: Chip, start: Chip, end: Chip, group: u32) -> Tally {
+    if group == 3 {
+        let mute = mute_of(now);
+        return counted(t, mute == 2, mute == 1);
+    }
+    counted(
+        t,
+        same_group(now, start, group),
+        same_group(now, end, group),
+    )
 }
 
 // A group at every cut of a list, from none of its writes to all.
-fn survey(s: Chip, list: List, count: usize, group: u32) -> Tally
+fn survey(start: Chip, list: List, count: usize, group: u32) -> Tally
     requires { ⌜ count ≤ 128 ⌝ }
 {
-    let end = after(s, list, count);
+    let end = after(start, list, count);
     let mut tally = Tally {
         old: 0,
         new: 0,
-        mixed: 0,
+        neither: 0,
     };
     let mut cut: usize = 0;
     while cut <= count {
-        let now = after(s, list, cut);
-        tally = counted(
-            tally,
-            same_group(now, s, group),
-            same_group(now, end, group),
-        );
+        let now = after(start, list, cut);
+        tally = judged(tally, now, start, end, group);
         cut = cut + 1;
     }
     tally
-}
-
-// At how many cuts the mute bits are these.
-fn mutes(s: Chip, list: List, count: usize, mute: u8) -> u32
-    requires { ⌜ count ≤ 128 ⌝ }
-{
-    let mut n: u32 = 0;
-    let mut cut: usize = 0;
-    while cut <= count {
-        if mute_of(after(s, list, cut)) == mute {
-            n = one_more(n);
-        }
-        cut = cut + 1;
-    }
-    n
 }
 
 // The cut after the first write to an address.
@@ -328,51 +324,72 @@ fn cut_after(list: List, count: usize, address: u8) -> usize
     count
 }
 
+fn tell_mute(mute: u8) {
+    if mute == 1 {
+        say(b"muted");
+    } else if mute == 2 {
+        say(b"open");
+    } else {
+        say(b"neither muted nor open");
+    }
+}
+
 fn tell_state(now: Chip, start: Chip, end: Chip) {
     number(same_coefficients(now, end));
     say(b" coefficients new, ");
     number(same_coefficients(now, start));
     say(b" old, picture ");
-    if mute_of(now) == 1 {
-        say(b"muted");
-    } else {
-        say(b"open");
-    }
+    tell_mute(mute_of(now));
     say(b"\n");
 }
 
-fn tell_group(name: &[u8], t: Tally) {
+fn tell_group(name: &[u8], old: &[u8], new: &[u8], t: Tally) {
     say(name);
-    say(b": old at ");
+    say(old);
     number(t.old);
-    say(b" cuts, new at ");
+    say(new);
     number(t.new);
-    say(b", mixed at ");
-    number(t.mixed);
+    say(b", neither at ");
+    number(t.neither);
     say(b"\n");
 }
 
 fn tell_groups(start: Chip, list: List, count: usize)
     requires { ⌜ count ≤ 128 ⌝ }
 {
-    say(b"Our list of ");
-    number(count as u32);
-    say(b" writes, cut after none of them, and after each in turn:\n");
-    tell_group(b"  AVI InfoFrame", survey(start, list, count, 0));
-    tell_group(b"  audio InfoFrame", survey(start, list, count, 1));
-    tell_group(b"  twelve coefficients", survey(start, list, count, 2));
+    let old = b": all old at ";
+    let new = b" cuts, all new at ";
+    tell_group(b"  AVI InfoFrame", old, new, survey(start, list, count, 0));
+    tell_group(
+        b"  audio InfoFrame",
+        old,
+        new,
+        survey(start, list, count, 1),
+    );
+    tell_group(
+        b"  twelve coefficients",
+        old,
+        new,
+        survey(start, list, count, 2),
+    );
 }
 
-fn tell_picture(start: Chip, list: List, count: usize)
+fn tell_list(start: Chip, list: List, count: usize)
     requires { ⌜ count ≤ 128 ⌝ }
 {
-    say(b"  picture: open at ");
-    number(mutes(start, list, count, 2));
-    say(b" cuts, muted at ");
-    number(mutes(start, list, count, 1));
-    say(b"\n  writes refused: ");
-    number(refused(start, list, count));
-    say(b"\n");
+    let whole = run(start, list, count);
+    say(b"Our list of ");
+    number(count as u32);
+    say(b" writes, of which the machine refuses ");
+    number(whole.refused);
+    say(b", cut after none of them, and after each in turn:\n");
+    tell_groups(start, list, count);
+    tell_group(
+        b"  picture",
+        b": open at ",
+        b" cuts, muted at ",
+        survey(start, list, count, 3),
+    );
 }
 
 fn main() {
@@ -393,6 +410,5 @@ fn main() {
     say(b"Our list, the same cut: ");
     let cut = cut_after(list, count, Map::CSC + FIVE - 1);
     tell_state(after(start, list, cut), start, end);
-    tell_groups(start, list, count);
-    tell_picture(start, list, count);
+    tell_list(start, list, count);
 }

@@ -5,10 +5,10 @@ use Rattle.accident.proofs.survey.Statement.{statement}
 use Rattle.accident.proofs.survey.Tie as tie
 
 abbrev Inv-loop : tie.InvT-loop
-Inv-loop s list count group end tally₀ cut₀ tally cut = (cut ≤ count + 1) × (count ≤ 128)
+Inv-loop start list count group end tally₀ cut₀ tally cut = (cut ≤ count + 1) × (count ≤ 128)
 
 abbrev μ-loop : tie.MeasureT-loop
-μ-loop s list count group end tally₀ cut₀ tally cut = count + 1 - cut
+μ-loop start list count group end tally₀ cut₀ tally cut = count + 1 - cut
 
 after-requires : tie.Need-after-requires Inv-loop μ-loop
 after-requires c κs = search needs
@@ -19,14 +19,8 @@ loop-holds c = search needs
 after-requires-2 : tie.Need-after-requires-2 Inv-loop μ-loop
 after-requires-2 c κs = search needs
 
-same-group-requires : tie.Need-same-group-requires Inv-loop μ-loop
-same-group-requires c κs = search needs
-
-same-group-requires-2 : tie.Need-same-group-requires-2 Inv-loop μ-loop
-same-group-requires-2 c κs = search needs
-
-counted-requires : tie.Need-counted-requires Inv-loop μ-loop
-counted-requires c κs = search needs
+judged-requires : tie.Need-judged-requires Inv-loop μ-loop
+judged-requires c κs = search needs
 
 add-cut : tie.Need-add-cut Inv-loop μ-loop
 add-cut c = search needs
@@ -49,9 +43,7 @@ survey-spec =
     after-requires
     loop-holds
     after-requires-2
-    same-group-requires
-    same-group-requires-2
-    counted-requires
+    judged-requires
     add-cut
     loop-less
     loop-again

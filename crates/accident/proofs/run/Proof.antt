@@ -1,14 +1,14 @@
--- `accident::refused` meets its contract. Assumes nothing.
+-- `accident::run` meets its contract. Assumes nothing.
 use Prim.Native.Nat.{_-_, _≤_}
 use borrow.Author.Needs.{needs}
-use Rattle.accident.proofs.refused.Statement.{statement}
-use Rattle.accident.proofs.refused.Tie as tie
+use Rattle.accident.proofs.run.Statement.{statement}
+use Rattle.accident.proofs.run.Tie as tie
 
 abbrev Inv-loop : tie.InvT-loop
-Inv-loop count writes now₀ n₀ i₀ now n i = (i ≤ count) × (count ≤ 128)
+Inv-loop cut writes now₀ refused₀ i₀ now refused i = (i ≤ cut) × (cut ≤ 128)
 
 abbrev μ-loop : tie.MeasureT-loop
-μ-loop count writes now₀ n₀ i₀ now n i = count - i
+μ-loop cut writes now₀ refused₀ i₀ now refused i = cut - i
 
 loop-holds : tie.Need-loop-holds Inv-loop μ-loop
 loop-holds c = search needs
@@ -46,8 +46,8 @@ loop-again c = search needs
 returns : tie.Need-returns Inv-loop μ-loop
 returns c = search needs
 
-pub refused-spec : {M : Type 1} → statement M
-refused-spec =
+pub run-spec : {M : Type 1} → statement M
+run-spec =
     tie.close
     (tie.spec
     Inv-loop
