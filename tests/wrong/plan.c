@@ -237,6 +237,22 @@ PLAN(never_ends) {
 }
 PUT(plan, never_ends)
 
+/* The useless versions that document 01 names. */
+PLAN(one_list) {
+    static const uint8_t always[7] = { 4, 16, 0, 0, 1, 0, 0 };
+    struct station_count c = RIGHT;
+    return c.refusal ? c : model_plan(always, 7, i, il, w, wl);
+}
+PUT(plan, one_list)
+
+PLAN(one_group) {
+    struct station_count c = RIGHT;
+    for (uint32_t k = 0; k < c.count; k++)
+        if (w[2 * k] >= 0x70 && w[2 * k] <= 0x7C) w[2 * k + 1] = i[w[2 * k]];
+    return c;
+}
+PUT(plan, one_group)
+
 const struct wrong wrong_plans[] = {
     { "AVI before audio over a held audio packet", put_avi_first, 1 },
     { "mute cleared before 0x3C is written", put_early_open, 1 },
@@ -260,6 +276,8 @@ const struct wrong wrong_plans[] = {
     { "a buffer as long as the list accepted", put_shorter_buffer, 0 },
     { "the GC hold not refused", put_gc_hold_passed, 0 },
     { "every request refused", put_refuses_all, 1 },
+    { "one list for every request", put_one_list, 1 },
+    { "one group written, another's hold only raised", put_one_group, 1 },
     { "the lent image changed", put_input_changed, 0 },
     { "a read one byte past the request", put_reads_past_request, 0 },
     { "a read one byte before the image", put_reads_before_image, 0 },
