@@ -1,7 +1,8 @@
 /* Durokwanyi: the C face. C99, usable from C++.
  *
  * A slice is a pointer and a size_t. Every call takes any bytes as it finds them, ends, and touches nothing outside what it was lent.
- * Not promised: slices that overlap, and pointers that do not point to as many bytes as the length beside them says.
+ * Not promised: slices that overlap, and pointers that do not point to as many bytes as the length beside them says. A null pointer with
+ * length 0 was tried and behaves as an empty slice; it is not promised.
  */
 #ifndef STATION_H
 #define STATION_H

@@ -8,6 +8,10 @@ unfoldable pub merge : ℕ → ℕ → ℕ → ℕ → ℕ
 merge zero m a b = 0
 merge (suc k) m a b = cond (eqb (m % 2) 1) (a % 2) (b % 2) + 2 * merge k (m / 2) (a / 2) (b / 2)
 
+-- a byte's bits under a mask
+abbrev pub under : ℕ → ℕ → ℕ
+under mask byte = merge 8 mask byte 0
+
 -- bit j of a number
 abbrev pub bit : ℕ → ℕ → ℕ
 bit zero n = n % 2

@@ -9,7 +9,7 @@ use Rattle.registers.specs.Classes.{readOnly}
 use Rattle.map.specs.Map as reg
 use Rattle.map.specs.Map.{infoframeUpdate, gcPacketUpdateMask, aviPacketUpdateMask, audioInfoframePacketUpdateMask, setAvMuteMask}
 use Rattle.map.specs.Map.{aviInfoframeVersion, aviInfoframeCount, audioInfoframeVersion, audioInfoframeCount}
-use Rattle.map.specs.Map.{coefficientUpdate, coefficientUpdateMask, csc, cscCount, cscEnableMask, cscScalingFactorShift}
+use Rattle.map.specs.Map.{coefficientUpdate, coefficientUpdateMask, csc, cscCount, cscScalingFactorShift}
 use Rattle.matrix.specs.Matrix.{fields}
 use Rattle.refusals.specs.Rows.{twoHolds, number}
 use Rattle.chip.specs.declared.Chip.{Chip}
@@ -114,7 +114,7 @@ after [] s = s
 after (w ∷ ws) s = after ws (writeOf s (w .address) (w .value) .chip)
 
 -- "While it is up the buffer is sent; when down, the registers": the bytes of a group that the chip goes by. (Of the matrix's first byte
--- only the coefficient bits count: see `enableInUse`, `modeInUse`.)
+-- only the coefficient bits count: see `modeInUse`.)
 unfoldable pub inUse : Bank → Group → Chip → List ℕ
 inUse bank g s = cond (up g (holdsOf bank (s .image))) (take (g .count) (bank .buffer s)) (part g (s .image))
 
@@ -122,19 +122,10 @@ inUse bank g s = cond (up g (holdsOf bank (s .image))) (take (g .count) (bank .b
 unfoldable pub coefficients : Chip → List ℕ
 coefficients s = fields (inUse converter matrix s)
 
--- "Enable and mode in 0x18[7:5] act at once": they are read off the registers, whatever the hold
-abbrev pub enableInUse : Chip → ℕ
-enableInUse s = getD (s .image) csc 0 / cscEnableMask % 2
-
+-- "Enable and mode in 0x18[7:5] act at once": they are read off the register, whatever the hold
 abbrev pub modeInUse : Chip → ℕ
 modeInUse s = getD (s .image) csc 0 / 2 ^ cscScalingFactorShift % 4
 
 -- the mute bits of the GC byte in use, set worth 1 and clear 2. "Muted: set bit 1, clear bit 0. Open: set 0, clear 1."
 unfoldable pub mute : Chip → ℕ
 mute s = getD (inUse packets gc s) 0 0 / setAvMuteMask % 4
-
-abbrev pub isMuted : Chip → Bool
-isMuted s = eqb (mute s) 1
-
-abbrev pub isOpen : Chip → Bool
-isOpen s = eqb (mute s) 2

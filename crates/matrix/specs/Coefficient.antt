@@ -16,12 +16,9 @@ abbrev pub bitsOf : ℕ → ℤ → ℕ
 bitsOf k (pos n) = n % 2 ^ suc k
 bitsOf k (negsuc n) = 2 ^ suc k - suc (n % 2 ^ suc k)
 
--- a field of 13 bits as a number, and a number as a field of 13 bits
+-- a field of 13 bits as a number
 abbrev pub valueOf : ℕ → ℤ
 valueOf field = signed 12 field
-
-abbrev pub fieldOf : ℤ → ℕ
-fieldOf z = bitsOf 12 z
 
 -- two bytes of a request, high byte first, as 16 bits; within -4096 to 4095; and their field
 abbrev pub word : ℕ → ℕ → ℕ

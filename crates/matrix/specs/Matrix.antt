@@ -37,7 +37,7 @@ matrixOf body = record { on = 1; mode = getD body 0 0; coefficients = fields (dr
 abbrev pub noMatrix : Matrix
 noMatrix = record { on = 0; mode = 1; coefficients = 2048 ∷ 0 ∷ 0 ∷ 0 ∷ 0 ∷ 2048 ∷ 0 ∷ 0 ∷ 0 ∷ 0 ∷ 2048 ∷ 0 ∷ [] }
 
--- what is read of a body, isAllowed or not
+-- what is read of a body, allowed or not
 abbrev pub readOf : List ℕ → Matrix
 readOf body = cond (isAllowed body) (matrixOf body) noMatrix
 
@@ -57,7 +57,7 @@ pub record Allowed (body : List ℕ) : Type 0 where
   pub mode : getD body 0 0 ≤ 2
   pub each : (i : ℕ) → i < 12 → Spans 12 (numberAt body i)
 
--- `isAllowed` is that rule, and the fields of a isAllowed body stand for the numbers that its bytes stand for
+-- `isAllowed` is that rule, and the fields of an allowed body stand for the numbers that its bytes stand for
 pub record Numbers (body : List ℕ) : Type 0 where
   pub rule : (isAllowed body ≡ true) ↔ Allowed body
   pub values : isAllowed body ≡ true → (i : ℕ) → i < 12 → valueOf (getD (matrixOf body .coefficients) i 0) ≡ numberAt body i

@@ -15,8 +15,8 @@ use Rattle.matrix.specs.Coefficient.{valueOf}
 use Rattle.matrix.specs.Matrix.{isAllowed, matrixOf, Allowed}
 
 -- "Output A = (InA·A1/4096 + InB·A2/4096 + InC·A3/4096 + A4)·2^mode", with the one division at the end, where it "rounds down to a whole code"
-abbrev pub exact : ℕ → ℕ → ℕ → ℤ → ℤ → ℤ → ℤ → ℕ → ℤ
-exact a b c k1 k2 k3 k4 mode = shrZ ((pos a *ℤ k1 +ℤ pos b *ℤ k2 +ℤ pos c *ℤ k3 +ℤ k4 *ℤ pos 4096) *ℤ pos (2 ^ mode)) 4096
+abbrev pub rounded : ℕ → ℕ → ℕ → ℤ → ℤ → ℤ → ℤ → ℕ → ℤ
+rounded a b c k1 k2 k3 k4 mode = shrZ ((pos a *ℤ k1 +ℤ pos b *ℤ k2 +ℤ pos c *ℤ k3 +ℤ k4 *ℤ pos 4096) *ℤ pos (2 ^ mode)) 4096
 
 -- "then holds it within 0 to 4095"
 abbrev pub held : ℤ → ℕ
@@ -25,7 +25,7 @@ held (negsuc n) = 0
 
 -- three codes through four fields
 unfoldable pub codeOf : ℕ → ℕ → ℕ → ℕ → ℕ → ℕ → ℕ → ℕ → ℕ
-codeOf a b c k1 k2 k3 k4 mode = held (exact a b c (valueOf k1) (valueOf k2) (valueOf k3) (valueOf k4) mode)
+codeOf a b c k1 k2 k3 k4 mode = held (rounded a b c (valueOf k1) (valueOf k2) (valueOf k3) (valueOf k4) mode)
 
 -- row 0, 1 or 2 of a matrix on three codes
 abbrev pub outputOf : Matrix → ℕ → ℕ → ℕ → ℕ → ℕ

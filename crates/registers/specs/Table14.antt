@@ -5,7 +5,7 @@ use mathlib.Core.List.{List, [], _∷_, map}
 use Prim.Native.Nat.{ℕ, _+_, _-_, _*_, _^_}
 use lib.Dec.{eqb}
 use Rattle.lists.specs.Find.{every}
-use Rattle.bits.specs.Merge.{merge}
+use Rattle.bits.specs.Merge.{under}
 use Rattle.map.specs.Map.{fixed98, fixed9a, fixed9c, fixed9d, fixedA2, fixedA3, fixedE0, fixedI2cAddress}
 use Rattle.registers.specs.Classes.{mandated, bits}
 use Rattle.registers.specs.Steps.{table14}
@@ -31,13 +31,9 @@ table14Bits =
     mustBe fixedI2cAddress 7 0 0x00 ∷
     []
 
--- the bits of a byte that lie in the mask
-abbrev pub within : ℕ → ℕ → ℕ
-within mask byte = merge 8 mask byte 0
-
 -- a row's bits are all mandated, and the mandated bits there are the row's value
 abbrev pub inTable : Fixed → Bool
-inTable f = eqb (within (f .mask) (mandated (f .address))) (f .mask) && eqb (within (f .mask) (bits (f .address))) (f .value)
+inTable f = eqb (under (f .mask) (mandated (f .address))) (f .mask) && eqb (under (f .mask) (bits (f .address))) (f .value)
 
 pub record Table14 : Type 0 where
   pub rows : every inTable table14Bits ≡ true
