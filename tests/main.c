@@ -1,6 +1,6 @@
 /* tests: `tests lib` compares the library with the model; `tests self` the model with itself, which tries the harness; `tests wrong` runs
  * every wrong library of tests/wrong and says how many were caught, after two right ones (the model, and the plain C of bench/). Each
- * ends with 'N passed, M failed'. */
+ * ends with 'N passed, M failed'. `tests line` prints what the small program should print. */
 #include "../bench/plain.h"
 #include "harness.h"
 #include "model/model.h"
@@ -62,11 +62,26 @@ static int caught(void) {
     return missed != 0 || control != 0;
 }
 
+/* The line that the small program prints for the standard input, by the model. */
+static int line(void) {
+    static uint8_t input[1 << 23];
+    size_t length = fread(input, 1, sizeof input, stdin);
+    struct station_pair p = model_ncts(input, length);
+    struct fields f;
+    uint8_t avi[AVI_BYTES], audio[AUDIO_BYTES];
+    if (p.refusal) return printf("refused %u\n", (unsigned)p.refusal) < 0;
+    model_read(input, length, &f);
+    model_avi(&f, avi);
+    model_audio(&f, audio);
+    return printf("accepted vic %u n %u cts %u avi %02x audio %02x\n", (unsigned)f.vic, (unsigned)p.n, (unsigned)p.cts, avi[2], audio[2]) < 0;
+}
+
 int main(int count, char **words) {
     unsigned share = count == 3 ? (unsigned)strtoul(words[2], NULL, 10) : 1000;
     if (count >= 2 && !strcmp(words[1], "lib")) return compared("the library", &library, share);
     if (count >= 2 && !strcmp(words[1], "self")) return compared("the model", &model, share);
     if (count == 2 && !strcmp(words[1], "wrong")) return caught();
-    fprintf(stderr, "usage: tests lib|self [SHARE OF THE RANDOM CASES IN 1/1000]\n       tests wrong\n");
+    if (count == 2 && !strcmp(words[1], "line")) return line();
+    fprintf(stderr, "usage: tests lib|self [SHARE OF THE RANDOM CASES IN 1/1000]\n       tests wrong\n       tests line <REQUEST\n");
     return 2;
 }
