@@ -59,7 +59,8 @@ pub fn write_into(
     value: u8,
 ) -> u8
     ensures { λ r. ⌜ r ≡ enterOf (lentAs (now (image .entry)) (now (packet .entry)) (now (coefficients .entry))) address value .refusal ⌝ }
-    ensures { λ _. ⌜ lentAs (now (image .exit)) (now (packet .exit)) (now (coefficients .exit)) ≡ enterOf (lentAs (now (image .entry)) (now (packet .entry)) (now (coefficients .entry))) address value .chip ⌝ }
+    ensures { λ _. ⌜ lentAs (now (image .exit)) (now (packet .exit)) (now (coefficients .exit))
+        ≡ enterOf (lentAs (now (image .entry)) (now (packet .entry)) (now (coefficients .entry))) address value .chip ⌝ }
 {
     if !((image.len() == 256) & ((packet.len() == 32) & (coefficients.len() == 24))) {
         return Refusal::IMAGE_LENGTH;

@@ -43,7 +43,8 @@ pub extern "C" fn station_write(
     value: u8,
 ) -> u32
     ensures { λ r. ⌜ r ≡ enterOf (lentAs (now (image .entry)) (now (packet .entry)) (now (coefficients .entry))) address value .refusal ⌝ }
-    ensures { λ _. ⌜ lentAs (now (image .exit)) (now (packet .exit)) (now (coefficients .exit)) ≡ enterOf (lentAs (now (image .entry)) (now (packet .entry)) (now (coefficients .entry))) address value .chip ⌝ }
+    ensures { λ _. ⌜ lentAs (now (image .exit)) (now (packet .exit)) (now (coefficients .exit))
+        ≡ enterOf (lentAs (now (image .entry)) (now (packet .entry)) (now (coefficients .entry))) address value .chip ⌝ }
 {
     chip::write_into(image, packet, coefficients, address, value) as u32
 }
