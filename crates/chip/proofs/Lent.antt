@@ -53,8 +53,9 @@ module _ (s : Chip) (address value : ℕ) where
   pub entered : Enters s address value
   unfolding enterOf
   entered = record {
-    refusals = tried (enterRules s address value) _ refl (test (λ (w : Wrote). w .refusal) (at (enterRules s address value) 0) (writeRules s address value) (not (isSized s)) _ _ refl
-        (one-fails (eqb (length (s .image)) 256) (eqb (length (s .packet)) 32 && eqb (length (s .coefficients)) 24) (opposite (equal _ 256)) (unlike (length (s .packet)) (length (s .coefficients)) 32 24))
+    refusals = tried (enterRules s address value) _ refl
+        (test (λ (w : Wrote). w .refusal) (at (enterRules s address value) 0) (writeRules s address value) (not (isSized s)) _ _ refl
+        (one-fails (eqb (length (s .image)) 256) _ (opposite (equal _ 256)) (unlike (length (s .packet)) (length (s .coefficients)) 32 24))
         (λ f. again _ (writeRules s address value) (stepped s address value (sized s f .image) .refusals)));
     refused = go (not (isSized s)) refl;
   }

@@ -72,7 +72,8 @@ loop-again c =
     let f = c .before in
     let l = f .before .before .before .before .loop in
     let a = f .before .before .before .before .before .before .before .args in
-    (search needs, search needs, simp length-set (omega arith), simp length-set (omega arith), turn (a .bytes .now) (l .out) (l .i) _ _ _ (omega arith) (f .field-of .ensures) (c .high-byte .ensures) refl ∙ l .inv .4)
+    let t = turn (a .bytes .now) (l .out) (l .i) _ _ _ (omega arith) (f .field-of .ensures) (c .high-byte .ensures) refl in
+    (search needs, search needs, simp length-set (omega arith), simp length-set (omega arith), t ∙ l .inv .4)
 
 same-length : tie.Need-same-length Inv-loop μ-loop
 same-length c = search needs

@@ -11,7 +11,8 @@ use Rattle.chip.proofs.view.sent_part.Statement.{statement}
 use Rattle.chip.proofs.view.sent_part.Tie as tie
 
 -- past the first test there is no refusal
-accepted : (c : tie.Else1) → viewRefusal (c .before .before .before .before .args .image .now) (c .before .before .before .before .args .packet .now) (c .before .before .before .before .args .which) ≡ 0
+accepted : (c : tie.Else1)
+    → let a = c .before .before .before .before .args in viewRefusal (a .image .now) (a .packet .now) (a .which) ≡ 0
 accepted c = sym (c .before .sent-refusal .ensures) ∙ c .if1 .left
 
 fine : (c : tie.Else1) → Clear (c .before .before .before .before .args .image .now) (c .before .before .before .before .args .packet .now)
