@@ -9,7 +9,8 @@ ghost use Rattle.plan.specs.Stands.{standsIn};
 ghost use Rattle.decode.specs.Ends.{matrixSection, bytesOf};
 ghost use Rattle.decode.specs.Extract.{rateOf, soundIn, matrixIn, extract};
 ghost use Rattle.decode.specs.Decode.{nothing, decodeOf, bufferOf};
-ghost use Rattle.decode.specs.Theorems.{ExactlyWhen, AtMostOne, Refusals, ReadBack};
+ghost use Rattle.decode.specs.Theorems.{ExactlyWhen, BitByBit, AtMostOne, Refusals, ReadBack};
+ghost use Rattle.request.specs.declared.Request.{Request};
 use map::Map;
 use matrix::Matrix;
 use refusals::Refusal;
@@ -217,6 +218,11 @@ pub fn decode(image: &[u8], buffer: &mut [u8]) -> Decoded
 // "Decoding answers a request exactly when .."
 pub fn exactly_when()
     ensures { λ _. ⌜ ((image buffer : List ℕ) → ExactlyWhen image buffer) ⌝ }
+{}
+
+// ".. every named and mandated bit its list writes stands in the image as that list leaves it; free and read-only bits do not count."
+pub fn bit_by_bit()
+    ensures { λ _. ⌜ ((r : Request) (before image : List ℕ) → BitByBit r before image) ⌝ }
 {}
 
 // No two requests end in an image: the family is answered as 0, and every other field has its register.
