@@ -30,19 +30,6 @@ module _ (a j : ℕ) (h : a < 256) (l : j < 8) where
   one : bit j (readOnly a) + bit j (mandated a) + bit j (named a) + bit j (free a) ≡ 1
   one = rule a h .one j l
 
-  either : Counts a j ⊎ Kept a j
-  either = go (eqb (bit j (named a)) 1) refl (eqb (bit j (mandated a)) 1) refl (eqb (bit j (readOnly a)) 1) refl
-    where
-      go : (n : Bool) → eqb (bit j (named a)) 1 ≡ n → (m : Bool) → eqb (bit j (mandated a)) 1 ≡ m → (r : Bool) → eqb (bit j (readOnly a)) 1 ≡ r → Counts a j ⊎ Kept a j
-      go true n m f r g = inl (inl (eqb-true _ 1 n))
-      go false n true m r g = inl (inr (eqb-true _ 1 m))
-      go false n false m true r = inr (inl (eqb-true _ 1 r))
-      go false n false m false r =
-          let x : bit j (named a) ≡ 1 → ⊥ = eqb-false _ 1 n in
-          let y : bit j (mandated a) ≡ 1 → ⊥ = eqb-false _ 1 m in
-          let z : bit j (readOnly a) ≡ 1 → ⊥ = eqb-false _ 1 r in
-          inr (inr (omega (arith, one)))
-
   -- a bit of a written byte, by its class
   byte-bit : (old w : ℕ) → bit j (byte a old w)
       ≡ cond (eqb (bit j (readOnly a)) 1) (bit j old) (cond (eqb (bit j (free a)) 1) (bit j old) (cond (eqb (bit j (named a)) 1) (bit j w) (bit j (bits a))))
@@ -59,6 +46,19 @@ module _ (a j : ℕ) (h : a < 256) (l : j < 8) where
   kept : Kept a j → (old w : ℕ) → bit j (byte a old w) ≡ bit j old
   kept (inl r) old w = rw (byte-bit old w, eq-eqb _ 1 r)
   kept (inr f) old w = rw (byte-bit old w, ne-eqb (bit j (readOnly a)) 1 (λ e. omega (arith, one)), eq-eqb _ 1 f)
+
+  either : Counts a j ⊎ Kept a j
+  either = go (eqb (bit j (named a)) 1) refl (eqb (bit j (mandated a)) 1) refl (eqb (bit j (readOnly a)) 1) refl
+    where
+      go : (n : Bool) → eqb (bit j (named a)) 1 ≡ n → (m : Bool) → eqb (bit j (mandated a)) 1 ≡ m → (r : Bool) → eqb (bit j (readOnly a)) 1 ≡ r → Counts a j ⊎ Kept a j
+      go true n m f r g = inl (inl (eqb-true _ 1 n))
+      go false n true m r g = inl (inr (eqb-true _ 1 m))
+      go false n false m true r = inr (inl (eqb-true _ 1 r))
+      go false n false m false r =
+          let x : bit j (named a) ≡ 1 → ⊥ = eqb-false _ 1 n in
+          let y : bit j (mandated a) ≡ 1 → ⊥ = eqb-false _ 1 m in
+          let z : bit j (readOnly a) ≡ 1 → ⊥ = eqb-false _ 1 r in
+          inr (inr (omega (arith, one)))
 
 -- ---- a register that the list writes
 
@@ -77,9 +77,6 @@ module _ (want : ℕ → ℕ) (a : ℕ) (h : a < 256) (w : isWritten a ≡ true)
   small image = rw (left want image a w) (byte-small a _ _)
 
 module _ (r : Request) (before image : List ℕ) where
-  to : Stands r image → AsLeft r before image
-  to s a j h l w c = ap (λ (n : ℕ). bit j n) (sym (s a h)) ∙ same (wanted r) a h w image before j l c
-
   from : Bytes image → AsLeft r before image → Stands r image
   unfolding finished
   from b s a h = go (isWritten a) refl
@@ -89,6 +86,9 @@ module _ (r : Request) (before image : List ℕ) where
       go true w =
           whole (finished (wanted r) image a) (getD image a 0) (small (wanted r) a h w image) (b a)
           (λ j l. ⊎-elim (λ c. same (wanted r) a h w image before j l c ∙ sym (s a j h l w c)) (λ k. stay (wanted r) a h w image j l k) (either a j h l))
+
+  to : Stands r image → AsLeft r before image
+  to s a j h l w c = ap (λ (n : ℕ). bit j n) (sym (s a h)) ∙ same (wanted r) a h w image before j l c
 
   pub bit-by-bit : BitByBit r before image
   bit-by-bit b = (to, from b)
