@@ -1,5 +1,5 @@
 -- A write over lent slices. Assumes nothing.
-use mathlib.Core.Path.{_≡_, refl, _∙_}
+use mathlib.Core.Path.{_≡_, refl, ap, _∙_}
 use mathlib.Core.Logic.{_≢_}
 use mathlib.Core.Bool.{Bool, true, false, cond, not, _&&_}
 use mathlib.Core.List.{List, _++_, append-nil}
@@ -57,6 +57,7 @@ module _ (s : Chip) (address value : ℕ) where
         (test (λ (w : Wrote). w .refusal) (at (enterRules s address value) 0) (writeRules s address value) (not (isSized s)) _ _ refl
         (one-fails (eqb (length (s .image)) 256) _ (opposite (equal _ 256)) (unlike (length (s .packet)) (length (s .coefficients)) 32 24))
         (λ f. again _ (writeRules s address value) (stepped s address value (sized s f .image) .refusals)));
+    taken = λ t. let-in (ap not t);
     refused = go (not (isSized s)) refl;
   }
     where

@@ -115,6 +115,10 @@ module _ (image packet : List ℕ) where
         go true false = refl
         go false t = refl
 
+    empty : viewRefusal image packet which ≢ 0 → sentOf image packet which ≡ []
+    unfolding sentOf
+    empty h = rw (ne-eqb _ _ h)
+
     part-numbered : partOf image packet which .refusal ≡ viewRefusal image packet which
     unfolding partOf
     part-numbered = numbered (λ (p : Part). p .refusal) (viewRefusal image packet which) _ _ (go (up g (holdsOf packets image))) refl
@@ -173,6 +177,8 @@ module _ (image packet : List ℕ) where
     mute = tried (lentRules image packet) _ refl lent-tried;
     part = part-numbered;
     state = state-numbered;
+    empty = λ which h. (empty which h, refused which h);
+    dark = λ h. ap (λ (s : State). s .mute) (sym (mute-refused h));
     bytes = bytes;
   }
 

@@ -1,7 +1,7 @@
 -- Document 01, "The chip machine": a write over the slices that the host lends.
 use mathlib.Core.Path.{_≡_}
 use mathlib.Core.Logic.{_≢_, _⊎_}
-use mathlib.Core.Bool.{Bool, cond, not, _&&_}
+use mathlib.Core.Bool.{Bool, true, cond, not, _&&_}
 use mathlib.Core.List.{List, _∷_}
 use Prim.Native.Nat.{ℕ}
 use lib.Dec.{eqb}
@@ -34,5 +34,7 @@ enterRules s address value =
 
 pub record Enters (s : Chip) (address value : ℕ) : Type 0 where
   pub refusals : Given (enterRules s address value) (enterOf s address value .refusal)
+  -- else the entry is the machine's own write, of which `Step` speaks
+  pub taken : isSized s ≡ true → enterOf s address value ≡ writeOf s address value
   -- a refused write changes nothing
   pub refused : enterOf s address value .refusal ≢ 0 → enterOf s address value .chip ≡ s

@@ -71,6 +71,11 @@ pub record Views (image packet : List ℕ) : Type 0 where
   -- beside each answer stands the number of its refusal
   pub part : (which : ℕ) → partOf image packet which .refusal ≡ viewRefusal image packet which
   pub state : muteOf image packet .refusal ≡ lentRefusal image packet
+  -- "a refused view is an empty part": no byte is sent, and every number beside the refusal is 0
+  pub empty : (which : ℕ) → viewRefusal image packet which ≢ 0
+      → (sentOf image packet which ≡ [])
+      × (partOf image packet which ≡ record { refusal = viewRefusal image packet which; held = 0; start = 0; len = 0 })
+  pub dark : lentRefusal image packet ≢ 0 → muteOf image packet .mute ≡ 0
   -- the numbers of a part name its bytes
   pub bytes : (which : ℕ) → bytesOf (partOf image packet which) image packet ≡ sentOf image packet which
 

@@ -14,7 +14,7 @@ half-mod k x =
     let e : 2 ^ suc k * (x / 2 ^ suc k) ≡ 2 * (2 ^ k * q) = ap₂ (λ (m n : ℕ). m * n) (pow-succ' 2 k) (sym (half-div k x)) ∙ mul-assoc 2 (2 ^ k) q in
     omega (arith, mod-def x (2 ^ suc k), mod-def (x / 2) (2 ^ k), e, mul-div-le (x / 2) (2 ^ k))
 
-low-same : (k x y : ℕ) → ((j : ℕ) → j < k → bit j x ≡ bit j y) → x % 2 ^ k ≡ y % 2 ^ k
+pub low-same : (k x y : ℕ) → ((j : ℕ) → j < k → bit j x ≡ bit j y) → x % 2 ^ k ≡ y % 2 ^ k
 low-same zero x y f = omega arith
 low-same (suc k) x y f =
     half-mod k x ∙ ap₂ (λ (m n : ℕ). m + 2 * n) (f 0 (omega arith)) (low-same k (x / 2) (y / 2) (λ j h. f (suc j) (suc-le-suc h))) ∙ sym (half-mod k y)

@@ -1,6 +1,7 @@
 pub mod Fields
 pub mod Stored
 pub mod Standing
+pub mod BitByBit
 pub mod Ranged
 pub mod Extracted
 pub mod Groups

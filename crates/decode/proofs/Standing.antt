@@ -57,18 +57,25 @@ merge-small (suc k) m a b = go (eqb (m % 2) 1) (merge k (m / 2) (a / 2) (b / 2))
     go true q h = let p : 2 ^ suc k ≡ 2 * 2 ^ k = pow-succ' 2 k in omega arith
     go false q h = let p : 2 ^ suc k ≡ 2 * 2 ^ k = pow-succ' 2 k in omega arith
 
-module _ (r : Request) (image : List ℕ) (st : Stands r image) where
-  abbrev v : ℕ → ℕ
-  v a = merge 8 (decided a) (cond (eqb a reg.gc) reg.clearAvMuteMask 0) (wanted r a)
+pub byte-small : (a old w : ℕ) → byte a old w < 256
+unfolding byte
+byte-small a old w = merge-small 8 _ _ _
 
-  -- a register that the list writes is as the list leaves it
-  pub there : (a : ℕ) → a < 256 → isWritten a ≡ true → byte a (getD image a 0) (v a) ≡ getD image a 0
-  unfolding finished written
-  there a h w = subst (λ (b : Bool). cond b (byte a (getD image a 0) (v a)) (getD image a 0) ≡ getD image a 0) w (st a h)
+-- the bits that its last step decides in a register, and those wanted
+abbrev asked : (ℕ → ℕ) → ℕ → ℕ
+asked want a = merge 8 (decided a) (cond (eqb a reg.gc) reg.clearAvMuteMask 0) (want a)
+
+-- a register that the list writes, as the list leaves it
+pub left : (want : ℕ → ℕ) (image : List ℕ) (a : ℕ) → isWritten a ≡ true → finished want image a ≡ byte a (getD image a 0) (asked want a)
+unfolding finished written
+left want image a w = rw w
+
+module _ (r : Request) (image : List ℕ) (st : Stands r image) where
+  pub there : (a : ℕ) → a < 256 → isWritten a ≡ true → byte a (getD image a 0) (asked (wanted r) a) ≡ getD image a 0
+  there a h w = sym (left (wanted r) image a w) ∙ st a h
 
   pub small-byte : (a : ℕ) → a < 256 → isWritten a ≡ true → getD image a 0 < 256
-  unfolding byte
-  small-byte a h w = subst (λ (x : ℕ). x < 256) (there a h w) (merge-small 8 _ _ _)
+  small-byte a h w = subst (λ (x : ℕ). x < 256) (there a h w) (byte-small a _ _)
 
   pub reads : (a s k : ℕ) → a < 256 → clear a s k ≡ true → getD image a 0 / 2 ^ s % 2 ^ k ≡ wanted r a / 2 ^ s % 2 ^ k
   reads a s k h t =

@@ -28,7 +28,7 @@ refusalOf image buffer =
     cond (not (eqb (length image) 256)) (number imageLength)
     (cond (ltb (length buffer) 35) (number bufferShort) (cond (found image) 0 (number noRequest)))
 
--- "Decoding checks 7, 10 and 11"
+-- "decoding 7, 10 and 11"
 abbrev pub decodeRules : List ℕ → List ℕ → List Condition
 decodeRules image buffer =
     imageLength when (length image ≢ 256) ∷

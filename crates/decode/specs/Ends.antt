@@ -35,7 +35,8 @@ pub record Acceptable (r : Request) : Type 0 where
   pub paired : pairFor r .refusal ≡ 0
 
 -- "every named and mandated bit its list writes stands in the image as that list leaves it; free and read-only bits do not count":
--- the list would leave each register as it is (`finished` takes free and read-only bits from the image itself)
+-- the list would leave each register as it is (`finished` takes free and read-only bits from the image itself). That this is the sentence,
+-- bit by bit, is `BitByBit` of `Theorems`.
 abbrev pub Stands : Request → List ℕ → Type 0
 Stands r image = (a : ℕ) → a < 256 → finished (wanted r) image a ≡ getD image a 0
 

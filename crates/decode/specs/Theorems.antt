@@ -1,16 +1,19 @@
 -- What is proved of decoding: document 01, "Register classes", last paragraph, and demand 2.
 use mathlib.Core.Path.{_≡_}
-use mathlib.Core.Logic.{_≢_}
+use mathlib.Core.Logic.{_↔_, _≢_, _⊎_}
+use mathlib.Core.Bool.{true}
 use mathlib.Core.List.{List, _++_}
 use Prim.Native.Nat.{ℕ, _<_, _≤_}
 use lib.ListN.{length, getD, set, drop}
 use Rattle.refusals.specs.Rows.{Given}
+use Rattle.bits.specs.Merge.{bit}
+use Rattle.registers.specs.Classes.{named, mandated}
 use Rattle.matrix.specs.Matrix.{Bytes}
 use Rattle.request.specs.declared.Request.{Request}
 use Rattle.request.specs.Read.{readOf, pairFor}
 use Rattle.plan.specs.Wanted.{wanted}
-use Rattle.plan.specs.List.{finished}
-use Rattle.decode.specs.Ends.{bytesOf, inFamily, Ends}
+use Rattle.plan.specs.List.{isWritten, finished}
+use Rattle.decode.specs.Ends.{bytesOf, inFamily, Stands, Ends}
 use Rattle.decode.specs.Decode.{decodeRules, decodeOf, bufferOf}
 
 -- a request, by its bytes, is answered: their count, and the bytes at the buffer's front; "Buffer bytes after the request stay"
@@ -30,11 +33,24 @@ pub record ExactlyWhen (image buffer : List ℕ) : Type 0 where
   -- a request that ends in the image is answered
   pub each : length image ≡ 256 → 35 ≤ length buffer → (r : Request) → Ends r image → Answered (bytesOf r) image buffer
 
+-- the bits that count: "named and mandated"; "free and read-only bits do not count"
+abbrev pub Counts : ℕ → ℕ → Type 0
+Counts a j = (bit j (named a) ≡ 1) ⊎ (bit j (mandated a) ≡ 1)
+
+-- "every named and mandated bit its list writes stands in the image as that list leaves it": the list of a request on the image `before`
+abbrev pub AsLeft : Request → List ℕ → List ℕ → Type 0
+AsLeft r before image =
+    (a j : ℕ) → a < 256 → j < 8 → isWritten a ≡ true → Counts a j → bit j (getD image a 0) ≡ bit j (finished (wanted r) before a)
+
+-- `Stands` is that sentence, bit by bit, whatever image the list is made on
+abbrev pub BitByBit : Request → List ℕ → List ℕ → Type 0
+BitByBit r before image = Bytes image → Stands r image ↔ AsLeft r before image
+
 -- no two requests end in an image
 abbrev pub AtMostOne : List ℕ → Type 0
 AtMostOne image = length image ≡ 256 → (r q : Request) → Ends r image → Ends q image → r ≡ q
 
--- "Decoding checks .. 7, 10 and 11": "the lowest that applies is given"; it "returns its number and count 0 and changes no lent byte"
+-- "decoding 7, 10 and 11": "the lowest that applies is given"; it "returns its number and count 0 and changes no lent byte"
 pub record Refusals (image buffer : List ℕ) : Type 0 where
   pub given : Given (decodeRules image buffer) (decodeOf image buffer .refusal)
   pub unchanged : decodeOf image buffer .refusal ≢ 0 → (decodeOf image buffer .count ≡ 0) × (bufferOf image buffer ≡ buffer)

@@ -5,11 +5,12 @@ ghost use mathlib.Core.List.{List, _++_};
 ghost use Prim.Native.Nat.{ℕ, _+_, _<_, _≤_};
 ghost use lib.ListN.{getD, length, take, drop, set};
 ghost use lib.Seq.{sets};
+ghost use Rattle.request.specs.declared.Request.{Request};
 ghost use Rattle.plan.specs.Stands.{standsIn};
 ghost use Rattle.decode.specs.Ends.{matrixSection, bytesOf};
 ghost use Rattle.decode.specs.Extract.{rateOf, soundIn, matrixIn, extract};
 ghost use Rattle.decode.specs.Decode.{nothing, Decodes};
-ghost use Rattle.decode.specs.Theorems.{ExactlyWhen, AtMostOne, Refusals, ReadBack};
+ghost use Rattle.decode.specs.Theorems.{ExactlyWhen, BitByBit, AtMostOne, Refusals, ReadBack};
 use map::Map;
 use matrix::Matrix;
 use refusals::Refusal;
@@ -218,12 +219,17 @@ pub fn exactly_when()
     ensures { λ _. ⌜ ((image buffer : List ℕ) → ExactlyWhen image buffer) ⌝ }
 {}
 
+// ".. every named and mandated bit its list writes stands in the image as that list leaves it; free and read-only bits do not count."
+pub fn bit_by_bit()
+    ensures { λ _. ⌜ ((r : Request) (before image : List ℕ) → BitByBit r before image) ⌝ }
+{}
+
 // No two requests end in an image: the family is answered as 0, and every other field has its register.
 pub fn at_most_one()
     ensures { λ _. ⌜ ((image : List ℕ) → AtMostOne image) ⌝ }
 {}
 
-// "Decoding checks .. 7, 10 and 11": the lowest that applies is given, with count 0 and the buffer as it was.
+// "decoding 7, 10 and 11": the lowest that applies is given, with count 0 and the buffer as it was.
 pub fn refusals_of_decoding()
     ensures { λ _. ⌜ ((image buffer : List ℕ) → Refusals image buffer) ⌝ }
 {}
