@@ -14,15 +14,16 @@ use borrow.Author.Tests.{eqb-true, ltb-true, ltb-false}
 use Rattle.map.specs.Map as reg
 use Rattle.bits.specs.Merge.{bit}
 use Rattle.bits.proofs.Below.{at-below}
+use Rattle.registers.specs.Classes.{classAt, readOnly, free}
 use Rattle.matrix.specs.Matrix.{fields}
 use Rattle.chip.specs.declared.Chip.{Chip}
 use Rattle.chip.specs.Machine.{Write, _gets_, Group, Bank, avi, audio, gc, matrix, packets, converter, up, part, holdsOf, inUse, writeOf, mute, coefficients}
 use Rattle.plan.specs.List.{decided, steps, written, listed, isWritten, finished, ready}
-use Rattle.cut.specs.Demand.{Plan, cut, done, Either, After, Demand3}
+use Rattle.cut.specs.Demand.{Plan, cut, done, Either, Stays, After, Demand3}
 use Rattle.cut.proofs.Latch.{nexts, walk, acts, status-acts, calm, once}
 use Rattle.cut.proofs.Bank.{store, view, Sized, Shown, image-store, size-store, down-part, avi-shown, audio-shown, gc-shown, matrix-shown}
 use Rattle.cut.proofs.Bytes.{clean, place, three-bits, mute-byte, Seen, packets-seen, converter-seen, walk-seen, nexts-seen}
-use Rattle.cut.proofs.Bytes.{Agree, agree-self, agree-trans, written-agree, agree-acts}
+use Rattle.cut.proofs.Bytes.{Agree, agree-self, agree-trans, agree-bit, written-agree, agree-acts}
 use Rattle.cut.proofs.Taken.{neat, tidy, neat-at, tidy-seen, Fit, after-acts, taken-at}
 use Rattle.cut.proofs.Last.{last, read, stored-last, last-none}
 
@@ -293,6 +294,14 @@ module _ (mid : Plan) (good : (want : ℕ → ℕ) (image : List ℕ) → Ready 
         rest = λ a h t. others-stay want u (near .ready) k a h t ∙ near .rest a h t;
       }
 
+  -- no cut moves a free or a read-only bit; HDCP's two are free
+  kept : (want : ℕ → ℕ) (s : Chip) → Ready (s .image) → (a j k : ℕ) → j < 8 → (bit j (free a) ≡ 1) ⊎ (bit j (readOnly a) ≡ 1) → Stays a j s (cut P want s k)
+  kept want s r a j k h = agree-bit (cut P want s k .image) (s .image) (near-cut want s s k (near-self s r) .kept) a j h
+
+  protection : (want : ℕ → ℕ) (s : Chip) → Ready (s .image) → (k : ℕ) → Stays reg.hdcpHdmiCfg 7 s (cut P want s k) × Stays reg.hdcpHdmiCfg 4 s (cut P want s k)
+  unfolding classAt
+  protection want s r k = (kept want s r reg.hdcpHdmiCfg 7 k (lit< tt) (inl refl), kept want s r reg.hdcpHdmiCfg 4 k (lit< tt) (inl refl))
+
   -- a run from a near state ends in the same registers
   pub ends-alike : (want : ℕ → ℕ) (s u : Chip) → Ready (s .image) → Near s u → done P want u .image ≡ done P want s .image
   ends-alike want s u r near = ext-getD 0 _ _ (size u (near .ready) ∙ sym (size s r)) (λ a h. at-each a (rw (size u (near .ready)) at h))
@@ -350,6 +359,9 @@ module _ (mid : Plan) (good : (want : ℕ → ℕ) (image : List ℕ) → Ready 
     };
     covered = covered want s r;
     vic = vic want s r;
+    protection = protection want s r;
+    kept = kept want s r;
+    unwritten = λ a k. others-stay want s r k a;
   }
     where
       muted : (k : ℕ) → 0 < k → k < length (P want (s .image)) → mute (cut P want s k) ≡ 1
