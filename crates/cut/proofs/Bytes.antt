@@ -149,7 +149,7 @@ unfolding Agree
 agree-trans x y z p q a = record { reads = p a .reads ∙ q a .reads; frees = p a .frees ∙ q a .frees }
 
 -- so of each such bit
-masked : (m j x : ℕ) → j < 8 → bit j m ≡ 1 → bit j (merge 8 m x 0) ≡ bit j x
+pub masked : (m j x : ℕ) → j < 8 → bit j m ≡ 1 → bit j (merge 8 m x 0) ≡ bit j x
 masked m j x h t = merge-bit 8 j m x 0 h ∙ rw t
 
 pub agree-bit : (x y : List ℕ) → Agree x y → (a j : ℕ) → j < 8 → (bit j (free a) ≡ 1) ⊎ (bit j (readOnly a) ≡ 1)
