@@ -148,15 +148,14 @@ pub agree-trans : (x y z : List ℕ) → Agree x y → Agree y z → Agree x z
 unfolding Agree
 agree-trans x y z p q a = record { reads = p a .reads ∙ q a .reads; frees = p a .frees ∙ q a .frees }
 
--- so of each such bit
+-- a bit under a mask, and so each read-only and each free bit of the two
 pub masked : (m j x : ℕ) → j < 8 → bit j m ≡ 1 → bit j (merge 8 m x 0) ≡ bit j x
 masked m j x h t = merge-bit 8 j m x 0 h ∙ rw t
 
 pub agree-bit : (x y : List ℕ) → Agree x y → (a j : ℕ) → j < 8 → (bit j (free a) ≡ 1) ⊎ (bit j (readOnly a) ≡ 1)
     → bit j (getD x a 0) ≡ bit j (getD y a 0)
 unfolding Agree
-agree-bit x y k a j h =
-    ⊎-elim (λ t. same (free a) t (k a .frees)) (λ t. same (readOnly a) t (k a .reads))
+agree-bit x y k a j h = ⊎-elim (λ t. same (free a) t (k a .frees)) (λ t. same (readOnly a) t (k a .reads))
   where
     same : (m : ℕ) → bit j m ≡ 1 → merge 8 m (getD x a 0) 0 ≡ merge 8 m (getD y a 0) 0 → bit j (getD x a 0) ≡ bit j (getD y a 0)
     same m t e = sym (masked m j (getD x a 0) h t) ∙ ap (λ (n : ℕ). bit j n) e ∙ masked m j (getD y a 0) h t

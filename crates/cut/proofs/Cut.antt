@@ -118,6 +118,11 @@ finished-near want s u near a h = go (isWritten a) refl
     go true t = ap (λ (w : Write). w .value) (written-agree want (u .image) (s .image) end (near .kept))
     go false t = near .rest a h t
 
+-- HDCP's bits 0xAF[7] and 0xAF[4] are free
+protected : (bit 7 (free reg.hdcpHdmiCfg) ≡ 1) × (bit 4 (free reg.hdcpHdmiCfg) ≡ 1)
+unfolding classAt
+protected = (refl, refl)
+
 -- a value that is old or new at every cut of every run, and that ends as the registers do
 pub record Latched (P : Plan) (shown : Chip → List ℕ) : Type 0 where
   pub either : (want : ℕ → ℕ) (s : Chip) → Ready (s .image) → (k : ℕ) → Either shown s (done P want s) (cut P want s k)
@@ -294,14 +299,6 @@ module _ (mid : Plan) (good : (want : ℕ → ℕ) (image : List ℕ) → Ready 
         rest = λ a h t. others-stay want u (near .ready) k a h t ∙ near .rest a h t;
       }
 
-  -- no cut moves a free or a read-only bit; HDCP's two are free
-  kept : (want : ℕ → ℕ) (s : Chip) → Ready (s .image) → (a j k : ℕ) → j < 8 → (bit j (free a) ≡ 1) ⊎ (bit j (readOnly a) ≡ 1) → Stays a j s (cut P want s k)
-  kept want s r a j k h = agree-bit (cut P want s k .image) (s .image) (near-cut want s s k (near-self s r) .kept) a j h
-
-  protection : (want : ℕ → ℕ) (s : Chip) → Ready (s .image) → (k : ℕ) → Stays reg.hdcpHdmiCfg 7 s (cut P want s k) × Stays reg.hdcpHdmiCfg 4 s (cut P want s k)
-  unfolding classAt
-  protection want s r k = (kept want s r reg.hdcpHdmiCfg 7 k (lit< tt) (inl refl), kept want s r reg.hdcpHdmiCfg 4 k (lit< tt) (inl refl))
-
   -- a run from a near state ends in the same registers
   pub ends-alike : (want : ℕ → ℕ) (s u : Chip) → Ready (s .image) → Near s u → done P want u .image ≡ done P want s .image
   ends-alike want s u r near = ext-getD 0 _ _ (size u (near .ready) ∙ sym (size s r)) (λ a h. at-each a (rw (size u (near .ready)) at h))
@@ -359,11 +356,14 @@ module _ (mid : Plan) (good : (want : ℕ → ℕ) (image : List ℕ) → Ready 
     };
     covered = covered want s r;
     vic = vic want s r;
-    protection = protection want s r;
-    kept = kept want s r;
+    protection = λ k. (kept reg.hdcpHdmiCfg 7 k (lit< tt) (inl (protected .0)), kept reg.hdcpHdmiCfg 4 k (lit< tt) (inl (protected .1)));
+    kept = kept;
     unwritten = λ a k. others-stay want s r k a;
   }
     where
+      kept : (a j k : ℕ) → j < 8 → (bit j (free a) ≡ 1) ⊎ (bit j (readOnly a) ≡ 1) → Stays a j s (cut P want s k)
+      kept a j k h = agree-bit (cut P want s k .image) (s .image) (near-cut want s s k (near-self s r) .kept) a j h
+
       muted : (k : ℕ) → 0 < k → k < length (P want (s .image)) → mute (cut P want s k) ≡ 1
       muted zero lo hi = absurd (not-suc-le-zero lo)
       muted (suc j) lo hi = mutes want s r j hi
