@@ -1,6 +1,7 @@
 -- The bytes of a list: they keep the image's read-only and free bits, so that the machine stores them as they are, and a list planned on an
 -- image with the same such bits has the same bytes. Of a write a walk sees only what its step decides. Assumes nothing.
 use mathlib.Core.Path.{_≡_, refl, sym, ap, subst, subst⁻¹, _∙_}
+use mathlib.Core.Logic.{_⊎_, ⊎-elim}
 use mathlib.Core.Bool.{Bool, true, false, cond}
 use mathlib.Core.List.{List, [], _∷_, map}
 use Prim.Native.Nat.{ℕ, zero, suc, _+_, _*_, _/_, _%_, _<_}
@@ -146,6 +147,18 @@ agree-self image a = kept-self
 pub agree-trans : (x y z : List ℕ) → Agree x y → Agree y z → Agree x z
 unfolding Agree
 agree-trans x y z p q a = record { reads = p a .reads ∙ q a .reads; frees = p a .frees ∙ q a .frees }
+
+-- a bit under a mask, and so each read-only and each free bit of the two
+pub masked : (m j x : ℕ) → j < 8 → bit j m ≡ 1 → bit j (merge 8 m x 0) ≡ bit j x
+masked m j x h t = merge-bit 8 j m x 0 h ∙ rw t
+
+pub agree-bit : (x y : List ℕ) → Agree x y → (a j : ℕ) → j < 8 → (bit j (free a) ≡ 1) ⊎ (bit j (readOnly a) ≡ 1)
+    → bit j (getD x a 0) ≡ bit j (getD y a 0)
+unfolding Agree
+agree-bit x y k a j h = ⊎-elim (λ t. same (free a) t (k a .frees)) (λ t. same (readOnly a) t (k a .reads))
+  where
+    same : (m : ℕ) → bit j m ≡ 1 → merge 8 m (getD x a 0) 0 ≡ merge 8 m (getD y a 0) 0 → bit j (getD x a 0) ≡ bit j (getD y a 0)
+    same m t e = sym (masked m j (getD x a 0) h t) ∙ ap (λ (n : ℕ). bit j n) e ∙ masked m j (getD y a 0) h t
 
 pub written-agree : (want : ℕ → ℕ) (image image₀ : List ℕ) (i : Write) → Agree image image₀ → written want image i ≡ written want image₀ i
 unfolding written Agree

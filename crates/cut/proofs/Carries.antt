@@ -1,15 +1,28 @@
--- What a written byte carries, by the class table's rule: four laws of merges, each a truth table. Assumes nothing.
-use mathlib.Core.Path.{refl}
-use mathlib.Core.List.{List, [], _∷_}
-use Prim.Native.Nat.{ℕ, _<_}
-use Rattle.bits.proofs.Truth.{E, zeros, var, by}
-use Rattle.registers.proofs.Apart.{by-rule}
-use Rattle.plan.specs.List.{byte}
-use Rattle.cut.specs.Carried.{Carried}
+-- What a written byte carries, by the class table's rule: laws of merges, each a truth table; and so each entry of the list. Assumes nothing.
+use mathlib.Core.Path.{_≡_, refl, sym, ap, _∙_}
+use mathlib.Core.Bool.{Bool, true, false, _&&_}
+use mathlib.Core.List.{List, [], _∷_, map}
+use Prim.Native.Nat.{ℕ, zero, suc, _+_, _<_}
+use native.Mathlib.Nat.{not-suc-le-zero, le-of-suc-le-suc}
+use lib.Dec.{eqb, ltb, lit<}
+use lib.ListN.{length, getD}
+use borrow.Author.Tests.{eqb-true, ltb-true}
+use Rattle.lists.specs.Find.{every}
+use Rattle.lists.proofs.Both.{both-left, both-right}
+use Rattle.bits.specs.Merge.{merge, bit}
+use Rattle.bits.proofs.Below.{at-below}
+use Rattle.bits.proofs.Truth.{E, zeros, var, by, num, table, law-if}
+use Rattle.registers.specs.Classes.{classAt, named}
+use Rattle.registers.proofs.Whole.{rule}
+use Rattle.registers.proofs.Apart.{row, rules, holds, by-rule}
+use Rattle.chip.specs.Machine.{Write, _gets_, audio, packets, up, holdsOf}
+use Rattle.plan.specs.List.{byte, decided, middle, steps, written}
+use Rattle.cut.specs.Carried.{under, Carried, requested, Entry, Entries}
+use Rattle.cut.proofs.Bytes.{masked}
 
 -- `var 0` to `var 4` are the address's class; `var 5` is the old byte, `var 6` the wanted one
-abbrev whole : E
-whole = by (var 0) (var 5) (by (var 3) (var 5) (by (var 2) (var 6) (var 4)))
+abbrev whole : E → E
+whole wanted = by (var 0) (var 5) (by (var 3) (var 5) (by (var 2) wanted (var 4)))
 
 abbrev part : E → E → E
 part m x = by m x zeros
@@ -19,8 +32,77 @@ unfolding byte
 carried a h old wanted =
     let ρ : List ℕ = old ∷ wanted ∷ [] in
     record {
-      itsMandated = by-rule (part (var 1) whole) (part (var 1) (var 4)) a ρ refl h;
-      itsFree = by-rule (part (var 3) whole) (part (var 3) (var 5)) a ρ refl h;
-      itsReadOnly = by-rule (part (var 0) whole) (part (var 0) (var 5)) a ρ refl h;
-      itsNamed = by-rule (part (var 2) whole) (part (var 2) (var 6)) a ρ refl h;
+      itsMandated = by-rule (part (var 1) (whole (var 6))) (part (var 1) (var 4)) a ρ refl h;
+      itsFree = by-rule (part (var 3) (whole (var 6))) (part (var 3) (var 5)) a ρ refl h;
+      itsReadOnly = by-rule (part (var 0) (whole (var 6))) (part (var 0) (var 5)) a ρ refl h;
+      itsNamed = by-rule (part (var 2) (whole (var 6))) (part (var 2) (var 6)) a ρ refl h;
     }
+
+-- ---- an entry: `var 7` are the bits that its step decides, `var 8` the step's
+
+abbrev merged : E
+merged = whole (by (var 7) (var 8) (var 6))
+
+-- what a step decides is named
+decided-named : (a : ℕ) → a < 256 → merge 8 (named a) 0 (decided a) ≡ 0
+unfolding classAt decided merge
+decided-named a h = eqb-true _ _ (at-below (λ a. eqb (merge 8 (named a) 0 (decided a)) 0) 256 a refl h)
+
+module _ (a : ℕ) (h : a < 256) (old wanted x : ℕ) where
+  abbrev ρ : List ℕ
+  ρ = old ∷ wanted ∷ decided a ∷ x ∷ []
+
+  asked-law : (e f : E) → table 9 (by (var 2) zeros (var 7) ∷ rules) e f ≡ true → num 8 e (row (classAt a) ρ) ≡ num 8 f (row (classAt a) ρ)
+  asked-law e f t = law-if (by (var 2) zeros (var 7) ∷ rules) e f 8 (row (classAt a) ρ) t (decided-named a h, holds (classAt a) ρ (rule a h))
+
+  entry-named : under (requested a) (byte a old (merge 8 (decided a) x wanted)) ≡ under (requested a) wanted
+  unfolding byte
+  entry-named = asked-law (part (by (var 7) zeros (var 2)) merged) (part (by (var 7) zeros (var 2)) (var 6)) refl
+
+  entry-decided : under (decided a) (byte a old (merge 8 (decided a) x wanted)) ≡ under (decided a) x
+  unfolding byte
+  entry-decided = asked-law (part (var 7) merged) (part (var 7) (var 8)) refl
+
+-- what holds of every step: its register, that it says no more than it decides, and one of the two holds at most
+abbrev fits : Write → Bool
+fits i = ltb (i .address) 256 && (eqb (under (decided (i .address)) (i .value)) (i .value) && ltb (bit 6 (i .value) + bit 5 (i .value)) 2)
+
+every-step : (b : Bool) → every fits (steps (middle b)) ≡ true
+unfolding middle decided merge
+every-step true = refl
+every-step false = refl
+
+module _ (want : ℕ → ℕ) (image : List ℕ) where
+  entry : (i : Write) → fits i ≡ true → Entry want image i (written want image i)
+  unfolding written decided
+  entry i t =
+      let a : ℕ = i .address in
+      let x : ℕ = i .value in
+      let v : ℕ = written want image i .value in
+      let rest : (eqb (under (decided a) x) x && ltb (bit 6 x + bit 5 x) 2) ≡ true = both-right (ltb a 256) _ t in
+      let h : a < 256 = ltb-true _ _ (both-left (ltb a 256) _ t) in
+      let c : Carried a (getD image a 0) (merge 8 (decided a) x (want a)) = carried a h _ _ in
+      let d : under (decided a) v ≡ x = entry-decided a h _ _ x ∙ eqb-true _ _ (both-left (eqb (under (decided a) x) x) _ rest) in
+      let one : bit 6 x + bit 5 x < 2 = ltb-true _ _ (both-right (eqb (under (decided a) x) x) _ rest) in
+      record {
+        carries = record {
+          itsMandated = c .itsMandated;
+          itsFree = c .itsFree;
+          itsReadOnly = c .itsReadOnly;
+          itsNamed = entry-named a h _ _ x;
+        };
+        stepped = d;
+        otherHold = λ e.
+            let b6 : bit 6 v ≡ bit 6 x = sym (masked (decided a) 6 v (lit< tt) (rw e)) ∙ ap (λ (n : ℕ). bit 6 n) d in
+            let b5 : bit 5 v ≡ bit 5 x = sym (masked (decided a) 5 v (lit< tt) (rw e)) ∙ ap (λ (n : ℕ). bit 5 n) d in
+            rw (b6, b5) (le-of-suc-le-suc one);
+      }
+
+  each-entry : (is : List Write) → every fits is ≡ true → (k : ℕ) → k < length (map (written want image) is)
+      → Entry want image (getD is k (0 gets 0)) (getD (map (written want image) is) k (0 gets 0))
+  each-entry [] t k h = absurd (not-suc-le-zero h)
+  each-entry (i ∷ is) t zero h = entry i (both-left (fits i) (every fits is) t)
+  each-entry (i ∷ is) t (suc k) h = each-entry is (both-right (fits i) (every fits is) t) k (le-of-suc-le-suc h)
+
+  pub entries : Entries want image
+  entries = each-entry (steps (middle (up audio (holdsOf packets image)))) (every-step (up audio (holdsOf packets image)))

@@ -14,15 +14,16 @@ use borrow.Author.Tests.{eqb-true, ltb-true, ltb-false}
 use Rattle.map.specs.Map as reg
 use Rattle.bits.specs.Merge.{bit}
 use Rattle.bits.proofs.Below.{at-below}
+use Rattle.registers.specs.Classes.{classAt, readOnly, free}
 use Rattle.matrix.specs.Matrix.{fields}
 use Rattle.chip.specs.declared.Chip.{Chip}
 use Rattle.chip.specs.Machine.{Write, _gets_, Group, Bank, avi, audio, gc, matrix, packets, converter, up, part, holdsOf, inUse, writeOf, mute, coefficients}
 use Rattle.plan.specs.List.{decided, steps, written, listed, isWritten, finished, ready}
-use Rattle.cut.specs.Demand.{Plan, cut, done, Either, After, Demand3}
+use Rattle.cut.specs.Demand.{Plan, cut, done, Either, Stays, After, Demand3}
 use Rattle.cut.proofs.Latch.{nexts, walk, acts, status-acts, calm, once}
 use Rattle.cut.proofs.Bank.{store, view, Sized, Shown, image-store, size-store, down-part, avi-shown, audio-shown, gc-shown, matrix-shown}
 use Rattle.cut.proofs.Bytes.{clean, place, three-bits, mute-byte, Seen, packets-seen, converter-seen, walk-seen, nexts-seen}
-use Rattle.cut.proofs.Bytes.{Agree, agree-self, agree-trans, written-agree, agree-acts}
+use Rattle.cut.proofs.Bytes.{Agree, agree-self, agree-trans, agree-bit, written-agree, agree-acts}
 use Rattle.cut.proofs.Taken.{neat, tidy, neat-at, tidy-seen, Fit, after-acts, taken-at}
 use Rattle.cut.proofs.Last.{last, read, stored-last, last-none}
 
@@ -116,6 +117,11 @@ finished-near want s u near a h = go (isWritten a) refl
         → cond t (written want (u .image) end .value) (getD (u .image) a 0) ≡ cond t (written want (s .image) end .value) (getD (s .image) a 0)
     go true t = ap (λ (w : Write). w .value) (written-agree want (u .image) (s .image) end (near .kept))
     go false t = near .rest a h t
+
+-- HDCP's bits 0xAF[7] and 0xAF[4] are free
+protected : (bit 7 (free reg.hdcpHdmiCfg) ≡ 1) × (bit 4 (free reg.hdcpHdmiCfg) ≡ 1)
+unfolding classAt
+protected = (refl, refl)
 
 -- a value that is old or new at every cut of every run, and that ends as the registers do
 pub record Latched (P : Plan) (shown : Chip → List ℕ) : Type 0 where
@@ -350,8 +356,14 @@ module _ (mid : Plan) (good : (want : ℕ → ℕ) (image : List ℕ) → Ready 
     };
     covered = covered want s r;
     vic = vic want s r;
+    protection = λ k. (kept reg.hdcpHdmiCfg 7 k (lit< tt) (inl (protected .0)), kept reg.hdcpHdmiCfg 4 k (lit< tt) (inl (protected .1)));
+    kept = kept;
+    unwritten = λ a k. others-stay want s r k a;
   }
     where
+      kept : (a j k : ℕ) → j < 8 → (bit j (free a) ≡ 1) ⊎ (bit j (readOnly a) ≡ 1) → Stays a j s (cut P want s k)
+      kept a j k h = agree-bit (cut P want s k .image) (s .image) (near-cut want s s k (near-self s r) .kept) a j h
+
       muted : (k : ℕ) → 0 < k → k < length (P want (s .image)) → mute (cut P want s k) ≡ 1
       muted zero lo hi = absurd (not-suc-le-zero lo)
       muted (suc j) lo hi = mutes want s r j hi

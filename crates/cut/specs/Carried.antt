@@ -1,17 +1,43 @@
 -- Document 01, "The write list": what a written byte carries.
 use mathlib.Core.Path.{_≡_}
-use Prim.Native.Nat.{ℕ}
-use Rattle.bits.specs.Merge.{merge}
+use mathlib.Core.List.{List}
+use Prim.Native.Nat.{ℕ, _+_, _<_, _≤_}
+use lib.ListN.{length, getD}
+use Rattle.bits.specs.Merge.{merge, bit}
+use Rattle.map.specs.Map as reg
 use Rattle.registers.specs.Classes.{readOnly, mandated, named, free, bits}
-use Rattle.plan.specs.List.{byte}
+use Rattle.chip.specs.Machine.{Write, _gets_}
+use Rattle.plan.specs.List.{byte, steps, decided, planned, writeList}
 
 -- a byte's bits under a mask
 abbrev pub under : ℕ → ℕ → ℕ
 under m x = merge 8 m x 0
 
--- "Each written byte carries its mandated bits, the image's free and read-only bits and the wanted named bits"
-pub record Carried (a old wanted : ℕ) : Type 0 where
-  pub itsMandated : under (mandated a) (byte a old wanted) ≡ under (mandated a) (bits a)
-  pub itsFree : under (free a) (byte a old wanted) ≡ under (free a) old
-  pub itsReadOnly : under (readOnly a) (byte a old wanted) ≡ under (readOnly a) old
-  pub itsNamed : under (named a) (byte a old wanted) ≡ under (named a) wanted
+-- "Each written byte carries its mandated bits, the image's free and read-only bits and the wanted named bits": the value for register a,
+-- where the image has `old`; of the named bits those under `mask` are as wanted
+pub record Carrying (a old mask wanted value : ℕ) : Type 0 where
+  pub itsMandated : under (mandated a) value ≡ under (mandated a) (bits a)
+  pub itsFree : under (free a) value ≡ under (free a) old
+  pub itsReadOnly : under (readOnly a) value ≡ under (readOnly a) old
+  pub itsNamed : under mask value ≡ under mask wanted
+
+abbrev pub Carried : ℕ → ℕ → ℕ → Type 0
+Carried a old wanted = Carrying a old (named a) wanted (byte a old wanted)
+
+-- the named bits that the request decides, and no step
+abbrev pub requested : ℕ → ℕ
+requested a = merge 8 (decided a) 0 (named a)
+
+-- an entry w of the list, and the step that it is made of
+pub record Entry (want : ℕ → ℕ) (image : List ℕ) (step w : Write) : Type 0 where
+  pub carries : Carrying (w .address) (getD image (w .address) 0) (requested (w .address)) (want (w .address)) (w .value)
+  -- the holds and the mute are the step's
+  pub stepped : under (decided (w .address)) (w .value) ≡ step .value
+  -- "a hold write to 0x4A has the other named hold 0": AVI's is 0x4A[6], audio's 0x4A[5]
+  pub otherHold : w .address ≡ reg.infoframeUpdate → bit 6 (w .value) + bit 5 (w .value) ≤ 1
+
+-- every entry of the list, in order
+abbrev pub Entries : (ℕ → ℕ) → List ℕ → Type 0
+Entries want image =
+    (k : ℕ) → k < length (writeList want image)
+    → Entry want image (getD (steps (planned want image)) k (0 gets 0)) (getD (writeList want image) k (0 gets 0))

@@ -1,15 +1,17 @@
 -- Demand 3: a cut after any write. "Old" is what was in use at the start, "new" what is in use at the end.
 use mathlib.Core.Path.{_≡_}
 use mathlib.Core.Logic.{_⊎_, _≢_}
-use mathlib.Core.Bool.{true}
+use mathlib.Core.Bool.{true, false}
 use mathlib.Core.List.{List}
 use Prim.Native.Nat.{ℕ, suc, _<_, _≤_}
 use lib.ListN.{length, getD, take}
+use Rattle.bits.specs.Merge.{bit}
 use Rattle.map.specs.Map as reg
+use Rattle.registers.specs.Classes.{readOnly, free}
 use Rattle.matrix.specs.Matrix.{fields}
 use Rattle.chip.specs.declared.Chip.{Chip}
 use Rattle.chip.specs.Machine.{Write, _gets_, avi, audio, matrix, packets, part, writeOf, after, inUse, coefficients, mute}
-use Rattle.plan.specs.List.{finished, ready}
+use Rattle.plan.specs.List.{isWritten, finished, ready}
 
 -- how a request and an image give a list
 abbrev pub Plan : Type 0
@@ -25,6 +27,10 @@ done P want s = after (P want (s .image)) s
 -- what f says of t is what it says of s, or what it says of r
 abbrev pub Either : (Chip → List ℕ) → Chip → Chip → Chip → Type 0
 Either f s r t = (f t ≡ f s) ⊎ (f t ≡ f r)
+
+-- bit j of register a is in t what it is in s
+abbrev pub Stays : ℕ → ℕ → Chip → Chip → Type 0
+Stays a j s t = bit j (getD (t .image) a 0) ≡ bit j (getD (s .image) a 0)
 
 -- "the picture is muted, and the AVI InfoFrame, the audio InfoFrame and the twelve matrix coefficients in use are each all old or all new"
 pub record Between (s r t : Chip) : Type 0 where
@@ -71,3 +77,8 @@ pub record Demand3 (P : Plan) (want : ℕ → ℕ) (s : Chip) : Type 0 where
       → (mute (cut P want s k) ≡ 1) × (mute (cut P want s (suc k)) ≡ 1)
   pub vic : (k : ℕ) → getD (cut P want s k .image) reg.vicManual 0 ≢ getD (s .image) reg.vicManual 0
       → (mute (cut P want s k) ≡ 1) ⊎ (length (P want (s .image)) ≤ k)
+  -- "HDCP and CEC are never built, and their bits (0xAF[7], 0xAF[4] among them) stay as the image has them": no cut has moved these two,
+  -- nor any free or read-only bit, nor any register that the list does not write
+  pub protection : (k : ℕ) → Stays reg.hdcpHdmiCfg 7 s (cut P want s k) × Stays reg.hdcpHdmiCfg 4 s (cut P want s k)
+  pub kept : (a j k : ℕ) → j < 8 → (bit j (free a) ≡ 1) ⊎ (bit j (readOnly a) ≡ 1) → Stays a j s (cut P want s k)
+  pub unwritten : (a k : ℕ) → a < 256 → isWritten a ≡ false → getD (cut P want s k .image) a 0 ≡ getD (s .image) a 0

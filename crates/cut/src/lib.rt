@@ -9,7 +9,7 @@ ghost use Rattle.chip.specs.Machine.{after};
 ghost use Rattle.plan.specs.List.{writeList, finished, ready};
 ghost use Rattle.cut.specs.Demand.{Demand3};
 ghost use Rattle.cut.specs.Order.{Order};
-ghost use Rattle.cut.specs.Carried.{Carried};
+ghost use Rattle.cut.specs.Carried.{Carried, Entries};
 
 // "a chip in a state from which it was accepted, and a cut after any write": whatever is wanted and whatever the two buffers hold.
 pub fn any_cut()
@@ -30,4 +30,9 @@ pub fn write_order()
 // What each written byte carries.
 pub fn written_byte()
     ensures { λ _. ⌜ ((a : ℕ) → a < 256 → (old wanted : ℕ) → Carried a old wanted) ⌝ }
+{}
+
+// And so what each entry of the list does.
+pub fn list_entries()
+    ensures { λ _. ⌜ ((want : ℕ → ℕ) (image : List ℕ) → Entries want image) ⌝ }
 {}
