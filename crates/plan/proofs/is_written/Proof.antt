@@ -5,9 +5,6 @@ use Rattle.plan.specs.List.{isWritten}
 use Rattle.plan.proofs.is_written.Statement.{statement}
 use Rattle.plan.proofs.is_written.Tie as tie
 
-named-requires : tie.Need-named-requires
-named-requires c κs = search needs
-
 add-result : tie.Need-add-result
 add-result c = search needs
 
@@ -16,7 +13,7 @@ add-result-2 c = search needs
 
 returns : tie.Need-returns
 unfolding isWritten
-returns c = simp (c .named .ensures, or-false)
+returns c = simp (c .pre, or-false)
 
 pub is-written-spec : {M : Type 1} → statement M
-is-written-spec = tie.close (tie.spec named-requires add-result add-result-2 returns)
+is-written-spec = tie.close (tie.spec add-result add-result-2 returns)
