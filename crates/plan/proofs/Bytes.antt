@@ -35,9 +35,6 @@ by-columns a old wanted r f n b =
       in-column (λ (c : Class). c .bits) a,
     )
 
-pub named-at : (a : ℕ) {n : List ℕ} → n ≡ namedMasks → getD n a 0 ≡ named a
-named-at a n = rw n (in-column (λ (c : Class). c .named) a)
-
 -- a turn of a loop that stores one byte after the other
 pub one-more : (f : ℕ → ℕ) (out : List ℕ) (a v : ℕ) → a < length out → v ≡ f a → ((j : ℕ) → j < a → getD out j 0 ≡ f j)
     → (j : ℕ) → j < a + 1 → getD (set out a v) j 0 ≡ f j

@@ -15,8 +15,7 @@ ghost use Rattle.request.specs.Read.{pairFor};
 ghost use Rattle.chip.specs.Machine.{_gets_, up, avi, audio, gc};
 ghost use Rattle.plan.specs.Wanted.{run, stores, twenty, ctsSelect, inputs, rateCode, withAudio, audioBytes, halves, cscBytes};
 ghost use Rattle.plan.specs.Wanted.{clockBytes, inputBytes, enableBytes, frameBytes, wantedImage, SoundFits, MatrixFits, Fits};
-ghost use Rattle.registers.specs.Classes.{named as namedMask};
-ghost use Rattle.plan.specs.List.{steps, middle, stepAddresses, stepBits, decided, byte, isWritten};
+ghost use Rattle.plan.specs.List.{steps, middle, stepAddresses, stepBits, decided, byte};
 ghost use Rattle.plan.specs.Stands.{asWanted, standsIn};
 ghost use Rattle.map.specs.Map as reg;
 ghost use Rattle.plan.specs.Plan.{inOrder, fronted, nothing, planOf, bufferOf, PlanRefusals};
@@ -438,25 +437,6 @@ pub fn plan(input: &[u8], image: &[u8], writes: &mut [u8]) -> Planned
     }
 }
 
-// Whether the list writes a register.
-fn is_written(a: u8, named: u8) -> bool
-    requires { ⌜ named ≡ namedMask a ⌝ }
-    ensures { λ r. ⌜ r ≡ isWritten a ⌝ }
-{
-    (named != 0)
-        | ((Map::AVI_INFOFRAME_VERSION <= a)
-            & (a < Map::AVI_INFOFRAME_VERSION + Map::AVI_INFOFRAME_COUNT))
-        | ((Map::AUDIO_INFOFRAME_VERSION <= a)
-            & (a < Map::AUDIO_INFOFRAME_VERSION + Map::AUDIO_INFOFRAME_COUNT))
-        | ((a == Map::FIXED_98)
-            | ((a == Map::FIXED_9A)
-                | ((a == Map::FIXED_9C)
-                    | ((a == Map::FIXED_9D)
-                        | ((a == Map::FIXED_A2)
-                            | ((a == Map::FIXED_A3)
-                                | ((a == Map::FIXED_E0) | (a == Map::FIXED_I2C_ADDRESS))))))))
-}
-
 // The bits that the list leaves up of those that its steps decide: the picture open.
 fn opened(a: u8) -> u8
     ensures { λ r. ⌜ r ≡ cond (eqb a reg.gc) reg.clearAvMuteMask 0 ⌝ }
@@ -467,30 +447,27 @@ fn opened(a: u8) -> u8
     0
 }
 
-// The byte of a register in the finished image.
-fn finished_byte(a: u8, named: u8, old: u8, carried: u8) -> u8
-    requires { ⌜ named ≡ namedMask a ⌝ }
-    ensures { λ r. ⌜ r ≡ cond (isWritten a) (merge 8 (decided a) (cond (eqb a reg.gc) reg.clearAvMuteMask 0) carried) old ⌝ }
+// The byte of a register that the list writes, in the finished image.
+fn finished_byte(a: u8, carried: u8) -> u8
+    ensures { λ r. ⌜ r ≡ merge 8 (decided a) (cond (eqb a reg.gc) reg.clearAvMuteMask 0) carried ⌝ }
 {
-    if !is_written(a, named) {
-        return old;
-    }
     bits::merge(decided(a), opened(a), carried)
 }
 
-// Whether every register of an image is as a list of these wanted bytes would leave it.
+// Whether every register of an image is as a list of these wanted bytes would leave it: those of its steps.
 fn as_wanted(image: &[u8], wanted: &[u8]) -> bool
     requires { ⌜ (length (now image) ≡ 256) × (length (now wanted) ≡ 256) ⌝ }
     ensures { λ r. ⌜ r ≡ asWanted (now (wanted .entry)) (now (image .entry)) 256 ⌝ }
 {
     let bytes = carried(image, wanted);
-    let named = registers::named_masks();
+    let addresses = step_addresses();
     let mut all = true;
-    let mut a: usize = 0;
-    while a < 256 {
-        let old = image[a];
-        all = (finished_byte(a as u8, named[a], old, bytes[a]) == old) & all;
-        a = a + 1;
+    let mut k: usize = 0;
+    while k < 84 {
+        let a = addresses[k];
+        let at = a as usize;
+        all = (finished_byte(a, bytes[at]) == image[at]) & all;
+        k = k + 1;
     }
     all
 }

@@ -1,48 +1,50 @@
--- `plan::as_wanted` meets its contract. The loop's invariant: whether every register passed stands. Assumes nothing.
-use mathlib.Core.Path.{_≡_, sym, _∙_}
-use Prim.Native.Nat.{_-_, _<_, _≤_}
+-- `plan::as_wanted` meets its contract. The loop's invariant: whether the registers of the steps passed stand. Assumes nothing.
+use mathlib.Core.Path.{_≡_, refl, ap, _∙_}
+use mathlib.Core.List.{List}
+use Prim.Native.Nat.{ℕ, _-_, _<_, _≤_}
 use native.Mathlib.Omega.{arith}
 use lib.ListN.{getD}
 use borrow.Author.Needs.{needs}
-use Rattle.plan.specs.List.{finished}
-use Rattle.plan.specs.Stands.{asWanted}
-use Rattle.plan.proofs.Bytes.{named-at}
-use Rattle.plan.proofs.Standing.{byte-finished, none, more}
+use Rattle.plan.specs.List.{stepAddresses, finished}
+use Rattle.plan.proofs.Columns.{address-small}
+use Rattle.plan.proofs.Standing.{passed, byte-finished, more, whole}
 use Rattle.plan.proofs.as_wanted.Statement.{statement}
 use Rattle.plan.proofs.as_wanted.Tie as tie
 
 abbrev Inv-loop : tie.InvT-loop
-Inv-loop image wanted bytes named all₀ a₀ all a = (a ≤ 256) × (all ≡ asWanted wanted image a)
+Inv-loop image wanted bytes addresses all₀ k₀ all k = (k ≤ 84) × (all ≡ passed wanted image k)
 
 abbrev μ-loop : tie.MeasureT-loop
-μ-loop image wanted bytes named all₀ a₀ all a = 256 - a
+μ-loop image wanted bytes addresses all₀ k₀ all k = 84 - k
 
 carried-requires : tie.Need-carried-requires Inv-loop μ-loop
 carried-requires c κs = search needs
 
-named-masks-requires : tie.Need-named-masks-requires Inv-loop μ-loop
-named-masks-requires c κs = search needs
+step-addresses-requires : tie.Need-step-addresses-requires Inv-loop μ-loop
+step-addresses-requires c κs = search needs
 
 loop-holds : tie.Need-loop-holds Inv-loop μ-loop
-loop-holds c = (search needs, sym (none _ _))
+loop-holds c = (search needs, refl)
 
-shared-slice-read-old : tie.Need-shared-slice-read-old Inv-loop μ-loop
-shared-slice-read-old c = search needs
+array-read-a : tie.Need-array-read-a Inv-loop μ-loop
+array-read-a c = search needs
 
-cast-finished-byte : tie.Need-cast-finished-byte Inv-loop μ-loop
-cast-finished-byte c = search needs
+cast-at : tie.Need-cast-at Inv-loop μ-loop
+cast-at c = search needs
 
 array-read-finished-byte : tie.Need-array-read-finished-byte Inv-loop μ-loop
-array-read-finished-byte c = search needs
-
-array-read-finished-byte-2 : tie.Need-array-read-finished-byte-2 Inv-loop μ-loop
-array-read-finished-byte-2 c = search needs
+array-read-finished-byte c = address-small (c .before .loop .k) (c .before .before .step-addresses .ensures) (search needs)
 
 finished-byte-requires : tie.Need-finished-byte-requires Inv-loop μ-loop
-finished-byte-requires c κs = named-at _ (c .before .before .before .named-masks .ensures)
+finished-byte-requires c κs = search needs
 
-add-a : tie.Need-add-a Inv-loop μ-loop
-add-a c = search needs
+shared-slice-read-all : tie.Need-shared-slice-read-all Inv-loop μ-loop
+shared-slice-read-all c =
+    let l = c .before .before .before .loop in
+    omega (arith, address-small (l .k) (c .before .before .before .before .step-addresses .ensures) (search needs))
+
+add-k : tie.Need-add-k Inv-loop μ-loop
+add-k c = search needs
 
 loop-less : tie.Need-loop-less Inv-loop μ-loop
 loop-less c = search needs
@@ -50,18 +52,22 @@ loop-less c = search needs
 loop-again : tie.Need-loop-again Inv-loop μ-loop
 loop-again c =
     let l = c .before .before .before .loop in
-    let m = c .before .before .before .before .before in
+    let s = c .before .before .before .before in
+    let m = s .before in
     let a = m .before .before .before .args in
-    let h : l .a < 256 = search needs in
-    let e : _ ≡ finished (λ b. getD (a .wanted .now) b 0) (a .image .now) (l .a) =
-    c .finished-byte .ensures ∙ byte-finished (a .wanted .now) (a .image .now) (l .a) _ h (m .carried .ensures (l .a) h) in
-    (search needs, more (a .wanted .now) (a .image .now) (l .a) e (l .inv .1))
+    let at : ℕ = getD (s .step-addresses .result) (l .k) 0 in
+    let h : l .k < 84 = search needs in
+    let e : at ≡ getD stepAddresses (l .k) 0 = ap (λ (x : List ℕ). getD x (l .k) 0) (s .step-addresses .ensures) in
+    let b : c .before .finished-byte .result ≡ finished (λ b. getD (a .wanted .now) b 0) (a .image .now) at =
+    c .before .finished-byte .ensures
+    ∙ byte-finished (a .wanted .now) (a .image .now) (l .k) at _ h e (m .carried .ensures at (address-small (l .k) (s .step-addresses .ensures) h)) in
+    (search needs, more (a .wanted .now) (a .image .now) (l .k) at e b (l .inv .1))
 
 returns : tie.Need-returns Inv-loop μ-loop
 returns c =
     let l = c .before .loop in
-    let e : l .a ≡ 256 = omega arith in
-    rw e at (l .inv .1)
+    let e : l .k ≡ 84 = omega arith in
+    rw e at (l .inv .1) ∙ whole _ _
 
 pub as-wanted-spec : {M : Type 1} → statement M
 as-wanted-spec =
@@ -70,14 +76,14 @@ as-wanted-spec =
     Inv-loop
     μ-loop
     carried-requires
-    named-masks-requires
+    step-addresses-requires
     loop-holds
-    shared-slice-read-old
-    cast-finished-byte
+    array-read-a
+    cast-at
     array-read-finished-byte
-    array-read-finished-byte-2
     finished-byte-requires
-    add-a
+    shared-slice-read-all
+    add-k
     loop-less
     loop-again
     returns)
