@@ -6,12 +6,13 @@ use Prim.Native.Nat.{ℕ, suc, _+_, _<_}
 use native.Mathlib.Nat.{eq-or-lt-of-le, le-of-suc-le-suc}
 use native.Mathlib.Omega.{arith}
 use lib.Dec.{eqb}
-use lib.ListN.{getD, length, set}
+use lib.ListN.{getD, length, set, replicate}
 use lib.Seq.{getD-set-same, getD-set-other}
 use borrow.Author.Tests.{eqb-true}
 use Rattle.bits.specs.Merge.{merge}
 use Rattle.bits.proofs.Below.{at-below}
 use Rattle.bits.proofs.Truth.{E, zeros, var, by, law-if}
+use Rattle.map.specs.Map as reg
 use Rattle.registers.specs.declared.Class.{Class}
 use Rattle.registers.specs.Classes.{classAt, named, readOnlyMasks, freeMasks, namedMasks, mandatedBits}
 use Rattle.registers.proofs.Columns.{in-column}
@@ -44,7 +45,17 @@ one-more f out a v h e before j l = go (eq-or-lt-of-le (omega arith))
     go (inl q) = rw q (getD-set-same out a v 0 h ∙ e)
     go (inr q) = getD-set-other out a j v 0 (λ z. omega arith) ∙ before j q
 
--- the bits that a step decides are named
+-- the bits that a step decides, as code has them
+abbrev masks : List ℕ
+masks =
+    set (set (set (replicate 256 0) reg.infoframeUpdate (reg.aviPacketUpdateMask + reg.audioInfoframePacketUpdateMask)) reg.coefficientUpdate
+    reg.coefficientUpdateMask) reg.gc (reg.clearAvMuteMask + reg.setAvMuteMask)
+
+pub decided-at : (a : ℕ) → a < 256 → getD masks a 0 ≡ decided a
+unfolding decided
+decided-at a h = eqb-true _ _ (at-below (λ a. eqb (getD masks a 0) (decided a)) 256 a refl h)
+
+-- they are named
 within : (a : ℕ) → a < 256 → merge 8 (named a) 0 (decided a) ≡ 0
 unfolding classAt decided merge
 within a h = eqb-true _ 0 (at-below (λ a. eqb (merge 8 (named a) 0 (decided a)) 0) 256 a refl h)

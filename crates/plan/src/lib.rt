@@ -240,20 +240,16 @@ fn with_frames(out: [u8; 256], r: Request) -> [u8; 256]
     laid(next, Map::AUDIO_INFOFRAME_VERSION as usize, &audio[1..])
 }
 
-// The bits that a step decides and not the request.
-fn decided(a: u8) -> u8
-    ensures { λ r. ⌜ r ≡ decided a ⌝ }
+// The bits of each register that a step decides and not the request.
+fn decided_masks() -> [u8; 256]
+    ensures { λ r. ⌜ ((a : ℕ) → a < 256 → getD r a 0 ≡ decided a) ⌝ }
 {
-    if a == Map::INFOFRAME_UPDATE {
-        return Map::AVI_PACKET_UPDATE_MASK + Map::AUDIO_INFOFRAME_PACKET_UPDATE_MASK;
-    }
-    if a == Map::COEFFICIENT_UPDATE {
-        return Map::COEFFICIENT_UPDATE_MASK;
-    }
-    if a == Map::GC {
-        return Map::CLEAR_AV_MUTE_MASK + Map::SET_AV_MUTE_MASK;
-    }
-    0
+    let mut out = [0u8; 256];
+    out[Map::INFOFRAME_UPDATE as usize] = Map::AVI_PACKET_UPDATE_MASK
+        + Map::AUDIO_INFOFRAME_PACKET_UPDATE_MASK;
+    out[Map::COEFFICIENT_UPDATE as usize] = Map::COEFFICIENT_UPDATE_MASK;
+    out[Map::GC as usize] = Map::CLEAR_AV_MUTE_MASK + Map::SET_AV_MUTE_MASK;
+    out
 }
 
 // A written byte by the masks of its class: the old byte's free and read-only bits, mandated and wanted bits.
@@ -384,11 +380,13 @@ fn write_list(image: &[u8], wanted: &[u8], audio_first: bool, writes: &mut [u8])
     let bytes = carried(image, wanted);
     let addresses = step_addresses();
     let bits = step_bits();
+    let decided = decided_masks();
     let mut i: usize = 0;
     while i < 84 {
         let p = place(audio_first, i);
         let a = addresses[p];
-        let v = bits::merge(decided(a), bits[p], bytes[a as usize]);
+        let at = a as usize;
+        let v = bits::merge(decided[at], bits[p], bytes[at]);
         writes[2 * i] = a;
         writes[2 * i + 1] = v;
         i = i + 1;
@@ -448,10 +446,10 @@ fn opened(a: u8) -> u8
 }
 
 // The byte of a register that the list writes, in the finished image.
-fn finished_byte(a: u8, carried: u8) -> u8
-    ensures { λ r. ⌜ r ≡ merge 8 (decided a) (cond (eqb a reg.gc) reg.clearAvMuteMask 0) carried ⌝ }
+fn finished_byte(a: u8, decided: u8, carried: u8) -> u8
+    ensures { λ r. ⌜ r ≡ merge 8 decided (cond (eqb a reg.gc) reg.clearAvMuteMask 0) carried ⌝ }
 {
-    bits::merge(decided(a), opened(a), carried)
+    bits::merge(decided, opened(a), carried)
 }
 
 // Whether every register of an image is as a list of these wanted bytes would leave it: those of its steps.
@@ -461,12 +459,13 @@ fn as_wanted(image: &[u8], wanted: &[u8]) -> bool
 {
     let bytes = carried(image, wanted);
     let addresses = step_addresses();
+    let decided = decided_masks();
     let mut all = true;
     let mut k: usize = 0;
     while k < 84 {
         let a = addresses[k];
         let at = a as usize;
-        all = (finished_byte(a, bytes[at]) == image[at]) & all;
+        all = (finished_byte(a, decided[at], bytes[at]) == image[at]) & all;
         k = k + 1;
     }
     all

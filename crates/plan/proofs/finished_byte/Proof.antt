@@ -3,9 +3,6 @@ use borrow.Author.Needs.{needs}
 use Rattle.plan.proofs.finished_byte.Statement.{statement}
 use Rattle.plan.proofs.finished_byte.Tie as tie
 
-decided-requires : tie.Need-decided-requires
-decided-requires c κs = search needs
-
 opened-requires : tie.Need-opened-requires
 opened-requires c κs = search needs
 
@@ -13,7 +10,7 @@ merge-requires : tie.Need-merge-requires
 merge-requires c κs = search needs
 
 returns : tie.Need-returns
-returns c = simp (c .merge .ensures, c .before .opened .ensures, c .before .before .decided .ensures)
+returns c = simp (c .merge .ensures, c .before .opened .ensures)
 
 pub finished-byte-spec : {M : Type 1} → statement M
-finished-byte-spec = tie.close (tie.spec decided-requires opened-requires merge-requires returns)
+finished-byte-spec = tie.close (tie.spec opened-requires merge-requires returns)
