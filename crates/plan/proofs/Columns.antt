@@ -1,21 +1,33 @@
 -- The table of the steps has AVI before audio: a column of it at a step's place is that field of the step. Assumes nothing.
 use mathlib.Core.Path.{_≡_, refl, sym, ap, ap₂, _∙_, subst}
 use mathlib.Core.Bool.{Bool, true, false, cond, _&&_}
-use mathlib.Core.List.{map}
+use mathlib.Core.List.{List, map}
 use Prim.Native.Nat.{ℕ, _+_, _-_, _<_}
 use lib.Dec.{eqb, ltb}
 use lib.ListN.{getD, List·getD-map}
-use borrow.Author.Tests.{eqb-true}
+use borrow.Author.Tests.{eqb-true, ltb-true}
 use Rattle.lists.proofs.Both.{both-left, both-right}
 use Rattle.bits.proofs.Below.{below, at-below}
 use Rattle.chip.specs.Machine.{Write, _gets_}
-use Rattle.plan.specs.List.{steps, middle}
+use Rattle.plan.specs.List.{steps, middle, stepAddresses, stepBits}
 
 abbrev step : Bool → ℕ → Write
 step b i = getD (steps (middle b)) i (0 gets 0)
 
-pub column : (f : Write → ℕ) {w : Write} (i : ℕ) → step false i ≡ w → getD (map f (steps (middle false))) i (f (0 gets 0)) ≡ f w
+column : (f : Write → ℕ) {w : Write} (i : ℕ) → step false i ≡ w → getD (map f (steps (middle false))) i (f (0 gets 0)) ≡ f w
 column f i e = List·getD-map f (steps (middle false)) i (0 gets 0) ∙ ap f e
+
+pub address-at : (i : ℕ) {w : Write} {l : List ℕ} → l ≡ stepAddresses → step false i ≡ w → getD l i 0 ≡ w .address
+unfolding stepAddresses
+address-at i l e = rw l (column (λ (w : Write). w .address) i e)
+
+pub address-small : (i : ℕ) {l : List ℕ} → l ≡ stepAddresses → i < 84 → getD l i 0 < 256
+unfolding middle stepAddresses
+address-small i l h = rw l (ltb-true _ 256 (at-below (λ j. ltb (getD stepAddresses j 0) 256) 84 i refl h))
+
+pub bits-at : (i : ℕ) {w : Write} {l : List ℕ} → l ≡ stepBits → step false i ≡ w → getD l i 0 ≡ w .value
+unfolding stepBits
+bits-at i l e = rw l (column (λ (w : Write). w .value) i e)
 
 -- where a step stands, audio first: the two packets change places
 abbrev pub moved : ℕ → ℕ

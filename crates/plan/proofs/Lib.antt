@@ -1,3 +1,4 @@
+pub mod Bytes
 pub mod Stored
 pub mod Frame
 pub mod Columns

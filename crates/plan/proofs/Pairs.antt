@@ -8,9 +8,11 @@ use native.Mathlib.Omega.{arith}
 use lib.ListN.{length, getD, take, set}
 use lib.Seq.{sets, take-suc, length-take-le}
 use Rattle.chip.specs.Machine.{Write, _gets_}
-use Rattle.plan.specs.List.{steps, middle, written}
+use Rattle.bits.specs.Merge.{merge}
+use Rattle.plan.specs.List.{steps, middle, decided, byte, written}
 use Rattle.plan.specs.Plan.{flat, inOrder}
 use Rattle.lists.proofs.Emit.{sets-two, map-at}
+use Rattle.plan.proofs.Bytes.{decides}
 
 pub length-flat : (ws : List Write) → length (flat ws) ≡ 2 * length ws
 unfolding flat
@@ -54,3 +56,12 @@ module _ (wanted image : List ℕ) (audioFirst : Bool) where
   pub at-address : (i : ℕ) → i < 84 → getD (inOrder wanted image audioFirst) i (0 gets 0) .address ≡ getD (steps (middle audioFirst)) i (0 gets 0) .address
   unfolding written
   at-address i h = ap (λ (w : Write). w .address) (at-step i h)
+
+  -- the byte of a step: the bits that it decides, over the byte that the list carries there
+  pub at-value : (i a v : ℕ) (bytes : List ℕ) → i < 84 → a < 256 → a ≡ getD (steps (middle audioFirst)) i (0 gets 0) .address
+      → v ≡ getD (steps (middle audioFirst)) i (0 gets 0) .value
+      → ((b : ℕ) → b < 256 → getD bytes b 0 ≡ byte b (getD image b 0) (getD wanted b 0))
+      → merge 8 (decided a) v (getD bytes a 0) ≡ getD (inOrder wanted image audioFirst) i (0 gets 0) .value
+  unfolding written
+  at-value i a v bytes h l p q carried =
+      rw (at-step i h, ← p, ← q, carried a l) (sym (decides a v (getD image a 0) (getD wanted a 0) l))

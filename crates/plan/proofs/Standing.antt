@@ -1,52 +1,106 @@
 -- The test whether an image stands as a list would leave it, register by register. Assumes nothing.
 use mathlib.Core.Path.{_≡_, refl, sym, ap, _∙_}
-use mathlib.Core.Logic.{_≢_, _⊎_, inl, inr}
-use mathlib.Core.Bool.{Bool, true, false, cond, _&&_, and-false}
+use mathlib.Core.Bool.{Bool, true, false, cond, _&&_}
 use mathlib.Core.List.{List}
 use Prim.Native.Nat.{ℕ, zero, suc, _+_, _<_}
-use native.Mathlib.Nat.{not-suc-le-zero, eq-or-lt-of-le, le-of-suc-le-suc}
 use native.Mathlib.Numerals.{add-one}
 use lib.Dec.{eqb}
 use lib.ListN.{getD, length}
-use borrow.Author.Tests.{eq-eqb, ne-eqb}
+use borrow.Author.Tests.{eq-eqb}
+use native.Mathlib.Omega.{arith}
+use Rattle.lists.specs.Among.{among}
+use Rattle.lists.proofs.Among.{Stands, stands}
+use Rattle.bits.proofs.Below.{below, at-below}
+use Rattle.registers.specs.Classes.{classAt}
 use Rattle.bits.specs.Merge.{merge}
 use Rattle.map.specs.Map as reg
 use Rattle.request.specs.declared.Request.{Request}
 use Rattle.plan.specs.Wanted.{wantedImage, wanted}
-use Rattle.plan.specs.List.{byte, decided, isWritten, written, finished}
+use Rattle.plan.specs.List.{middle, stepAddresses, byte, decided, isWritten, written, finished}
 use Rattle.plan.specs.Stands.{standsBelow, asWanted}
+use Rattle.plan.proofs.Bytes.{decides}
+use Rattle.plan.proofs.Columns.{address-small}
 
--- the byte of the finished image, as code has it
-pub byte-finished : (wanted image : List ℕ) (a : ℕ)
-    → cond (isWritten a) (byte a (getD image a 0) (merge 8 (decided a) (cond (eqb a reg.gc) reg.clearAvMuteMask 0) (getD wanted a 0))) (getD image a 0)
-    ≡ finished (λ b. getD wanted b 0) image a
-unfolding finished written
-byte-finished wanted image a = refl
+-- a test at every number below n, from the test at each
+all-below : (f : ℕ → Bool) (n : ℕ) → ((a : ℕ) → a < n → f a ≡ true) → below f n ≡ true
+all-below f zero h = refl
+all-below f (suc n) h = rw (h n (omega arith), all-below f n (λ a l. h a (omega arith)))
+
+both-ways : (a b : Bool) → (a ≡ true → b ≡ true) → (b ≡ true → a ≡ true) → a ≡ b
+both-ways true b f g = sym (f refl)
+both-ways false true f g = g refl
+both-ways false false f g = refl
+
+-- the registers that the list writes are those of its steps
+written-step : (i : ℕ) → i < 84 → isWritten (getD stepAddresses i 0) ≡ true
+unfolding middle stepAddresses isWritten classAt
+written-step i h = at-below (λ i. isWritten (getD stepAddresses i 0)) 84 i refl h
+
+abbrev listed : ℕ → Bool
+listed a = cond (isWritten a) (among a stepAddresses) true
+
+all-listed : below listed 256 ≡ true
+unfolding middle stepAddresses isWritten classAt
+all-listed = refl
+
+step-of : (a : ℕ) → a < 256 → isWritten a ≡ true → among a stepAddresses ≡ true
+step-of a h e = rw e at (at-below listed 256 a all-listed h)
+
+step-count : length stepAddresses ≡ 84
+unfolding middle stepAddresses
+step-count = refl
 
 module _ (wanted image : List ℕ) where
-  -- one register that does not stand
-  pub fails : (n a : ℕ) → a < n → finished (λ b. getD wanted b 0) image a ≢ getD image a 0 → asWanted wanted image n ≡ false
-  unfolding asWanted
-  fails zero a h d = absurd (not-suc-le-zero h)
-  fails (suc n) a h d = go (eq-or-lt-of-le (le-of-suc-le-suc h)) (λ l. fails n a l d)
-    where
-      go : (a ≡ n) ⊎ (a < n) → (a < n → asWanted wanted image n ≡ false)
-          → (eqb (finished (λ b. getD wanted b 0) image n) (getD image n 0) && asWanted wanted image n) ≡ false
-      go (inl e) ih = rw (ne-eqb (finished (λ b. getD wanted b 0) image n) (getD image n 0) (rw e at d))
-      go (inr l) ih = rw (ih l, and-false)
+  abbrev stand : ℕ → Bool
+  stand a = eqb (finished (λ b. getD wanted b 0) image a) (getD image a 0)
 
-  -- one more that does
-  pub more : (a : ℕ) → asWanted wanted image a ≡ true → finished (λ b. getD wanted b 0) image a ≡ getD image a 0 → asWanted wanted image (a + 1) ≡ true
+  -- whether the registers of the first n steps stand
+  abbrev pub passed : ℕ → Bool
+  passed n = below (λ i. stand (getD stepAddresses i 0)) n
+
+  -- the byte of a step's register in the finished image, as code has it
+  pub byte-finished : (i a c : ℕ) → i < 84 → a ≡ getD stepAddresses i 0 → c ≡ byte a (getD image a 0) (getD wanted a 0)
+      → merge 8 (decided a) (cond (eqb a reg.gc) reg.clearAvMuteMask 0) c ≡ finished (λ b. getD wanted b 0) image a
+  unfolding finished written
+  byte-finished i a c h p e =
+      let v : ℕ = cond (eqb a reg.gc) reg.clearAvMuteMask 0 in
+      let w : isWritten a ≡ true = rw p (written-step i h) in
+      let l : a < 256 = rw p (address-small i refl h) in
+      rw w (ap (merge 8 (decided a) v) e ∙ sym (decides a v (getD image a 0) (getD wanted a 0) l))
+
+  -- one step more
+  pub more : (i a : ℕ) {b : ℕ} {all : Bool} → a ≡ getD stepAddresses i 0 → b ≡ finished (λ b. getD wanted b 0) image a → all ≡ passed i
+      → (eqb b (getD image a 0) && all) ≡ passed (i + 1)
+  more i a p e t = rw (add-one i, e, t, p)
+
+  as-below : (n : ℕ) → asWanted wanted image n ≡ below stand n
   unfolding asWanted
-  more a t e = rw (add-one a, eq-eqb (finished (λ b. getD wanted b 0) image a) (getD image a 0) e) t
+  as-below zero = refl
+  as-below (suc n) = ap (λ (b : Bool). stand n && b) (as-below n)
+
+  unwritten : (a : ℕ) → isWritten a ≡ false → stand a ≡ true
+  unfolding finished
+  unwritten a e = rw e (eq-eqb (getD image a 0) (getD image a 0) refl)
+
+  every : passed 84 ≡ true → (a : ℕ) → a < 256 → stand a ≡ true
+  every t a h = go (isWritten a) refl
+    where
+      go : (w : Bool) → isWritten a ≡ w → stand a ≡ true
+      go true e =
+          let s : Stands a stepAddresses = stands a stepAddresses (step-of a h e) in
+          let i : s .place < 84 = rw step-count at (s .within) in
+          rw (s .there) at (at-below (λ i. stand (getD stepAddresses i 0)) 84 (s .place) t i)
+      go false e = unwritten a e
+
+  -- all steps passed
+  pub whole : passed 84 ≡ asWanted wanted image 256
+  whole =
+      both-ways (passed 84) (below stand 256) (λ t. all-below stand 256 (every t))
+      (λ t. all-below (λ i. stand (getD stepAddresses i 0)) 84 (λ i h. at-below stand 256 (getD stepAddresses i 0) t (address-small i refl h)))
+      ∙ sym (as-below 256)
 
 -- of the bytes that a request wants
 pub same : (r : Request) (image : List ℕ) (n : ℕ) → asWanted (wantedImage r) image n ≡ standsBelow r image n
 unfolding wanted standsBelow asWanted
 same r image zero = refl
 same r image (suc n) = ap (λ (b : Bool). eqb (finished (wanted r) image n) (getD image n 0) && b) (same r image n)
-
--- none passed yet
-pub none : (wanted image : List ℕ) → asWanted wanted image 0 ≡ true
-unfolding asWanted
-none wanted image = refl

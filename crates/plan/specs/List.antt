@@ -1,5 +1,5 @@
 -- Document 01, "The write list". `want a` is the byte whose named bits are wanted in register a.
-use mathlib.Core.Bool.{Bool, cond, not, _&&_, _||_}
+use mathlib.Core.Bool.{Bool, false, cond, not, _&&_, _||_}
 use mathlib.Core.List.{List, [], _∷_, _++_, map}
 use Prim.Native.Nat.{ℕ, zero, suc, _+_, _-_}
 use lib.Dec.{eqb}
@@ -44,6 +44,13 @@ middle audioFirst = each table14 ++ coefficientSteps ++ cond audioFirst (audioSt
 -- "Order: mute; ..; open"
 abbrev pub steps : List Write → List Write
 steps between = reg.gc gets reg.setAvMuteMask ∷ between ++ reg.gc gets reg.clearAvMuteMask ∷ []
+
+-- the steps, AVI before audio, as two columns
+unfoldable pub stepAddresses : List ℕ
+stepAddresses = map (λ (w : Write). w .address) (steps (middle false))
+
+unfoldable pub stepBits : List ℕ
+stepBits = map (λ (w : Write). w .value) (steps (middle false))
 
 -- the bits that a step decides: "a hold write to 0x4A has the other named hold 0"
 unfoldable pub decided : ℕ → ℕ

@@ -11,10 +11,11 @@ ghost use Rattle.map.specs.Map.{outputFormatMask};
 ghost use Rattle.clock.specs.Modes.{modeOf};
 ghost use Rattle.frames.specs.Frames.{aviFrame};
 ghost use Rattle.matrix.specs.Matrix.{Bytes};
+ghost use Rattle.request.specs.Read.{pairFor};
 ghost use Rattle.chip.specs.Machine.{_gets_, up, avi, audio, gc};
 ghost use Rattle.plan.specs.Wanted.{run, stores, twenty, ctsSelect, inputs, rateCode, withAudio, audioBytes, halves, cscBytes};
 ghost use Rattle.plan.specs.Wanted.{clockBytes, inputBytes, enableBytes, frameBytes, wantedImage, SoundFits, MatrixFits, Fits};
-ghost use Rattle.plan.specs.List.{steps, middle, decided, byte, isWritten};
+ghost use Rattle.plan.specs.List.{steps, middle, stepAddresses, stepBits, decided, byte};
 ghost use Rattle.plan.specs.Stands.{asWanted, standsIn};
 ghost use Rattle.map.specs.Map as reg;
 ghost use Rattle.plan.specs.Plan.{inOrder, fronted, nothing, Plans, PlanRefusals};
@@ -239,30 +240,50 @@ fn with_frames(out: [u8; 256], r: Request) -> [u8; 256]
     laid(next, Map::AUDIO_INFOFRAME_VERSION as usize, &audio[1..])
 }
 
-// The bits that a step decides and not the request.
-fn decided(a: u8) -> u8
-    ensures { λ r. ⌜ r ≡ decided a ⌝ }
+// The bits of each register that a step decides and not the request.
+fn decided_masks() -> [u8; 256]
+    ensures { λ r. ⌜ ((a : ℕ) → a < 256 → getD r a 0 ≡ decided a) ⌝ }
 {
-    if a == Map::INFOFRAME_UPDATE {
-        return Map::AVI_PACKET_UPDATE_MASK + Map::AUDIO_INFOFRAME_PACKET_UPDATE_MASK;
-    }
-    if a == Map::COEFFICIENT_UPDATE {
-        return Map::COEFFICIENT_UPDATE_MASK;
-    }
-    if a == Map::GC {
-        return Map::CLEAR_AV_MUTE_MASK + Map::SET_AV_MUTE_MASK;
-    }
-    0
+    let mut out = [0u8; 256];
+    out[Map::INFOFRAME_UPDATE as usize] = Map::AVI_PACKET_UPDATE_MASK
+        + Map::AUDIO_INFOFRAME_PACKET_UPDATE_MASK;
+    out[Map::COEFFICIENT_UPDATE as usize] = Map::COEFFICIENT_UPDATE_MASK;
+    out[Map::GC as usize] = Map::CLEAR_AV_MUTE_MASK + Map::SET_AV_MUTE_MASK;
+    out
 }
 
-// The byte that a step writes at an address: its decided bits, the old byte's free and read-only bits, mandated and wanted bits.
-fn written_byte(a: u8, old: u8, wanted: u8, bits: u8) -> u8
-    ensures { λ r. ⌜ r ≡ byte a old (merge 8 (decided a) bits wanted) ⌝ }
+// A written byte by the masks of its class: the old byte's free and read-only bits, mandated and wanted bits.
+fn written_byte(read_only: u8, free: u8, named: u8, bits: u8, old: u8, wanted: u8) -> u8
+    ensures { λ r. ⌜ r ≡ merge 8 «read_only» old (merge 8 free old (merge 8 named wanted bits)) ⌝ }
 {
-    let asked = bits::merge(decided(a), bits, wanted);
-    let set = bits::merge(registers::named(a), asked, registers::bits(a));
-    let free = bits::merge(registers::free(a), old, set);
-    bits::merge(registers::read_only(a), old, free)
+    let set = bits::merge(named, wanted, bits);
+    let kept = bits::merge(free, old, set);
+    bits::merge(read_only, old, kept)
+}
+
+// Every register's byte, as a list of these wanted bytes writes it.
+fn carried(image: &[u8], wanted: &[u8]) -> [u8; 256]
+    requires { ⌜ (length (now image) ≡ 256) × (length (now wanted) ≡ 256) ⌝ }
+    ensures { λ r. ⌜ ((a : ℕ) → a < 256 → getD r a 0 ≡ byte a (getD (now (image .entry)) a 0) (getD (now (wanted .entry)) a 0)) ⌝ }
+{
+    let read_only = registers::read_only_masks();
+    let free = registers::free_masks();
+    let named = registers::named_masks();
+    let bits = registers::mandated_bits();
+    let mut out = [0u8; 256];
+    let mut a: usize = 0;
+    while a < 256 {
+        out[a] = written_byte(
+            read_only[a],
+            free[a],
+            named[a],
+            bits[a],
+            image[a],
+            wanted[a],
+        );
+        a = a + 1;
+    }
+    out
 }
 
 // The first step of the two packets, and how many steps each has: its registers, its hold up and down.
@@ -292,38 +313,26 @@ fn place(audio_first: bool, i: usize) -> usize
     i
 }
 
-// The register of a step.
-fn step_address(audio_first: bool, i: usize) -> u8
-    requires { ⌜ i < 84 ⌝ }
-    ensures { λ r. ⌜ r ≡ getD (steps (middle «audio_first»)) i (0 gets 0) .address ⌝ }
+// The register of each step, AVI before audio.
+fn step_addresses() -> [u8; 84]
+    ensures { λ r. ⌜ r ≡ stepAddresses ⌝ }
 {
-    steps::ADDRESSES[place(audio_first, i)]
+    steps::ADDRESSES
 }
 
-// The bits that a step decides.
-fn step_bits(audio_first: bool, i: usize) -> u8
-    requires { ⌜ i < 84 ⌝ }
-    ensures { λ r. ⌜ r ≡ getD (steps (middle «audio_first»)) i (0 gets 0) .value ⌝ }
+// The bits that each step decides.
+fn step_bits() -> [u8; 84]
+    ensures { λ r. ⌜ r ≡ stepBits ⌝ }
 {
-    steps::BITS[place(audio_first, i)]
-}
-
-// The byte that a step writes.
-fn step_value(image: &[u8], wanted: [u8; 256], audio_first: bool, i: usize) -> u8
-    requires { ⌜ (length (now image) ≡ 256) × (i < 84) ⌝ }
-    ensures { λ r. ⌜ r ≡ getD (inOrder wanted (now (image .entry)) «audio_first») i (0 gets 0) .value ⌝ }
-{
-    let a = step_address(audio_first, i);
-    let at = a as usize;
-    written_byte(a, image[at], wanted[at], step_bits(audio_first, i))
+    steps::BITS
 }
 
 // The byte that every register with a named bit is to hold.
-fn wanted_image(r: Request) -> [u8; 256]
+fn wanted_image(r: Request, pair: Pair) -> [u8; 256]
     requires { ⌜ Fits r ⌝ }
+    requires { ⌜ pair ≡ pairFor r ⌝ }
     ensures { λ image. ⌜ image ≡ wantedImage r ⌝ }
 {
-    let pair = request::pair_for(r);
     let matrix = r.matrix;
     let csc = csc_bytes(matrix);
     let zeros = [0u8; 256];
@@ -364,14 +373,20 @@ fn is_ready(holds: u8) -> bool
 }
 
 // The list, at the front of the buffer.
-fn write_list(image: &[u8], wanted: [u8; 256], audio_first: bool, writes: &mut [u8])
-    requires { ⌜ (length (now image) ≡ 256) × (256 ≤ length (now writes)) ⌝ }
-    ensures { λ _. ⌜ now (writes .exit) ≡ fronted (inOrder wanted (now (image .entry)) «audio_first») (now (writes .entry)) ⌝ }
+fn write_list(image: &[u8], wanted: &[u8], audio_first: bool, writes: &mut [u8])
+    requires { ⌜ (length (now image) ≡ 256) × (length (now wanted) ≡ 256) × (256 ≤ length (now writes)) ⌝ }
+    ensures { λ _. ⌜ now (writes .exit) ≡ fronted (inOrder (now (wanted .entry)) (now (image .entry)) «audio_first») (now (writes .entry)) ⌝ }
 {
+    let bytes = carried(image, wanted);
+    let addresses = step_addresses();
+    let bits = step_bits();
+    let decided = decided_masks();
     let mut i: usize = 0;
     while i < 84 {
-        let a = step_address(audio_first, i);
-        let v = step_value(image, wanted, audio_first, i);
+        let p = place(audio_first, i);
+        let a = addresses[p];
+        let at = a as usize;
+        let v = bits::merge(decided[at], bits[p], bytes[at]);
         writes[2 * i] = a;
         writes[2 * i + 1] = v;
         i = i + 1;
@@ -411,59 +426,48 @@ pub fn plan(input: &[u8], image: &[u8], writes: &mut [u8]) -> Planned
     if writes.len() < 256 {
         return refused(Refusal::BUFFER_SHORT);
     }
-    let wanted = wanted_image(r);
-    write_list(image, wanted, audio_up(holds), writes);
+    let wanted = wanted_image(r, pair);
+    write_list(image, &wanted, audio_up(holds), writes);
     Planned {
         refusal: Refusal::NONE,
         count: 84,
     }
 }
 
-// Whether the list writes a register.
-fn is_written(a: u8) -> bool
-    ensures { λ r. ⌜ r ≡ isWritten a ⌝ }
+// The bits that the list leaves up of those that its steps decide: the picture open.
+fn opened(a: u8) -> u8
+    ensures { λ r. ⌜ r ≡ cond (eqb a reg.gc) reg.clearAvMuteMask 0 ⌝ }
 {
-    (registers::named(a) != 0)
-        | ((Map::AVI_INFOFRAME_VERSION <= a)
-            & (a < Map::AVI_INFOFRAME_VERSION + Map::AVI_INFOFRAME_COUNT))
-        | ((Map::AUDIO_INFOFRAME_VERSION <= a)
-            & (a < Map::AUDIO_INFOFRAME_VERSION + Map::AUDIO_INFOFRAME_COUNT))
-        | ((a == Map::FIXED_98)
-            | ((a == Map::FIXED_9A)
-                | ((a == Map::FIXED_9C)
-                    | ((a == Map::FIXED_9D)
-                        | ((a == Map::FIXED_A2)
-                            | ((a == Map::FIXED_A3)
-                                | ((a == Map::FIXED_E0) | (a == Map::FIXED_I2C_ADDRESS))))))))
-}
-
-// The byte of a register in the finished image.
-fn finished_byte(a: u8, old: u8, wanted: u8) -> u8
-    ensures { λ r. ⌜ r ≡ cond (isWritten a) (byte a old (merge 8 (decided a) (cond (eqb a reg.gc) reg.clearAvMuteMask 0) wanted)) old ⌝ }
-{
-    if !is_written(a) {
-        return old;
-    }
     if a == Map::GC {
-        return written_byte(a, old, wanted, Map::CLEAR_AV_MUTE_MASK);
+        return Map::CLEAR_AV_MUTE_MASK;
     }
-    written_byte(a, old, wanted, 0)
+    0
 }
 
-// Whether every register of an image is as a list of these wanted bytes would leave it.
-fn as_wanted(image: &[u8], wanted: [u8; 256]) -> bool
-    requires { ⌜ length (now image) ≡ 256 ⌝ }
-    ensures { λ r. ⌜ r ≡ asWanted wanted (now (image .entry)) 256 ⌝ }
+// The byte of a register that the list writes, in the finished image.
+fn finished_byte(a: u8, decided: u8, carried: u8) -> u8
+    ensures { λ r. ⌜ r ≡ merge 8 decided (cond (eqb a reg.gc) reg.clearAvMuteMask 0) carried ⌝ }
 {
-    let mut a: usize = 0;
-    while a < 256 {
-        let old = image[a];
-        if finished_byte(a as u8, old, wanted[a]) != old {
-            return false;
-        }
-        a = a + 1;
+    bits::merge(decided, opened(a), carried)
+}
+
+// Whether every register of an image is as a list of these wanted bytes would leave it: those of its steps.
+fn as_wanted(image: &[u8], wanted: &[u8]) -> bool
+    requires { ⌜ (length (now image) ≡ 256) × (length (now wanted) ≡ 256) ⌝ }
+    ensures { λ r. ⌜ r ≡ asWanted (now (wanted .entry)) (now (image .entry)) 256 ⌝ }
+{
+    let bytes = carried(image, wanted);
+    let addresses = step_addresses();
+    let decided = decided_masks();
+    let mut all = true;
+    let mut k: usize = 0;
+    while k < 84 {
+        let a = addresses[k];
+        let at = a as usize;
+        all = (finished_byte(a, decided[at], bytes[at]) == image[at]) & all;
+        k = k + 1;
     }
-    true
+    all
 }
 
 // Whether an input is accepted on some image, and its list would leave this image as it is.
@@ -482,8 +486,8 @@ pub fn stands(input: &[u8], image: &[u8]) -> bool
     if pair.refusal != Refusal::NONE {
         return false;
     }
-    let wanted = wanted_image(r);
-    as_wanted(image, wanted)
+    let wanted = wanted_image(r, pair);
+    as_wanted(image, &wanted)
 }
 
 // The refusals of planning, in document 01's order.

@@ -1,7 +1,7 @@
 -- Document 01, "Register classes": the class of each bit of the 256 registers of the main map, and the table's rule.
 -- The register map (section 5) and Table 14 of source document 000 fill it.
 use mathlib.Core.Path.{_≡_}
-use mathlib.Core.List.{List, [], _∷_}
+use mathlib.Core.List.{List, [], _∷_, map}
 use Prim.Native.Nat.{ℕ, _+_, _<_, _≤_}
 use lib.ListN.{getD}
 use Rattle.bits.specs.Merge.{bit}
@@ -290,6 +290,22 @@ free a = classAt a .free
 -- the mandated bits
 abbrev pub bits : ℕ → ℕ
 bits a = classAt a .bits
+
+-- one number of every address: a column of the table
+unfoldable pub column : (Class → ℕ) → List ℕ
+column f = map f classes
+
+abbrev pub readOnlyMasks : List ℕ
+readOnlyMasks = column (λ c. c .«read_only»)
+
+abbrev pub namedMasks : List ℕ
+namedMasks = column (λ c. c .named)
+
+abbrev pub freeMasks : List ℕ
+freeMasks = column (λ c. c .free)
+
+abbrev pub mandatedBits : List ℕ
+mandatedBits = column (λ c. c .bits)
 
 pub record Rule (c : Class) : Type 0 where
   -- "The four masks share no bit and cover all eight": each bit lies in exactly one of them

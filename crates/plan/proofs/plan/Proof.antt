@@ -108,7 +108,10 @@ wanted-image-requires : tie.Need-wanted-image-requires
 wanted-image-requires c κs =
     let e = c .before .before .before .before .before .before .before .before .before in
     let s = e .before .before in
-    subst (λ (x : Checked). Fits (x .request)) (sym (s .read .ensures)) (fits _ (accepted e))
+    (subst (λ (x : Checked). Fits (x .request)) (sym (s .read .ensures)) (fits _ (accepted e)), c .before .before .before .pair-for .ensures)
+
+slice-aggregate-write-list : tie.Need-slice-aggregate-write-list
+slice-aggregate-write-list c = search needs
 
 audio-up-requires : tie.Need-audio-up-requires
 audio-up-requires c κs = search needs
@@ -123,7 +126,8 @@ returns-6 : tie.Need-returns-6
 returns-6 c =
     let w = c .before .before in
     let u = w .before .before in
-    let l = u .before .before in
+    let i = u .before .before in
+    let l = i .before in
     let q = l .before in
     let p = q .before .before in
     let h = p .before .before in
@@ -132,7 +136,7 @@ returns-6 c =
     accepts (a .input .now) (a .image .now) (a .writes .now)
     (later (a .input .now) (a .image .now) (a .writes .now) (accepted e)
     (none _ (a .image .now) (a .writes .now) (sized h) (readied h) (sym (pair-same p) ∙ q .if4 .left) (l .if5 .left)))
-    (u .before .wanted-image .ensures ∙ ap (λ (y : Checked). wantedImage (y .request)) (e .before .before .read .ensures)) (u .audio-up .ensures) (w .write-list .ensures)
+    (i .wanted-image .ensures ∙ ap (λ (y : Checked). wantedImage (y .request)) (e .before .before .read .ensures)) (u .audio-up .ensures) (w .write-list .ensures)
 
 pub plan-spec : {M : Type 1} → statement M
 plan-spec =
@@ -154,6 +158,7 @@ plan-spec =
     refused-requires-5
     returns-5
     wanted-image-requires
+    slice-aggregate-write-list
     audio-up-requires
     write-list-requires
     same-length

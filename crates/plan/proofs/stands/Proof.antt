@@ -34,7 +34,10 @@ wanted-image-requires : tie.Need-wanted-image-requires
 wanted-image-requires c κs =
     let e = c .before .before .before .before in
     let r = e .before .before .before in
-    rw (r .read .ensures) (fits _ (rw (r .read .ensures) at (e .before .if1 .left)))
+    (rw (r .read .ensures) (fits _ (rw (r .read .ensures) at (e .before .if1 .left))), c .before .before .pair-for .ensures)
+
+slice-aggregate-as-wanted : tie.Need-slice-aggregate-as-wanted
+slice-aggregate-as-wanted c = search needs
 
 as-wanted-requires : tie.Need-as-wanted-requires
 as-wanted-requires c κs = search needs
@@ -42,10 +45,10 @@ as-wanted-requires c κs = search needs
 returns-4 : tie.Need-returns-4
 unfolding standsIn
 returns-4 c =
-    let d = c .before .before in
+    let d = c .before .before .before in
     let e = d .before .before .before .before in
     let r = e .before .before .before in
-    c .as-wanted .ensures ∙ rw (c .before .wanted-image .ensures) (same (r .read .result .request) _ 256
+    c .as-wanted .ensures ∙ rw (c .before .before .wanted-image .ensures) (same (r .read .result .request) _ 256
     ∙ simp (← r .read .ensures, eq-eqb _ _ (e .before .if1 .left), eq-eqb _ _ (e .if2 .left), ← d .before .before .pair-for .ensures, eq-eqb _ _ (d .if3 .left)))
 
 pub stands-spec : {M : Type 1} → statement M
@@ -58,5 +61,6 @@ stands-spec =
     pair-for-requires
     returns-3
     wanted-image-requires
+    slice-aggregate-as-wanted
     as-wanted-requires
     returns-4)

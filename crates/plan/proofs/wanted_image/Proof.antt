@@ -11,9 +11,6 @@ use borrow.Author.Needs.{needs}
 use Rattle.plan.proofs.wanted_image.Statement.{statement}
 use Rattle.plan.proofs.wanted_image.Tie as tie
 
-pair-for-requires : tie.Need-pair-for-requires
-pair-for-requires c κs = search needs
-
 csc-bytes-requires : tie.Need-csc-bytes-requires
 csc-bytes-requires c κs = search needs
 
@@ -45,7 +42,7 @@ returns c =
     let i = l .before .before in
     let m = i .before .before in
     let p = m .before .before in
-    let r = p .before .args .r in
+    let r = p .args .r in
     let z : List ℕ = replicate 256 0 in
     let one : List Write = clockBytes (pairFor r) in
     let two : List Write = one ++ inputBytes r in
@@ -54,7 +51,7 @@ returns c =
     more z four (frameBytes r)
     (more z three (enableBytes r)
     (more z two (run reg.csc (cscBytes (r .matrix)))
-    (more z one (inputBytes r) (rw (p .pair-for .ensures) at (i .before .with-clock .ensures)) (i .with-inputs .ensures))
+    (more z one (inputBytes r) (rw (p .pre .1) at (i .before .with-clock .ensures)) (i .with-inputs .ensures))
     (rw (m .csc-bytes .ensures) at (l .laid .ensures)))
     (c .before .with-enables .ensures))
     (c .with-frames .ensures)
@@ -63,7 +60,6 @@ pub wanted-image-spec : {M : Type 1} → statement M
 wanted-image-spec =
     tie.close
     (tie.spec
-    pair-for-requires
     csc-bytes-requires
     with-clock-requires
     with-inputs-requires

@@ -1,0 +1,13 @@
+-- `plan::opened` meets its contract. Assumes nothing.
+use borrow.Author.Tests.{eq-eqb, ne-eqb}
+use Rattle.plan.proofs.opened.Statement.{statement}
+use Rattle.plan.proofs.opened.Tie as tie
+
+returns : tie.Need-returns
+returns c = simp (eq-eqb _ _ (c .if1 .taken))
+
+returns-2 : tie.Need-returns-2
+returns-2 c = simp (ne-eqb _ _ (c .if1 .left))
+
+pub opened-spec : {M : Type 1} → statement M
+opened-spec = tie.close (tie.spec returns returns-2)

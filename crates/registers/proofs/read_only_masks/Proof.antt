@@ -1,0 +1,12 @@
+-- `registers::read_only_masks` meets its contract: its table is a column of the class table. Assumes nothing.
+use mathlib.Core.Path.{refl}
+use Rattle.registers.specs.Classes.{column}
+use Rattle.registers.proofs.read_only_masks.Statement.{statement}
+use Rattle.registers.proofs.read_only_masks.Tie as tie
+
+returns : tie.Need-returns
+unfolding column
+returns c = refl
+
+pub read-only-masks-spec : {M : Type 1} → statement M
+read-only-masks-spec = tie.close (tie.spec returns)
