@@ -15,8 +15,7 @@ use Rattle.refusals.specs.Rows.{at}
 use Rattle.refusals.proofs.First.{Tried, test, tried}
 use Rattle.matrix.specs.Coefficient.{word, field, highByte, coefficientBytes}
 use Rattle.matrix.specs.Matrix.{fields}
-use Rattle.matrix.proofs.Pairs.{two-left, fields-small}
-use Rattle.matrix.proofs.Signs.{carried}
+use Rattle.matrix.proofs.Pairs.{two-left, fields-small, length-fields, length-bytes, fields-said}
 use Rattle.chip.specs.declared.Chip.{Chip}
 use Rattle.chip.specs.declared.converter.Count.{Count}
 use Rattle.chip.specs.Machine.{matrix, converter, part, up, holdsOf, inUse, coefficients, modeInUse}
@@ -43,23 +42,6 @@ turn bytes out i h l f b e p q =
 pub turned : (bytes out whole : List ℕ) (i : ℕ) → length bytes ≤ 2 * i → sets out (2 * i + 1) (coefficientBytes (fields (drop (2 * i) bytes))) ≡ whole → out ≡ whole
 unfolding fields
 turned bytes out whole i h e = rw (drop-of-length-le bytes h) at e
-
-length-fields : (bytes : List ℕ) (n : ℕ) → length bytes ≡ 2 * n → length (fields bytes) ≡ n
-unfolding fields
-length-fields [] n e = omega arith
-length-fields (a ∷ []) n e = absurd (omega arith)
-length-fields (a ∷ b ∷ more) zero e = absurd (omega arith)
-length-fields (a ∷ b ∷ more) (suc n) e = ap suc (length-fields more n (omega arith))
-
-length-bytes : (cs : List ℕ) → length (coefficientBytes cs) ≡ 2 * length cs
-length-bytes [] = refl
-length-bytes (c ∷ cs) = omega (arith, length-bytes cs)
-
--- the bytes of fields say those fields
-fields-said : (cs : List ℕ) → ((i : ℕ) → getD cs i 0 < 8192) → fields (coefficientBytes cs) ≡ cs
-unfolding fields
-fields-said [] h = refl
-fields-said (c ∷ cs) h = rw (carried c (h 0) .same, fields-said cs (λ i. h (suc i)))
 
 module _ (image buffer out : List ℕ) where
   -- no refusal
@@ -110,8 +92,8 @@ module _ (image buffer out : List ℕ) where
     bytes-long : length (matrixBytes image buffer) ≡ 25
     unfolding matrixBytes coefficients
     bytes-long =
-        let f = length-fields (inUse converter matrix (lentAs image [] buffer)) 12 in-use-long in
-        omega (arith, length-bytes (fields (inUse converter matrix (lentAs image [] buffer))))
+        let f = length-fields (inUse converter matrix (lentAs image [] buffer)) in
+        omega (arith, in-use-long, length-bytes (fields (inUse converter matrix (lentAs image [] buffer))))
 
     -- the mode stored first, and the coefficients of the bytes in use after it
     pub written : (bytes : List ℕ) → bytes ≡ inUse converter matrix (lentAs image [] buffer) → 25 ≤ length out
