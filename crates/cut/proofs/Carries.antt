@@ -9,7 +9,7 @@ use lib.ListN.{length, getD}
 use borrow.Author.Tests.{eqb-true, ltb-true}
 use Rattle.lists.specs.Find.{every}
 use Rattle.lists.proofs.Both.{both-left, both-right}
-use Rattle.bits.specs.Merge.{merge, bit}
+use Rattle.bits.specs.Merge.{merge, bit, under}
 use Rattle.bits.proofs.Below.{at-below}
 use Rattle.bits.proofs.Truth.{E, zeros, var, by, num, table, law-if}
 use Rattle.registers.specs.Classes.{classAt, named}
@@ -17,7 +17,7 @@ use Rattle.registers.proofs.Whole.{rule}
 use Rattle.registers.proofs.Apart.{row, rules, holds, by-rule}
 use Rattle.chip.specs.Machine.{Write, _gets_, audio, packets, up, holdsOf}
 use Rattle.plan.specs.List.{byte, decided, middle, steps, written}
-use Rattle.cut.specs.Carried.{under, Carried, requested, Entry, Entries}
+use Rattle.cut.specs.Carried.{Carried, requested, Entry, Entries}
 use Rattle.cut.proofs.Bytes.{masked}
 
 -- `var 0` to `var 4` are the address's class; `var 5` is the old byte, `var 6` the wanted one

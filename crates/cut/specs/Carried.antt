@@ -3,15 +3,11 @@ use mathlib.Core.Path.{_≡_}
 use mathlib.Core.List.{List}
 use Prim.Native.Nat.{ℕ, _+_, _<_, _≤_}
 use lib.ListN.{length, getD}
-use Rattle.bits.specs.Merge.{merge, bit}
+use Rattle.bits.specs.Merge.{merge, under, bit}
 use Rattle.map.specs.Map as reg
 use Rattle.registers.specs.Classes.{readOnly, mandated, named, free, bits}
 use Rattle.chip.specs.Machine.{Write, _gets_}
 use Rattle.plan.specs.List.{byte, steps, decided, planned, writeList}
-
--- a byte's bits under a mask
-abbrev pub under : ℕ → ℕ → ℕ
-under m x = merge 8 m x 0
 
 -- "Each written byte carries its mandated bits, the image's free and read-only bits and the wanted named bits": the value for register a,
 -- where the image has `old`; of the named bits those under `mask` are as wanted

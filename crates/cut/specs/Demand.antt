@@ -62,7 +62,7 @@ pub record Demand3 (P : Plan) (want : ℕ → ℕ) (s : Chip) : Type 0 where
   pub ended : After (done P want s)
   -- the registers after the last write, one by one
   pub registers : (a : ℕ) → a < 256 → getD (done P want s .image) a 0 ≡ finished want (s .image) a
-  -- no write is refused: "(13) two packet holds are up, or the write would leave two up"
+  -- no write is refused (13): "two packet holds are up, or the write would leave two up"
   pub taken : (k : ℕ) → k < length (P want (s .image))
       → let w : Write = getD (P want (s .image)) k (0 gets 0) in writeOf (cut P want s k) (w .address) (w .value) .refusal ≡ 0
   -- the registers as a cut leaves them can be planned on: not refused by (7) or (8)

@@ -22,7 +22,7 @@ use Rattle.plan.proofs.Ordered.{refusals}
 use Rattle.cut.specs.Demand.{Demand3, cut, done}
 use Rattle.cut.proofs.WriteList.{holds}
 use Rattle.cut.proofs.InOrder.{in-order}
-use Rattle.cut.proofs.Carries.{carried}
+use Rattle.cut.proofs.Carries.{entries}
 use Rattle.decode.specs.Ends.{bytesOf, Acceptable, Stands}
 use Rattle.decode.specs.Theorems.{Ran}
 use Rattle.decode.proofs.Ranged.{Ranged, read-ranged}
@@ -113,7 +113,7 @@ rules input buffer s = record {
   accepted = λ b. refusals input b (s .image) buffer .given .none;
   listed = λ z. listed input (s .image) buffer (answered input (s .image) buffer z);
   order = in-order (asked input) (s .image);
-  carried = carried;
+  entries = entries (asked input) (s .image);
   finished = λ z. any-cut input buffer s z .demand .registers;
   readBack = λ b z room h. read-back input (s .image) (done writeList (asked input) s .image) .answered (ran b z) room h;
 }

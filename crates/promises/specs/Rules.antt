@@ -16,7 +16,7 @@ use Rattle.decode.specs.Ends.{bytesOf, Acceptable}
 use Rattle.decode.specs.Theorems.{Answered}
 use Rattle.cut.specs.Demand.{done}
 use Rattle.cut.specs.Order.{Order}
-use Rattle.cut.specs.Carried.{Carried}
+use Rattle.cut.specs.Carried.{Entries}
 
 -- what the request wants in each register
 abbrev pub asked : List ℕ → ℕ → ℕ
@@ -34,10 +34,10 @@ pub record Listed (input image buffer : List ℕ) : Type 0 where
 pub record Demand2 (input buffer : List ℕ) (s : Chip) : Type 0 where
   -- "A request is accepted exactly when document 01's rules .. permit it."
   pub accepted : Bytes input → (planOf input (s .image) buffer .refusal ≡ 0) ↔ Permitted (planRules input (s .image) buffer)
-  -- "The writes are the ones those rules give": the list, its registers and their order, and what each byte of it carries
+  -- "The writes are the ones those rules give": the list, its registers and their order, and what each entry of it carries
   pub listed : planOf input (s .image) buffer .refusal ≡ 0 → Listed input (s .image) buffer
   pub order : Order (asked input) (s .image)
-  pub carried : (a : ℕ) → a < 256 → (old wanted : ℕ) → Carried a old wanted
+  pub entries : Entries (asked input) (s .image)
   -- "the finished image", register by register, is what the list leaves on the chip
   pub finished : planOf input (s .image) buffer .refusal ≡ 0
       → (a : ℕ) → a < 256 → getD (done writeList (asked input) s .image) a 0 ≡ finished (asked input) (s .image) a

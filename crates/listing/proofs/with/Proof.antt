@@ -1,10 +1,10 @@
--- `listing::line::with` meets its contract. Assumes nothing.
+-- `listing::with` meets its contract. Assumes nothing.
 use mathlib.Core.Path.{_≡_}
 use Prim.Native.Nat.{_+_, _-_, _≤_}
 use lib.ListN.{length}
 use borrow.Author.Needs.{needs}
-use Rattle.listing.proofs.line.with.Statement.{statement}
-use Rattle.listing.proofs.line.with.Tie as tie
+use Rattle.listing.proofs.with.Statement.{statement}
+use Rattle.listing.proofs.with.Tie as tie
 
 abbrev Inv-loop : tie.InvT-loop
 Inv-loop text bytes₀ start count i₀ bytes i = (i ≤ count) × (count ≤ length text) × (start + count ≤ 100) × (length bytes ≡ 100)
