@@ -189,27 +189,13 @@ fn without_hold(s: Chip, end: Chip, count: u8) -> Chip
     now
 }
 
-fn same(a: &[u8], b: &[u8]) -> bool {
-    if a.len() != b.len() {
-        return false;
-    }
-    let mut i: usize = 0;
-    while i < a.len() {
-        if a[i] != b[i] {
-            return false;
-        }
-        i = i + 1;
-    }
-    true
-}
-
 // Whether two chips send the same packet, 0 AVI or 1 audio.
 fn same_packet(s: Chip, t: Chip, which: u32) -> bool {
     let image = s.image;
     let packet = s.packet;
     let other = t.image;
     let held = t.packet;
-    same(
+    lists::same(
         chip::sent(&image, &packet, which),
         chip::sent(&other, &held, which),
     )

@@ -243,7 +243,7 @@ fn with_hold(line: Line, was: u8, is: u8) -> Line {
 }
 
 // In one of the 24 registers of the converter.
-fn with_converter(line: Line, i: u8, old: u8, new: u8) -> Line {
+fn with_converter_fields(line: Line, i: u8, old: u8, new: u8) -> Line {
     if i == 0 {
         let acting = with(line, b"enable, mode, ");
         return with_coefficient(acting, 0);
@@ -331,7 +331,7 @@ fn with_mute(line: Line, new: u8) -> Line {
     with(line, b"neither")
 }
 
-fn with_control(line: Line, a: u8, old: u8, new: u8) -> Line {
+fn with_control_fields(line: Line, a: u8, old: u8, new: u8) -> Line {
     if a == Map::PACKET_ENABLE0 {
         return with(line, b"GC enable");
     }
@@ -348,7 +348,7 @@ fn with_control(line: Line, a: u8, old: u8, new: u8) -> Line {
     with(line, b"HDMI/DVI")
 }
 
-fn with_input(line: Line, a: u8) -> Line {
+fn with_input_fields(line: Line, a: u8) -> Line {
     if a <= Map::N2 {
         return with(line, b"N");
     }
@@ -376,27 +376,27 @@ fn with_input(line: Line, a: u8) -> Line {
 // The named fields of a register.
 fn with_named(line: Line, a: u8, old: u8, new: u8) -> Line {
     if a < Map::CSC {
-        return with_input(line, a);
+        return with_input_fields(line, a);
     }
     if a < Map::CSC + Map::CSC_COUNT {
-        return with_converter(line, a - Map::CSC, old, new);
+        return with_converter_fields(line, a - Map::CSC, old, new);
     }
     if a <= Map::VIC_MANUAL {
-        return with_input(line, a);
+        return with_input_fields(line, a);
     }
     if a < Map::AVI_INFOFRAME_VERSION {
-        return with_control(line, a, old, new);
+        return with_control_fields(line, a, old, new);
     }
     if a < Map::AVI_INFOFRAME_VERSION + Map::AVI_INFOFRAME_COUNT {
         return with_avi(line, a - Map::AVI_INFOFRAME_VERSION);
     }
     if a < Map::AUDIO_INFOFRAME_VERSION {
-        return with_control(line, a, old, new);
+        return with_control_fields(line, a, old, new);
     }
     if a < Map::AUDIO_INFOFRAME_VERSION + Map::AUDIO_INFOFRAME_COUNT {
         return with_audio(line, a - Map::AUDIO_INFOFRAME_VERSION);
     }
-    with_control(line, a, old, new)
+    with_control_fields(line, a, old, new)
 }
 
 // The fields that a write of a list sets.
@@ -456,27 +456,13 @@ fn at_most(n: u32) -> usize
     128
 }
 
-fn same(a: &[u8], b: &[u8]) -> bool {
-    if a.len() != b.len() {
-        return false;
-    }
-    let mut i: usize = 0;
-    while i < a.len() {
-        if a[i] != b[i] {
-            return false;
-        }
-        i = i + 1;
-    }
-    true
-}
-
 // Whether two chips send the same packet, 0 AVI or 1 audio.
 fn same_packet(s: Chip, t: Chip, which: u32) -> bool {
     let image = s.image;
     let packet = s.packet;
     let other = t.image;
     let held = t.packet;
-    same(
+    lists::same(
         chip::sent(&image, &packet, which),
         chip::sent(&other, &held, which),
     )
@@ -496,7 +482,7 @@ fn same_group(s: Chip, t: Chip, group: u32) -> bool {
     if group == 2 {
         let a = matrix_of(s);
         let b = matrix_of(t);
-        return same(&a[1..], &b[1..]);
+        return lists::same(&a[1..], &b[1..]);
     }
     same_packet(s, t, group)
 }
