@@ -1,12 +1,13 @@
 -- The test whether an image stands as a list would leave it, register by register. Assumes nothing.
 use mathlib.Core.Path.{_≡_, refl, sym, ap, _∙_}
+use mathlib.Core.Logic.{_≢_}
 use mathlib.Core.Bool.{Bool, true, false, cond, _&&_}
 use mathlib.Core.List.{List}
 use Prim.Native.Nat.{ℕ, zero, suc, _+_, _<_}
 use native.Mathlib.Numerals.{add-one}
 use lib.Dec.{eqb}
 use lib.ListN.{getD, length}
-use borrow.Author.Tests.{eq-eqb}
+use borrow.Author.Tests.{eq-eqb, eqb-true}
 use native.Mathlib.Omega.{arith}
 use Rattle.lists.specs.Among.{among}
 use Rattle.lists.proofs.Among.{Stands, stands}
@@ -69,9 +70,8 @@ module _ (wanted image : List ℕ) where
       rw w (ap (merge 8 (decided a) v) e ∙ sym (decides a v (getD image a 0) (getD wanted a 0) l))
 
   -- one step more
-  pub more : (i a : ℕ) {b : ℕ} {all : Bool} → a ≡ getD stepAddresses i 0 → b ≡ finished (λ b. getD wanted b 0) image a → all ≡ passed i
-      → (eqb b (getD image a 0) && all) ≡ passed (i + 1)
-  more i a p e t = rw (add-one i, e, t, p)
+  pub more : (i a : ℕ) → a ≡ getD stepAddresses i 0 → finished (λ b. getD wanted b 0) image a ≡ getD image a 0 → passed i ≡ true → passed (i + 1) ≡ true
+  more i a p e t = rw (add-one i, ← p, eq-eqb _ _ e) t
 
   as-below : (n : ℕ) → asWanted wanted image n ≡ below stand n
   unfolding asWanted
@@ -98,6 +98,14 @@ module _ (wanted image : List ℕ) where
       both-ways (passed 84) (below stand 256) (λ t. all-below stand 256 (every t))
       (λ t. all-below (λ i. stand (getD stepAddresses i 0)) 84 (λ i h. at-below stand 256 (getD stepAddresses i 0) t (address-small i refl h)))
       ∙ sym (as-below 256)
+
+  -- one step whose register does not stand
+  pub fails : (i a : ℕ) → i < 84 → a ≡ getD stepAddresses i 0 → finished (λ b. getD wanted b 0) image a ≢ getD image a 0 → asWanted wanted image 256 ≡ false
+  fails i a h p d = sym whole ∙ go (passed 84) refl
+    where
+      go : (b : Bool) → passed 84 ≡ b → b ≡ false
+      go true t = absurd (d (rw p (eqb-true _ _ (at-below (λ i. stand (getD stepAddresses i 0)) 84 i t h))))
+      go false t = refl
 
 -- of the bytes that a request wants
 pub same : (r : Request) (image : List ℕ) (n : ℕ) → asWanted (wantedImage r) image n ≡ standsBelow r image n

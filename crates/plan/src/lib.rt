@@ -459,15 +459,17 @@ fn as_wanted(image: &[u8], wanted: &[u8]) -> bool
     let bytes = carried(image, wanted);
     let addresses = step_addresses();
     let decided = decided_masks();
-    let mut all = true;
     let mut k: usize = 0;
     while k < 84 {
         let a = addresses[k];
         let at = a as usize;
-        all = (finished_byte(a, decided[at], bytes[at]) == image[at]) & all;
+        let old = image[at];
+        if finished_byte(a, decided[at], bytes[at]) != old {
+            return false;
+        }
         k = k + 1;
     }
-    all
+    true
 }
 
 // Whether an input is accepted on some image, and its list would leave this image as it is.
