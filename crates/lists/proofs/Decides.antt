@@ -44,6 +44,14 @@ together {a} {b} {P} {Q} d e = go a d
     go true d = record { passes = λ t. (d .passes refl, e .passes t); fails = λ f h. e .fails f (h .1) }
     go false d = record { passes = λ t. absurd (false≢true t); fails = λ f h. d .fails refl (h .0) }
 
+-- of two tests one fails
+pub one-fails : (s t : Bool) {P Q : Type 0} → Decides (not s) P → Decides (not t) Q → Decides (not (s && t)) (P ⊎ Q)
+one-fails s t {P} {Q} d e = go s d
+  where
+    go : (s : Bool) → Decides (not s) P → Decides (not (s && t)) (P ⊎ Q)
+    go true d = record { passes = λ x. inr (e .passes x); fails = λ x. ⊎-elim (d .fails refl) (e .fails x) }
+    go false d = record { passes = λ x. inl (d .passes refl); fails = λ x. absurd (false≢true (sym x)) }
+
 -- the same test for a statement that says the same
 pub restated : {b : Bool} {P Q : Type 0} → (P → Q) → (Q → P) → Decides b P → Decides b Q
 restated to from d = record { passes = λ t. to (d .passes t); fails = λ f q. d .fails f (from q) }

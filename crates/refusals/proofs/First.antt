@@ -25,7 +25,7 @@ pub test : {X : Type 0} (f : X → ℕ) (c : Condition) (cs : List Condition) (b
 test f c cs true x y e d more = inl (d .passes refl, e)
 test f c cs false x y e d more = inr (d .fails refl, more refl)
 
-number-some : (r : Row) → number r ≢ 0
+pub number-some : (r : Row) → number r ≢ 0
 number-some inputEnds = omega arith
 number-some countNotAllowed = omega arith
 number-some bytesAfter = omega arith

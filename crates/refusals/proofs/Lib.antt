@@ -1,2 +1,3 @@
 pub mod First
 pub mod Again
+pub mod Tests

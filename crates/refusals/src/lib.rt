@@ -1,8 +1,7 @@
 // Document 01, "Refusal numbers". 0 is no refusal.
 ghost use mathlib.Core.Path.{_≡_};
-ghost use Rattle.refusals.specs.Rows.{number};
-ghost use Rattle.refusals.specs.Rows.{inputEnds, countNotAllowed, bytesAfter, modeNotOffered, fieldOutOfRange, combination};
-ghost use Rattle.refusals.specs.Rows.{imageLength, holdsUp, noExactPair, bufferShort, noRequest, inputAbove, twoHolds};
+ghost use mathlib.Core.List.{_∷_, map};
+ghost use Rattle.refusals.specs.Rows.{number, order};
 
 pub struct Refusal {
     pub number: u8,
@@ -38,20 +37,24 @@ impl Refusal {
     pub const TWO_HOLDS: u8 = 13;
 }
 
-// The constants are the numbers of the rows, and 0 for none.
-pub fn numbers()
-    ensures { λ _. do ⌜ (← ⟦Refusal::NONE⟧ .entry) ≡ 0 ⌝ }
-    ensures { λ _. do ⌜ (← ⟦Refusal::INPUT_ENDS⟧ .entry) ≡ number inputEnds ⌝ }
-    ensures { λ _. do ⌜ (← ⟦Refusal::COUNT_NOT_ALLOWED⟧ .entry) ≡ number countNotAllowed ⌝ }
-    ensures { λ _. do ⌜ (← ⟦Refusal::BYTES_AFTER⟧ .entry) ≡ number bytesAfter ⌝ }
-    ensures { λ _. do ⌜ (← ⟦Refusal::MODE_NOT_OFFERED⟧ .entry) ≡ number modeNotOffered ⌝ }
-    ensures { λ _. do ⌜ (← ⟦Refusal::FIELD_OUT_OF_RANGE⟧ .entry) ≡ number fieldOutOfRange ⌝ }
-    ensures { λ _. do ⌜ (← ⟦Refusal::COMBINATION⟧ .entry) ≡ number combination ⌝ }
-    ensures { λ _. do ⌜ (← ⟦Refusal::IMAGE_LENGTH⟧ .entry) ≡ number imageLength ⌝ }
-    ensures { λ _. do ⌜ (← ⟦Refusal::HOLDS_UP⟧ .entry) ≡ number holdsUp ⌝ }
-    ensures { λ _. do ⌜ (← ⟦Refusal::NO_EXACT_PAIR⟧ .entry) ≡ number noExactPair ⌝ }
-    ensures { λ _. do ⌜ (← ⟦Refusal::BUFFER_SHORT⟧ .entry) ≡ number bufferShort ⌝ }
-    ensures { λ _. do ⌜ (← ⟦Refusal::NO_REQUEST⟧ .entry) ≡ number noRequest ⌝ }
-    ensures { λ _. do ⌜ (← ⟦Refusal::INPUT_ABOVE⟧ .entry) ≡ number inputAbove ⌝ }
-    ensures { λ _. do ⌜ (← ⟦Refusal::TWO_HOLDS⟧ .entry) ≡ number twoHolds ⌝ }
-{}
+// The constants are 0 for none, and then the numbers of the rows in the list's order.
+pub fn numbers() -> [u8; 14]
+    ensures { λ r. ⌜ r ≡ 0 ∷ map number order ⌝ }
+{
+    [
+        Refusal::NONE,
+        Refusal::INPUT_ENDS,
+        Refusal::COUNT_NOT_ALLOWED,
+        Refusal::BYTES_AFTER,
+        Refusal::MODE_NOT_OFFERED,
+        Refusal::FIELD_OUT_OF_RANGE,
+        Refusal::COMBINATION,
+        Refusal::IMAGE_LENGTH,
+        Refusal::HOLDS_UP,
+        Refusal::NO_EXACT_PAIR,
+        Refusal::BUFFER_SHORT,
+        Refusal::NO_REQUEST,
+        Refusal::INPUT_ABOVE,
+        Refusal::TWO_HOLDS,
+    ]
+}
