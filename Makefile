@@ -1,12 +1,17 @@
 # The C programs beside the library. tools/setup finds the compiler and, on Arm, the emulator, and installs what is missing.
+#   make programs  accident, listing and vectors, over the exported library: then tools/listing 04 10 00 00 01 03 02 02 01 00
 #   make host      the example host: then host/run --cut 40 --brief
 #   make bench     planning and decoding, the library against plain C
 #   make tests     tests/run
-LIB     = target/staticlib/libstation.a
-FLAGS   = -std=c99 -D_GNU_SOURCE -Wall -Wextra -O2 -Iinclude
-HEADERS = include/station.h $(wildcard tests/*.h tests/*/*.h bench/*.h)
+LIB      = target/staticlib/libstation.a
+FLAGS    = -std=c99 -D_GNU_SOURCE -Wall -Wextra -O2 -Iinclude
+HEADERS  = include/station.h $(wildcard programs/*.h tests/*.h tests/*/*.h bench/*.h)
+PROGRAMS = $(addprefix target/c/,accident listing vectors)
+BINARIES = $(PROGRAMS) $(addprefix target/c/,host bench tests)
 
-.PHONY: host bench tests
+.PHONY: all programs host bench tests
+all: $(BINARIES)
+programs: $(PROGRAMS)
 host: target/c/host
 	@echo "target/c/host is built; run it by host/run [--cut K] [--brief] [BYTE...]"
 bench: target/c/bench
@@ -14,10 +19,13 @@ bench: target/c/bench
 tests:
 	@tests/run
 
-target/c/host: host/host.c
+target/c/accident: programs/accident.c programs/chip.c
+target/c/listing: programs/listing.c programs/chip.c programs/words.c
+target/c/vectors: programs/vectors.c
+target/c/host: host/host.c programs/chip.c
 target/c/bench: bench/bench.c bench/plain.c
 target/c/tests: $(wildcard tests/*.c tests/model/*.c tests/wrong/*.c) bench/plain.c
-target/c/host target/c/bench target/c/tests: $(HEADERS) $(LIB) Makefile
+$(BINARIES): $(HEADERS) $(LIB) Makefile
 	@mkdir -p target/c
 	@setup=$$(tools/setup) && eval "$$setup" && $$CC $(FLAGS) $(filter %.c,$^) $(LIB) -o $@
 

@@ -7,57 +7,21 @@
 #include <stdio.h>
 #include <stdlib.h>
 #include <string.h>
-#include "station.h"
-
-/* What the chip holds. A host's own memory is lost with the host; this is not. */
-struct chip { uint8_t image[256], packet[32], coefficients[24]; };
-
-/* What the chip sends: the two packets and the twelve coefficients in use, and the mute. */
-struct sent { uint8_t avi[16], audio[13], matrix[24]; uint32_t mute; };
-
-static struct sent look(const struct chip *c) {
-    struct sent s;
-    uint8_t matrix[25];
-    memset(&s, 0, sizeof s);
-    struct station_part avi = station_sent(c->image, 256, c->packet, 32, 0), audio = station_sent(c->image, 256, c->packet, 32, 1);
-    memcpy(s.avi, (avi.held ? c->packet : c->image) + avi.start, avi.len);
-    memcpy(s.audio, (audio.held ? c->packet : c->image) + audio.start, audio.len);
-    station_matrix(c->image, 256, c->coefficients, 24, matrix, sizeof matrix);
-    memcpy(s.matrix, matrix + 1, 24);
-    s.mute = station_mute(c->image, 256, c->packet, 32).mute;
-    return s;
-}
+#include "../programs/chip.h"
 
 static void write_chip(struct chip *c, const uint8_t *pair) {
-    uint32_t refusal = station_write(c->image, 256, c->packet, 32, c->coefficients, 24, pair[0], pair[1]);
+    uint32_t refusal = chip_write(c, pair);
     if (refusal) {
         printf("the chip refused %02x = %02x: %u\n", pair[0], pair[1], (unsigned)refusal);
         exit((int)refusal);
     }
 }
 
-static const char *const words[14] = {
-    "",
-    "input ends before a count or inside a section",
-    "a count the section does not allow",
-    "bytes after the matrix section",
-    "VIC not listed, or family not offered by it",
-    "a field outside its range",
-    "encoding not 0 without a matrix, or DVI with audio or with encoding not 0",
-    "a buffer of another length than the chip's",
-    "GC hold up, or AVI and audio holds both up",
-    "coherent audio, and no exact pair exists",
-    "a buffer that is too short",
-    "no request ends in this image",
-    "an input above 4095",
-    "two packet holds up",
-};
-
 /* The list, or the end of the program. */
 static uint32_t plan(const uint8_t *request, size_t length, const struct chip *c, uint8_t *list) {
-    struct station_count n = station_plan(request, length, c->image, 256, list, 256);
+    struct station_count n = station_plan(request, length, c->image, IMAGE, list, WRITES);
     if (n.refusal) {
-        printf("refused %u: %s\n", (unsigned)n.refusal, n.refusal < 14 ? words[n.refusal] : "");
+        printf("refused %u: %s\n", (unsigned)n.refusal, refusal_text(n.refusal));
         exit((int)n.refusal);
     }
     return n.count;
@@ -77,10 +41,7 @@ static const char *name(uint8_t a) {
     return "fixed (Table 14)";
 }
 
-static const char *age(const uint8_t *now, const uint8_t *old, const uint8_t *new, size_t n) {
-    int is_old = !memcmp(now, old, n), is_new = !memcmp(now, new, n);
-    return is_old && is_new ? "same" : is_old ? "old" : is_new ? "new" : "MIXED";
-}
+static const char *const ages[] = { [NEITHER] = "MIXED", [OLD] = "old", [NEW] = "new", [BOTH] = "same" };
 
 /* One line: what was written, and how the picture stands after it. */
 static void show(uint32_t number, const uint8_t *pair, uint8_t before, const struct chip *c, const struct sent *old,
@@ -88,9 +49,9 @@ static void show(uint32_t number, const uint8_t *pair, uint8_t before, const str
     static const char *const mutes[4] = { "neither", "muted", "open", "both" };
     static char last[64];
     char state[64], write[40] = "";
-    struct sent s = look(c);
-    snprintf(state, sizeof state, "%-8s %-6s %-6s %s", mutes[s.mute & 3], age(s.avi, old->avi, new->avi, 16),
-             age(s.audio, old->audio, new->audio, 13), age(s.matrix, old->matrix, new->matrix, 24));
+    struct sent s = chip_sent(c);
+    snprintf(state, sizeof state, "%-8s %-6s %-6s %s", mutes[s.mute & 3], ages[age(AVI, &s, old, new)], ages[age(AUDIO, &s, old, new)],
+             ages[age(MATRIX, &s, old, new)]);
     if (brief && pair && !strcmp(state, last)) return;
     strcpy(last, state);
     if (pair) snprintf(write, sizeof write, "%02x: %02x -> %02x", pair[0], before, pair[1]);
@@ -123,7 +84,7 @@ int main(int count, char **arguments) {
     static const uint8_t first[] = { 4, 4, 0, 0, 1, 3, 2, 2, 1, 0 };            /* what the chip shows before: 720p, stereo at 48 kHz */
     static const uint8_t usual[] = { 4, 16, 0, 1, 1, 3, 2, 8, 1, 25, 1, 0x0C, 0x53, 0x08, 0x00, 0x00, 0x00, 0xF9, 0xD6, 0xFC, 0x56, 0x08,
                                      0x00, 0xFE, 0x88, 0x02, 0x91, 0xFF, 0xFF, 0x08, 0x00, 0x0E, 0x85, 0xF8, 0xBE };
-    uint8_t request[64], list[256], back[35];
+    uint8_t request[64], list[WRITES], back[LONGEST];
     size_t length = 0;
     long cut = -1;
     int brief = 0;
@@ -144,7 +105,7 @@ int main(int count, char **arguments) {
     writes = plan(request, length, &c, list);
     struct chip copy = c;
     for (uint32_t w = 0; w < writes; w++) write_chip(&copy, list + 2 * w);
-    struct sent old = look(&c), new = look(&copy);
+    struct sent old = chip_sent(&c), new = chip_sent(&copy);
 
     printf("planned: %u writes\n", (unsigned)writes);
     if (cut >= 0 && (uint32_t)cut < writes) {
@@ -156,12 +117,12 @@ int main(int count, char **arguments) {
     }
     send(&c, list, writes, &old, &new, brief);
 
-    struct sent end = look(&c);
-    struct station_count d = station_decode(c.image, 256, back, sizeof back);
+    struct sent end = chip_sent(&c);
+    struct station_count d = station_decode(c.image, IMAGE, back, sizeof back);
     if (d.refusal) printf("the finished image decodes to no request: %u\n", (unsigned)d.refusal);
     else show_request("reads back:", back, d.count);
     request[2] = 0;                                                             /* no register names the family */
-    int good = !memcmp(&end, &new, sizeof end) && !memcmp(c.image, copy.image, 256) && d.count == length && !memcmp(back, request, length);
+    int good = !memcmp(&end, &new, sizeof end) && !memcmp(c.image, copy.image, IMAGE) && d.count == length && !memcmp(back, request, length);
     printf("%s\n", good ? "finished: as without a cut, and the request reads back" : "FAILED: not the end of a run without a cut");
     return good ? 0 : 64;
 }

@@ -1,0 +1,147 @@
+/* Runs the tables of the programming guide (guide.h) through the library, and compares: each number agrees, or differs by a misprint that
+ * is named, or is unexplained. It takes no argument; the status is 1 where anything is unexplained. What it prints is compared with
+ * vectors.out. */
+#include "guide.h"
+#include "station.h"
+#include <stdio.h>
+
+#define COUNT(array) (sizeof(array) / sizeof(array)[0])
+
+enum verdict { AGREES, NAMED, UNEXPLAINED, VERDICTS };
+struct tally { unsigned of[VERDICTS]; };
+
+static void show(const struct tally *t) {
+    printf("%u agree, %u named, %u unexplained\n", t->of[AGREES], t->of[NAMED], t->of[UNEXPLAINED]);
+}
+
+/* ---- Tables 80 to 82 against N and CTS of the library. */
+
+/* The misprint of this row and rate that has what the library answers, or NULL. */
+static const struct misprint *named(size_t row, size_t rate, struct station_pair p) {
+    for (const struct misprint *m = misprints; m < misprints + COUNT(misprints); m++)
+        if (m->row == row && m->rate == rate && m->refusal == p.refusal && m->n == p.n && m->cts == p.cts) return m;
+    return NULL;
+}
+
+static enum verdict verdict_of(const struct row *r, size_t rate, struct station_pair p, const struct misprint *m) {
+    if (p.refusal == 0 && p.n == r->pairs[rate].n && p.cts == r->pairs[rate].cts) return AGREES;
+    return m ? NAMED : UNEXPLAINED;
+}
+
+/* A mode that has a row's clock, at the seven rates: the tally, then a line for each rate at which print and answer differ. */
+static void run_mode(const struct row *r, uint8_t vic, uint8_t family, struct tally *all) {
+    struct tally t = { { 0 } };
+    struct station_pair answers[RATES];
+    const struct misprint *is[RATES];
+    for (size_t k = 0; k < RATES; k++) {
+        const uint8_t request[] = { 4, vic, family, 0, 1, 3, (uint8_t)k, 2, r->coherent, 0 };
+        answers[k] = station_ncts(request, sizeof request);
+        is[k] = named((size_t)(r - rows), k, answers[k]);
+        t.of[verdict_of(r, k, answers[k], is[k])]++;
+    }
+    printf("%s, VIC %u, family %u: ", r->clock, vic, family);
+    show(&t);
+    for (int v = 0; v < VERDICTS; v++) all->of[v] += t.of[v];
+    for (size_t k = 0; k < RATES; k++) {
+        enum verdict v = verdict_of(r, k, answers[k], is[k]);
+        if (v == AGREES) continue;
+        printf("  %s kHz: printed %u %u%s, answered ", rates[k], (unsigned)r->pairs[k].n, (unsigned)r->pairs[k].cts,
+               is[k] ? is[k]->also : "");
+        if (answers[k].refusal) printf("refusal %u", (unsigned)answers[k].refusal);
+        else printf("%u %u", (unsigned)answers[k].n, (unsigned)answers[k].cts);
+        if (v == NAMED) printf(": named%s %s\n", answers[k].refusal ? "," : "", is[k]->why);
+        else printf(": UNEXPLAINED\n");
+    }
+}
+
+static struct tally run_rows(void) {
+    struct tally all = { { 0 } };
+    printf("Tables 80 to 82: N and CTS as printed, and as the library answers\n");
+    for (const struct row *r = rows; r < rows + COUNT(rows); r++) {
+        if (r->modes[0].vic == 0) printf("%s: not run, the clock of no listed mode\n", r->clock);
+        for (size_t m = 0; m < COUNT(r->modes); m++)
+            if (r->modes[m].vic) run_mode(r, r->modes[m].vic, r->modes[m].family, &all);
+    }
+    printf("N and CTS: ");
+    show(&all);
+    return all;
+}
+
+/* ---- Tables 39 to 64 against the preview of the library. */
+
+/* A table agrees where each code is within one step of an 8-bit code of the expected one. A refusal is farther off than any. */
+enum { STEP = 16, FARTHEST = 4096 };
+
+/* A register pair of a table: as printed, or, `again`, as corrected. */
+static uint16_t pair_of(const struct table *t, size_t i, int again) {
+    for (const struct correction *k = corrections; again && k < corrections + COUNT(corrections); k++)
+        if (k->table == t->number && k->pair == i) return k->value;
+    return t->pairs[i];
+}
+
+/* The matrix body of a request for a table: the mode beside A1, then the low 13 bits of each pair, as 16 bits in two's complement. */
+static void body_of(const struct table *t, int again, uint8_t *body) {
+    body[0] = pair_of(t, 0, again) >> 13 & 3;
+    for (size_t i = 0; i < COEFFICIENTS_OF_A_TABLE; i++) {
+        uint16_t pair = pair_of(t, i, again);
+        uint8_t high = pair >> 8 & 0x1F;
+        body[1 + 2 * i] = high & 0x10 ? high | 0xE0 : high;
+        body[2 + 2 * i] = (uint8_t)pair;
+    }
+}
+
+static uint32_t apart(uint32_t x, uint32_t y) { return x < y ? y - x : x - y; }
+static uint32_t larger(uint32_t x, uint32_t y) { return x < y ? y : x; }
+
+/* Black, white and grey through a table's matrix, a line each: the farthest that a code is off. */
+static uint32_t run(const struct table *t, int again) {
+    uint8_t body[1 + 2 * COEFFICIENTS_OF_A_TABLE];
+    uint32_t farthest = 0;
+    body_of(t, again, body);
+    for (int l = 0; l < LEVELS; l++) {
+        const uint32_t *in = spaces[t->from].code[l], *want = spaces[t->to].code[l];
+        struct station_pixel p = station_preview(body, sizeof body, in[0], in[1], in[2]);
+        uint32_t off = larger(apart(p.a, want[0]), larger(apart(p.b, want[1]), apart(p.c, want[2])));
+        printf("  %-5s %u %u %u gives ", levels[l], (unsigned)in[0], (unsigned)in[1], (unsigned)in[2]);
+        if (p.refusal) printf("refusal %u", (unsigned)p.refusal);
+        else printf("%u %u %u", (unsigned)p.a, (unsigned)p.b, (unsigned)p.c);
+        printf(", expected %u %u %u", (unsigned)want[0], (unsigned)want[1], (unsigned)want[2]);
+        if (!p.refusal) printf(", off by %u", (unsigned)off);
+        printf("\n");
+        farthest = larger(farthest, p.refusal ? FARTHEST : off);
+    }
+    return farthest;
+}
+
+/* As printed; where that does not agree, again with the table's named misprints corrected. */
+static enum verdict run_table(const struct table *t) {
+    printf("Table %u: %s to %s\n", t->number, spaces[t->from].name, spaces[t->to].name);
+    if (run(t, 0) <= STEP) return AGREES;
+    printf("  differs; again with");
+    for (const struct correction *k = corrections; k < corrections + COUNT(corrections); k++)
+        if (k->table == t->number) printf(" %c%u = %04x", "ABC"[k->pair / 4], k->pair % 4 + 1u, k->value);
+    printf(":\n");
+    if (run(t, 1) <= STEP) return NAMED;
+    printf("  UNEXPLAINED\n");
+    return UNEXPLAINED;
+}
+
+static struct tally run_tables(void) {
+    struct tally all = { { 0 } };
+    printf("Tables 39 to 64: black, white and grey in 12-bit codes (A B C) through each matrix as printed.\n"
+           "Limited range is 16 to 235 times 16. Full range is 0 to 255 times 16: Tables 48 and 50 to 54\n"
+           "scale to that, and 40, 42, 44, 46, 57, 59, 61 and 63 to 0 to 4095. A table agrees where each\n"
+           "code is within 16, one step of an 8-bit code, of the expected one.\n"
+           "Named: 40, 42, 57 and 59 print mode 3, which is refused, and are run again with mode 2;\n"
+           "48 (B4, C4) and 50 (A4, C4) print wrong offsets, and are run again with ones that fit.\n"
+           "Table 55 is not run: its first row has lost cells in our copy. Table 64 is the identity too.\n");
+    for (const struct table *t = tables; t < tables + COUNT(tables); t++) all.of[run_table(t)]++;
+    printf("Matrices: ");
+    show(&all);
+    return all;
+}
+
+int main(void) {
+    struct tally pairs = run_rows(), matrices = run_tables();
+    return pairs.of[UNEXPLAINED] || matrices.of[UNEXPLAINED];
+}
