@@ -16,7 +16,9 @@ use Rattle.map.specs.Map as reg
 use Rattle.registers.specs.Classes.{classAt, readOnly, named, free, bits}
 use Rattle.chip.specs.declared.Chip.{Chip}
 use Rattle.chip.specs.Machine.{Write, _gets_, Bank, Group, packets, converter, put, stored}
-use Rattle.plan.specs.List.{decided, byte, written}
+use Rattle.writes.specs.Steps.{Step, _raising_}
+use Rattle.writes.proofs.Carries.{masked}
+use Rattle.writes.specs.List.{decided, byte, written}
 use Rattle.cut.proofs.Latch.{nexts, walk, nexts-map, walk-map, acts}
 use Rattle.cut.proofs.Bank.{store, next, quiet, view}
 
@@ -98,24 +100,24 @@ mute-byte old x wanted =
     omega arith
 
 -- a step with no more than its hold bits
-abbrev pub clean : Write → Write
-clean i = i .address gets (32 * bit 5 (i .value) + 64 * bit 6 (i .value))
+abbrev pub clean : Step → Write
+clean i = i .register gets (32 * bit 5 (i .raised) + 64 * bit 6 (i .raised))
 
-pub place : (want : ℕ → ℕ) (image : List ℕ) (i : Write) → written want image i .address ≡ i .address
+pub place : (want : ℕ → ℕ) (image : List ℕ) (i : Step) → written want image i .address ≡ i .register
 unfolding written
 place want image i = refl
 
 -- of a list's write a walk sees what it sees of the step
 unfoldable pub Seen : (ℕ → ℕ) → List ℕ → Bank → Type 0
-Seen want image B = (n : ℕ) (i : Write) → next B n (written want image i) ≡ next B n (clean i)
+Seen want image B = (n : ℕ) (i : Step) → next B n (written want image i) ≡ next B n (clean i)
 
 seen : (want : ℕ → ℕ) (image : List ℕ) (B : Bank)
-    → ((x : ℕ) → B .holds (written want image (B .register gets x) .value) ≡ B .holds (clean (B .register gets x) .value)) → Seen want image B
+    → ((x : ℕ) → B .holds (written want image (B .register raising x) .value) ≡ B .holds (clean (B .register raising x) .value)) → Seen want image B
 unfolding Seen written
-seen want image B h n i = go (eqb (i .address) (B .register)) refl
+seen want image B h n i = go (eqb (i .register) (B .register)) refl
   where
-    go : (r : Bool) → eqb (i .address) (B .register) ≡ r → cond r (B .holds (written want image i .value)) n ≡ cond r (B .holds (clean i .value)) n
-    go true p = subst⁻¹ (λ (a : ℕ). B .holds (written want image (a gets i .value) .value) ≡ B .holds (clean i .value)) (eqb-true _ _ p) (h (i .value))
+    go : (r : Bool) → eqb (i .register) (B .register) ≡ r → cond r (B .holds (written want image i .value)) n ≡ cond r (B .holds (clean i .value)) n
+    go true p = subst⁻¹ (λ (a : ℕ). B .holds (written want image (a raising i .raised) .value) ≡ B .holds (clean i .value)) (eqb-true _ _ p) (h (i .raised))
     go false p = refl
 
 pub packets-seen : (want : ℕ → ℕ) (image : List ℕ) → bit 4 (getD image reg.infoframeUpdate 0) ≡ 0 → Seen want image packets
@@ -127,13 +129,13 @@ unfolding written decided
 converter-seen want image = seen want image converter (λ x. converter-byte _ x _)
 
 module _ (want : ℕ → ℕ) (image : List ℕ) (B : Bank) (g : Group) (see : Seen want image B) where
-  pub walk-seen : (may : Bool) (n : ℕ) (is : List Write) → walk (view B g) may n (map (written want image) is) ≡ walk (view B g) may n (map clean is)
+  pub walk-seen : (may : Bool) (n : ℕ) (is : List Step) → walk (view B g) may n (map (written want image) is) ≡ walk (view B g) may n (map clean is)
   unfolding Seen written
-  walk-seen = walk-map (view B g) (written want image) clean see (λ n i. ap (λ (m : ℕ). quiet g n m (i .address)) (see n i))
+  walk-seen = walk-map (view B g) (written want image) clean see (λ n i. ap (λ (m : ℕ). quiet g n m (i .register)) (see n i))
 
-  pub nexts-seen : (n : ℕ) (is : List Write) → nexts (view B g) n (map (written want image) is) ≡ nexts (view B g) n (map clean is)
+  pub nexts-seen : (n : ℕ) (is : List Step) → nexts (view B g) n (map (written want image) is) ≡ nexts (view B g) n (map clean is)
   unfolding Seen written
-  nexts-seen = nexts-map (view B g) (written want image) clean see (λ n i. ap (λ (m : ℕ). quiet g n m (i .address)) (see n i))
+  nexts-seen = nexts-map (view B g) (written want image) clean see (λ n i. ap (λ (m : ℕ). quiet g n m (i .register)) (see n i))
 
 -- ---- two images with the same read-only and free bits everywhere
 
@@ -148,10 +150,7 @@ pub agree-trans : (x y z : List ℕ) → Agree x y → Agree y z → Agree x z
 unfolding Agree
 agree-trans x y z p q a = record { reads = p a .reads ∙ q a .reads; frees = p a .frees ∙ q a .frees }
 
--- a bit under a mask, and so each read-only and each free bit of the two
-pub masked : (m j x : ℕ) → j < 8 → bit j m ≡ 1 → bit j (merge 8 m x 0) ≡ bit j x
-masked m j x h t = merge-bit 8 j m x 0 h ∙ rw t
-
+-- so each read-only and each free bit of the two
 pub agree-bit : (x y : List ℕ) → Agree x y → (a j : ℕ) → j < 8 → (bit j (free a) ≡ 1) ⊎ (bit j (readOnly a) ≡ 1)
     → bit j (getD x a 0) ≡ bit j (getD y a 0)
 unfolding Agree
@@ -160,23 +159,23 @@ agree-bit x y k a j h = ⊎-elim (λ t. same (free a) t (k a .frees)) (λ t. sam
     same : (m : ℕ) → bit j m ≡ 1 → merge 8 m (getD x a 0) 0 ≡ merge 8 m (getD y a 0) 0 → bit j (getD x a 0) ≡ bit j (getD y a 0)
     same m t e = sym (masked m j (getD x a 0) h t) ∙ ap (λ (n : ℕ). bit j n) e ∙ masked m j (getD y a 0) h t
 
-pub written-agree : (want : ℕ → ℕ) (image image₀ : List ℕ) (i : Write) → Agree image image₀ → written want image i ≡ written want image₀ i
+pub written-agree : (want : ℕ → ℕ) (image image₀ : List ℕ) (i : Step) → Agree image image₀ → written want image i ≡ written want image₀ i
 unfolding written Agree
-written-agree want image image₀ i k = ap (λ (v : ℕ). i .address gets v) (byte-kept (i .address) _ (k (i .address)))
+written-agree want image image₀ i k = ap (λ (v : ℕ). i .register gets v) (byte-kept (i .register) _ (k (i .register)))
 
 module _ (want : ℕ → ℕ) (image₀ : List ℕ) where
   -- the machine stores a list's bytes as they are
-  pub written-stored : (i : Write) (s : Chip) → Agree (s .image) image₀
+  pub written-stored : (i : Step) (s : Chip) → Agree (s .image) image₀
       → stored (written want image₀ i .address) (written want image₀ i .value) (s .image) ≡ written want image₀ i .value
   unfolding stored written Agree
-  written-stored i s k = byte-stored (i .address) _ (k (i .address))
+  written-stored i s k = byte-stored (i .register) _ (k (i .register))
 
-  pub agree-store : (i : Write) (s : Chip) → Agree (s .image) image₀ → Agree (store (written want image₀ i) s .image) image₀
+  pub agree-store : (i : Step) (s : Chip) → Agree (s .image) image₀ → Agree (store (written want image₀ i) s .image) image₀
   unfolding Agree written put
   agree-store i s k a =
-      at-set (λ (x : ℕ). Kept a x (getD image₀ a 0)) (s .image) (i .address) a (written want image₀ i .value)
-      (λ e. subst (λ (b : ℕ). Kept b (written want image₀ i .value) (getD image₀ b 0)) (sym e) (kept-byte (i .address) (getD image₀ (i .address) 0) _)) (k a)
+      at-set (λ (x : ℕ). Kept a x (getD image₀ a 0)) (s .image) (i .register) a (written want image₀ i .value)
+      (λ e. subst (λ (b : ℕ). Kept b (written want image₀ i .value) (getD image₀ b 0)) (sym e) (kept-byte (i .register) (getD image₀ (i .register) 0) _)) (k a)
 
-  pub agree-acts : (is : List Write) (s : Chip) → Agree (s .image) image₀ → Agree (acts store (map (written want image₀) is) s .image) image₀
+  pub agree-acts : (is : List Step) (s : Chip) → Agree (s .image) image₀ → Agree (acts store (map (written want image₀) is) s .image) image₀
   agree-acts [] s k = k
   agree-acts (i ∷ is) s k = agree-acts is (store (written want image₀ i) s) (agree-store i s k)

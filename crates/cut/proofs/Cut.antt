@@ -18,14 +18,16 @@ use Rattle.registers.specs.Classes.{classAt, readOnly, free}
 use Rattle.matrix.specs.Matrix.{fields}
 use Rattle.chip.specs.declared.Chip.{Chip}
 use Rattle.chip.specs.Machine.{Write, _gets_, Group, Bank, avi, audio, gc, matrix, packets, converter, up, part, holdsOf, inUse, writeOf, mute, coefficients}
-use Rattle.plan.specs.List.{decided, steps, written, listed, isWritten, finished, ready}
+use Rattle.writes.specs.Steps.{Step, _raising_, steps}
+use Rattle.writes.specs.List.{decided, written, listWith, isWritten, leftUp, finished, ready}
 use Rattle.cut.specs.Demand.{Plan, cut, done, Either, Stays, After, Demand3}
 use Rattle.cut.proofs.Latch.{nexts, walk, acts, status-acts, calm, once}
 use Rattle.cut.proofs.Bank.{store, view, Sized, Shown, image-store, size-store, down-part, avi-shown, audio-shown, gc-shown, matrix-shown}
 use Rattle.cut.proofs.Bytes.{clean, place, three-bits, mute-byte, Seen, packets-seen, converter-seen, walk-seen, nexts-seen}
 use Rattle.cut.proofs.Bytes.{Agree, agree-self, agree-trans, agree-bit, written-agree, agree-acts}
 use Rattle.cut.proofs.Taken.{neat, tidy, neat-at, tidy-seen, Fit, after-acts, taken-at}
-use Rattle.cut.proofs.Last.{last, read, stored-last, last-none}
+use Rattle.writes.proofs.Last.{last, read, last-none}
+use Rattle.cut.proofs.Last.{stored-last}
 
 -- an image on which planning is not refused by 7 or 8
 pub record Ready (image : List ℕ) : Type 0 where
@@ -48,7 +50,7 @@ neat-elim P p0 p2 p4 q t =
     go n false false false e f g t = absurd (false≢true t)
 
 -- what a list between mute and open must do: pass the walks, and leave each register as the finished image has it
-pub record Walked (n m : ℕ) (ms : List Write) : Type 0 where
+pub record Walked (n m : ℕ) (ms : List Step) : Type 0 where
   pub avi-once : walk (view packets avi) true n (map clean (steps ms)) ≡ true
   pub audio-once : walk (view packets audio) true n (map clean (steps ms)) ≡ true
   pub matrix-once : walk (view converter matrix) true m (map clean (steps ms)) ≡ true
@@ -58,12 +60,12 @@ pub record Walked (n m : ℕ) (ms : List Write) : Type 0 where
   pub closes : nexts tidy n (map clean ms) ≡ 0
   pub matrix-ends : nexts (view converter matrix) m (map clean (steps ms)) ≡ 0
 
-pub record Good (want : ℕ → ℕ) (image : List ℕ) (ms : List Write) : Type 0 where
+pub record Good (want : ℕ → ℕ) (image : List ℕ) (ms : List Step) : Type 0 where
   pub walked : Walked (holdsOf packets image) (holdsOf converter image) ms
   pub finishes : (a : ℕ) → a < 256 → read (written want image) a (last a (steps ms) 0) (getD image a 0) ≡ finished want image a
   pub rests : (a : ℕ) → a < 256 → isWritten a ≡ false → last a (steps ms) 0 ≡ 0
 
-take-map : (f : Write → Write) (k : ℕ) (l : List Write) → take k (map f l) ≡ map f (take k l)
+take-map : (f : Step → Write) (k : ℕ) (l : List Step) → take k (map f l) ≡ map f (take k l)
 take-map f zero l = refl
 take-map f (suc k) [] = refl
 take-map f (suc k) (x ∷ xs) = ap (λ (r : List Write). f x ∷ r) (take-map f k xs)
@@ -110,8 +112,8 @@ finished-near : (want : ℕ → ℕ) (s u : Chip) → Near s u → (a : ℕ) →
 unfolding finished
 finished-near want s u near a h = go (isWritten a) refl
   where
-    end : Write
-    end = a gets cond (eqb a reg.gc) reg.clearAvMuteMask 0
+    end : Step
+    end = a raising leftUp a
 
     go : (t : Bool) → isWritten a ≡ t
         → cond t (written want (u .image) end .value) (getD (u .image) a 0) ≡ cond t (written want (s .image) end .value) (getD (s .image) a 0)
@@ -128,19 +130,19 @@ pub record Latched (P : Plan) (shown : Chip → List ℕ) : Type 0 where
   pub either : (want : ℕ → ℕ) (s : Chip) → Ready (s .image) → (k : ℕ) → Either shown s (done P want s) (cut P want s k)
   pub ending : (want : ℕ → ℕ) (s u : Chip) → Ready (s .image) → Near s u → shown (done P want u) ≡ shown (done P want s)
 
-module _ (mid : Plan) (good : (want : ℕ → ℕ) (image : List ℕ) → Ready image → Good want image (mid want image)) where
+module _ (mid : (ℕ → ℕ) → List ℕ → List Step) (good : (want : ℕ → ℕ) (image : List ℕ) → Ready image → Good want image (mid want image)) where
   abbrev P : Plan
-  P = listed mid
+  P = listWith mid
 
   module _ (want : ℕ → ℕ) (s : Chip) (r : Ready (s .image)) where
     -- the steps between mute and open, all steps, and their bytes
-    abbrev ms : List Write
+    abbrev ms : List Step
     ms = mid want (s .image)
 
-    abbrev is : List Write
+    abbrev is : List Step
     is = steps ms
 
-    abbrev f : Write → Write
+    abbrev f : Step → Write
     f = written want (s .image)
 
     facts : Walked (holdsOf packets (s .image)) (holdsOf converter (s .image)) ms
@@ -169,7 +171,7 @@ module _ (mid : Plan) (good : (want : ℕ → ℕ) (image : List ℕ) → Ready 
 
     -- one group: old or new at every cut, and at the end as it stands in the registers
     module _ (B : Bank) (g : Group) (F : Shown B g) (see : Seen want (s .image) B) where
-      holds-acts : (vs : List Write) (u : Chip) → Sized u → holdsOf B (acts store (map f vs) u .image) ≡ nexts (view B g) (holdsOf B (u .image)) (map clean vs)
+      holds-acts : (vs : List Step) (u : Chip) → Sized u → holdsOf B (acts store (map f vs) u .image) ≡ nexts (view B g) (holdsOf B (u .image)) (map clean vs)
       holds-acts vs u e = status-acts store F (map f vs) u e ∙ nexts-seen want (s .image) B g see (holdsOf B (u .image)) vs
 
       group-cut : walk (view B g) true (holdsOf B (s .image)) (map clean is) ≡ true → (k : ℕ) → Either (inUse B g) s (done P want s) (cut P want s k)
@@ -186,34 +188,34 @@ module _ (mid : Plan) (good : (want : ℕ → ℕ) (image : List ℕ) → Ready 
     }
 
     -- the mute bits after a write to their register
-    mute-store : (x : ℕ) (u : Chip) → Sized u → up gc (holdsOf packets (u .image)) ≡ false → mute (store (f (reg.gc gets x)) u) ≡ x / 64 % 4
+    mute-store : (x : ℕ) (u : Chip) → Sized u → up gc (holdsOf packets (u .image)) ≡ false → mute (store (f (reg.gc raising x)) u) ≡ x / 64 % 4
     unfolding mute written decided
     mute-store x u e h =
-        let d : inUse packets gc (store (f (reg.gc gets x)) u) ≡ part gc (store (f (reg.gc gets x)) u .image) =
-        down-part packets gc (store (f (reg.gc gets x)) u) (ap (λ (n : ℕ). up gc n) (gc-shown .tracks (f (reg.gc gets x)) u e) ∙ h) in
+        let d : inUse packets gc (store (f (reg.gc raising x)) u) ≡ part gc (store (f (reg.gc raising x)) u .image) =
+        down-part packets gc (store (f (reg.gc raising x)) u) (ap (λ (n : ℕ). up gc n) (gc-shown .tracks (f (reg.gc raising x)) u e) ∙ h) in
         rw (d, image-store, getD-take {A = ℕ} 1 _ 0 0 (lit< tt), getD-drop, getD-set-same (u .image) reg.gc _ 0 (rw e (lit< tt)))
         (mute-byte (getD (s .image) reg.gc 0) x (want reg.gc))
 
     -- the state after the first write
     dark : Chip
-    dark = store (f (reg.gc gets reg.setAvMuteMask)) s
+    dark = store (f (reg.gc raising reg.setAvMuteMask)) s
 
     dark-sized : Sized dark
     unfolding dark
-    dark-sized = size-store (f (reg.gc gets reg.setAvMuteMask)) s (r .whole)
+    dark-sized = size-store (f (reg.gc raising reg.setAvMuteMask)) s (r .whole)
 
     dark-holds : holdsOf packets (dark .image) ≡ holdsOf packets (s .image)
     unfolding dark written
-    dark-holds = gc-shown .tracks (f (reg.gc gets reg.setAvMuteMask)) s (r .whole)
+    dark-holds = gc-shown .tracks (f (reg.gc raising reg.setAvMuteMask)) s (r .whole)
 
     -- the writes between, and the last
     abbrev ws : List Write
     ws = map f ms
 
     abbrev opening : Write
-    opening = f (reg.gc gets reg.clearAvMuteMask)
+    opening = f (reg.gc raising reg.clearAvMuteMask)
 
-    shape : map f (ms ++ reg.gc gets reg.clearAvMuteMask ∷ []) ≡ ws ++ opening ∷ []
+    shape : map f (ms ++ reg.gc raising reg.clearAvMuteMask ∷ []) ≡ ws ++ opening ∷ []
     shape = map-append f ms _
 
     count : length (P want (s .image)) ≡ suc (suc (length ws))
@@ -253,7 +255,7 @@ module _ (mid : Plan) (good : (want : ℕ → ℕ) (image : List ℕ) → Ready 
     }
 
     -- the registers after some of the steps
-    stand : (vs : List Write) (a : ℕ) → a < 256 → getD (acts store (map f vs) s .image) a 0 ≡ read f a (last a vs 0) (getD (s .image) a 0)
+    stand : (vs : List Step) (a : ℕ) → a < 256 → getD (acts store (map f vs) s .image) a 0 ≡ read f a (last a vs 0) (getD (s .image) a 0)
     stand vs a h = stored-last f (place want (s .image)) a (getD (s .image) a 0) h vs s 0 (r .whole) refl
 
     registers : (a : ℕ) → a < 256 → getD (done P want s .image) a 0 ≡ finished want (s .image) a
@@ -266,7 +268,7 @@ module _ (mid : Plan) (good : (want : ℕ → ℕ) (image : List ℕ) → Ready 
     covered : (a k : ℕ) → a ≢ reg.gc → getD (cut P want s (suc k) .image) a 0 ≢ getD (cut P want s k .image) a 0
         → (mute (cut P want s k) ≡ 1) × (mute (cut P want s (suc k)) ≡ 1)
     unfolding dark written
-    covered a zero h m = absurd (m (ap (λ (t : Chip). getD (t .image) a 0) (cut-dark 0) ∙ elsewhere (f (reg.gc gets reg.setAvMuteMask)) s a h))
+    covered a zero h m = absurd (m (ap (λ (t : Chip). getD (t .image) a 0) (cut-dark 0) ∙ elsewhere (f (reg.gc raising reg.setAvMuteMask)) s a h))
     covered a (suc j) h m = go (ltb (suc (suc j)) (length (P want (s .image)))) refl
       where
         late : (i : ℕ) → length ws ≤ i → getD (cut P want s (suc i) .image) a 0 ≡ getD (acts store ws dark .image) a 0
@@ -291,7 +293,7 @@ module _ (mid : Plan) (good : (want : ℕ → ℕ) (image : List ℕ) → Ready 
 
   pub near-cut : (want : ℕ → ℕ) (s u : Chip) (k : ℕ) → Near s u → Near s (cut P want u k)
   near-cut want s u k near =
-      let vs : List Write = take k (is want u (near .ready)) in
+      let vs : List Step = take k (is want u (near .ready)) in
       record {
         ready = ready-cut want u (near .ready) k;
         kept = agree-trans _ (u .image) _

@@ -5,5 +5,3 @@ pub mod Taken
 pub mod Last
 pub mod Cut
 pub mod WriteList
-pub mod InOrder
-pub mod Carries

@@ -9,7 +9,8 @@ use lib.ListN.{length, getD, set, take}
 use Rattle.chip.specs.declared.Chip.{Chip}
 use Rattle.chip.specs.declared.Wrote.{Wrote}
 use Rattle.chip.specs.Machine.{Write, _gets_, avi, audio, gc, packets, up, holdsOf, put, stored, imageAfter, two, refuses, writeOf, after}
-use Rattle.plan.specs.List.{written}
+use Rattle.writes.specs.Steps.{Step}
+use Rattle.writes.specs.List.{written}
 use Rattle.cut.proofs.Latch.{View, first, nexts, walk, walk-map, acts}
 use Rattle.cut.proofs.Bank.{store, next, Sized, size-store, gc-shown}
 use Rattle.cut.proofs.Bytes.{clean, Seen, Agree, written-stored, agree-store}
@@ -37,7 +38,7 @@ neat-at n ws zero h t = h
 neat-at n [] (suc k) h t = h
 neat-at n (w ∷ ws) (suc k) h t = ⊎-elim (λ q. neat-at (next packets n w) ws k (q .0) (q .1)) (λ q. absurd (false≢true (q .0))) (first tidy false n w ws t)
 
-pub tidy-seen : (want : ℕ → ℕ) (image : List ℕ) → Seen want image packets → (n : ℕ) (is : List Write)
+pub tidy-seen : (want : ℕ → ℕ) (image : List ℕ) → Seen want image packets → (n : ℕ) (is : List Step)
     → walk tidy false n (map (written want image) is) ≡ walk tidy false n (map clean is)
 unfolding Seen
 tidy-seen want image see n is = walk-map tidy (written want image) clean see (λ n i. ap neat (see n i)) false n is
@@ -58,24 +59,24 @@ module _ (w : Write) (s : Chip) (z : Sized s) (e : stored (w .address) (w .value
     took = rw (takes, e)
 
 module _ (want : ℕ → ℕ) (image₀ : List ℕ) where
-  abbrev f : Write → Write
+  abbrev f : Step → Write
   f = written want image₀
 
   -- a state from which the steps' writes are all taken
-  pub record Fit (s : Chip) (is : List Write) : Type 0 where
+  pub record Fit (s : Chip) (is : List Step) : Type 0 where
     pub agree : Agree (s .image) image₀
     pub sized : Sized s
     pub holds : neat (holdsOf packets (s .image)) ≡ true
     pub walks : walk tidy false (holdsOf packets (s .image)) (map f is) ≡ true
 
-  next-neat : (i : Write) (is : List Write) (s : Chip) → Fit s (i ∷ is)
+  next-neat : (i : Step) (is : List Step) (s : Chip) → Fit s (i ∷ is)
       → (neat (next packets (holdsOf packets (s .image)) (f i)) ≡ true) × (walk tidy false (next packets (holdsOf packets (s .image)) (f i)) (map f is) ≡ true)
   next-neat i is s fit = ⊎-elim (λ q. q) (λ q. absurd (false≢true (q .0))) (first tidy false (holdsOf packets (s .image)) (f i) (map f is) (fit .walks))
 
-  head-taken : (i : Write) (is : List Write) (s : Chip) → Fit s (i ∷ is) → writeOf s (f i .address) (f i .value) ≡ record { refusal = 0; chip = store (f i) s }
+  head-taken : (i : Step) (is : List Step) (s : Chip) → Fit s (i ∷ is) → writeOf s (f i .address) (f i .value) ≡ record { refusal = 0; chip = store (f i) s }
   head-taken i is s fit = took (f i) s (fit .sized) (written-stored want image₀ i s (fit .agree)) (fit .holds) (next-neat i is s fit .0)
 
-  tail-fit : (i : Write) (is : List Write) (s : Chip) → Fit s (i ∷ is) → Fit (store (f i) s) is
+  tail-fit : (i : Step) (is : List Step) (s : Chip) → Fit s (i ∷ is) → Fit (store (f i) s) is
   tail-fit i is s fit = record {
     agree = agree-store want image₀ i s (fit .agree);
     sized = size-store (f i) s (fit .sized);
@@ -84,13 +85,13 @@ module _ (want : ℕ → ℕ) (image₀ : List ℕ) where
   }
 
   -- at every cut the machine's state is that of plain stores
-  pub after-acts : (is : List Write) (s : Chip) (k : ℕ) → Fit s is → after (take k (map f is)) s ≡ acts store (take k (map f is)) s
+  pub after-acts : (is : List Step) (s : Chip) (k : ℕ) → Fit s is → after (take k (map f is)) s ≡ acts store (take k (map f is)) s
   after-acts is s zero fit = refl
   after-acts [] s (suc k) fit = refl
   after-acts (i ∷ is) s (suc k) fit =
       ap (λ (w : Wrote). after (take k (map f is)) (w .chip)) (head-taken i is s fit) ∙ after-acts is (store (f i) s) k (tail-fit i is s fit)
 
-  pub taken-at : (is : List Write) (s : Chip) (k : ℕ) → Fit s is → k < length (map f is)
+  pub taken-at : (is : List Step) (s : Chip) (k : ℕ) → Fit s is → k < length (map f is)
       → writeOf (acts store (take k (map f is)) s) (getD (map f is) k (0 gets 0) .address) (getD (map f is) k (0 gets 0) .value) .refusal ≡ 0
   taken-at [] s k fit h = absurd (not-suc-le-zero h)
   taken-at (i ∷ is) s zero fit h = ap (λ (w : Wrote). w .refusal) (head-taken i is s fit)

@@ -10,11 +10,12 @@ use borrow.Author.Tests.{eqb-true, eqb-false}
 use Rattle.map.specs.Map as reg
 use Rattle.chip.specs.declared.Chip.{Chip}
 use Rattle.chip.specs.Machine.{audio, packets, up, holdsOf}
-use Rattle.plan.specs.List.{middle, planned, writeList, written, ready}
+use Rattle.writes.specs.Steps.{middle}
+use Rattle.writes.specs.List.{middleOf, writeList, written, ready}
 use Rattle.cut.specs.Demand.{Demand3}
 use Rattle.cut.proofs.Taken.{neat}
 use Rattle.cut.proofs.Cut.{Ready, neat-elim, Walked, Good, demand3}
-use Rattle.cut.proofs.Last.{read, last-step, read-final, final-none}
+use Rattle.writes.proofs.Last.{read, last-step, read-final, final-none}
 
 two-elim : (P : ℕ → Type 0) → P 0 → P 1 → (q : ℕ) → P (q % 2)
 two-elim P p0 p1 q = go (eqb (q % 2) 0) refl
@@ -31,7 +32,7 @@ walked-from p q = neat-elim (λ (n : ℕ). Walked n (q % 2) (middle (up audio n)
     (two-elim (λ (m : ℕ). Walked 2 m (middle (up audio 2))) (search) (search) q)
     (two-elim (λ (m : ℕ). Walked 4 m (middle (up audio 4))) (search) (search) q) p
 
-pub planned-good : (want : ℕ → ℕ) (image : List ℕ) → Ready image → Good want image (planned want image)
+pub planned-good : (want : ℕ → ℕ) (image : List ℕ) → Ready image → Good want image (middleOf want image)
 planned-good want image r = record {
   walked = walked-from (getD image reg.infoframeUpdate 0 / 16) (getD image reg.coefficientUpdate 0 / 32) (r .holds);
   finishes = λ a h. ap (λ (o : ℕ). read (written want image) a o (getD image a 0)) (last-step (up audio (holdsOf packets image)) a h) ∙ read-final want image a;
@@ -39,4 +40,4 @@ planned-good want image r = record {
 }
 
 pub holds : (want : ℕ → ℕ) (s : Chip) → length (s .image) ≡ 256 → ready (s .image) ≡ true → Demand3 writeList want s
-holds want s whole ready = demand3 planned planned-good want s (record { whole = whole; holds = ready })
+holds want s whole ready = demand3 middleOf planned-good want s (record { whole = whole; holds = ready })

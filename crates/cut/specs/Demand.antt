@@ -11,7 +11,7 @@ use Rattle.registers.specs.Classes.{readOnly, free}
 use Rattle.matrix.specs.Matrix.{fields}
 use Rattle.chip.specs.declared.Chip.{Chip}
 use Rattle.chip.specs.Machine.{Write, _gets_, avi, audio, matrix, packets, part, writeOf, after, inUse, coefficients, mute}
-use Rattle.plan.specs.List.{isWritten, finished, ready}
+use Rattle.writes.specs.List.{isWritten, finished, ready}
 
 -- how a request and an image give a list
 abbrev pub Plan : Type 0

@@ -1,3 +1,1 @@
 pub mod Demand
-pub mod Order
-pub mod Carried

@@ -24,7 +24,7 @@ use Rattle.request.specs.declared.Request.{Request}
 use Rattle.request.specs.declared.Checked.{Checked}
 use Rattle.request.specs.Read.{readOf, pairFor}
 use Rattle.plan.specs.Wanted.{wanted}
-use Rattle.plan.specs.List.{byte, decided, written, isWritten, finished}
+use Rattle.writes.specs.List.{byte, decided, written, isWritten, finished}
 use Rattle.decode.specs.declared.Decoded.{Decoded}
 use Rattle.decode.specs.Ends.{bytesOf, inFamily, Acceptable, Stands, Ends}
 use Rattle.decode.specs.Extract.{at, matrixIn, extract}

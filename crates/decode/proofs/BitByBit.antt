@@ -15,7 +15,7 @@ use Rattle.registers.proofs.Whole.{rule}
 use Rattle.matrix.specs.Matrix.{Bytes}
 use Rattle.request.specs.declared.Request.{Request}
 use Rattle.plan.specs.Wanted.{wanted}
-use Rattle.plan.specs.List.{byte, isWritten, finished}
+use Rattle.writes.specs.List.{byte, isWritten, finished}
 use Rattle.decode.specs.Ends.{Stands}
 use Rattle.decode.specs.Theorems.{Counts, AsLeft, BitByBit}
 use Rattle.decode.proofs.Fields.{low-same}

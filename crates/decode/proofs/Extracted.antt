@@ -19,7 +19,7 @@ use Rattle.request.specs.declared.Sound.{Sound}
 use Rattle.request.specs.declared.Sound.the-variants.{Off, On}
 use Rattle.request.specs.declared.Request.{Request}
 use Rattle.plan.specs.Wanted.{wanted, cscBytes, rateCodes, withAudio, rateCode, ctsSelect}
-use Rattle.plan.specs.List.{isWritten, decided}
+use Rattle.writes.specs.List.{isWritten, decided}
 use Rattle.decode.specs.Ends.{Stands, inFamily}
 use Rattle.decode.specs.Extract.{at, rateOf, soundIn, matrixIn, extract}
 use Rattle.decode.proofs.Stored.{each, window, cc, Wants, wants}

@@ -22,7 +22,7 @@ use Rattle.request.specs.declared.Sound.the-variants.{Off, On}
 use Rattle.request.specs.declared.Request.{Request}
 use Rattle.chip.specs.Machine.{avi, audio, matrix, part}
 use Rattle.plan.specs.Wanted.{wanted, audioBytes}
-use Rattle.plan.specs.List.{isWritten, decided, byte}
+use Rattle.writes.specs.List.{isWritten, decided, byte}
 use Rattle.decode.specs.Ends.{Stands}
 use Rattle.decode.proofs.Stored.{each, window, wants}
 use Rattle.decode.proofs.Standing.{clear, is-written, reads, small-byte, there}

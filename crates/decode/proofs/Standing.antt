@@ -18,7 +18,7 @@ use Rattle.registers.proofs.Apart.{by-rule}
 use Rattle.map.specs.Map as reg
 use Rattle.request.specs.declared.Request.{Request}
 use Rattle.plan.specs.Wanted.{wanted}
-use Rattle.plan.specs.List.{byte, decided, written, isWritten, finished}
+use Rattle.writes.specs.List.{byte, decided, written, isWritten, finished}
 use Rattle.decode.specs.Ends.{Stands}
 use Rattle.decode.proofs.Fields.{field-same}
 

@@ -12,7 +12,7 @@ use Rattle.request.specs.declared.Sound.the-variants.{Off, On}
 use Rattle.request.specs.declared.Request.{Request}
 use Rattle.request.specs.Read.{readOf, pairFor}
 use Rattle.plan.specs.Wanted.{wanted}
-use Rattle.plan.specs.List.{finished}
+use Rattle.writes.specs.List.{finished}
 
 abbrev pub audioSection : Sound → List ℕ
 audioSection Off = 0 ∷ []

@@ -12,7 +12,7 @@ use Rattle.matrix.specs.Matrix.{Bytes}
 use Rattle.request.specs.declared.Request.{Request}
 use Rattle.request.specs.Read.{readOf, pairFor}
 use Rattle.plan.specs.Wanted.{wanted}
-use Rattle.plan.specs.List.{isWritten, finished}
+use Rattle.writes.specs.List.{isWritten, finished}
 use Rattle.decode.specs.Ends.{bytesOf, inFamily, Stands, Ends}
 use Rattle.decode.specs.Decode.{decodeRules, decodeOf, bufferOf}
 

@@ -11,8 +11,9 @@ use Rattle.request.specs.Read.{readOf, pairFor}
 use Rattle.chip.specs.Machine.{up, audio, packets, holdsOf}
 use Rattle.plan.specs.declared.Planned.{Planned}
 use Rattle.plan.specs.Wanted.{wantedImage, wanted}
-use Rattle.plan.specs.List.{ready}
-use Rattle.plan.specs.Plan.{inOrder, fronted, nothing, laterRefusal, refusalOf, writesOf, planOf, bufferOf}
+use Rattle.writes.specs.List.{ready}
+use Rattle.writes.specs.List.{fronted}
+use Rattle.plan.specs.Plan.{inOrder, nothing, laterRefusal, refusalOf, writesOf, planOf, bufferOf}
 use Rattle.plan.proofs.Pairs.{count}
 
 -- rows 7 to 10, by the tests on the way

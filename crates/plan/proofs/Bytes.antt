@@ -18,7 +18,7 @@ use Rattle.registers.specs.Classes.{classAt, named, readOnlyMasks, freeMasks, n
 use Rattle.registers.proofs.Columns.{in-column}
 use Rattle.registers.proofs.Whole.{rule}
 use Rattle.registers.proofs.Apart.{row, rules, holds}
-use Rattle.plan.specs.List.{byte, decided}
+use Rattle.writes.specs.List.{byte, decided}
 
 -- a written byte by the columns of the class table
 pub by-columns : (a old wanted : ℕ) {r f n b : List ℕ} → r ≡ readOnlyMasks → f ≡ freeMasks → n ≡ namedMasks → b ≡ mandatedBits

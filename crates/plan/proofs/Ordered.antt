@@ -17,7 +17,7 @@ use Rattle.request.specs.Request.{readRules, NoPair}
 use Rattle.request.specs.Read.{readOf, pairFor, nctsOf}
 use Rattle.request.proofs.Coherent.{rows}
 use Rattle.chip.specs.Machine.{up, avi, audio, gc, packets, holdsOf}
-use Rattle.plan.specs.List.{ready}
+use Rattle.writes.specs.List.{ready}
 use Rattle.plan.specs.Plan.{HoldsUp, planRules, laterRefusal, refusalOf, planOf, bufferOf, PlanRefusals}
 use Rattle.refusals.proofs.Again.{again, past}
 

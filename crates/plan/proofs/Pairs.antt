@@ -9,8 +9,10 @@ use lib.ListN.{length, getD, take, set}
 use lib.Seq.{sets, take-suc, length-take-le}
 use Rattle.chip.specs.Machine.{Write, _gets_}
 use Rattle.bits.specs.Merge.{merge}
-use Rattle.plan.specs.List.{steps, middle, decided, byte, written}
-use Rattle.plan.specs.Plan.{flat, inOrder}
+use Rattle.writes.specs.Steps.{_raising_, steps, middle}
+use Rattle.writes.specs.List.{decided, byte, written}
+use Rattle.writes.specs.List.{flat}
+use Rattle.plan.specs.Plan.{inOrder}
 use Rattle.lists.proofs.Emit.{sets-two, map-at}
 use Rattle.plan.proofs.Bytes.{decides}
 
@@ -49,17 +51,17 @@ module _ (wanted image : List ℕ) (audioFirst : Bool) where
 
   -- each step, with its byte
   pub at-step : (i : ℕ) → i < 84
-      → getD (inOrder wanted image audioFirst) i (0 gets 0) ≡ written (λ a. getD wanted a 0) image (getD (steps (middle audioFirst)) i (0 gets 0))
+      → getD (inOrder wanted image audioFirst) i (0 gets 0) ≡ written (λ a. getD wanted a 0) image (getD (steps (middle audioFirst)) i (0 raising 0))
   unfolding inOrder
-  at-step i h = map-at (written (λ a. getD wanted a 0) image) (steps (middle audioFirst)) i (0 gets 0) (0 gets 0) (rw (step-count audioFirst) h)
+  at-step i h = map-at (written (λ a. getD wanted a 0) image) (steps (middle audioFirst)) i (0 raising 0) (0 gets 0) (rw (step-count audioFirst) h)
 
-  pub at-address : (i : ℕ) → i < 84 → getD (inOrder wanted image audioFirst) i (0 gets 0) .address ≡ getD (steps (middle audioFirst)) i (0 gets 0) .address
+  pub at-address : (i : ℕ) → i < 84 → getD (inOrder wanted image audioFirst) i (0 gets 0) .address ≡ getD (steps (middle audioFirst)) i (0 raising 0) .register
   unfolding written
   at-address i h = ap (λ (w : Write). w .address) (at-step i h)
 
   -- the byte of a step: the bits that it decides, over the byte that the list carries there
-  pub at-value : (i a v : ℕ) (bytes : List ℕ) → i < 84 → a < 256 → a ≡ getD (steps (middle audioFirst)) i (0 gets 0) .address
-      → v ≡ getD (steps (middle audioFirst)) i (0 gets 0) .value
+  pub at-value : (i a v : ℕ) (bytes : List ℕ) → i < 84 → a < 256 → a ≡ getD (steps (middle audioFirst)) i (0 raising 0) .register
+      → v ≡ getD (steps (middle audioFirst)) i (0 raising 0) .raised
       → ((b : ℕ) → b < 256 → getD bytes b 0 ≡ byte b (getD image b 0) (getD wanted b 0))
       → merge 8 (decided a) v (getD bytes a 0) ≡ getD (inOrder wanted image audioFirst) i (0 gets 0) .value
   unfolding written

@@ -17,7 +17,8 @@ use Rattle.bits.specs.Merge.{merge}
 use Rattle.map.specs.Map as reg
 use Rattle.request.specs.declared.Request.{Request}
 use Rattle.plan.specs.Wanted.{wantedImage, wanted}
-use Rattle.plan.specs.List.{middle, stepAddresses, byte, decided, isWritten, written, finished}
+use Rattle.writes.specs.Steps.{middle, stepAddresses}
+use Rattle.writes.specs.List.{byte, decided, isWritten, written, finished}
 use Rattle.plan.specs.Stands.{standsBelow, asWanted}
 use Rattle.plan.proofs.Bytes.{decides}
 use Rattle.plan.proofs.Columns.{address-small}

@@ -1,4 +1,3 @@
 pub mod Wanted
-pub mod List
 pub mod Plan
 pub mod Stands

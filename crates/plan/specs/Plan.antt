@@ -5,7 +5,7 @@ use mathlib.Core.Bool.{Bool, true, cond, not}
 use mathlib.Core.List.{List, [], _∷_, _++_, map}
 use Prim.Native.Nat.{ℕ, _<_}
 use lib.Dec.{eqb, ltb}
-use lib.ListN.{length, getD, drop}
+use lib.ListN.{length, getD}
 use Rattle.refusals.specs.Rows.{imageLength, holdsUp, noExactPair, bufferShort, number, Condition, _when_, Given}
 use Rattle.request.specs.declared.Request.{Request}
 use Rattle.request.specs.Sections.{walked}
@@ -14,7 +14,8 @@ use Rattle.request.specs.Read.{readOf, pairFor}
 use Rattle.chip.specs.Machine.{Write, up, avi, audio, gc, packets, holdsOf}
 use Rattle.plan.specs.declared.Planned.{Planned}
 use Rattle.plan.specs.Wanted.{wanted}
-use Rattle.plan.specs.List.{steps, middle, written, writeList, ready}
+use Rattle.writes.specs.Steps.{steps, middle}
+use Rattle.writes.specs.List.{written, writeList, fronted, ready}
 
 -- row 8, "GC hold up, or AVI and audio holds both up"
 abbrev pub HoldsUp : List ℕ → Type 0
@@ -30,18 +31,9 @@ planRules input image buffer =
     noExactPair when NoPair (walked input) ∷
     bufferShort when (length buffer < 256) ∷ []
 
--- the list as bytes: pairs of address and value
-unfoldable pub flat : List Write → List ℕ
-flat [] = []
-flat (w ∷ ws) = w .address ∷ w .value ∷ flat ws
-
 -- the list that an image of wanted bytes gives, in one of its two orders
 unfoldable pub inOrder : List ℕ → List ℕ → Bool → List Write
 inOrder wanted image audioFirst = map (written (λ a. getD wanted a 0) image) (steps (middle audioFirst))
-
--- a list at the front of a buffer: "buffer bytes after the list stay"
-abbrev pub fronted : List Write → List ℕ → List ℕ
-fronted ws buffer = flat ws ++ drop (length (flat ws)) buffer
 
 -- rows 7 to 10, for a request that was read
 unfoldable pub laterRefusal : Request → List ℕ → List ℕ → ℕ

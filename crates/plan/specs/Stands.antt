@@ -7,7 +7,7 @@ use lib.ListN.{length, getD}
 use Rattle.request.specs.declared.Request.{Request}
 use Rattle.request.specs.Read.{readOf, pairFor}
 use Rattle.plan.specs.Wanted.{wanted}
-use Rattle.plan.specs.List.{finished}
+use Rattle.writes.specs.List.{finished}
 
 -- every register below n is as the list would leave it
 unfoldable pub standsBelow : Request → List ℕ → ℕ → Bool

@@ -12,13 +12,15 @@ ghost use Rattle.clock.specs.Modes.{modeOf};
 ghost use Rattle.frames.specs.Frames.{aviFrame};
 ghost use Rattle.matrix.specs.Matrix.{Bytes};
 ghost use Rattle.request.specs.Read.{pairFor};
-ghost use Rattle.chip.specs.Machine.{_gets_, up, avi, audio, gc};
+ghost use Rattle.chip.specs.Machine.{up, avi, audio, gc};
 ghost use Rattle.plan.specs.Wanted.{run, stores, twenty, ctsSelect, inputs, rateCode, withAudio, audioBytes, halves, cscBytes};
 ghost use Rattle.plan.specs.Wanted.{clockBytes, inputBytes, enableBytes, frameBytes, wantedImage, SoundFits, MatrixFits, Fits};
-ghost use Rattle.plan.specs.List.{steps, middle, stepAddresses, stepBits, decided, byte};
+ghost use Rattle.writes.specs.Steps.{_raising_, steps, middle, stepAddresses, stepBits};
+ghost use Rattle.writes.specs.List.{decided, byte};
 ghost use Rattle.plan.specs.Stands.{asWanted, standsIn};
 ghost use Rattle.map.specs.Map as reg;
-ghost use Rattle.plan.specs.Plan.{inOrder, fronted, nothing, Plans, PlanRefusals};
+ghost use Rattle.writes.specs.List.{fronted};
+ghost use Rattle.plan.specs.Plan.{inOrder, nothing, Plans, PlanRefusals};
 use clock::Pair;
 use map::Map;
 use matrix::Matrix;
@@ -296,7 +298,7 @@ const AUDIO_STEPS: usize = Map::AUDIO_INFOFRAME_COUNT as usize + 2;
 // The place of a step in the table, which has AVI before audio. "If the audio hold is up at the start, audio goes before AVI."
 fn place(audio_first: bool, i: usize) -> usize
     requires { ⌜ i < 84 ⌝ }
-    ensures { λ r. ⌜ (r < 84) × (getD (steps (middle false)) r (0 gets 0) ≡ getD (steps (middle «audio_first»)) i (0 gets 0)) ⌝ }
+    ensures { λ r. ⌜ (r < 84) × (getD (steps (middle false)) r (0 raising 0) ≡ getD (steps (middle «audio_first»)) i (0 raising 0)) ⌝ }
 {
     if !audio_first {
         return i;

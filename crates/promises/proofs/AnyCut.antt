@@ -16,7 +16,7 @@ use Rattle.request.specs.declared.Checked.{Checked}
 use Rattle.request.specs.Read.{readOf, pairFor}
 use Rattle.plan.specs.Wanted.{wanted}
 use Rattle.plan.specs.declared.Planned.{Planned}
-use Rattle.plan.specs.List.{writeList, ready}
+use Rattle.writes.specs.List.{writeList, ready}
 use Rattle.plan.specs.Plan.{laterRefusal, refusalOf, writesOf, planOf, bufferOf}
 use Rattle.plan.proofs.Ordered.{refusals}
 use Rattle.cut.specs.Demand.{Demand3, cut, done}

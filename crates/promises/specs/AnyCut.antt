@@ -8,7 +8,7 @@ use Rattle.request.specs.Read.{readOf}
 use Rattle.chip.specs.declared.Chip.{Chip}
 use Rattle.chip.specs.Machine.{avi, audio, packets, inUse, coefficients}
 use Rattle.plan.specs.Wanted.{audioBytes}
-use Rattle.plan.specs.List.{writeList}
+use Rattle.writes.specs.List.{writeList}
 use Rattle.plan.specs.Plan.{planOf}
 use Rattle.cut.specs.Demand.{Demand3, cut, done}
 use Rattle.promises.specs.Rules.{asked, Listed}

@@ -10,13 +10,14 @@ use Rattle.chip.specs.declared.Chip.{Chip}
 use Rattle.request.specs.declared.Request.{Request}
 use Rattle.request.specs.Read.{readOf}
 use Rattle.plan.specs.Wanted.{wanted}
-use Rattle.plan.specs.List.{writeList, finished}
-use Rattle.plan.specs.Plan.{planRules, flat, planOf, bufferOf}
+use Rattle.writes.specs.List.{writeList, finished}
+use Rattle.writes.specs.List.{flat}
+use Rattle.plan.specs.Plan.{planRules, planOf, bufferOf}
 use Rattle.decode.specs.Ends.{bytesOf, Acceptable}
 use Rattle.decode.specs.Theorems.{Answered}
 use Rattle.cut.specs.Demand.{done}
-use Rattle.cut.specs.Order.{Order}
-use Rattle.cut.specs.Carried.{Entries}
+use Rattle.writes.specs.Order.{Order}
+use Rattle.writes.specs.Carried.{Entries}
 
 -- what the request wants in each register
 abbrev pub asked : List ℕ → ℕ → ℕ

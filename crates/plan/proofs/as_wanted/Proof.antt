@@ -6,7 +6,8 @@ use Prim.Native.Nat.{ℕ, _-_, _<_, _≤_}
 use native.Mathlib.Omega.{arith}
 use lib.ListN.{getD}
 use borrow.Author.Needs.{needs}
-use Rattle.plan.specs.List.{stepAddresses, finished}
+use Rattle.writes.specs.Steps.{stepAddresses}
+use Rattle.writes.specs.List.{finished}
 use Rattle.plan.proofs.Columns.{address-small}
 use Rattle.plan.proofs.Standing.{passed, byte-finished, more, fails, whole}
 use Rattle.plan.proofs.as_wanted.Statement.{statement}

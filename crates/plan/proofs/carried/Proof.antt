@@ -4,7 +4,7 @@ use Prim.Native.Nat.{ℕ, _-_, _<_, _≤_}
 use native.Mathlib.Omega.{arith}
 use lib.ListN.{length, getD}
 use borrow.Author.Needs.{needs}
-use Rattle.plan.specs.List.{byte}
+use Rattle.writes.specs.List.{byte}
 use Rattle.plan.proofs.Bytes.{by-columns, one-more}
 use Rattle.plan.proofs.carried.Statement.{statement}
 use Rattle.plan.proofs.carried.Tie as tie

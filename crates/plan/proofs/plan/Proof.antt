@@ -9,7 +9,7 @@ use Rattle.request.specs.declared.Checked.{Checked}
 use Rattle.request.specs.Read.{readOf, pairFor}
 use Rattle.clock.specs.declared.Pair.{Pair}
 use Rattle.plan.specs.Wanted.{wantedImage, Fits}
-use Rattle.plan.specs.List.{ready}
+use Rattle.writes.specs.List.{ready}
 use Rattle.plan.proofs.Accepted.{fits}
 use Rattle.plan.proofs.Answer.{seven, eight, nine, ten, none, early, later, refuses, refuses-later, accepts}
 use borrow.Author.Needs.{needs}

@@ -1,6 +1,6 @@
 -- `plan::step_addresses` meets its contract: its table is a column of the steps. Assumes nothing.
 use mathlib.Core.Path.{refl}
-use Rattle.plan.specs.List.{middle, stepAddresses}
+use Rattle.writes.specs.Steps.{middle, stepAddresses}
 use Rattle.plan.proofs.step_addresses.Statement.{statement}
 use Rattle.plan.proofs.step_addresses.Tie as tie
 

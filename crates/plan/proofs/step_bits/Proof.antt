@@ -1,6 +1,6 @@
 -- `plan::step_bits` meets its contract: its table is a column of the steps. Assumes nothing.
 use mathlib.Core.Path.{refl}
-use Rattle.plan.specs.List.{middle, stepBits}
+use Rattle.writes.specs.Steps.{middle, stepBits}
 use Rattle.plan.proofs.step_bits.Statement.{statement}
 use Rattle.plan.proofs.step_bits.Tie as tie
 

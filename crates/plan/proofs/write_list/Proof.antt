@@ -7,7 +7,8 @@ use lib.ListN.{length, getD, take, length-set}
 use lib.Seq.{sets, take-all}
 use borrow.Author.Needs.{needs}
 use Rattle.chip.specs.Machine.{Write, _gets_}
-use Rattle.plan.specs.Plan.{flat, inOrder}
+use Rattle.writes.specs.List.{flat}
+use Rattle.plan.specs.Plan.{inOrder}
 use Rattle.lists.proofs.Emit.{sets-front}
 use Rattle.plan.proofs.Columns.{address-at, address-small, bits-at}
 use Rattle.plan.proofs.Pairs.{length-flat, count, turn, at-address, at-value}

@@ -11,14 +11,19 @@ use Rattle.lists.specs.Find.{every}
 use Rattle.lists.proofs.Both.{both-left, both-right}
 use Rattle.bits.specs.Merge.{merge, bit, under}
 use Rattle.bits.proofs.Below.{at-below}
+use Rattle.bits.proofs.Laws.{merge-bit}
 use Rattle.bits.proofs.Truth.{E, zeros, var, by, num, table, law-if}
 use Rattle.registers.specs.Classes.{classAt, named}
 use Rattle.registers.proofs.Whole.{rule}
 use Rattle.registers.proofs.Apart.{row, rules, holds, by-rule}
 use Rattle.chip.specs.Machine.{Write, _gets_, audio, packets, up, holdsOf}
-use Rattle.plan.specs.List.{byte, decided, middle, steps, written}
-use Rattle.cut.specs.Carried.{Carried, requested, Entry, Entries}
-use Rattle.cut.proofs.Bytes.{masked}
+use Rattle.writes.specs.Steps.{Step, _raising_, middle, steps}
+use Rattle.writes.specs.List.{byte, decided, written}
+use Rattle.writes.specs.Carried.{Carrying, requested, Entry, Entries}
+
+-- a bit under a mask
+pub masked : (m j x : ℕ) → j < 8 → bit j m ≡ 1 → bit j (merge 8 m x 0) ≡ bit j x
+masked m j x h t = merge-bit 8 j m x 0 h ∙ rw t
 
 -- `var 0` to `var 4` are the address's class; `var 5` is the old byte, `var 6` the wanted one
 abbrev whole : E → E
@@ -27,7 +32,7 @@ whole wanted = by (var 0) (var 5) (by (var 3) (var 5) (by (var 2) wanted (var 4)
 abbrev part : E → E → E
 part m x = by m x zeros
 
-pub carried : (a : ℕ) → a < 256 → (old wanted : ℕ) → Carried a old wanted
+carried : (a : ℕ) → a < 256 → (old wanted : ℕ) → Carrying a old (named a) wanted (byte a old wanted)
 unfolding byte
 carried a h old wanted =
     let ρ : List ℕ = old ∷ wanted ∷ [] in
@@ -64,8 +69,8 @@ module _ (a : ℕ) (h : a < 256) (old wanted x : ℕ) where
   entry-decided = asked-law (part (var 7) merged) (part (var 7) (var 8)) refl
 
 -- what holds of every step: its register, that it says no more than it decides, and one of the two holds at most
-abbrev fits : Write → Bool
-fits i = ltb (i .address) 256 && (eqb (under (decided (i .address)) (i .value)) (i .value) && ltb (bit 6 (i .value) + bit 5 (i .value)) 2)
+abbrev fits : Step → Bool
+fits i = ltb (i .register) 256 && (eqb (under (decided (i .register)) (i .raised)) (i .raised) && ltb (bit 6 (i .raised) + bit 5 (i .raised)) 2)
 
 every-step : (b : Bool) → every fits (steps (middle b)) ≡ true
 unfolding middle decided merge
@@ -73,15 +78,15 @@ every-step true = refl
 every-step false = refl
 
 module _ (want : ℕ → ℕ) (image : List ℕ) where
-  entry : (i : Write) → fits i ≡ true → Entry want image i (written want image i)
+  entry : (i : Step) → fits i ≡ true → Entry want image i (written want image i)
   unfolding written decided
   entry i t =
-      let a : ℕ = i .address in
-      let x : ℕ = i .value in
+      let a : ℕ = i .register in
+      let x : ℕ = i .raised in
       let v : ℕ = written want image i .value in
       let rest : (eqb (under (decided a) x) x && ltb (bit 6 x + bit 5 x) 2) ≡ true = both-right (ltb a 256) _ t in
       let h : a < 256 = ltb-true _ _ (both-left (ltb a 256) _ t) in
-      let c : Carried a (getD image a 0) (merge 8 (decided a) x (want a)) = carried a h _ _ in
+      let c = carried a h (getD image a 0) (merge 8 (decided a) x (want a)) in
       let d : under (decided a) v ≡ x = entry-decided a h _ _ x ∙ eqb-true _ _ (both-left (eqb (under (decided a) x) x) _ rest) in
       let one : bit 6 x + bit 5 x < 2 = ltb-true _ _ (both-right (eqb (under (decided a) x) x) _ rest) in
       record {
@@ -98,8 +103,8 @@ module _ (want : ℕ → ℕ) (image : List ℕ) where
             rw (b6, b5) (le-of-suc-le-suc one);
       }
 
-  each-entry : (is : List Write) → every fits is ≡ true → (k : ℕ) → k < length (map (written want image) is)
-      → Entry want image (getD is k (0 gets 0)) (getD (map (written want image) is) k (0 gets 0))
+  each-entry : (is : List Step) → every fits is ≡ true → (k : ℕ) → k < length (map (written want image) is)
+      → Entry want image (getD is k (0 raising 0)) (getD (map (written want image) is) k (0 gets 0))
   each-entry [] t k h = absurd (not-suc-le-zero h)
   each-entry (i ∷ is) t zero h = entry i (both-left (fits i) (every fits is) t)
   each-entry (i ∷ is) t (suc k) h = each-entry is (both-right (fits i) (every fits is) t) k (le-of-suc-le-suc h)

@@ -7,7 +7,8 @@ use Rattle.bits.specs.Merge.{merge, under, bit}
 use Rattle.map.specs.Map as reg
 use Rattle.registers.specs.Classes.{readOnly, mandated, named, free, bits}
 use Rattle.chip.specs.Machine.{Write, _gets_}
-use Rattle.plan.specs.List.{byte, steps, decided, planned, writeList}
+use Rattle.writes.specs.Steps.{Step, _raising_, steps}
+use Rattle.writes.specs.List.{decided, middleOf, writeList}
 
 -- "Each written byte carries its mandated bits, the image's free and read-only bits and the wanted named bits": the value for register a,
 -- where the image has `old`; of the named bits those under `mask` are as wanted
@@ -17,18 +18,15 @@ pub record Carrying (a old mask wanted value : ℕ) : Type 0 where
   pub itsReadOnly : under (readOnly a) value ≡ under (readOnly a) old
   pub itsNamed : under mask value ≡ under mask wanted
 
-abbrev pub Carried : ℕ → ℕ → ℕ → Type 0
-Carried a old wanted = Carrying a old (named a) wanted (byte a old wanted)
-
 -- the named bits that the request decides, and no step
 abbrev pub requested : ℕ → ℕ
 requested a = merge 8 (decided a) 0 (named a)
 
 -- an entry w of the list, and the step that it is made of
-pub record Entry (want : ℕ → ℕ) (image : List ℕ) (step w : Write) : Type 0 where
+pub record Entry (want : ℕ → ℕ) (image : List ℕ) (step : Step) (w : Write) : Type 0 where
   pub carries : Carrying (w .address) (getD image (w .address) 0) (requested (w .address)) (want (w .address)) (w .value)
   -- the holds and the mute are the step's
-  pub stepped : under (decided (w .address)) (w .value) ≡ step .value
+  pub stepped : under (decided (w .address)) (w .value) ≡ step .raised
   -- "a hold write to 0x4A has the other named hold 0": AVI's is 0x4A[6], audio's 0x4A[5]
   pub otherHold : w .address ≡ reg.infoframeUpdate → bit 6 (w .value) + bit 5 (w .value) ≤ 1
 
@@ -36,4 +34,4 @@ pub record Entry (want : ℕ → ℕ) (image : List ℕ) (step w : Write) : Type
 abbrev pub Entries : (ℕ → ℕ) → List ℕ → Type 0
 Entries want image =
     (k : ℕ) → k < length (writeList want image)
-    → Entry want image (getD (steps (planned want image)) k (0 gets 0)) (getD (writeList want image) k (0 gets 0))
+    → Entry want image (getD (steps (middleOf want image)) k (0 raising 0)) (getD (writeList want image) k (0 gets 0))

@@ -10,7 +10,7 @@ use Rattle.lists.specs.Find.{every}
 use Rattle.map.specs.Map as reg
 use Rattle.registers.specs.Steps.{table14, others}
 use Rattle.chip.specs.Machine.{Write, audio, packets, up, holdsOf}
-use Rattle.plan.specs.List.{writeList, isWritten}
+use Rattle.writes.specs.List.{writeList, isWritten}
 
 -- count addresses from `first` on
 abbrev pub run : ℕ → ℕ → List ℕ

@@ -8,22 +8,26 @@ use lib.ListN.{length}
 use Rattle.lists.specs.Among.{among}
 use Rattle.lists.specs.Find.{every}
 use Rattle.chip.specs.Machine.{Write, audio, packets, up, holdsOf}
-use Rattle.plan.specs.List.{middle, steps, written, writeList, isWritten}
-use Rattle.cut.specs.Order.{inSteps, joined, rises, addresses, Order}
-use Rattle.cut.proofs.Last.{last, some, last-step, final-some}
+use Rattle.writes.specs.Steps.{Step, middle, steps}
+use Rattle.writes.specs.List.{written, writeList, isWritten}
+use Rattle.writes.specs.Order.{inSteps, joined, rises, addresses, Order}
+use Rattle.writes.proofs.Last.{last, some, last-step, final-some}
+
+abbrev places : List Step → List ℕ
+places = map (λ i. i .register)
 
 -- a register that a list writes has a last step
-among-last : (a : ℕ) (is : List Write) (o : ℕ) → (among a (addresses is) || some o) ≡ some (last a is o)
+among-last : (a : ℕ) (is : List Step) (o : ℕ) → (among a (places is) || some o) ≡ some (last a is o)
 among-last a [] o = refl
-among-last a (i ∷ is) o = go (eqb a (i .address)) (among-last a is (cond (eqb a (i .address)) (suc (i .value)) o))
+among-last a (i ∷ is) o = go (eqb a (i .register)) (among-last a is (cond (eqb a (i .register)) (suc (i .raised)) o))
   where
     top : (x : Bool) → (x || true) ≡ true
     top true = refl
     top false = refl
 
-    go : (r : Bool) → (among a (addresses is) || some (cond r (suc (i .value)) o)) ≡ some (last a is (cond r (suc (i .value)) o))
-        → ((r || among a (addresses is)) || some o) ≡ some (last a is (cond r (suc (i .value)) o))
-    go true h = sym (top (among a (addresses is))) ∙ h
+    go : (r : Bool) → (among a (places is) || some (cond r (suc (i .raised)) o)) ≡ some (last a is (cond r (suc (i .raised)) o))
+        → ((r || among a (places is)) || some o) ≡ some (last a is (cond r (suc (i .raised)) o))
+    go true h = sym (top (among a (places is))) ∙ h
     go false h = h
 
 module _ (want : ℕ → ℕ) (image : List ℕ) where
@@ -44,33 +48,24 @@ module _ (want : ℕ → ℕ) (image : List ℕ) where
   inside true = refl
   inside false = refl
 
-  places : (is : List Write) → addresses (map (written want image) is) ≡ addresses is
+  in-place : (is : List Step) → addresses (map (written want image) is) ≡ places is
   unfolding written
-  places [] = refl
-  places (i ∷ is) = ap (λ (l : List ℕ). i .address ∷ l) (places is)
+  in-place [] = refl
+  in-place (i ∷ is) = ap (λ (l : List ℕ). i .register ∷ l) (in-place is)
 
   exactly : (b : Bool) (a : ℕ) → a < 256 → among a (addresses (listOf b)) ≡ isWritten a
   exactly b a h =
-      ap (among a) (places (steps (middle b))) ∙ none (among a (addresses (steps (middle b)))) ∙ among-last a (steps (middle b)) 0
+      ap (among a) (in-place (steps (middle b))) ∙ none (among a (places (steps (middle b)))) ∙ among-last a (steps (middle b)) 0
       ∙ ap some (last-step b a h) ∙ final-some a
     where
       none : (x : Bool) → x ≡ (x || false)
       none true = refl
       none false = refl
 
-  -- today's number of writes; nothing goes by it
-  count-84 : (b : Bool) → length (listOf b) ≡ 84
-  unfolding middle
-  count-84 true = refl
-  count-84 false = refl
-
   count-128 : (b : Bool) → length (listOf b) ≤ 128
   unfolding middle
   count-128 true = lit≤ tt
   count-128 false = lit≤ tt
-
-  pub count : length (writeList want image) ≡ 84
-  count = count-84 (up audio (holdsOf packets image))
 
   pub in-order : Order want image
   in-order =

@@ -1,0 +1,3 @@
+pub mod Last
+pub mod InOrder
+pub mod Carries

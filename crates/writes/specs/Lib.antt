@@ -1,0 +1,4 @@
+pub mod Steps
+pub mod List
+pub mod Order
+pub mod Carried

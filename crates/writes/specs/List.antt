@@ -1,0 +1,68 @@
+-- Document 01, "The write list". `want a` is the byte whose named bits are wanted in register a.
+use mathlib.Core.Bool.{Bool, cond, not, _&&_, _||_}
+use mathlib.Core.List.{List, [], _∷_, _++_, map}
+use Prim.Native.Nat.{ℕ, _+_}
+use lib.Dec.{eqb}
+use lib.ListN.{length, getD, drop}
+use Rattle.lists.specs.Among.{among}
+use Rattle.bits.specs.Merge.{merge}
+use Rattle.map.specs.Map as reg
+use Rattle.registers.specs.Classes.{readOnly, free, named, bits}
+use Rattle.registers.specs.Steps.{table14, hasNamed, inRun}
+use Rattle.chip.specs.Machine.{Write, _gets_, Group, up, avi, audio, gc, packets, holdsOf}
+use Rattle.writes.specs.Steps.{Step, _raising_, middle, steps}
+
+-- the bits of a register that steps decide: "a hold write to 0x4A has the other named hold 0". What they do to an entry of the list: `Entry`.
+unfoldable pub decided : ℕ → ℕ
+decided a =
+    cond (eqb a reg.infoframeUpdate) (reg.aviPacketUpdateMask + reg.audioInfoframePacketUpdateMask)
+    (cond (eqb a reg.coefficientUpdate) reg.coefficientUpdateMask (cond (eqb a reg.gc) (reg.clearAvMuteMask + reg.setAvMuteMask) 0))
+
+-- "Each written byte carries its mandated bits, the image's free and read-only bits and the wanted named bits"; in these words: `Carrying`
+unfoldable pub byte : ℕ → ℕ → ℕ → ℕ
+byte a old wanted = merge 8 (readOnly a) old (merge 8 (free a) old (merge 8 (named a) wanted (bits a)))
+
+-- a step, with the byte that it writes on an image
+unfoldable pub written : (ℕ → ℕ) → List ℕ → Step → Write
+written want image step =
+    step .register gets
+    byte (step .register) (getD image (step .register) 0) (merge 8 (decided (step .register)) (step .raised) (want (step .register)))
+
+-- a list by its steps between mute and open
+abbrev pub listWith : ((ℕ → ℕ) → List ℕ → List Step) → (ℕ → ℕ) → List ℕ → List Write
+listWith between want image = map (written want image) (steps (between want image))
+
+abbrev pub middleOf : (ℕ → ℕ) → List ℕ → List Step
+middleOf want image = middle (up audio (holdsOf packets image))
+
+-- the write list for an image
+abbrev pub writeList : (ℕ → ℕ) → List ℕ → List Write
+writeList = listWith middleOf
+
+-- the list as bytes, "Pairs of address and value"
+unfoldable pub flat : List Write → List ℕ
+flat [] = []
+flat (w ∷ ws) = w .address ∷ w .value ∷ flat ws
+
+-- a list at the front of a buffer: "buffer bytes after the list stay"
+abbrev pub fronted : List Write → List ℕ → List ℕ
+fronted ws buffer = flat ws ++ drop (length (flat ws)) buffer
+
+-- the registers that the list writes: those with a named bit, those of the two packets, those of Table 14
+abbrev pub covers : Group → ℕ → Bool
+covers g = inRun (g .first) (g .count)
+
+unfoldable pub isWritten : ℕ → Bool
+isWritten a = hasNamed a || covers avi a || covers audio a || among a table14
+
+-- what a register's last step raises: holds down, and the picture open
+abbrev pub leftUp : ℕ → ℕ
+leftUp a = cond (eqb a reg.gc) reg.clearAvMuteMask 0
+
+-- the finished image, register by register: each of these with its mandated and wanted bits, holds down and the picture open; every other as it was
+unfoldable pub finished : (ℕ → ℕ) → List ℕ → ℕ → ℕ
+finished want image a = cond (isWritten a) (written want image (a raising leftUp a) .value) (getD image a 0)
+
+-- refusal 8 does not apply: GC hold down, and not both other holds up
+abbrev pub ready : List ℕ → Bool
+ready image = let n : ℕ = holdsOf packets image in not (up gc n) && not (up avi n && up audio n)
