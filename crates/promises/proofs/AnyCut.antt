@@ -21,8 +21,8 @@ use Rattle.plan.specs.Plan.{laterRefusal, refusalOf, writesOf, planOf, bufferOf
 use Rattle.plan.proofs.Ordered.{refusals}
 use Rattle.cut.specs.Demand.{Demand3, cut, done}
 use Rattle.cut.proofs.WriteList.{holds}
-use Rattle.cut.proofs.InOrder.{in-order}
-use Rattle.cut.proofs.Carries.{entries}
+use Rattle.writes.proofs.InOrder.{in-order}
+use Rattle.writes.proofs.Carries.{entries}
 use Rattle.decode.specs.Ends.{bytesOf, Acceptable, Stands}
 use Rattle.decode.specs.Theorems.{Ran}
 use Rattle.decode.proofs.Ranged.{Ranged, read-ranged}
