@@ -1,3 +1,4 @@
 pub mod Last
 pub mod InOrder
 pub mod Carries
+pub mod Image

@@ -10,7 +10,7 @@ use Rattle.map.specs.Map as reg
 use Rattle.registers.specs.Classes.{readOnly, free, named, bits}
 use Rattle.registers.specs.Steps.{table14, hasNamed, inRun}
 use Rattle.chip.specs.Machine.{Write, _gets_, Group, up, avi, audio, gc, packets, holdsOf}
-use Rattle.writes.specs.Steps.{Step, _raising_, middle, steps}
+use Rattle.writes.specs.Steps.{Step, from, _raising_, middle, steps}
 
 -- the bits of a register that steps decide: "a hold write to 0x4A has the other named hold 0". What they do to an entry of the list: `Entry`.
 unfoldable pub decided : ℕ → ℕ
@@ -62,6 +62,10 @@ leftUp a = cond (eqb a reg.gc) reg.clearAvMuteMask 0
 -- the finished image, register by register: each of these with its mandated and wanted bits, holds down and the picture open; every other as it was
 unfoldable pub finished : (ℕ → ℕ) → List ℕ → ℕ → ℕ
 finished want image a = cond (isWritten a) (written want image (a raising leftUp a) .value) (getD image a 0)
+
+-- the finished image whole: 256 bytes
+unfoldable pub finishedImage : (ℕ → ℕ) → List ℕ → List ℕ
+finishedImage want image = map (finished want image) (from 0 256)
 
 -- refusal 8 does not apply: GC hold down, and not both other holds up
 abbrev pub ready : List ℕ → Bool

@@ -2,7 +2,7 @@
 use mathlib.Core.Path.{_≡_}
 use mathlib.Core.Bool.{Bool, true, cond, _&&_}
 use mathlib.Core.List.{List, [], _∷_, _++_, map}
-use Prim.Native.Nat.{ℕ, zero, suc, _<_, _≤_}
+use Prim.Native.Nat.{ℕ, _<_, _≤_}
 use lib.Dec.{ltb}
 use lib.ListN.{length}
 use Rattle.lists.specs.Among.{among}
@@ -10,24 +10,20 @@ use Rattle.lists.specs.Find.{every}
 use Rattle.map.specs.Map as reg
 use Rattle.registers.specs.Steps.{table14, others}
 use Rattle.chip.specs.Machine.{Write, audio, packets, up, holdsOf}
+use Rattle.writes.specs.Steps.{from}
 use Rattle.writes.specs.List.{writeList, isWritten}
 
--- count addresses from `first` on
-abbrev pub run : ℕ → ℕ → List ℕ
-run first zero = []
-run first (suc count) = first ∷ run (suc first) count
-
 abbrev pub aviStep : List (List ℕ)
-aviStep = (reg.infoframeUpdate ∷ []) ∷ run reg.aviInfoframeVersion reg.aviInfoframeCount ∷ (reg.infoframeUpdate ∷ []) ∷ []
+aviStep = (reg.infoframeUpdate ∷ []) ∷ from reg.aviInfoframeVersion reg.aviInfoframeCount ∷ (reg.infoframeUpdate ∷ []) ∷ []
 
 abbrev pub audioStep : List (List ℕ)
-audioStep = (reg.infoframeUpdate ∷ []) ∷ run reg.audioInfoframeVersion reg.audioInfoframeCount ∷ (reg.infoframeUpdate ∷ []) ∷ []
+audioStep = (reg.infoframeUpdate ∷ []) ∷ from reg.audioInfoframeVersion reg.audioInfoframeCount ∷ (reg.infoframeUpdate ∷ []) ∷ []
 
 -- "Order: mute; Table 14 registers; coefficient hold up, 0x18 to 0x2F .., hold down; AVI hold up, its registers, hold down; audio likewise;
 -- the other named registers ..; open." "If the audio hold is up at the start, audio goes before AVI."
 abbrev pub inSteps : Bool → List (List ℕ)
 inSteps audioFirst =
-    (reg.gc ∷ []) ∷ table14 ∷ (reg.coefficientUpdate ∷ []) ∷ run reg.csc reg.cscCount ∷ (reg.coefficientUpdate ∷ []) ∷
+    (reg.gc ∷ []) ∷ table14 ∷ (reg.coefficientUpdate ∷ []) ∷ from reg.csc reg.cscCount ∷ (reg.coefficientUpdate ∷ []) ∷
     cond audioFirst (audioStep ++ aviStep) (aviStep ++ audioStep) ++ others ∷ (reg.gc ∷ []) ∷ []
 
 abbrev pub joined : List (List ℕ) → List ℕ

@@ -14,14 +14,18 @@ infix 80 _raising_
 abbrev pub _raising_ : ℕ → ℕ → Step
 register raising raised = record { register = register; raised = raised }
 
--- count registers from `first` on
-abbrev pub span : ℕ → ℕ → List Step
-span first zero = []
-span first (suc count) = first raising 0 ∷ span (suc first) count
+-- count addresses from `first` on
+abbrev pub from : ℕ → ℕ → List ℕ
+from first zero = []
+from first (suc count) = first ∷ from (suc first) count
 
+-- a step for each register
 abbrev pub each : List ℕ → List Step
 each [] = []
 each (a ∷ rest) = a raising 0 ∷ each rest
+
+abbrev pub span : ℕ → ℕ → List Step
+span first count = each (from first count)
 
 -- "coefficient hold up, 0x18 to 0x2F with the hold kept up, hold down"
 abbrev pub coefficientSteps : List Step
