@@ -68,11 +68,11 @@ fine input image buffer z =
     go false er l el h eh p ep b eb z = absurd (false≢true (sym er ∙ eq-eqb _ _ z))
 
 -- and back, on any image with that length and those holds
-accepted : (input image buffer : List ℕ) → Fine input image buffer → refusalOf input image buffer ≡ 0
+pub accepted : (input image buffer : List ℕ) → Fine input image buffer → refusalOf input image buffer ≡ 0
 unfolding refusalOf laterRefusal
 accepted input image buffer f = rw (eq-eqb _ 0 (f .read), eq-eqb _ 256 (f .whole), f .clear, f .paired, f .long)
 
-answer : (input image buffer : List ℕ) → refusalOf input image buffer ≡ 0 → planOf input image buffer .refusal ≡ 0
+pub answer : (input image buffer : List ℕ) → refusalOf input image buffer ≡ 0 → planOf input image buffer .refusal ≡ 0
 unfolding planOf
 answer input image buffer z = rw z
 

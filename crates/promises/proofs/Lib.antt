@@ -1,3 +1,4 @@
 pub mod Cases
 pub mod AnyCut
 pub mod AnyInput
+pub mod Example

@@ -3,3 +3,4 @@ pub mod AnyInput
 pub mod Settled
 pub mod Rules
 pub mod AnyCut
+pub mod Example

@@ -8,6 +8,7 @@ ghost use Rattle.plan.specs.Plan.{planOf};
 ghost use Rattle.promises.specs.AnyCut.{AnyCut};
 ghost use Rattle.promises.specs.AnyInput.{Demand1};
 ghost use Rattle.promises.specs.Cases.{MarkedCases};
+ghost use Rattle.promises.specs.Example.{Example};
 ghost use Rattle.promises.specs.Rules.{Demand2, OnSomeImage};
 ghost use Rattle.promises.specs.Settled.{Settled};
 
@@ -39,4 +40,9 @@ pub fn on_some_image()
 // Demand 3: whatever request is accepted, whatever the chip's two buffers hold, wherever the run is cut.
 pub fn demand_3()
     ensures { λ _. ⌜ ((input buffer : List ℕ) (s : Chip) → planOf input (s .image) buffer .refusal ≡ 0 → AnyCut input buffer s) ⌝ }
+{}
+
+// "Take an accepted request": demands 2 and 3 are not empty.
+pub fn worked_example()
+    ensures { λ _. ⌜ Example ⌝ }
 {}

@@ -1,0 +1,30 @@
+-- The worked example is accepted: what is read of it computes once, and of an image only its length and its holds count. Assumes nothing.
+use mathlib.Core.Path.{_≡_, refl}
+use mathlib.Core.Bool.{true}
+use mathlib.Core.List.{List}
+use Prim.Native.Nat.{ℕ}
+use lib.Dec.{eqb}
+use lib.ListN.{length}
+use Rattle.clock.specs.Gcd.{steps, gcdOf}
+use Rattle.clock.specs.Modes.{modeOf, clockOf}
+use Rattle.clock.specs.Pairs.{reference, recommendedOf}
+use Rattle.clock.specs.Found.{nearestK, nearestIn, nearestOf, exactly, coherentOf, pairOf}
+use Rattle.request.specs.Sections.{walk, walked}
+use Rattle.request.specs.Read.{outside, combined, judged, readOf, pairFor}
+use Rattle.plan.specs.List.{ready}
+use Rattle.promises.specs.Example.{example, zeros, IsAccepted, Example}
+use Rattle.promises.proofs.AnyCut.{Fine, accepted, answer}
+
+read : readOf example .refusal ≡ 0
+unfolding walk walked outside combined judged readOf modeOf clockOf
+read = refl
+
+paired : eqb (pairFor (readOf example .request) .refusal) 0 ≡ true
+unfolding steps gcdOf modeOf clockOf reference recommendedOf nearestK nearestIn nearestOf exactly coherentOf pairOf walk walked outside combined judged readOf pairFor
+paired = refl
+
+on : (image : List ℕ) → length image ≡ 256 → ready image ≡ true → IsAccepted image
+on image whole clear = answer example image zeros (accepted example image zeros (record { read = read; whole = whole; clear = clear; paired = paired; long = refl }))
+
+pub worked : Example
+worked = record { onZeros = on zeros refl refl; withAvi = (refl, on _ refl refl); withAudio = (refl, on _ refl refl); withMatrix = (refl, on _ refl refl) }
