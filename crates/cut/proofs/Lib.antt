@@ -1,3 +1,4 @@
+pub mod Retry
 pub mod Latch
 pub mod Bank
 pub mod Bytes

@@ -1,13 +1,21 @@
-// Demand 3: a theorem, no code.
+// Demand 3: theorems, no code.
 ghost use mathlib.Core.Path.{_≡_};
 ghost use mathlib.Core.Bool.{true};
-ghost use Prim.Native.Nat.{ℕ};
+ghost use mathlib.Core.List.{List};
+ghost use Prim.Native.Nat.{ℕ, _<_};
 ghost use lib.ListN.{length};
 ghost use Rattle.chip.specs.declared.Chip.{Chip};
 ghost use Rattle.writes.specs.List.{writeList, ready};
+ghost use Rattle.cut.specs.Run.{Event, event, happens, cut, Retried};
 ghost use Rattle.cut.specs.Demand.{Demand3};
 
 // "a chip in a state from which it was accepted, and a cut after any write": whatever is wanted and whatever the two buffers hold.
 pub fn any_cut()
     ensures { λ _. ⌜ ((want : ℕ → ℕ) (s : Chip) → length (s .image) ≡ 256 → ready (s .image) ≡ true → Demand3 writeList want s) ⌝ }
+{}
+
+// A bus that retries: of any list, from any state, as long as none of its events is refused.
+pub fn retried_run()
+    ensures { λ _. ⌜ ((es : List Event) (s : Chip) → length (s .image) ≡ 256
+        → ((k : ℕ) → k < length es → happens (event es k) (cut es s k) .refusal ≡ 0) → (n : ℕ → ℕ) → Retried n es s) ⌝ }
 {}

@@ -11,7 +11,7 @@ use Rattle.clock.specs.Pairs.{reference, recommendedOf}
 use Rattle.clock.specs.Found.{nearestK, nearestIn, nearestOf, exactly, coherentOf, pairOf}
 use Rattle.request.specs.Sections.{walk, walked}
 use Rattle.request.specs.Read.{outside, combined, judged, readOf, pairFor}
-use Rattle.plan.specs.List.{ready}
+use Rattle.writes.specs.List.{ready}
 use Rattle.promises.specs.Example.{example, zeros, IsAccepted, Example}
 use Rattle.promises.proofs.AnyCut.{Fine, accepted, answer}
 

@@ -1,0 +1,155 @@
+-- A write that was taken, sent again, is taken and changes nothing; so a run whose events are repeated goes through the same states. Assumes
+-- nothing.
+use mathlib.Core.Path.{_≡_, refl, sym, ap, _∙_}
+use mathlib.Core.Bool.{Bool, true, false, false≢true, cond, not, _&&_, _||_}
+use mathlib.Core.List.{List, [], _∷_, _++_}
+use Prim.Native.Nat.{ℕ, zero, suc, _-_, _<_, suc-le-suc}
+use native.Mathlib.Nat.{not-suc-le-zero, le-of-suc-le-suc, zero-lt-suc}
+use native.Mathlib.Omega.{arith}
+use lib.ListN.{length, getD, set, take, replicate}
+use lib.Seq.{take-nil}
+use Rattle.lists.specs.Find.{every}
+use Rattle.bits.specs.Merge.{merge}
+use Rattle.bits.proofs.Laws.{merge-left}
+use Rattle.registers.specs.Classes.{readOnly}
+use Rattle.chip.specs.declared.Chip.{Chip}
+use Rattle.chip.specs.declared.Wrote.{Wrote}
+use Rattle.chip.specs.Machine.{Write, Group, packets, converter, up, holdsOf, put, stored, imageAfter, two, refuses, writeOf}
+use Rattle.chip.proofs.Writes.{stepped}
+use Rattle.cut.specs.Run.{Event, write, happens, run, cut, event, retried, begun, Retried}
+
+-- a byte that was stored is stored again as it is
+merge-set : (l : List ℕ) (a m v : ℕ) → merge 8 m (getD (set l a (merge 8 m (getD l a 0) v)) a 0) v ≡ merge 8 m (getD l a 0) v
+merge-set [] a m v = refl
+merge-set (x ∷ xs) zero m v = merge-left 8 m x v v
+merge-set (x ∷ xs) (suc a) m v = merge-set xs a m v
+
+set-set : (l : List ℕ) (a x : ℕ) → set (set l a x) a x ≡ set l a x
+set-set [] a x = refl
+set-set (y ∷ ys) zero x = refl
+set-set (y ∷ ys) (suc a) x = ap (λ (l : List ℕ). y ∷ l) (set-set ys a x)
+
+-- where the holds stay none of them rises
+none-rises : (n : ℕ) (gs : List Group) → every (λ g. not (up g n && not (up g n))) gs ≡ true
+none-rises n [] = refl
+none-rises n (g ∷ gs) = go (up g n) (none-rises n gs)
+  where
+    go : (u : Bool) {more : Bool} → more ≡ true → (not (u && not u) && more) ≡ true
+    go true h = h
+    go false h = h
+
+sized-after : (s : Chip) (a v : ℕ) → length (s .image) ≡ 256 → length (writeOf s a v .chip .image) ≡ 256
+sized-after s a v z = stepped s a v z .sized ∙ z
+
+took : (s : Chip) (a v : ℕ) → refuses s a v ≡ false → writeOf s a v ≡ record { refusal = 0; chip = put a (stored a v (s .image)) s }
+unfolding writeOf
+took s a v e = rw e
+
+module _ (s : Chip) (a v : ℕ) (z : length (s .image) ≡ 256) (taken : writeOf s a v .refusal ≡ 0) where
+  kept-up : refuses s a v ≡ false
+  unfolding writeOf
+  kept-up = go (refuses s a v) taken
+    where
+      go : (r : Bool) → cond {A = Wrote} r (record { refusal = 13; chip = s }) (record { refusal = 0; chip = put a (stored a v (s .image)) s }) .refusal ≡ 0
+          → r ≡ false
+      go true e = absurd (omega arith)
+      go false e = refl
+
+  abbrev t : Chip
+  t = writeOf s a v .chip
+
+  left : t .image ≡ imageAfter s a v
+  unfolding put
+  left = ap (λ (w : Wrote). w .chip .image) (took s a v kept-up)
+
+  stays : imageAfter t a v ≡ t .image
+  unfolding stored
+  stays = rw left (ap (set (imageAfter s a v) a) (merge-set (s .image) a (readOnly a) v) ∙ set-set (s .image) a _)
+
+  let-in : refuses t a v ≡ false
+  unfolding refuses
+  let-in = rw (stays, left) (twice (two (holdsOf packets (s .image))) (two (holdsOf packets (imageAfter s a v))) kept-up)
+    where
+      twice : (x y : Bool) → (x || y) ≡ false → (y || y) ≡ false
+      twice true y e = absurd (false≢true (sym e))
+      twice false false e = refl
+      twice false true e = absurd (false≢true (sym e))
+
+  packet-stays : writeOf t a v .chip .packet ≡ t .packet
+  packet-stays = stepped t a v (sized-after s a v z) .packet (rw stays (none-rises (holdsOf packets (t .image)) (packets .groups)))
+
+  coefficients-stay : writeOf t a v .chip .coefficients ≡ t .coefficients
+  coefficients-stay = stepped t a v (sized-after s a v z) .coefficients (rw stays (none-rises (holdsOf converter (t .image)) (converter .groups)))
+
+  image-stays : writeOf t a v .chip .image ≡ t .image
+  unfolding put
+  image-stays = ap (λ (w : Wrote). w .chip .image) (took t a v let-in) ∙ stays
+
+  pub sent-again : writeOf t a v ≡ record { refusal = 0; chip = t }
+  sent-again =
+      let w : Wrote = writeOf t a v in
+      ap (λ (x : Wrote). record { refusal = x .refusal; chip = w .chip }) (took t a v let-in)
+      ∙ ap (λ (i : List ℕ). record { refusal = 0; chip = record { image = i; packet = w .chip .packet; coefficients = w .chip .coefficients } }) image-stays
+      ∙ ap (λ (p : List ℕ). record { refusal = 0; chip = record { image = t .image; packet = p; coefficients = w .chip .coefficients } }) packet-stays
+      ∙ ap (λ (c : List ℕ). record { refusal = 0; chip = record { image = t .image; packet = t .packet; coefficients = c } }) coefficients-stay
+
+-- ---- a list of events
+
+abbrev Sized : Chip → Type 0
+Sized s = length (s .image) ≡ 256
+
+-- none is refused where it happens
+abbrev Taken : List Event → Chip → Type 0
+Taken es s = (k : ℕ) → k < length es → happens (event es k) (cut es s k) .refusal ≡ 0
+
+sized-happens : (e : Event) (s : Chip) → Sized s → Sized (happens e s .chip)
+sized-happens (write w) s z = sized-after s (w .address) (w .value) z
+
+again : (e : Event) (s : Chip) → Sized s → happens e s .refusal ≡ 0 → happens e (happens e s .chip) ≡ record { refusal = 0; chip = happens e s .chip }
+again (write w) s z h = sent-again s (w .address) (w .value) z h
+
+-- an event that changes nothing, any number of times before the others
+module _ (e : Event) (t : Chip) (idle : happens e t ≡ record { refusal = 0; chip = t }) where
+  idle-run : (m : ℕ) (es : List Event) → run (replicate m e ++ es) t ≡ run es t
+  idle-run zero es = refl
+  idle-run (suc m) es = ap (λ (w : Wrote). run (replicate m e ++ es) (w .chip)) idle ∙ idle-run m es
+
+  idle-cut : (m : ℕ) (es : List Event) (k : ℕ) → cut (replicate m e ++ es) t k ≡ cut es t (k - m)
+  idle-cut zero es k = let e : k ≡ k - 0 = omega arith in ap (cut es t) e
+  idle-cut (suc m) es zero = let e : 0 ≡ 0 - suc m = omega arith in ap (cut es t) e
+  idle-cut (suc m) es (suc k) =
+      let d : k - m ≡ suc k - suc m = omega arith in
+      ap (λ (w : Wrote). cut (replicate m e ++ es) (w .chip) k) idle ∙ idle-cut m es k ∙ ap (cut es t) d
+
+  idle-taken : (m : ℕ) (es : List Event) → Taken es t → Taken (replicate m e ++ es) t
+  idle-taken zero es h k l = h k l
+  idle-taken (suc m) es h zero l = ap (λ (w : Wrote). w .refusal) idle
+  idle-taken (suc m) es h (suc k) l =
+      ap (λ (w : Wrote). happens (event (replicate m e ++ es) k) (cut (replicate m e ++ es) (w .chip) k) .refusal) idle
+      ∙ idle-taken m es h k (le-of-suc-le-suc l)
+
+pub retries : (es : List Event) (s : Chip) → Sized s → Taken es s → (n : ℕ → ℕ) → Retried n es s
+retries [] s z h n = record { cuts = λ k. ap (λ (es : List Event). run es s) (take-nil k); taken = λ k l. absurd (not-suc-le-zero l); ends = refl }
+retries (e ∷ es) s z h n =
+    let more : ℕ → ℕ = λ k. n (suc k) in
+    let t : Chip = happens e s .chip in
+    let now : happens e s .refusal ≡ 0 = h 0 (zero-lt-suc _) in
+    let idle : happens e t ≡ record { refusal = 0; chip = t } = again e s z now in
+    let rest : Retried more es t = retries es t (sized-happens e s z) (λ k l. h (suc k) (suc-le-suc l)) more in
+    record {
+      cuts = cuts e es s n idle rest;
+      taken = taken e es s n now idle rest;
+      ends = idle-run e t idle (n 0) (retried more es) ∙ rest .ends;
+    }
+  where
+    cuts : (e : Event) (es : List Event) (s : Chip) (n : ℕ → ℕ) → happens e (happens e s .chip) ≡ record { refusal = 0; chip = happens e s .chip }
+        → Retried (λ k. n (suc k)) es (happens e s .chip) → (k : ℕ) → cut (retried n (e ∷ es)) s k ≡ cut (e ∷ es) s (begun n (e ∷ es) k)
+    cuts e es s n idle rest zero = refl
+    cuts e es s n idle rest (suc k) = idle-cut e (happens e s .chip) idle (n 0) (retried (λ k. n (suc k)) es) k ∙ rest .cuts (k - n 0)
+
+    taken : (e : Event) (es : List Event) (s : Chip) (n : ℕ → ℕ) → happens e s .refusal ≡ 0
+        → happens e (happens e s .chip) ≡ record { refusal = 0; chip = happens e s .chip }
+        → Retried (λ k. n (suc k)) es (happens e s .chip) → Taken (retried n (e ∷ es)) s
+    taken e es s n now idle rest zero l = now
+    taken e es s n now idle rest (suc k) l =
+        idle-taken e (happens e s .chip) idle (n 0) (retried (λ k. n (suc k)) es) (rest .taken) k (le-of-suc-le-suc l)

@@ -1,0 +1,116 @@
+-- Runs of the chip machine over a list of events, whoever made the list: what a careful one does at every cut. "Old" is what is in use at the
+-- start, "new" what is in use at the end.
+use mathlib.Core.Path.{_≡_}
+use mathlib.Core.Logic.{_⊎_, _≢_}
+use mathlib.Core.Bool.{true, false}
+use mathlib.Core.List.{List, [], _∷_, _++_}
+use Prim.Native.Nat.{ℕ, zero, suc, _-_, _<_, _≤_}
+use lib.ListN.{length, getD, take, replicate}
+use Rattle.bits.specs.Merge.{under, bit}
+use Rattle.map.specs.Map as reg
+use Rattle.registers.specs.Classes.{readOnly, mandated, free, bits}
+use Rattle.chip.specs.declared.Chip.{Chip}
+use Rattle.chip.specs.declared.Wrote.{Wrote}
+use Rattle.chip.specs.Machine.{Write, _gets_, avi, audio, packets, writeOf, inUse, coefficients, mute}
+use Rattle.writes.specs.List.{isWritten}
+
+-- what happens to the chip: document 01 knows writes alone
+pub data Event : Type 0 where
+  write : Write → Event
+
+-- the number of its refusal, and the state after it; a refused write changes nothing
+abbrev pub happens : Event → Chip → Wrote
+happens (write w) s = writeOf s (w .address) (w .value)
+
+-- the state after a list of events
+abbrev pub run : List Event → Chip → Chip
+run [] s = s
+run (e ∷ es) s = run es (happens e s .chip)
+
+-- "a cut after any write": the state after the first k
+abbrev pub cut : List Event → Chip → ℕ → Chip
+cut es s k = run (take k es) s
+
+-- the event at place k
+abbrev pub event : List Event → ℕ → Event
+event es k = getD es k (write (0 gets 0))
+
+-- ---- what is in use
+
+-- "the AVI InfoFrame, the audio InfoFrame and the twelve matrix coefficients in use"
+pub record InUse : Type 0 where
+  pub avi : List ℕ
+  pub audio : List ℕ
+  pub matrix : List ℕ
+
+abbrev pub allInUse : Chip → InUse
+allInUse s = record { avi = inUse packets avi s; audio = inUse packets audio s; matrix = coefficients s }
+
+-- "each all old or all new"
+abbrev pub Either : List ℕ → List ℕ → List ℕ → Type 0
+Either old new x = (x ≡ old) ⊎ (x ≡ new)
+
+-- "the picture is muted, and the AVI InfoFrame, the audio InfoFrame and the twelve matrix coefficients in use are each all old or all new"
+pub record Between (old new : InUse) (t : Chip) : Type 0 where
+  pub muted : mute t ≡ 1
+  pub avi : Either (old .avi) (new .avi) (inUse packets avi t)
+  pub audio : Either (old .audio) (new .audio) (inUse packets audio t)
+  pub matrix : Either (old .matrix) (new .matrix) (coefficients t)
+
+-- ---- a careful list
+
+-- a write to a register with a named bit, of one of the two packets or of Table 14, that "carries its mandated bits, the image's free .. bits"
+pub record Fair (image : List ℕ) (w : Write) : Type 0 where
+  pub itsRegister : isWritten (w .address) ≡ true
+  pub itsMandated : under (mandated (w .address)) (w .value) ≡ under (mandated (w .address)) (bits (w .address))
+  pub itsFree : under (free (w .address)) (w .value) ≡ under (free (w .address)) (getD image (w .address) 0)
+
+abbrev pub IsFair : Event → Chip → Type 0
+IsFair (write w) s = Fair (s .image) w
+
+pub record Careful (es : List Event) (s : Chip) : Type 0 where
+  -- every event is fair where it happens, and none is refused (13): "two packet holds are up, or the write would leave two up"
+  pub fair : (k : ℕ) → k < length es → IsFair (event es k) (cut es s k)
+  pub taken : (k : ℕ) → k < length es → happens (event es k) (cut es s k) .refusal ≡ 0
+  -- "From the first write until the last the picture is muted, and .. each all old or all new."
+  pub between : (k : ℕ) → 0 < k → k < length es → Between (allInUse s) (allInUse (run es s)) (cut es s k)
+
+-- ---- what such a run leaves alone, and when a register may move
+
+-- bit j of register a is in t what it is in s
+abbrev pub Stays : ℕ → ℕ → Chip → Chip → Type 0
+Stays a j s t = bit j (getD (t .image) a 0) ≡ bit j (getD (s .image) a 0)
+
+pub record Covered (es : List Event) (s : Chip) : Type 0 where
+  -- "where the chip takes the VIC from 0x3C, that is outside the group and the mute covers it": an event that moves any register but the
+  -- mute's own has the picture muted before it and after it
+  pub moves : (a k : ℕ) → a ≢ reg.gc → getD (cut es s (suc k) .image) a 0 ≢ getD (cut es s k .image) a 0
+      → (mute (cut es s k) ≡ 1) × (mute (cut es s (suc k)) ≡ 1)
+  pub vic : (k : ℕ) → getD (cut es s k .image) reg.vicManual 0 ≢ getD (s .image) reg.vicManual 0
+      → (mute (cut es s k) ≡ 1) ⊎ (length es ≤ k)
+
+-- "HDCP and CEC are never built, and their bits (0xAF[7], 0xAF[4] among them) stay as the image has them": no cut has moved these two, nor any
+-- free or read-only bit, nor any register that no list writes
+pub record Kept (es : List Event) (s : Chip) : Type 0 where
+  pub protection : (k : ℕ) → Stays reg.hdcpHdmiCfg 7 s (cut es s k) × Stays reg.hdcpHdmiCfg 4 s (cut es s k)
+  pub bits : (a j k : ℕ) → j < 8 → (bit j (free a) ≡ 1) ⊎ (bit j (readOnly a) ≡ 1) → Stays a j s (cut es s k)
+  pub unwritten : (a k : ℕ) → a < 256 → isWritten a ≡ false → getD (cut es s k .image) a 0 ≡ getD (s .image) a 0
+
+-- ---- a bus that retries
+
+-- each event happens, and so often again: n k times the one at place k
+abbrev pub retried : (ℕ → ℕ) → List Event → List Event
+retried n [] = []
+retried n (e ∷ es) = e ∷ replicate (n 0) e ++ retried (λ k. n (suc k)) es
+
+-- the number of events of the list that the first k of these are made of
+abbrev pub begun : (ℕ → ℕ) → List Event → ℕ → ℕ
+begun n [] k = 0
+begun n (e ∷ es) zero = 0
+begun n (e ∷ es) (suc k) = suc (begun (λ i. n (suc i)) es (k - n 0))
+
+-- the same states, one after the other, and the same end
+pub record Retried (n : ℕ → ℕ) (es : List Event) (s : Chip) : Type 0 where
+  pub cuts : (k : ℕ) → cut (retried n es) s k ≡ cut es s (begun n es k)
+  pub taken : (k : ℕ) → k < length (retried n es) → happens (event (retried n es) k) (cut (retried n es) s k) .refusal ≡ 0
+  pub ends : run (retried n es) s ≡ run es s
