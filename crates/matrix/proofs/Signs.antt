@@ -11,7 +11,7 @@ use lib.IntN.{ℤ, pos, negsuc}
 use lib.Signed.{leZ-yes}
 use lib.Pow.{pow-pos}
 use borrow.Author.Tests.{lt-ltb, le-ltb, le-leb, ltb-true, ltb-false, leb-true}
-use Rattle.matrix.specs.Coefficient.{signed, bitsOf, within, field, word, Spans, TwosComplement, Sent, Carried}
+use Rattle.matrix.specs.Coefficient.{signed, bitsOf, within, field, word, Spans, TwosComplement, Sent, Said}
 use Rattle.matrix.proofs.Order.{pos-le, of-pos-le, negsuc-le, of-negsuc-le}
 
 -- the two halves of the bits, at every width
@@ -82,7 +82,7 @@ sent w h = record {
       (inside w e);
 }
 
-pub carried : (c : ℕ) → c < 8192 → Carried c
+pub carried : (c : ℕ) → c < 8192 → Said c
 carried c h = let r = go (ltb c 4096) refl in record { range = r .0; same = r .1 }
   where
     go : (b : Bool) → ltb c 4096 ≡ b

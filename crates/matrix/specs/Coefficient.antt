@@ -55,6 +55,6 @@ pub record Sent (w : ℕ) : Type 0 where
   pub same : within w ≡ true → valueOf (field w) ≡ signed 15 w
 
 -- the bytes of a field are within the request's range, and say that field
-pub record Carried (c : ℕ) : Type 0 where
+pub record Said (c : ℕ) : Type 0 where
   pub range : within (word (highByte c) (c % 256)) ≡ true
   pub same : field (word (highByte c) (c % 256)) ≡ c

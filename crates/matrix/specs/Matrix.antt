@@ -38,8 +38,8 @@ abbrev pub noMatrix : Matrix
 noMatrix = record { on = 0; mode = 1; coefficients = 2048 ∷ 0 ∷ 0 ∷ 0 ∷ 0 ∷ 2048 ∷ 0 ∷ 0 ∷ 0 ∷ 0 ∷ 2048 ∷ 0 ∷ [] }
 
 -- what is read of a body, allowed or not
-abbrev pub readOf : List ℕ → Matrix
-readOf body = cond (isAllowed body) (matrixOf body) noMatrix
+abbrev pub allowedMatrix : List ℕ → Matrix
+allowedMatrix body = cond (isAllowed body) (matrixOf body) noMatrix
 
 abbrev pub Bytes : List ℕ → Type 0
 Bytes body = (i : ℕ) → getD body i 0 < 256

@@ -1,14 +1,14 @@
 -- Document 01, "Matrix": the preview.
 use mathlib.Core.Path.{_≡_}
 use mathlib.Core.Bool.{Bool, cond, _||_, not}
-use mathlib.Core.Logic.{_⊎_}
+use mathlib.Core.Logic.{_⊎_, _≢_}
 use mathlib.Core.List.{List, [], _∷_}
 use Prim.Native.Nat.{ℕ, _+_, _*_, _^_, _<_, _≤_, min}
 use lib.Dec.{ltb}
 use lib.ListN.{getD}
 use lib.IntN.{ℤ, pos, negsuc, _+ℤ_, _*ℤ_}
 use lib.Signed.{shrZ, _≤ℤ_, _<ℤ_}
-use Rattle.refusals.specs.Rows.{Row, fieldOutOfRange, inputAbove, number, Condition, _when_}
+use Rattle.refusals.specs.Rows.{fieldOutOfRange, inputAbove, Condition, _when_, Given, Test, _if_, lowest, answer}
 use Rattle.matrix.specs.declared.Matrix.{Matrix}
 use Rattle.matrix.specs.declared.Pixel.{Pixel}
 use Rattle.matrix.specs.Coefficient.{valueOf}
@@ -37,20 +37,32 @@ outputOf m row a b c =
 abbrev pub above : ℕ → ℕ → ℕ → Bool
 above a b c = ltb 4095 a || ltb 4095 b || ltb 4095 c
 
--- a refusal has its number, and zeros beside it
-abbrev pub refused : Row → Pixel
-refused row = record { refusal = number row; a = 0; b = 0; c = 0 }
+-- the tests of the two rows: a mode or coefficient out of range, or a matrix not of 25 bytes; an input above 4095
+abbrev pub previewTests : List ℕ → ℕ → ℕ → ℕ → List Test
+previewTests body a b c = fieldOutOfRange if not (isAllowed body) ∷ inputAbove if above a b c ∷ []
 
--- refusal 5: a mode or coefficient out of range, or a matrix not of 25 bytes; refusal 12: an input above 4095
+-- a refusal has its number, and zeros beside it
+abbrev pub noPixel : ℕ → Pixel
+noPixel number = record { refusal = number; a = 0; b = 0; c = 0 }
+
+-- what the preview answers; `PreviewRefusals` ties its refusals to document 01's rows, `RoundedDown` and `Clamped` its codes
 unfoldable pub previewOf : List ℕ → ℕ → ℕ → ℕ → Pixel
 previewOf body a b c =
-    cond (not (isAllowed body)) (refused fieldOutOfRange)
-    (cond (above a b c) (refused inputAbove)
-    (record { refusal = 0; a = outputOf (matrixOf body) 0 a b c; b = outputOf (matrixOf body) 1 a b c; c = outputOf (matrixOf body) 2 a b c }))
+    answer (lowest (previewTests body a b c)) noPixel
+    (record { refusal = 0; a = outputOf (matrixOf body) 0 a b c; b = outputOf (matrixOf body) 1 a b c; c = outputOf (matrixOf body) 2 a b c })
+
+-- what the preview promises
+abbrev pub Previews : List ℕ → ℕ → ℕ → ℕ → Pixel → Type 0
+Previews body a b c pixel = pixel ≡ previewOf body a b c
 
 -- "the preview 5 and 12": when each applies, on the raw input
 abbrev pub previewRules : List ℕ → ℕ → ℕ → ℕ → List Condition
 previewRules body a b c = fieldOutOfRange when (Allowed body → ⊥) ∷ inputAbove when ((4095 < a) ⊎ (4095 < b) ⊎ (4095 < c)) ∷ []
+
+pub record PreviewRefusals (body : List ℕ) (a b c : ℕ) : Type 0 where
+  pub given : Given (previewRules body a b c) (previewOf body a b c .refusal)
+  -- zeros beside a refusal
+  pub zeros : previewOf body a b c .refusal ≢ 0 → let p : Pixel = previewOf body a b c in (p .a ≡ 0) × (p .b ≡ 0) × (p .c ≡ 0)
 
 -- q is z / 4096 rounded down: what `shrZ z 4096` is
 pub record RoundedDown (z q : ℤ) : Type 0 where

@@ -5,11 +5,10 @@ ghost use Prim.Native.Nat.{ℕ, _+_, _*_, _%_, _^_, _<_, _≤_};
 ghost use lib.ListN.{getD, length};
 ghost use lib.IntN.{ℤ};
 ghost use lib.Signed.{shrZ};
-ghost use Rattle.refusals.specs.Rows.{Given};
 ghost use Rattle.matrix.specs.declared.Matrix.{Matrix};
-ghost use Rattle.matrix.specs.Coefficient.{word, field, highByte, TwosComplement, Sent, Carried};
-ghost use Rattle.matrix.specs.Matrix.{twelveOf, isAllowed, readOf, noMatrix, wordAt, Bytes, Numbers};
-ghost use Rattle.matrix.specs.Preview.{held, codeOf, outputOf, previewOf, previewRules, RoundedDown, Clamped};
+ghost use Rattle.matrix.specs.Coefficient.{word, field, highByte, TwosComplement, Sent, Said};
+ghost use Rattle.matrix.specs.Matrix.{twelveOf, isAllowed, allowedMatrix, noMatrix, wordAt, Bytes, Numbers};
+ghost use Rattle.matrix.specs.Preview.{held, codeOf, outputOf, Previews, PreviewRefusals, RoundedDown, Clamped};
 use refusals::Refusal;
 
 // What the converter is set to: on or off, the CSC mode, and A1 to A4, B1 to B4, C1 to C4 as fields of 13 bits.
@@ -99,7 +98,7 @@ pub fn fits(body: &[u8]) -> bool
 
 // The matrix of a body that fits; no matrix of one that does not.
 pub fn read(body: &[u8]) -> Matrix
-    ensures { λ r. ⌜ r ≡ readOf (now (body .entry)) ⌝ }
+    ensures { λ r. ⌜ r ≡ allowedMatrix (now (body .entry)) ⌝ }
 {
     if !fits(body) {
         return none();
@@ -185,7 +184,7 @@ fn output(m: Matrix, row: usize, a: u32, b: u32, c: u32) -> u16
 
 // Three codes through the matrix of a body: refusals 5 and 12.
 pub fn preview(body: &[u8], a: u32, b: u32, c: u32) -> Pixel
-    ensures { λ r. ⌜ r ≡ previewOf (now (body .entry)) a b c ⌝ }
+    ensures { λ r. ⌜ Previews (now (body .entry)) a b c r ⌝ }
 {
     if !fits(body) {
         return Pixel {
@@ -227,7 +226,7 @@ pub fn sent_coefficient()
 
 // The bytes of a field say that field.
 pub fn carried_coefficient()
-    ensures { λ _. ⌜ ((c : ℕ) → c < 8192 → Carried c) ⌝ }
+    ensures { λ _. ⌜ ((c : ℕ) → c < 8192 → Said c) ⌝ }
 {}
 
 // What a body says, number by number.
@@ -243,5 +242,5 @@ pub fn rounds_and_holds()
 
 // The preview's refusals: the earliest that applies is given, and none otherwise.
 pub fn preview_refusals()
-    ensures { λ _. ⌜ ((body : List ℕ) → Bytes body → (a b c : ℕ) → Given (previewRules body a b c) (previewOf body a b c .refusal)) ⌝ }
+    ensures { λ _. ⌜ ((body : List ℕ) → Bytes body → (a b c : ℕ) → PreviewRefusals body a b c) ⌝ }
 {}

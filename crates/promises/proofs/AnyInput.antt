@@ -11,7 +11,7 @@ use Rattle.clock.specs.declared.NCts.{NCts}
 use Rattle.clock.specs.Modes.{offered, clockOf}
 use Rattle.clock.specs.Pairs.{recommendedOf}
 use Rattle.clock.specs.Found.{numbered, leastK, mostK, nearestIn, nearestOf, exactly, coherentOf, pairOf}
-use Rattle.matrix.proofs.Codes.{given}
+use Rattle.matrix.proofs.Codes as preview
 use Rattle.request.specs.declared.Sound.{Sound}
 use Rattle.request.specs.declared.Sound.the-variants.{Off, On}
 use Rattle.request.specs.Read.{readOf, nctsOf, pairIn, pairFor}
@@ -96,7 +96,7 @@ any-input = record {
   decoding = decoding.refusals;
   request = rows;
   pair = ncts-zeroed;
-  preview = given;
+  preview = preview.refusals;
   write = entered;
   view = views;
   matrix = converts;

@@ -4,9 +4,8 @@ use mathlib.Core.Path.{_≡_}
 use mathlib.Core.Logic.{_≢_}
 use mathlib.Core.List.{List}
 use Prim.Native.Nat.{ℕ}
-use Rattle.refusals.specs.Rows.{Given}
 use Rattle.matrix.specs.Matrix.{Bytes}
-use Rattle.matrix.specs.Preview.{previewRules, previewOf}
+use Rattle.matrix.specs.Preview.{PreviewRefusals}
 use Rattle.request.specs.Read.{Rows, nctsOf}
 use Rattle.chip.specs.declared.Chip.{Chip}
 use Rattle.chip.specs.View.{Views}
@@ -25,7 +24,7 @@ pub record Demand1 : Type 0 where
   pub request : (request : List ℕ) → Rows request
   pub pair : (request : List ℕ) → nctsOf request .refusal ≢ 0 → (nctsOf request .n ≡ 0) × (nctsOf request .cts ≡ 0)
   -- the preview, 5 and 12
-  pub preview : (matrix : List ℕ) → Bytes matrix → (a b c : ℕ) → Given (previewRules matrix a b c) (previewOf matrix a b c .refusal)
+  pub preview : (matrix : List ℕ) → Bytes matrix → (a b c : ℕ) → PreviewRefusals matrix a b c
   -- a machine write, 7 and 13: a refused one changes nothing
   pub write : (s : Chip) (address value : ℕ) → Enters s address value
   -- a view, 5, 7 and 13; the matrix in use, 7 and 10

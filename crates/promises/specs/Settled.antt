@@ -13,7 +13,7 @@ use Rattle.frames.specs.declared.Avi.{Avi}
 use Rattle.frames.specs.declared.Audio.{Audio}
 use Rattle.frames.specs.Frames.{aviOf, audioOf}
 use Rattle.matrix.specs.declared.Pixel.{Pixel}
-use Rattle.matrix.specs.Preview.{previewOf}
+use Rattle.matrix.specs.Preview.{Previews}
 use Rattle.request.specs.declared.Checked.{Checked}
 use Rattle.request.specs.declared.Line.{Line}
 use Rattle.request.specs.Read.{readOf, nctsOf, lineOf}
@@ -47,7 +47,7 @@ pub record Settled : Type 0 where
   pub read : (request : List ℕ) → Settles {A = Checked} (Is (readOf request))
   pub ncts : (request : List ℕ) → Settles {A = Pair} (Is (nctsOf request))
   pub line : (request : List ℕ) → Settles {A = Line} (Is (lineOf request))
-  pub preview : (matrix : List ℕ) (a b c : ℕ) → Settles {A = Pixel} (Is (previewOf matrix a b c))
+  pub preview : (matrix : List ℕ) (a b c : ℕ) → Settles {A = Pixel} (Previews matrix a b c)
   pub clock : (vic family : ℕ) → Settles {A = Clock} (Is (clockOf vic family))
   pub pair : (vic family rate coherent : ℕ) → Settles {A = Pair} (Is (pairOf vic family rate coherent))
   pub avi : (vic encoding : ℕ) → Settles {A = Avi} (Is (aviOf vic encoding))
