@@ -23,7 +23,7 @@ void any_bytes(uint8_t *bytes, size_t length) {
     }
 }
 
-const uint8_t table_39[25] = { 1, 0x0C, 0x53, 0x08, 0x00, 0x00, 0x00, 0xF9, 0xD6, 0xFC, 0x56, 0x08, 0x00, 0xFE, 0x88, 0x02, 0x91,
+const uint8_t table_39[MATRIX_BYTES] = { 1, 0x0C, 0x53, 0x08, 0x00, 0x00, 0x00, 0xF9, 0xD6, 0xFC, 0x56, 0x08, 0x00, 0xFE, 0x88, 0x02, 0x91,
                                0xFF, 0xFF, 0x08, 0x00, 0x0E, 0x85, 0xF8, 0xBE };
 
 static void any_matrix(struct fields *f) {
@@ -38,40 +38,36 @@ static void any_matrix(struct fields *f) {
     }
 }
 
-void any_fields(struct fields *f) {
-    memset(f, 0, sizeof *f);
-    f->vic = model_vics[any(15)];
-    f->family = (int)any(2);
-    if (!model_offers(f->vic, f->family)) f->family = 0;
-    f->link = any(5) != 0;
-    if (f->link && any(4)) {
-        f->sound = 1;
-        f->rate = (int)any(7);
-        f->channels = any(2) ? 8 : 2;
-        f->coherent = (int)any(2);
-    }
-    if (any(2)) any_matrix(f);
-    if (f->link && f->matrix) f->encoding = (int)any(3);
+static void any_value(struct fields *f, const struct field *row) { *model_field(f, row) = row->values[any((uint32_t)row->count)]; }
+
+static int permitted(const struct fields *f) {
+    uint8_t bytes[LONGEST];
+    struct fields again;
+    return model_read(bytes, model_bytes(f, bytes), &again) == 0;
 }
 
-/* Fields that are likely to be refused 4, 5 or 6. */
+void any_fields(struct fields *f) {
+    do {
+        *f = (struct fields){ .sound = any(3) != 0 };
+        if (any(2)) any_matrix(f);
+        for (const struct field *row = model_fields; row < model_fields + FIELDS; row++)
+            if (model_has(f, row->section)) any_value(f, row);
+    } while (!permitted(f));
+}
+
+/* Fields that are likely to be refused 4, 5 or 6: of each, values a little above those that are allowed, or any. */
 static void loose_fields(struct fields *f) {
     any_fields(f);
-    for (uint32_t n = 1 + any(3); n > 0; n--)           /* more than one, so that the order of the refusals shows */
-        switch (any(12)) {
-        case 0: f->vic = (int)any(256); break;
-        case 1: f->family = (int)any(4); break;
-        case 2: f->encoding = (int)any(5); break;
-        case 3: f->link = (int)any(4); break;
-        case 4: f->rate = (int)any(10); break;
-        case 5: f->channels = (int)any(12); break;
-        case 6: f->coherent = (int)any(4); break;
-        case 7: f->mode = (int)any(6); break;
-        case 8: f->coefficient[any(12)] = (int)any(65536) - 32768; break;
-        case 9: f->coefficient[any(12)] = any(2) ? 4096 : -4097; break;
-        case 10: f->matrix = !f->matrix; break;
-        default: f->sound = !f->sound; break;
-        }
+    for (uint32_t n = 1 + any(3); n > 0; n--) {         /* more than one, so that the order of the refusals shows */
+        uint32_t what = any(FIELDS + 4);
+        if (what < FIELDS) {
+            const struct field *row = &model_fields[what];
+            *model_field(f, row) = any(4) ? row->values[row->count - 1] - 1 + (int)any(4) : (int)any(1u << row->bits);
+        } else if (what == FIELDS) f->coefficient[any(12)] = (int)any(65536) - 32768;
+        else if (what == FIELDS + 1) f->coefficient[any(12)] = any(2) ? 4096 : -4097;
+        else if (what == FIELDS + 2) f->matrix = !f->matrix;
+        else f->sound = !f->sound;
+    }
 }
 
 size_t any_request(uint8_t *bytes, size_t room) {
@@ -95,9 +91,10 @@ size_t any_request(uint8_t *bytes, size_t room) {
     }
     if (how == 7) bytes[any((uint32_t)length)] = (uint8_t)any(256);
     if (how == 8) {                                     /* a count that is not allowed, often the count of another section */
-        static const uint8_t counts[] = { 0, 3, 4, 25, 1, 2, 5, 24, 26, 255 };
-        size_t at[3] = { 0, 5, 6 + bytes[5] };
-        bytes[at[any(3)]] = counts[any(10)];
+        size_t at = 0;
+        for (uint32_t s = any(PARTS); s > 0; s--) at += 1u + bytes[at];
+        uint32_t count = (uint32_t)model_counts[any(PARTS)];
+        bytes[at] = (uint8_t)(any(2) ? count : any(4) ? count - 1 + any(3) : any(256));
     }
     if (how == 9) bytes[any((uint32_t)length)] ^= (uint8_t)(1u << any(8));
     return length;
@@ -185,30 +182,24 @@ void any_start(uint8_t *image, uint8_t *packet, uint8_t *coefficients) {
     image[0x1A] = (uint8_t)((image[0x1A] & 0xDF) | (any(2) ? 0x20 : 0));
 }
 
-int kind_of_request(int number, struct fields *f) {
-    for (int v = 0; v < 15; v++)
-        for (int family = 0; family < 2; family++)
-            for (int link = 0; link < 2; link++)
-                for (int matrix = 0; matrix < 2; matrix++)
-                    for (int encoding = 0; encoding < 3; encoding++)
-                        for (int sound = 0; sound < 29; sound++) {
-                            if (!model_offers(model_vics[v], family)) continue;
-                            if (encoding && (!matrix || !link)) continue;
-                            if (sound && !link) continue;
-                            if (number-- > 0) continue;
-                            memset(f, 0, sizeof *f);
-                            if (matrix) any_matrix(f);
-                            f->vic = model_vics[v];
-                            f->family = family;
-                            f->link = link;
-                            f->encoding = encoding;
-                            if (sound) {
-                                f->sound = 1;
-                                f->rate = (sound - 1) / 4;
-                                f->channels = (sound - 1) / 2 % 2 ? 8 : 2;
-                                f->coherent = (sound - 1) % 2;
-                            }
-                            return 1;
-                        }
-    return 0;
+uint32_t kinds(void) {
+    uint32_t all = 2 * 2;
+    for (int i = 0; i < FIELDS; i++)
+        if (model_fields[i].section != OF_MATRIX) all *= (uint32_t)model_fields[i].count;
+    return all;
+}
+
+int kind_of_request(uint32_t number, struct fields *f) {
+    *f = (struct fields){ .sound = number % 2 };
+    number /= 2;
+    if (number % 2) any_matrix(f);
+    number /= 2;
+    for (const struct field *row = model_fields; row < model_fields + FIELDS; row++) {
+        if (row->section == OF_MATRIX) continue;
+        uint32_t v = number % (uint32_t)row->count;
+        number /= (uint32_t)row->count;
+        if (model_has(f, row->section)) *model_field(f, row) = row->values[v];
+        else if (v) return 0;                           /* a field that is not there has one value */
+    }
+    return permitted(f);
 }

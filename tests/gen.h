@@ -4,7 +4,7 @@
 
 #include "model/model.h"
 
-extern const uint8_t table_39[25];  /* the guide's Table 39 as a request's matrix */
+extern const uint8_t table_39[MATRIX_BYTES];  /* the guide's Table 39 as a request's matrix */
 
 void     seed(uint64_t s);
 uint32_t any(uint32_t below);                           /* 0 .. below - 1 */
@@ -15,7 +15,9 @@ void     any_image(uint8_t *image);                     /* noise, finished, cut,
 void     any_start(uint8_t *image, uint8_t *packet, uint8_t *coefficients);     /* a state that planning accepts */
 void     finish(uint8_t *image, const struct fields *f);
 
-/* Every kind of request: each VIC in each family, encoding, link, sound, matrix on or off. `number` from 0; 0 when there are no more. */
-int kind_of_request(int number, struct fields *f);
+/* Every kind of request: each value of each field of the video and the audio section, sound and matrix on or off. A kind has a number
+ * below `kinds()`; many numbers are of requests that 1 to 6 refuse, and for these the answer is 0. The matrix is any. */
+uint32_t kinds(void);
+int      kind_of_request(uint32_t number, struct fields *f);
 
 #endif

@@ -182,7 +182,7 @@ static void marked(void) {
         { { 0x04, 60, 1, 0, 1, 3, 0, 2, 1, 0 }, 10, 0, 5824, 84375 },
         { { 0x04, 4, 1, 0, 1, 3, 0, 2, 1, 0 }, 10, 9, 0, 0 },
     };
-    uint8_t image[256] = { 0 }, writes[256], coefficients[24] = { 0 }, matrix[25];
+    uint8_t image[256] = { 0 }, writes[256], coefficients[24] = { 0 }, matrix[MATRIX_BYTES];
     for (size_t i = 0; i < sizeof cases / sizeof cases[0]; i++) {
         run.now->cases++;
         struct station_pair p = run.f->ncts(cases[i].bytes, cases[i].length);
@@ -207,24 +207,48 @@ static void marked(void) {
     /* 12: -1578 and -1 as the chip has them in 13 bits. */
     run.now->cases++;
     image[0x1E] = 0x19, image[0x1F] = 0xD6, image[0x28] = 0x1F, image[0x29] = 0xFF;
-    struct station_count m = run.f->matrix(image, 256, coefficients, 24, matrix, 25);
+    struct station_count m = run.f->matrix(image, 256, coefficients, 24, matrix, sizeof matrix);
     if (m.refusal != 0 || model_coefficient(matrix + 7) != -1578 || model_coefficient(matrix + 17) != -1) differs("case 12");
     run.now->cases++;
-    struct station_pixel p = run.f->preview(table_39, 25, 2048, 3760, 2048);
+    struct station_pixel p = run.f->preview(table_39, sizeof table_39, 2048, 3760, 2048);
     if (p.refusal != 0 || p.a != 3759 || p.b != 3760 || p.c != 3760) differs("case 13: %u, %u, %u", p.a, p.b, p.c);
 }
 
-/* Every value of every field, one at a time, in every kind of request; every cut of each, and one byte more. */
+/* Whether a kind of request is tried: all of them where there are few, and else about so many of them, by chance. Every value of every
+ * field comes among them; `met` counts. */
+enum { KINDS = 3000, EVERY = 24 };
+static uint32_t met[FIELDS][16];
+
+static int tries_kind(uint32_t number, uint32_t tried, struct fields *f) {
+    static uint32_t all;
+    if (!all)
+        for (uint32_t n = 0; n < kinds(); n++) all += (uint32_t)kind_of_request(n, f);
+    seed(0x100000u + number);
+    if (!kind_of_request(number, f) || any(all) >= tried) return 0;
+    for (int i = 0; i < FIELDS; i++)
+        for (int v = 0; v < model_fields[i].count; v++)
+            met[i][v] += model_has(f, model_fields[i].section) && *model_field(f, &model_fields[i]) == model_fields[i].values[v];
+    return 1;
+}
+
+static void every_value_met(void) {
+    for (int i = 0; i < FIELDS; i++)
+        for (int v = 0; v < model_fields[i].count; v++)
+            if (!met[i][v]) differs("value %d of field %d was never tried", model_fields[i].values[v], i);
+    memset(met, 0, sizeof met);
+}
+
+/* Every value of every byte, one at a time, in many kinds of request; every cut of each, and one byte more. */
 static void fields(void) {
     uint8_t image[256] = { 0 }, writes[256] = { 0 };
-    for (int i = 0; i < 118 * 25; i += (int)(1 + 250 / times(250))) {
-        struct fields f;
-        uint8_t bytes[64];
-        seed(0x100000u + (unsigned)i);
-        if (!kind_of_request(i, &f)) break;
+    uint32_t count = 0;
+    struct fields f;
+    for (uint32_t i = 0; i < kinds(); i++) {
+        uint8_t bytes[LONGEST + 1];
+        if (!tries_kind(i, times(KINDS), &f)) continue;
         size_t length = model_bytes(&f, bytes);
         check_ncts(bytes, length);
-        if (i % 16) continue;
+        if (count++ % EVERY) continue;
         for (size_t cut = 0; cut <= length + 1; cut++) {
             if (cut == length + 1) bytes[length] = (uint8_t)any(256);
             check_ncts(bytes, cut);
@@ -239,6 +263,7 @@ static void fields(void) {
             bytes[at] = was;
         }
     }
+    if (run.share >= 1000) every_value_met();
 }
 
 static void ncts(void) {
@@ -297,15 +322,15 @@ static void lengths(void) {
             check_plan(request, rl, image, n, buffer, 255);
             check_plan(request, rl, image, 256, buffer, n);
             check_plan(request, rl, image, 255, buffer, n);
-            check_decode(image, n, buffer, 35);
-            check_decode(image, n, buffer, 34);
+            check_decode(image, n, buffer, LONGEST);
+            check_decode(image, n, buffer, LONGEST - 1);
             check_decode(image, 256, buffer, n);
             check_decode(image, 257, buffer, n);
             check_write(image, n, packet, 32, coefficients, 24, 0x4A, 0xC0);
             check_sent(image, n, packet, 32, n % 3);
             check_mute(image, n, packet, 32);
-            check_matrix(image, n, coefficients, 24, buffer, 25);
-            check_matrix(image, n, coefficients, 24, buffer, 24);
+            check_matrix(image, n, coefficients, 24, buffer, MATRIX_BYTES);
+            check_matrix(image, n, coefficients, 24, buffer, MATRIX_BYTES - 1);
             check_matrix(image, 256, coefficients, 24, buffer, n);
             check_preview(buffer, n, 1, 2, 3);
             if (n >= 64) continue;
@@ -313,7 +338,7 @@ static void lengths(void) {
             check_write(image, 256, packet, 32, coefficients, n, 0x1A, 0x20);
             check_sent(image, 256, packet, n, n % 3);
             check_mute(image, 256, packet, n);
-            check_matrix(image, 256, coefficients, n, buffer, 25);
+            check_matrix(image, 256, coefficients, n, buffer, MATRIX_BYTES);
         }
     }
 }
@@ -325,13 +350,14 @@ static void decode(void) {
         any_bytes(image + 256, 8);
         any_image(image);
         any_bytes(buffer, sizeof buffer);
-        check_decode(image, any(16) ? 256 : any_length(256, sizeof image), buffer, any(4) ? 35 + any(30) : any_length(35, sizeof buffer));
+        size_t il = any(16) ? 256 : any_length(256, sizeof image);
+        check_decode(image, il, buffer, any(4) ? LONGEST + any(30) : any_length(LONGEST, sizeof buffer));
     }
 }
 
 /* Each of the 2,048 bits of some finished images turned over. */
 static void flips(void) {
-    uint8_t image[256], buffer[40];
+    uint8_t image[256], buffer[LONGEST + 5];
     for (uint32_t i = times(24); i > 0; i--) {
         struct fields f;
         seed(0x600000u + i);
@@ -348,18 +374,26 @@ static void flips(void) {
     }
 }
 
-/* The model's own short cut in decoding, against the search over every kind of request. */
-static void whole_search(void) {
-    uint8_t image[256], one[LONGEST], two[LONGEST];
+/* The model's own short cut in decoding: against the search with one field free, for each field, with the sections free, and, on fewer
+ * images, over every kind of request. */
+static void same_search(const uint8_t *image, int free) {
+    uint8_t one[LONGEST], two[LONGEST];
+    struct fields f, g;
+    run.now->cases++;
+    int short_cut = model_ends(image, NONE_FREE, &f), longer = model_ends(image, free, &g);
+    if (short_cut != longer) differs("the model's two searches");
+    else if (longer && (model_bytes(&f, one) != model_bytes(&g, two) || memcmp(one, two, model_bytes(&f, one)) != 0))
+        differs("the model's two requests");
+}
+
+static void search(void) {
+    uint8_t image[256];
     for (uint32_t i = times(1500); i > 0; i--) {
-        struct fields f, g;
         seed(0x700000u + i);
-        run.now->cases++;
         any_image(image);
-        int short_cut = model_ends(image, 0, &f), whole = model_ends(image, 1, &g);
-        if (short_cut != whole) differs("the model's two searches");
-        else if (whole && (model_bytes(&f, one) != model_bytes(&g, two) || memcmp(one, two, model_bytes(&f, one)) != 0))
-            differs("the model's two requests");
+        for (int field = 0; field < FIELDS; field++) same_search(image, field);
+        same_search(image, SECTIONS_FREE);
+        if (i <= times(100)) same_search(image, ALL_FREE);
     }
 }
 
@@ -410,7 +444,8 @@ static void views(void) {
         size_t il = any_length(256, sizeof image), pl = any_length(32, sizeof packet);
         check_sent(image, il, packet, pl, any(8) ? any(2) : any(3) ? 2 + any(2) : 1u << any(32));
         check_mute(image, il, packet, pl);
-        check_matrix(image, il, coefficients, any_length(24, sizeof coefficients), matrix, any(2) ? 25 + any(20) : any_length(25, 64));
+        size_t cl = any_length(COEFFICIENT_BYTES, sizeof coefficients);
+        check_matrix(image, il, coefficients, cl, matrix, any(2) ? MATRIX_BYTES + any(20) : any_length(MATRIX_BYTES, sizeof matrix));
     }
 }
 
@@ -421,11 +456,11 @@ static void preview(void) {
         uint32_t in[3];
         seed(0xB00000u + i);
         do any_fields(&f); while (!f.matrix);
-        memcpy(matrix, request + model_bytes(&f, request) - 25, 25);
-        if (any(8) == 0) matrix[any(25)] ^= (uint8_t)(1u << any(8));
+        memcpy(matrix, request + model_bytes(&f, request) - MATRIX_BYTES, MATRIX_BYTES);
+        if (any(8) == 0) matrix[any(MATRIX_BYTES)] ^= (uint8_t)(1u << any(8));
         if (any(16) == 0) matrix[0] = (uint8_t)any(256);
         for (int c = 0; c < 3; c++) in[c] = any(8) ? any(4096) : any(2) ? 4095 + any(2) : any(4) * 0x55555555u + any(3);
-        check_preview(matrix, any_length(25, sizeof matrix), in[0], in[1], in[2]);
+        check_preview(matrix, any_length(MATRIX_BYTES, sizeof matrix), in[0], in[1], in[2]);
     }
 }
 
@@ -436,7 +471,7 @@ struct groups { uint8_t avi[AVI_BYTES], audio[AUDIO_BYTES], matrix[24]; uint32_t
 
 /* What is in use, by the library's views. The chip lies at guard pages. */
 static int look(const struct chip *c, struct groups *g) {
-    uint8_t matrix[25];
+    uint8_t matrix[MATRIX_BYTES];
     const uint8_t *image = lend(IMAGE, c->image, 256, ENDS), *packet = lend(PACKET, c->packet, PACKET_BYTES, ENDS);
     struct station_part avi = run.f->sent(image, 256, packet, PACKET_BYTES, 0), audio = run.f->sent(image, 256, packet, PACKET_BYTES, 1);
     struct station_state mute = run.f->mute(image, 256, packet, PACKET_BYTES);
@@ -465,7 +500,8 @@ static struct station_count planned(const uint8_t *request, size_t rl, const str
 
 static int sent_to(struct chip *c, const uint8_t *list, uint32_t from, uint32_t to) {
     for (uint32_t w = from; w < to; w++)
-        if (run.f->write(c->image, 256, c->packet, PACKET_BYTES, c->coefficients, COEFFICIENT_BYTES, list[2 * w], list[2 * w + 1])) return 0;
+        if (run.f->write(c->image, 256, c->packet, PACKET_BYTES, c->coefficients, COEFFICIENT_BYTES, list[2 * w], list[2 * w + 1]))
+            return 0;
     return 1;
 }
 
@@ -473,18 +509,23 @@ static int sent_to(struct chip *c, const uint8_t *list, uint32_t from, uint32_t 
 static void finished(const uint8_t *bytes, size_t length, const struct fields *f, const struct chip *start, const struct chip *end,
                      const struct groups *new) {
     uint8_t wanted[256], done[256], avi[AVI_BYTES], audio[AUDIO_BYTES], back[LONGEST], asked[LONGEST];
+    struct fields answer = *f;
     model_wanted(f, model_pair(f), wanted);
     model_finished(wanted, start->image, done);
     model_avi(f, avi);
     model_audio(f, audio);
     if (memcmp(done, end->image, 256)) differs("VIC %d: the finished image is another", f->vic);
     /* The reserved bits beside version and length are free, so they are the image's. */
-    if (memcmp(avi + 2, new->avi + 2, AVI_BYTES - 2) || (new->avi[0] & 7) != 2 || (new->avi[1] & 31) != 13) differs("the AVI group at the end");
+    if (memcmp(avi + 2, new->avi + 2, AVI_BYTES - 2) || (new->avi[0] & 7) != 2 || (new->avi[1] & 31) != 13)
+        differs("the AVI group at the end");
     if (memcmp(audio + 2, new->audio + 2, AUDIO_BYTES - 2) || (new->audio[0] & 7) != 1 || (new->audio[1] & 31) != 10)
         differs("the audio group at the end");
     if (f->matrix && memcmp(new->matrix, bytes + length - 24, 24)) differs("the matrix group at the end");
-    memcpy(asked, bytes, length);
-    asked[2] = 0;
+    for (const struct field *row = model_fields; row < model_fields + FIELDS; row++)
+        if (row->shown && model_has(f, row->section) && row->shown(end->image) != *model_field(&answer, row))
+            differs("VIC %d: field %d is shown otherwise", f->vic, (int)(row - model_fields));
+    answer.family = 0;
+    model_bytes(&answer, asked);
     struct station_count d = run.f->decode(end->image, 256, back, sizeof back);
     if (d.refusal || d.count != length || memcmp(asked, back, length)) differs("VIC %d: the finished image decodes otherwise", f->vic);
 }
@@ -492,12 +533,11 @@ static void finished(const uint8_t *bytes, size_t length, const struct fields *f
 /* Every cut of every kind of request: muted, old or new, planned again. */
 static void cuts(void) {
     struct fields f;
-    for (int i = 0; ; i += run.share < 1000 ? 1 + 2950 / (int)times(2950) : 1) {
+    for (uint32_t i = 0; i < kinds(); i++) {
         uint8_t bytes[LONGEST], list[256], again[256];
         struct chip start, c, end, redone;
         struct groups old, new, g;
-        seed(0xC00000u + (unsigned)i);
-        if (!kind_of_request(i, &f)) break;
+        if (!tries_kind(i, times(KINDS), &f)) continue;
         size_t length = model_bytes(&f, bytes);
         any_start(start.image, start.packet, start.coefficients);
         start.image[0x4A] = (uint8_t)((start.image[0x4A] & 0x8F) | (const uint8_t[]){ 0, 0x20, 0x40 }[i % 3]);
@@ -539,6 +579,7 @@ static void cuts(void) {
             if (!same(&g, &new) || g.mute != 2) differs("VIC %d: planned again after write %u: another group", f.vic, cut);
         }
     }
+    if (run.share >= 1000) every_value_met();
 }
 
 /* Cut, planned again, cut again, some times over; then another request over the ruins. */
@@ -586,7 +627,7 @@ static const struct { const char *name; void (*run)(void); } sections[SECTIONS] 
     { "every length", lengths },
     { "decoding", decode },
     { "every bit of finished images", flips },
-    { "the model's search", whole_search },
+    { "the model's search", search },
     { "machine writes", writes },
     { "views", views },
     { "preview", preview },

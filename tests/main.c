@@ -73,7 +73,8 @@ static int line(void) {
     model_read(input, length, &f);
     model_avi(&f, avi);
     model_audio(&f, audio);
-    return printf("accepted vic %u n %u cts %u avi %02x audio %02x\n", (unsigned)f.vic, (unsigned)p.n, (unsigned)p.cts, avi[2], audio[2]) < 0;
+    return printf("accepted vic %u n %u cts %u avi %02x audio %02x\n", (unsigned)f.vic, (unsigned)p.n, (unsigned)p.cts, avi[2],
+                  audio[2]) < 0;
 }
 
 int main(int count, char **words) {

@@ -1,7 +1,7 @@
 /* Modes and clocks; N and CTS. The exact pair is found by trying every N, once for each clock and rate. */
 #include "model.h"
 
-const int model_vics[15] = { 1, 2, 3, 4, 5, 16, 17, 18, 19, 20, 31, 32, 34, 60, 62 };
+const int model_vics[VICS] = { 1, 2, 3, 4, 5, 16, 17, 18, 19, 20, 31, 32, 34, 60, 62 };
 
 uint32_t model_hertz(int vic) {
     switch (vic) {
@@ -22,17 +22,17 @@ int model_offers(int vic, int family) {
     return model_hertz(vic) != 0 && (family == 0 || (family == 1 && !only_0));
 }
 
-static const uint64_t rates[7] = { 32000, 44100, 48000, 88200, 96000, 176400, 192000 };
+static const uint64_t rates[RATES] = { 32000, 44100, 48000, 88200, 96000, 176400, 192000 };
 
 /* The row "Other" of Tables 80 to 82. */
-static const uint32_t other[7] = { 4096, 6272, 6144, 12544, 12288, 25088, 24576 };
+static const uint32_t other[RATES] = { 4096, 6272, 6144, 12544, 12288, 25088, 24576 };
 
 /* Tables 80 to 82, the rows that one of our clocks has, for 32, 44.1, 48, 88.2, 96, 176.4, 192 kHz. Where 000 misprints, HDMI 1.4's
  * numbers: CTS 165000 for 148.5 MHz at 44.1 kHz and its multiples (printed 16500), N 23296 and 11648 for 74.25/1.001 and 148.5/1.001 at
  * 96 kHz (printed 35672 and 17836). The clock is hertz * top / bottom. */
 static const struct {
     uint64_t hertz, top, bottom;
-    uint32_t n[7], cts[7];
+    uint32_t n[RATES], cts[RATES];
 } recommended[] = {
     { 25200000, 1000, 1001, { 4576, 7007, 6864, 14014, 13728, 28028, 27456 }, { 28125, 31250, 28125, 31250, 28125, 31250, 28125 } },
     { 25200000, 1, 1, { 4096, 6272, 6144, 12544, 12288, 25088, 24576 }, { 25200, 28000, 25200, 28000, 25200, 28000, 25200 } },
@@ -73,8 +73,8 @@ static struct pair coherent(int vic, int family, int rate) {
 }
 
 struct pair model_pair(const struct fields *f) {
-    static struct pair known[64][2][7];
-    static char asked[64][2][7];
+    static struct pair known[64][2][RATES];
+    static char asked[64][2][RATES];
     if (!f->sound) return (struct pair){ 1, 6144, 0 };
     if (!f->coherent) return (struct pair){ 1, other[f->rate], 0 };
     if (!asked[f->vic][f->family][f->rate]) {

@@ -1,75 +1,47 @@
-/* Decoding, as document 01 has it: is there a request, in one of its families, that ends in this image? Every kind of request is tried.
- * Only the matrix is read off the image, since no other value of it could stand there; without `all` also the VIC, the encoding, the link
- * and whether there is a matrix, for speed. The harness compares the two. */
-#include <string.h>
+/* Decoding, as document 01 has it: is there a request, in one of its families, that ends in this image? Every request is tried whose fields
+ * are as the image shows them; the harness tries the others too, and that none of them stands. The matrix is read off the image in any
+ * case, since no other value of it could stand there. */
 #include "model.h"
 
-/* What a kind of request wants, but for its matrix, kept: every call below would work it out again. */
-static const uint8_t *kept(int v, int kind, const struct fields *f) {
-    static struct { char asked, ends; uint8_t wanted[256]; } memory[15][2][3 * 2 * 2 * 29];
-    if (!memory[v][f->family][kind].asked) {
-        uint8_t bytes[LONGEST];
-        struct fields plain = *f, again;
-        plain.mode = 0;
-        for (int i = 0; i < 12; i++) plain.coefficient[i] = 0;
-        memory[v][f->family][kind].asked = 1;
-        if (model_read(bytes, model_bytes(&plain, bytes), &again) == 0) {
-            struct pair p = model_pair(&plain);
-            memory[v][f->family][kind].ends = (char)p.exists;
-            model_wanted(&plain, p, memory[v][f->family][kind].wanted);
-        }
-    }
-    return memory[v][f->family][kind].ends ? memory[v][f->family][kind].wanted : NULL;
+static int ends_in(const struct fields *f, const uint8_t *image) {
+    uint8_t bytes[LONGEST], wanted[IMAGE_BYTES];
+    struct fields again;
+    if (model_read(bytes, model_bytes(f, bytes), &again) != 0) return 0;
+    struct pair p = model_pair(f);
+    if (!p.exists) return 0;
+    model_wanted(f, p, wanted);
+    return model_stands(wanted, image);
 }
 
-static int tried(const uint8_t *image, int v, int kind, struct fields *f) {
-    if (f->matrix && f->mode > 2) return 0;
-    for (f->family = 0; f->family < 2; f->family++) {
-        const uint8_t *wanted = kept(v, kind, f);
-        uint8_t with_matrix[256];
-        if (!wanted) continue;
-        if (f->matrix) {
-            memcpy(with_matrix, wanted, 256);
-            for (int a = 0x18; a <= 0x2F; a++) with_matrix[a] = image[a];
-            with_matrix[0x18] |= 0x80;                      /* enabled, and the hold down */
-            with_matrix[0x1A] &= 0x1F;
-            wanted = with_matrix;
-        }
-        if (model_stands(wanted, image)) {
-            f->family = 0;
-            return 1;
-        }
+/* The fields from a row on, each with the values that it could have. */
+static int tried(const uint8_t *image, int row, int free, struct fields *f) {
+    if (row == FIELDS) return ends_in(f, image);
+    const struct field *k = &model_fields[row];
+    if (!model_has(f, k->section) || k->section == OF_MATRIX) return tried(image, row + 1, free, f);
+    int every = free == ALL_FREE || free == row || !k->shown;
+    for (int v = 0; v < k->count; v++) {
+        if (!every && k->values[v] != k->shown(image)) continue;
+        *model_field(f, k) = k->values[v];
+        if (tried(image, row + 1, free, f)) return 1;
     }
     return 0;
 }
 
-int model_ends(const uint8_t *image, int all, struct fields *f) {
-    for (int v = 0; v < 15; v++) {
-        if (!all && model_vics[v] != (image[0x3C] & 0x3F)) continue;
-        for (int kind = 0; kind < 3 * 2 * 2 * 29; kind++) {
-            int rest = kind, sound;
-            *f = (struct fields){ 0 };
-            f->vic = model_vics[v];
-            f->encoding = rest % 3, rest /= 3;
-            f->link = rest % 2, rest /= 2;
-            f->matrix = rest % 2, rest /= 2;
-            int could = f->encoding == (image[0x55] >> 5 & 3) && f->link == (image[0xAF] >> 1 & 1) && f->matrix == image[0x18] >> 7;
-            if (!all && !could) continue;
-            sound = rest;                                   /* 0 off, then rate, channels, coherent */
-            if (sound > 0) {
-                f->sound = 1;
-                f->rate = (sound - 1) / 4;
-                f->channels = (sound - 1) / 2 % 2 ? 8 : 2;
-                f->coherent = (sound - 1) % 2;
+int model_ends(const uint8_t *image, int free, struct fields *f) {
+    int every = free == ALL_FREE || free == SECTIONS_FREE;
+    for (int sections = 0; sections < 4; sections++) {
+        *f = (struct fields){ .sound = sections & 1, .matrix = sections >> 1 };
+        if (!every && (f->sound != (image[0x44] >> 5 & 1) || f->matrix != image[0x18] >> 7)) continue;
+        if (f->matrix) {
+            f->mode = image[0x18] >> 5 & 3;
+            for (int i = 0; i < 12; i++) {
+                int field = (image[0x18 + 2 * i] & 0x1F) * 256 + image[0x19 + 2 * i];
+                f->coefficient[i] = field < 4096 ? field : field - 8192;
             }
-            if (f->matrix) {
-                f->mode = image[0x18] >> 5 & 3;
-                for (int i = 0; i < 12; i++) {
-                    int field = (image[0x18 + 2 * i] & 0x1F) * 256 + image[0x19 + 2 * i];
-                    f->coefficient[i] = field < 4096 ? field : field - 8192;
-                }
-            }
-            if (tried(image, v, kind, f)) return 1;
+        }
+        if (tried(image, 0, free, f)) {
+            f->family = 0;
+            return 1;
         }
     }
     return 0;

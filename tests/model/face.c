@@ -65,7 +65,7 @@ struct station_state model_mute(const uint8_t *image, size_t image_length, const
 struct station_count model_matrix(const uint8_t *image, size_t image_length, const uint8_t *coefficients, size_t coefficients_length,
                                   uint8_t *matrix, size_t matrix_length) {
     if (image_length != IMAGE_BYTES || coefficients_length != COEFFICIENT_BYTES) return (struct station_count){ 7, 0 };
-    if (matrix_length < 25) return (struct station_count){ 10, 0 };
+    if (matrix_length < MATRIX_BYTES) return (struct station_count){ 10, 0 };
     const uint8_t *in_use = image[0x1A] & 0x20 ? coefficients : image + 0x18;
     matrix[0] = image[0x18] >> 5 & 3;                       /* the mode acts at once, hold or no hold */
     for (int i = 0; i < 12; i++) {
@@ -73,7 +73,7 @@ struct station_count model_matrix(const uint8_t *image, size_t image_length, con
         matrix[1 + 2 * i] = high & 0x10 ? high | 0xE0 : high;
         matrix[2 + 2 * i] = in_use[2 * i + 1];
     }
-    return (struct station_count){ 0, 25 };
+    return (struct station_count){ 0, MATRIX_BYTES };
 }
 
 struct station_class model_class(uint8_t address) {

@@ -1,9 +1,11 @@
 /* The wanted named bits, the write list, the finished image. */
 #include "model.h"
 
-/* "R is 8" and the like are frames.c's. Here: every named field, by document 01's sentence; what it gives no value for is at its default. */
+const uint8_t model_rate_codes[RATES] = { 0x3, 0x0, 0x2, 0x8, 0xA, 0xC, 0xE };  /* 32 .. 192 kHz; 88.2 kHz is 1000 */
+
+/* "R is 8" and the like are frames.c's. Here: every named field, by document 01's sentence; what it gives no value for is at its
+ * default. */
 void model_wanted(const struct fields *f, struct pair p, uint8_t *wanted) {
-    static const uint8_t code[7] = { 0x3, 0x0, 0x2, 0x8, 0xA, 0xC, 0xE };   /* 32 .. 192 kHz; 88.2 kHz is 1000 */
     for (int i = 0; i < 256; i++) wanted[i] = 0;
 
     wanted[0x01] = (uint8_t)(p.n >> 16);
@@ -14,7 +16,7 @@ void model_wanted(const struct fields *f, struct pair p, uint8_t *wanted) {
     wanted[0x09] = (uint8_t)p.cts;
     wanted[0x0A] = f->coherent ? 0x80 : 0x00;               /* CTS select; audio select 0 is I2S; mode at its default, 0 */
     wanted[0x0C] = !f->sound ? 0x00 : f->channels == 2 ? 0x04 : 0x3C;   /* I2S0, or all four; standard I2S is 0 */
-    wanted[0x15] = (uint8_t)((f->sound ? code[f->rate] : 0x2) << 4);    /* audio off: the 48 kHz code; input ID 0 */
+    wanted[0x15] = (uint8_t)((f->sound ? model_rate_codes[f->rate] : 0x2) << 4);    /* audio off: the 48 kHz code; input ID 0 */
     wanted[0x16] = f->encoding == 1 ? 0x80 : 0x00;          /* output 4:2:2 */
 
     int mode = 1, k[12] = { 2048, 0, 0, 0, 0, 2048, 0, 0, 0, 0, 2048, 0 };

@@ -10,7 +10,7 @@ static uint32_t code(const int *k, int mode, int64_t a, int64_t b, int64_t c) {
 
 struct station_pixel model_preview(const uint8_t *matrix, size_t length, uint32_t a, uint32_t b, uint32_t c) {
     int k[12];
-    if (length != 25 || matrix[0] > 2) return (struct station_pixel){ 5, 0, 0, 0 };
+    if (length != MATRIX_BYTES || matrix[0] > 2) return (struct station_pixel){ 5, 0, 0, 0 };
     for (int i = 0; i < 12; i++) {
         k[i] = model_coefficient(matrix + 1 + 2 * i);
         if (k[i] < -4096 || k[i] > 4095) return (struct station_pixel){ 5, 0, 0, 0 };

@@ -26,44 +26,49 @@ PUT(decode, muted_is_open)
 
 DECODE(free_bits_count) {
     struct station_count c = { 11, 0 };
-    return il == 256 && rl >= 35 && (i[0x4B] & 0x3F) ? c : RIGHT;
+    return il == 256 && rl >= LONGEST && (i[0x4B] & 0x3F) ? c : RIGHT;
 }
 PUT(decode, free_bits_count)
 
 DECODE(read_only_counts) {
     struct station_count c = { 11, 0 };
-    return il == 256 && rl >= 35 && (i[0x4C] & 1) ? c : RIGHT;
+    return il == 256 && rl >= LONGEST && (i[0x4C] & 1) ? c : RIGHT;
 }
 PUT(decode, read_only_counts)
 
+/* Is the image's CTS not that of the request in family 0? */
+static int other_cts(const struct fields *f, const uint8_t *i) {
+    return f->coherent && model_pair(f).cts != (uint32_t)(i[7] % 16 * 65536 + i[8] * 256 + i[9]);
+}
+
 DECODE(family_1) {
-    uint8_t back[35];
-    struct fields f;
     struct station_count c = RIGHT;
-    if (c.refusal || !r[5]) return c;
-    memcpy(back, r, c.count);
-    if (model_read(back, c.count, &f) == 0 && f.coherent && model_pair(&f).cts != (uint32_t)(i[7] % 16 * 65536 + i[8] * 256 + i[9])) r[2] = 1;
+    if (c.refusal) return c;
+    struct fields f = asked(r, c.count);
+    if (other_cts(&f, i)) {
+        f.family = 1;
+        model_bytes(&f, r);
+    }
     return c;
 }
 PUT(decode, family_1)
 
 DECODE(family_1_refused) {
-    struct fields f;
-    uint8_t back[35];
-    if (il != 256 || rl < 35) return RIGHT;
-    struct station_count c = model_decode(i, 256, back, 35);
-    if (!c.refusal && model_read(back, c.count, &f) == 0 && f.coherent &&
-        model_pair(&f).cts != (uint32_t)(i[7] % 16 * 65536 + i[8] * 256 + i[9]))
-        return (struct station_count){ 11, 0 };
-    return RIGHT;
+    uint8_t back[LONGEST];
+    if (il != 256 || rl < LONGEST) return RIGHT;
+    struct station_count c = model_decode(i, 256, back, LONGEST);
+    struct fields f = asked(back, c.count);
+    return !c.refusal && other_cts(&f, i) ? (struct station_count){ 11, 0 } : RIGHT;
 }
 PUT(decode, family_1_refused)
 
 DECODE(matrix_dropped) {
     struct station_count c = RIGHT;
-    if (!c.refusal && c.count > 30 && r[3] == 0 && r[c.count - 25] == 2) {
-        r[c.count - 26] = 0;
-        c.count -= 25;
+    if (c.refusal) return c;
+    struct fields f = asked(r, c.count);
+    if (f.encoding == 0 && f.mode == 2) {
+        f.matrix = 0;
+        c.count = (uint32_t)model_bytes(&f, r);
     }
     return c;
 }
@@ -78,24 +83,24 @@ PUT(decode, rest_cleared)
 
 DECODE(refusal_writes) {
     struct station_count c = RIGHT;
-    if (c.refusal == 11) r[0] = 4;
+    if (c.refusal == 11) r[0] = VIDEO_BYTES;
     return c;
 }
 PUT(decode, refusal_writes)
 
-DECODE(buffer_of_34) {
-    uint8_t back[35];
-    if (il != 256 || rl != 34) return RIGHT;
-    struct station_count c = model_decode(i, il, back, 35);
+DECODE(short_buffer) {
+    uint8_t back[LONGEST];
+    if (il != 256 || rl != LONGEST - 1) return RIGHT;
+    struct station_count c = model_decode(i, il, back, LONGEST);
     if (!c.refusal && c.count <= rl) memcpy(r, back, c.count);
     return c;
 }
-PUT(decode, buffer_of_34)
+PUT(decode, short_buffer)
 
 DECODE(sign_lost) {
     struct station_count c = RIGHT;
-    if (!c.refusal && c.count > 30)
-        for (uint32_t k = c.count - 24; k < c.count; k += 2) r[k] &= 0x1F;
+    if (!c.refusal && asked(r, c.count).matrix)
+        for (uint32_t k = c.count - COEFFICIENT_BYTES; k < c.count; k += 2) r[k] &= 0x1F;
     return c;
 }
 PUT(decode, sign_lost)
@@ -120,7 +125,7 @@ const struct wrong wrong_decodes[] = {
     { "decoding drops a matrix of mode 2", put_matrix_dropped, 0 },
     { "decoding clears the rest of the buffer", put_rest_cleared, 0 },
     { "refusal 11 writes the buffer", put_refusal_writes, 0 },
-    { "a buffer of 34 bytes accepted", put_buffer_of_34, 0 },
+    { "a buffer one byte too short accepted", put_short_buffer, 0 },
     { "a coefficient's sign lost", put_sign_lost, 0 },
     { "the decoded count counts sections", put_count_in_sections, 0 },
     { NULL, NULL, 0 },

@@ -19,31 +19,31 @@ NCTS(misprint) {
 PUT(ncts, misprint)
 
 NCTS(family_ignored) {
-    uint8_t other[35];
-    if (RIGHT.refusal || r[2] == 0) return RIGHT;
-    memcpy(other, r, rl);
-    other[2] = 0;
-    return model_ncts(other, rl);
+    uint8_t other[LONGEST];
+    struct fields f = asked(r, rl);
+    if (RIGHT.refusal) return RIGHT;
+    f.family = 0;
+    return model_ncts(other, model_bytes(&f, other));
 }
 PUT(ncts, family_ignored)
 
 NCTS(other_row) {
     struct station_pair p = RIGHT;
-    if (!p.refusal && r[1] == 60 && p.cts) p.n = 6144;
+    if (!p.refusal && asked(r, rl).vic == 60 && p.cts) p.n = 6144;
     return p;
 }
 PUT(ncts, other_row)
 
 NCTS(measured_cts) {
     struct station_pair p = RIGHT;
-    if (!p.refusal && !p.cts && r[5]) p.cts = p.n;
+    if (!p.refusal && !p.cts && asked(r, rl).sound) p.cts = p.n;
     return p;
 }
 PUT(ncts, measured_cts)
 
 NCTS(off_is_zero) {
     struct station_pair p = RIGHT;
-    if (!p.refusal && !r[5]) p.n = 0;
+    if (!p.refusal && !asked(r, rl).sound) p.n = 0;
     return p;
 }
 PUT(ncts, off_is_zero)
@@ -53,12 +53,12 @@ PUT(ncts, count_before_end)
 
 NCTS(five_before_four) {
     struct station_pair p = RIGHT;
-    if (p.refusal == 4 && r[3] > 2) p.refusal = 5;
+    if (p.refusal == 4 && asked(r, rl).encoding > 2) p.refusal = 5;
     return p;
 }
 PUT(ncts, five_before_four)
 
-NCTS(long_request_cut) { return model_ncts(r, rl > 35 ? 35 : rl); }
+NCTS(long_request_cut) { return model_ncts(r, rl > LONGEST ? LONGEST : rl); }
 PUT(ncts, long_request_cut)
 
 #define PREVIEW(name) static struct station_pixel name(const uint8_t *m, size_t ml, uint32_t a, uint32_t b, uint32_t c)
@@ -75,11 +75,11 @@ PREVIEW(rounds_up) {
 PUT(preview, rounds_up)
 
 PREVIEW(mode_3) {
-    uint8_t two[25];
-    if (ml != 25 || m[0] != 3) return model_preview(m, ml, a, b, c);
-    memcpy(two, m, 25);
+    uint8_t two[MATRIX_BYTES];
+    if (ml != sizeof two || m[0] != 3) return model_preview(m, ml, a, b, c);
+    memcpy(two, m, sizeof two);
     two[0] = 2;
-    return model_preview(two, 25, a, b, c);
+    return model_preview(two, sizeof two, a, b, c);
 }
 PUT(preview, mode_3)
 
@@ -109,7 +109,7 @@ const struct wrong wrong_numbers[] = {
     { "N 0 with sound off", put_off_is_zero, 0 },
     { "refusal 2 for an empty request", put_count_before_end, 0 },
     { "refusal 5 before 4", put_five_before_four, 0 },
-    { "a long request read only to its 35th byte", put_long_request_cut, 0 },
+    { "a long request read only as far as the longest", put_long_request_cut, 0 },
     { "a preview that rounds to the nearest", put_rounds_up, 0 },
     { "a preview that takes mode 3", put_mode_3, 0 },
     { "a preview that takes an input of 4096", put_input_of_4096, 0 },

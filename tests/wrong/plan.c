@@ -65,7 +65,7 @@ PUT(plan, register_missed)
 
 PLAN(matrix_not_written_when_off) {
     struct station_count c = RIGHT;
-    if (c.refusal || (r[5] ? r[9] : r[6])) return c;
+    if (c.refusal || asked(r, rl).matrix) return c;
     uint32_t first = place(w, c.count, 0x1A, 0), last = place(w, c.count, 0x1A, 2);
     memmove(w + 2 * first, w + 2 * last + 2, 2 * (c.count - last - 1));
     c.count -= last - first + 1;
@@ -134,7 +134,7 @@ PUT(plan, checksum_off)
 
 PLAN(colorimetry_always) {
     struct station_count c = RIGHT;
-    if (!c.refusal && r[3] == 0) w[2 * place(w, c.count, 0x56, 0) + 1] |= 0x80;
+    if (!c.refusal && asked(r, rl).encoding == 0) w[2 * place(w, c.count, 0x56, 0) + 1] |= 0x80;
     return c;
 }
 PUT(plan, colorimetry_always)
@@ -162,7 +162,7 @@ PUT(plan, refusal_writes)
 
 PLAN(count_beside_refusal) {
     struct station_count c = RIGHT;
-    if (c.refusal == 8) c.count = 84;
+    if (c.refusal == 8) c.count = 1;
     return c;
 }
 PUT(plan, count_beside_refusal)
@@ -180,10 +180,11 @@ PUT(plan, longer_image)
 PLAN(shorter_buffer) {
     uint8_t all[256];
     struct station_count c = RIGHT;
-    if (c.refusal != 10 || wl < 2 * 84) return c;
-    c = model_plan(r, rl, i, il, all, 256);
-    memcpy(w, all, 2 * c.count);
-    return c;
+    if (c.refusal != 10) return c;
+    struct station_count d = model_plan(r, rl, i, il, all, 256);
+    if (d.refusal || wl < 2 * d.count) return c;
+    memcpy(w, all, 2 * d.count);
+    return d;
 }
 PUT(plan, shorter_buffer)
 
@@ -239,9 +240,9 @@ PUT(plan, never_ends)
 
 /* The useless versions that document 01 names. */
 PLAN(one_list) {
-    static const uint8_t always[7] = { 4, 16, 0, 0, 1, 0, 0 };
+    uint8_t always[LONGEST];
     struct station_count c = RIGHT;
-    return c.refusal ? c : model_plan(always, 7, i, il, w, wl);
+    return c.refusal ? c : model_plan(always, model_bytes(&(struct fields){ .vic = 16, .link = 1 }, always), i, il, w, wl);
 }
 PUT(plan, one_list)
 

@@ -14,6 +14,13 @@ extern const struct wrong *const wrong_sets[];
 #define PLAN_ARGUMENTS const uint8_t *r, size_t rl, const uint8_t *i, size_t il, uint8_t *w, size_t wl
 #define WRITE_ARGUMENTS uint8_t *i, size_t il, uint8_t *p, size_t pl, uint8_t *c, size_t cl, uint8_t address, uint8_t value
 
+/* The fields of a request, as far as it has its sections. */
+static inline struct fields asked(const uint8_t *r, size_t rl) {
+    struct fields f = { 0 };
+    model_read(r, rl, &f);
+    return f;
+}
+
 /* put_NAME: the call of that name in place of the model's. */
 #define PUT(call, name) static void put_##name(struct face *f) { f->call = name; }
 
