@@ -3,19 +3,22 @@
 #   make host      the example host: then host/run --cut 40 --brief
 #   make bench     planning and decoding, the library against plain C
 #   make tests     tests/run
+#   make peers     Linux's reader of InfoFrames on every packet that we finish; fetches its source (Debian's linux-source), no part of the gate
 LIB      = target/staticlib/libstation.a
 FLAGS    = -std=c99 -D_GNU_SOURCE -Wall -Wextra -O2 -Iinclude
 HEADERS  = include/station.h $(wildcard programs/*.h tests/*.h tests/*/*.h bench/*.h)
 PROGRAMS = $(addprefix target/c/,accident listing vectors)
 BINARIES = $(PROGRAMS) $(addprefix target/c/,host bench tests)
 
-.PHONY: all programs host bench tests
+.PHONY: all programs host bench tests peers
 all: $(BINARIES)
 programs: $(PROGRAMS)
 host: target/c/host
 	@echo "target/c/host is built; run it by host/run [--cut K] [--brief] [BYTE...]"
 bench: target/c/bench
 	@setup=$$(tools/setup) && eval "$$setup" && $$RUN target/c/bench
+peers:
+	@tests/peers/run
 tests:
 	@tests/run
 
