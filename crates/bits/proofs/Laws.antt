@@ -3,7 +3,7 @@ use mathlib.Core.Path.{_≡_, refl, sym, ap, ap₂, _∙_}
 use mathlib.Core.Bool.{Bool, true, false, cond}
 use mathlib.Core.List.{List, [], _∷_}
 use Prim.Native.Nat.{ℕ, zero, suc, _+_, _*_, _/_, _%_, _-_, _^_, min, max, _<_}
-use native.Mathlib.Nat.{not-suc-le-zero, le-of-suc-le-suc}
+use native.Mathlib.Nat.{not-suc-le-zero, le-of-suc-le-suc, div-one, div-div-eq-div-mul, pow-suc, pow-succ'}
 use native.Mathlib.Omega.{arith}
 use lib.Dec.{eqb}
 use borrow.Author.Tests.{eqb-true, eqb-false}
@@ -24,6 +24,20 @@ unfolding merge
 merge-bit zero j m a b h = absurd (not-suc-le-zero h)
 merge-bit (suc k) zero m a b h = low (eqb (m % 2) 1) a b _
 merge-bit (suc k) (suc j) m a b h = ap (λ (n : ℕ). bit j n) (high (eqb (m % 2) 1) a b _) ∙ merge-bit k j (m / 2) (a / 2) (b / 2) (le-of-suc-le-suc h)
+
+-- a bit as code has it, by its mask, and two bits side by side
+pub bit-code : (j n : ℕ) → bit j n ≡ n / 2 ^ j % 2
+bit-code zero n = ap (λ (m : ℕ). m % 2) (sym (div-one n))
+bit-code (suc j) n = bit-code j (n / 2) ∙ ap (λ (m : ℕ). m % 2) (div-div-eq-div-mul n 2 (2 ^ j) ∙ ap (λ (m : ℕ). n / m) (sym (pow-succ' 2 j)))
+
+pub two-bits-code : (j n : ℕ) → bit j n + 2 * bit (suc j) n ≡ n / 2 ^ j % 4
+two-bits-code j n =
+    let q : ℕ = n / 2 ^ j in
+    let h : n / 2 ^ suc j ≡ q / 2 = ap (λ (m : ℕ). n / m) (pow-suc 2 j) ∙ sym (div-div-eq-div-mul n (2 ^ j) 2) in
+    ap₂ (λ (a b : ℕ). a + 2 * b) (bit-code j n) (bit-code (suc j) n ∙ ap (λ (m : ℕ). m % 2) h) ∙ digits q
+  where
+    digits : (q : ℕ) → q % 2 + 2 * (q / 2 % 2) ≡ q % 4
+    digits q = omega arith
 
 -- the merge as code has it: `(a & m) | (b & !m)`
 half-of : (q d : ℕ) → d < 2 → (q * 2 + d) / 2 ≡ q

@@ -16,9 +16,9 @@ use Rattle.refusals.proofs.First.{Tried, test, tried}
 use Rattle.chip.specs.declared.Chip.{Chip}
 use Rattle.chip.specs.declared.view.Part.{Part}
 use Rattle.chip.specs.declared.view.State.{State}
-use Rattle.chip.specs.Machine.{Group, avi, audio, packets, up, holdsOf, two, inUse, mute, part}
+use Rattle.chip.specs.Machine.{Group, avi, audio, packets, up, holdsOf, two, inUse, gcInUse, mute, registersOf}
 use Rattle.chip.specs.View.{asked, lentRefusal, viewRefusal, sentOf, placed, partOf, bytesOf, startOf, muteOf, lentRules, viewRules, Views, Shown}
-use Rattle.chip.proofs.Holds.{gc-bit}
+use Rattle.bits.proofs.Laws.{bit-code, two-bits-code}
 use Rattle.chip.proofs.Writes.{two-up}
 
 -- past a test whose other side is the number of a refusal
@@ -110,7 +110,7 @@ module _ (image packet : List ℕ) where
     bytes = go (eqb (viewRefusal image packet which) 0) (up g (holdsOf packets image))
       where
         go : (b t : Bool) → bytesOf (cond b (placed t (g .first) (g .count)) (record { refusal = viewRefusal image packet which; held = 0; start = 0; len = 0 })) image packet
-            ≡ cond b (cond t (take (g .count) packet) (part g image)) []
+            ≡ cond b (cond t (take (g .count) packet) (registersOf g image)) []
         go true true = refl
         go true false = refl
         go false t = refl
@@ -159,13 +159,13 @@ module _ (image packet : List ℕ) where
 
   module _ (e : lentRefusal image packet ≡ 0) where
     pub mute-held : getD image 0x4A 0 / 16 % 2 ≡ 1 → record { refusal = 0; mute = getD packet 0 0 / 64 % 4 } ≡ muteOf image packet
-    unfolding muteOf mute inUse
-    mute-held h = sym (simp (eq-eqb _ _ e, gc-bit (getD image 0x4A 0), eq-eqb _ _ h, getD-take 1 packet 0 0 (lit< tt)))
+    unfolding muteOf gcInUse inUse
+    mute-held h = sym (simp (eq-eqb _ _ e, bit-code 4 (getD image 0x4A 0), eq-eqb _ _ h, getD-take 1 packet 0 0 (lit< tt), two-bits-code 6 (getD packet 0 0)))
 
     pub mute-down : getD image 0x4A 0 / 16 % 2 ≢ 1 → record { refusal = 0; mute = getD image 0x4B 0 / 64 % 4 } ≡ muteOf image packet
-    unfolding muteOf mute inUse
+    unfolding muteOf gcInUse inUse
     mute-down h =
-        sym (simp (eq-eqb _ _ e, gc-bit (getD image 0x4A 0), ne-eqb _ _ h, getD-take 1 (drop 0x4B image) 0 0 (lit< tt), getD-drop 0x4B image 0 0))
+        sym (simp (eq-eqb _ _ e, bit-code 4 (getD image 0x4A 0), ne-eqb _ _ h, getD-take 1 (drop 0x4B image) 0 0 (lit< tt), getD-drop 0x4B image 0 0, two-bits-code 6 (getD image 0x4B 0)))
 
   state-numbered : muteOf image packet .refusal ≡ lentRefusal image packet
   unfolding muteOf
@@ -184,7 +184,7 @@ module _ (image packet : List ℕ) where
 
 -- a state of the machine, shown over slices
 pub shown : (s : Chip) → length (s .image) ≡ 256 → length (s .packet) ≡ 32 → two (holdsOf packets (s .image)) ≡ false → Shown s
-unfolding sentOf viewRefusal muteOf mute inUse
+unfolding sentOf viewRefusal muteOf gcInUse inUse
 shown s i k l =
     let e : lentRefusal (s .image) (s .packet) ≡ 0 = cleared (s .image) (s .packet) (record { lengths = (i, k); lone = l }) in
     record { avi = rw e; audio = rw e; mute = rw e }

@@ -1,5 +1,5 @@
 -- What the converter goes by, byte by byte. Assumes nothing.
-use mathlib.Core.Path.{_≡_, refl, sym, ap, _∙_}
+use mathlib.Core.Path.{_≡_, refl, sym, ap, ap₂, _∙_}
 use mathlib.Core.Logic.{_≢_}
 use mathlib.Core.Bool.{Bool, true, false, cond, not, _&&_}
 use mathlib.Core.List.{List, [], _∷_, _++_}
@@ -18,10 +18,10 @@ use Rattle.matrix.specs.Matrix.{fields}
 use Rattle.matrix.proofs.Pairs.{two-left, fields-small, length-fields, length-bytes, fields-said}
 use Rattle.chip.specs.declared.Chip.{Chip}
 use Rattle.chip.specs.declared.converter.Count.{Count}
-use Rattle.chip.specs.Machine.{matrix, converter, part, up, holdsOf, inUse, coefficients, modeInUse}
+use Rattle.chip.specs.Machine.{matrix, converter, registersOf, up, holdsOf, inUse, coefficients, modeInUse}
 use Rattle.chip.specs.Converter.{matrixBytes, matrixRefusal, matrixCount, matrixOut, matrixRules, Converts}
 use Rattle.chip.specs.Entry.{lentAs}
-use Rattle.chip.proofs.Holds.{matrix-bit}
+use Rattle.bits.proofs.Laws.{bit-code, two-bits-code}
 use Rattle.chip.proofs.Seen.{past, numbered, unlike, both-long}
 
 -- a turn stores one coefficient more: what is stored, and what is left to store, is the whole
@@ -74,11 +74,11 @@ module _ (image buffer out : List ℕ) where
     -- the bytes in use, the buffer's where the hold is up, else the registers
     pub held : getD image 0x1A 0 / 32 % 2 ≡ 1 → buffer ≡ inUse converter matrix (lentAs image [] buffer)
     unfolding inUse
-    held h = sym (simp (matrix-bit (getD image 0x1A 0), eq-eqb _ _ h) (take-all 24 buffer (omega arith)))
+    held h = sym (simp (bit-code 5 (getD image 0x1A 0), eq-eqb _ _ h) (take-all 24 buffer (omega arith)))
 
-    pub down : getD image 0x1A 0 / 32 % 2 ≢ 1 → part matrix image ≡ inUse converter matrix (lentAs image [] buffer)
+    pub down : getD image 0x1A 0 / 32 % 2 ≢ 1 → registersOf matrix image ≡ inUse converter matrix (lentAs image [] buffer)
     unfolding inUse
-    down h = sym (simp (matrix-bit (getD image 0x1A 0), ne-eqb _ _ h))
+    down h = sym (simp (bit-code 5 (getD image 0x1A 0), ne-eqb _ _ h))
 
     -- the 24 bytes that are in use
     in-use-long : length (inUse converter matrix (lentAs image [] buffer)) ≡ 24
@@ -102,7 +102,7 @@ module _ (image buffer out : List ℕ) where
     unfolding matrixCount matrixOut matrixRefusal matrixBytes coefficients
     written bytes e h f = rw (eq-eqb _ _ l, eq-eqb _ _ k, le-ltb _ _ h) (
       refl,
-      f ∙ ap (λ (b : List ℕ). sets out 0 (getD image 0x18 0 / 32 % 4 ∷ coefficientBytes (fields b))) e
+      f ∙ ap₂ (λ (m : ℕ) (b : List ℕ). sets out 0 (m ∷ coefficientBytes (fields b))) (sym (two-bits-code 5 (getD image 0x18 0))) e
           ∙ sets-front (matrixBytes image buffer) out (rw bytes-long h) ∙ ap (λ (n : ℕ). matrixBytes image buffer ++ drop n out) bytes-long,
     )
 

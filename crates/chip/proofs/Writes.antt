@@ -19,7 +19,7 @@ use Rattle.bits.proofs.Laws.{merge-bit}
 use Rattle.registers.specs.Classes.{readOnly}
 use Rattle.chip.specs.declared.Chip.{Chip}
 use Rattle.chip.specs.declared.Wrote.{Wrote}
-use Rattle.chip.specs.Machine.{Group, Bank, avi, audio, gc, matrix, packets, converter, up, part, holdsOf, refill, refresh, put, stored, imageAfter, two, refuses, writeOf}
+use Rattle.chip.specs.Machine.{Group, Buffer, avi, audio, gc, matrix, packets, converter, up, holdsOf, filled, bufferAfter, put, stored, imageAfter, two, refuses, writeOf}
 use Rattle.chip.specs.Step.{TwoUp, writeRules, Copies, Keeps, Step}
 
 -- a test for two packet holds decides that two are up
@@ -30,21 +30,21 @@ two-up image =
     (either (together (itself (up avi n)) (itself (up gc n))) (together (itself (up audio n)) (itself (up gc n))))
 
 -- where no hold rises the buffer stays
-refill-none : (gs : List Group) (n n′ : ℕ) (image buffer : List ℕ) → every (λ g. not (up g n′ && not (up g n))) gs ≡ true
-    → refill gs n n′ image buffer ≡ buffer
-refill-none [] n n′ image buffer t = refl
-refill-none (g ∷ gs) n n′ image buffer t =
+filled-none : (gs : List Group) (n n′ : ℕ) (image buffer : List ℕ) → every (λ g. not (up g n′ && not (up g n))) gs ≡ true
+    → filled gs n n′ image buffer ≡ buffer
+filled-none [] n n′ image buffer t = refl
+filled-none (g ∷ gs) n n′ image buffer t =
     let r : Bool = up g n′ && not (up g n) in
     let more : Bool = every (λ g. not (up g n′ && not (up g n))) gs in
-    rw (not-true r (both-left (not r) more t)) (refill-none gs n n′ image buffer (both-right (not r) more t))
+    rw (not-true r (both-left (not r) more t)) (filled-none gs n n′ image buffer (both-right (not r) more t))
 
 quiet : (b : Bool) → not (b && not b) ≡ true
 quiet true = refl
 quiet false = refl
 
-refill-same : (gs : List Group) (n : ℕ) (image buffer : List ℕ) → refill gs n n image buffer ≡ buffer
-refill-same [] n image buffer = refl
-refill-same (g ∷ gs) n image buffer = rw (not-true (up g n && not (up g n)) (quiet (up g n))) (refill-same gs n image buffer)
+filled-same : (gs : List Group) (n : ℕ) (image buffer : List ℕ) → filled gs n n image buffer ≡ buffer
+filled-same [] n image buffer = refl
+filled-same (g ∷ gs) n image buffer = rw (not-true (up g n && not (up g n)) (quiet (up g n))) (filled-same gs n image buffer)
 
 -- of three holds of which no two are up, the one that is up is alone
 alone : (a b c : Bool) → ((a && b) || ((a && c) || (b && c))) ≡ false → ((b ≡ true → a ≡ false) × (c ≡ true → (a ≡ false) × (b ≡ false)))
@@ -107,37 +107,37 @@ module _ (s : Chip) (address value : ℕ) where
   unchanged true h = refl
   unchanged false h = absurd (h refl)
 
-  -- a bank's holds after a write, and its buffer after one that is taken
-  module _ (bank : Bank) (inside : bank .register < length (s .image)) where
+  -- a buffer's holds after a write, and its bytes after one that is taken
+  module _ (b : Buffer) (inside : b .register < length (s .image)) where
     abbrev before : ℕ
-    before = holdsOf bank (s .image)
+    before = holdsOf b (s .image)
 
     abbrev after : ℕ
-    after = holdsOf bank (imageAfter s address value)
+    after = holdsOf b (imageAfter s address value)
 
-    abbrev refilled : List ℕ
-    refilled = refill (bank .groups) before after (s .image) (bank .buffer s)
+    abbrev full : List ℕ
+    full = filled (b .groups) before after (s .image) (b .bytes s)
 
-    same-holds : getD (imageAfter s address value) (bank .register) 0 ≡ getD (s .image) (bank .register) 0 → bank .buffer s ≡ refilled
-    same-holds e = sym (ap (λ (b : ℕ). refill (bank .groups) before (bank .holds b) (s .image) (bank .buffer s)) e ∙ refill-same (bank .groups) before (s .image) (bank .buffer s))
+    same-holds : getD (imageAfter s address value) (b .register) 0 ≡ getD (s .image) (b .register) 0 → b .bytes s ≡ full
+    same-holds e = sym (ap (λ (x : ℕ). filled (b .groups) before x (s .image) (b .bytes s)) e ∙ filled-same (b .groups) before (s .image) (b .bytes s))
 
-    refreshed : refresh bank address (stored address value (s .image)) s ≡ refilled
-    refreshed = go (eqb address (bank .register)) refl
+    refreshed : bufferAfter b address (stored address value (s .image)) s ≡ full
+    refreshed = go (eqb address (b .register)) refl
       where
-        go : (b : Bool) → eqb address (bank .register) ≡ b
-            → cond b (refill (bank .groups) before (bank .holds (stored address value (s .image))) (s .image) (bank .buffer s)) (bank .buffer s) ≡ refilled
+        go : (t : Bool) → eqb address (b .register) ≡ t
+            → cond t (filled (b .groups) before (stored address value (s .image)) (s .image) (b .bytes s)) (b .bytes s) ≡ full
         go true e =
-            ap (λ (b : ℕ). refill (bank .groups) before (bank .holds b) (s .image) (bank .buffer s))
-            (sym (rw (eqb-true address (bank .register) e) (getD-set-same (s .image) (bank .register) (stored (bank .register) value (s .image)) 0 inside)))
-        go false e = same-holds (getD-set-other (s .image) address (bank .register) _ 0 (λ q. eqb-false address (bank .register) e (sym q)))
+            ap (λ (x : ℕ). filled (b .groups) before x (s .image) (b .bytes s))
+            (sym (rw (eqb-true address (b .register) e) (getD-set-same (s .image) (b .register) (stored (b .register) value (s .image)) 0 inside)))
+        go false e = same-holds (getD-set-other (s .image) address (b .register) _ 0 (λ q. eqb-false address (b .register) e (sym q)))
 
-  -- each bank's buffer, whatever the write
+  -- each buffer, whatever the write
   module _ (whole : length (s .image) ≡ 256) where
-    packet-after : refuses s address value ≡ false → writeOf s address value .chip .packet ≡ refilled packets (rw whole (lit< tt))
+    packet-after : refuses s address value ≡ false → writeOf s address value .chip .packet ≡ full packets (rw whole (lit< tt))
     unfolding put
     packet-after e = ap (λ (w : Wrote). w .chip .packet) (written-as false e) ∙ refreshed packets (rw whole (lit< tt))
 
-    coefficients-after : refuses s address value ≡ false → writeOf s address value .chip .coefficients ≡ refilled converter (rw whole (lit< tt))
+    coefficients-after : refuses s address value ≡ false → writeOf s address value .chip .coefficients ≡ full converter (rw whole (lit< tt))
     unfolding put
     coefficients-after e = ap (λ (w : Wrote). w .chip .coefficients) (written-as false e) ∙ refreshed converter (rw whole (lit< tt))
 
@@ -151,14 +151,14 @@ module _ (s : Chip) (address value : ℕ) where
       where
         go : (b : Bool) → refuses s address value ≡ b → writeOf s address value .chip .packet ≡ s .packet
         go true e = ap (λ (w : Wrote). w .chip .packet) (written-as true e)
-        go false e = packet-after e ∙ refill-none (packets .groups) (holdsOf packets (s .image)) (holdsOf packets (imageAfter s address value)) (s .image) (s .packet) t
+        go false e = packet-after e ∙ filled-none (packets .groups) (holdsOf packets (s .image)) (holdsOf packets (imageAfter s address value)) (s .image) (s .packet) t
 
     coefficients-stay : Keeps converter s address value
     coefficients-stay t = go (refuses s address value) refl
       where
         go : (b : Bool) → refuses s address value ≡ b → writeOf s address value .chip .coefficients ≡ s .coefficients
         go true e = ap (λ (w : Wrote). w .chip .coefficients) (written-as true e)
-        go false e = coefficients-after e ∙ refill-none (converter .groups) (holdsOf converter (s .image)) (holdsOf converter (imageAfter s address value)) (s .image) (s .coefficients) t
+        go false e = coefficients-after e ∙ filled-none (converter .groups) (holdsOf converter (s .image)) (holdsOf converter (imageAfter s address value)) (s .image) (s .coefficients) t
 
     -- what a write is refused by, and the byte that it stores, as code has them
     pub tested : (byte : ℕ) → byte ≡ stored address value (s .image) → (held holds : Bool) → held ≡ two (holdsOf packets (s .image))
@@ -168,7 +168,7 @@ module _ (s : Chip) (address value : ℕ) where
 
     -- the answer of a write, by its parts
     pub taken-write : (packet coefficients : List ℕ) → refuses s address value ≡ false
-        → packet ≡ refilled packets (rw whole (lit< tt)) → coefficients ≡ refilled converter (rw whole (lit< tt))
+        → packet ≡ full packets (rw whole (lit< tt)) → coefficients ≡ full converter (rw whole (lit< tt))
         → record { refusal = 0; chip = record { image = imageAfter s address value; packet = packet; coefficients = coefficients } } ≡ writeOf s address value
     unfolding put
     taken-write packet coefficients e p q =

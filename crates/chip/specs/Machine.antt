@@ -1,81 +1,80 @@
 -- Document 01, "The chip machine": its groups and their holds, one write, and what is in use.
+use mathlib.Core.Path.{_≡_}
 use mathlib.Core.Bool.{Bool, cond, not, _&&_, _||_}
 use mathlib.Core.List.{List, [], _∷_, _++_}
-use Prim.Native.Nat.{ℕ, _/_, _%_, _^_}
+use Prim.Native.Nat.{ℕ, _+_, _*_}
 use lib.Dec.{eqb}
 use lib.ListN.{getD, set, take, drop}
-use Rattle.bits.specs.Merge.{merge}
+use Rattle.bits.specs.Merge.{merge, bit}
 use Rattle.registers.specs.Classes.{readOnly}
 use Rattle.map.specs.Map as reg
-use Rattle.map.specs.Map.{infoframeUpdate, gcPacketUpdateMask, aviPacketUpdateMask, audioInfoframePacketUpdateMask, setAvMuteMask}
-use Rattle.map.specs.Map.{aviInfoframeVersion, aviInfoframeCount, audioInfoframeVersion, audioInfoframeCount}
-use Rattle.map.specs.Map.{coefficientUpdate, coefficientUpdateMask, csc, cscCount, cscScalingFactorShift}
+use Rattle.map.specs.Map.{infoframeUpdate, aviInfoframeVersion, aviInfoframeCount, audioInfoframeVersion, audioInfoframeCount}
+use Rattle.map.specs.Map.{coefficientUpdate, csc, cscCount}
 use Rattle.matrix.specs.Matrix.{fields}
 use Rattle.refusals.specs.Rows.{twoHolds, number}
 use Rattle.chip.specs.declared.Chip.{Chip}
 use Rattle.chip.specs.declared.Wrote.{Wrote}
 
--- a run of registers that is sent whole: its hold's place among its bank's holds (1, 2, 4), its first register, how many they are
+-- a run of registers that is sent whole: the bit of its hold in the register of the holds, its first register, how many they are
 pub record Group : Type 0 where
   pub hold : ℕ
   pub first : ℕ
   pub count : ℕ
 
--- the groups that share a buffer: the register with their holds, the holds in that register's byte as one number, and the buffer
-pub record Bank : Type 0 where
+-- a buffer: the register with the holds that fill it, the groups that these hold, and its bytes in a state
+pub record Buffer : Type 0 where
   pub register : ℕ
-  pub holds : ℕ → ℕ
   pub groups : List Group
-  pub buffer : Chip → List ℕ
+  pub bytes : Chip → List ℕ
 
--- "A packet's registers run from its version to its last data byte, reserved ones included: 16 for AVI, 13 for audio"; "GC's is 0x4B alone"
+-- "Packet holds: 0x4A[6] AVI, [5] audio, [4] GC"; "A packet's registers run from its version to its last data byte, reserved ones included: 16
+-- for AVI, 13 for audio"; "GC's is 0x4B alone"
 abbrev pub avi : Group
-avi = record { hold = aviPacketUpdateMask / gcPacketUpdateMask; first = aviInfoframeVersion; count = aviInfoframeCount }
+avi = record { hold = 6; first = aviInfoframeVersion; count = aviInfoframeCount }
 
 abbrev pub audio : Group
-audio = record { hold = audioInfoframePacketUpdateMask / gcPacketUpdateMask; first = audioInfoframeVersion; count = audioInfoframeCount }
+audio = record { hold = 5; first = audioInfoframeVersion; count = audioInfoframeCount }
 
 abbrev pub gc : Group
-gc = record { hold = 1; first = reg.gc; count = 1 }
+gc = record { hold = 4; first = reg.gc; count = 1 }
 
--- "the 24 bytes 0x18 to 0x2F, copied whole"
+-- "Coefficient hold 0x1A[5]: the same for the 24 bytes 0x18 to 0x2F, copied whole"
 abbrev pub matrix : Group
-matrix = record { hold = 1; first = csc; count = cscCount }
+matrix = record { hold = 5; first = csc; count = cscCount }
 
--- "Packet holds: 0x4A[6] AVI, [5] audio, [4] GC"
-abbrev pub packets : Bank
-packets = record { register = infoframeUpdate; holds = λ b. b / gcPacketUpdateMask % 8; groups = avi ∷ audio ∷ gc ∷ []; buffer = λ s. s .packet }
+-- "one packet buffer (a packet fills its front, the rest stays) and one coefficient buffer"
+abbrev pub packets : Buffer
+packets = record { register = infoframeUpdate; groups = avi ∷ audio ∷ gc ∷ []; bytes = λ s. s .packet }
 
--- "Coefficient hold 0x1A[5]"
-abbrev pub converter : Bank
-converter = record { register = coefficientUpdate; holds = λ b. b / coefficientUpdateMask % 2; groups = matrix ∷ []; buffer = λ s. s .coefficients }
+abbrev pub converter : Buffer
+converter = record { register = coefficientUpdate; groups = matrix ∷ []; bytes = λ s. s .coefficients }
 
--- a group's hold is up, by its bank's holds
+-- the byte of a buffer's holds in an image, and whether a group's hold is up in such a byte
+abbrev pub holdsOf : Buffer → List ℕ → ℕ
+holdsOf b image = getD image (b .register) 0
+
 abbrev pub up : Group → ℕ → Bool
-up g n = eqb (n / g .hold % 2) 1
+up g holds = eqb (bit (g .hold) holds) 1
 
 -- a group's registers
-abbrev pub part : Group → List ℕ → List ℕ
-part g image = take (g .count) (drop (g .first) image)
-
--- a bank's holds, as they stand in an image
-abbrev pub holdsOf : Bank → List ℕ → ℕ
-holdsOf bank image = bank .holds (getD image (bank .register) 0)
+abbrev pub registersOf : Group → List ℕ → List ℕ
+registersOf g image = take (g .count) (drop (g .first) image)
 
 -- "A hold going 0 to 1 copies that packet's registers, as they stood before the write, to the packet buffer" ("a packet fills its front, the
--- rest stays"): the buffer as the holds go from n to n′
-abbrev pub refill : List Group → ℕ → ℕ → List ℕ → List ℕ → List ℕ
-refill [] n n′ image buffer = buffer
-refill (g ∷ gs) n n′ image buffer = cond (up g n′ && not (up g n)) (part g image ++ drop (g .count) buffer) (refill gs n n′ image buffer)
+-- rest stays"): a buffer's bytes as the holds go from one byte to another
+abbrev pub filled : List Group → ℕ → ℕ → List ℕ → List ℕ → List ℕ
+filled [] old new image bytes = bytes
+filled (g ∷ gs) old new image bytes =
+    cond (up g new && not (up g old)) (registersOf g image ++ drop (g .count) bytes) (filled gs old new image bytes)
 
-abbrev pub refresh : Bank → ℕ → ℕ → Chip → List ℕ
-refresh bank address byte s =
-    cond (eqb address (bank .register)) (refill (bank .groups) (holdsOf bank (s .image)) (bank .holds byte) (s .image) (bank .buffer s)) (bank .buffer s)
+abbrev pub bufferAfter : Buffer → ℕ → ℕ → Chip → List ℕ
+bufferAfter b address byte s =
+    cond (eqb address (b .register)) (filled (b .groups) (holdsOf b (s .image)) byte (s .image) (b .bytes s)) (b .bytes s)
 
 -- a byte stored as it is
 unfoldable pub put : ℕ → ℕ → Chip → Chip
 put address byte s =
-    record { image = set (s .image) address byte; packet = refresh packets address byte s; coefficients = refresh converter address byte s }
+    record { image = set (s .image) address byte; packet = bufferAfter packets address byte s; coefficients = bufferAfter converter address byte s }
 
 -- "Read-only bits never change"
 unfoldable pub stored : ℕ → ℕ → List ℕ → ℕ
@@ -87,7 +86,7 @@ imageAfter s address value = set (s .image) address (stored address value (s .im
 
 -- two packet holds are up
 abbrev pub two : ℕ → Bool
-two n = (up avi n && up audio n) || ((up avi n && up gc n) || (up audio n && up gc n))
+two holds = (up avi holds && up audio holds) || ((up avi holds && up gc holds) || (up audio holds && up gc holds))
 
 -- refusal 13: "two packet holds are up, or the write would leave two up"
 unfoldable pub refuses : Chip → ℕ → ℕ → Bool
@@ -114,18 +113,31 @@ after [] s = s
 after (w ∷ ws) s = after ws (writeOf s (w .address) (w .value) .chip)
 
 -- "While it is up the buffer is sent; when down, the registers": the bytes of a group that the chip goes by. (Of the matrix's first byte
--- only the coefficient bits count: see `modeInUse`.)
-unfoldable pub inUse : Bank → Group → Chip → List ℕ
-inUse bank g s = cond (up g (holdsOf bank (s .image))) (take (g .count) (bank .buffer s)) (part g (s .image))
+-- only the coefficient bits count: see `enableInUse` and `modeInUse`.)
+unfoldable pub inUse : Buffer → Group → Chip → List ℕ
+inUse b g s = cond (up g (holdsOf b (s .image))) (take (g .count) (b .bytes s)) (registersOf g (s .image))
 
 -- the twelve coefficients in use, "the low 13 bits" of each pair
 unfoldable pub coefficients : Chip → List ℕ
 coefficients s = fields (inUse converter matrix s)
 
--- "Enable and mode in 0x18[7:5] act at once": they are read off the register, whatever the hold
-abbrev pub modeInUse : Chip → ℕ
-modeInUse s = getD (s .image) csc 0 / 2 ^ cscScalingFactorShift % 4
+-- "Enable and mode in 0x18[7:5] act at once": they are read off the register, whatever the hold; the enable is [7], the mode [6:5]
+abbrev pub enableInUse : Chip → ℕ
+enableInUse s = bit 7 (getD (s .image) csc 0)
 
--- the mute bits of the GC byte in use, set worth 1 and clear 2. "Muted: set bit 1, clear bit 0. Open: set 0, clear 1."
-unfoldable pub mute : Chip → ℕ
-mute s = getD (inUse packets gc s) 0 0 / setAvMuteMask % 4
+abbrev pub modeInUse : Chip → ℕ
+modeInUse s = bit 5 (getD (s .image) csc 0) + 2 * bit 6 (getD (s .image) csc 0)
+
+-- the GC byte in use: 0x4B[6] sets the mute, [7] clears it. "Muted: set bit 1, clear bit 0. Open: set 0, clear 1."
+unfoldable pub gcInUse : Chip → ℕ
+gcInUse s = getD (inUse packets gc s) 0 0
+
+abbrev pub Muted : Chip → Type 0
+Muted s = (bit 6 (gcInUse s) ≡ 1) × (bit 7 (gcInUse s) ≡ 0)
+
+abbrev pub Open : Chip → Type 0
+Open s = (bit 6 (gcInUse s) ≡ 0) × (bit 7 (gcInUse s) ≡ 1)
+
+-- the two bits as one number, set worth 1 and clear 2: 1 is muted, 2 is open (`Shown`)
+abbrev pub mute : Chip → ℕ
+mute s = bit 6 (gcInUse s) + 2 * bit 7 (gcInUse s)

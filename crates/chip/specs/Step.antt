@@ -10,7 +10,7 @@ use Rattle.bits.specs.Merge.{bit}
 use Rattle.refusals.specs.Rows.{twoHolds, Condition, _when_, Given}
 use Rattle.registers.specs.Classes.{readOnly}
 use Rattle.chip.specs.declared.Chip.{Chip}
-use Rattle.chip.specs.Machine.{Group, Bank, avi, audio, gc, matrix, packets, converter, up, part, holdsOf, imageAfter, refuses, writeOf}
+use Rattle.chip.specs.Machine.{Group, Buffer, avi, audio, gc, matrix, packets, converter, up, registersOf, holdsOf, imageAfter, refuses, writeOf}
 
 -- "(machine) two packet holds are up, or the write would leave two up"
 abbrev pub TwoUp : List ℕ → Type 0
@@ -22,16 +22,16 @@ abbrev pub writeRules : Chip → ℕ → ℕ → List Condition
 writeRules s address value = twoHolds when (TwoUp (s .image) ⊎ TwoUp (imageAfter s address value)) ∷ []
 
 -- "A hold going 0 to 1 copies that packet's registers, as they stood before the write, to the .. buffer": its front, "the rest stays"
-abbrev pub Copies : Bank → Group → Chip → ℕ → ℕ → Type 0
-Copies bank g s address value =
-    refuses s address value ≡ false → up g (holdsOf bank (s .image)) ≡ false → up g (holdsOf bank (imageAfter s address value)) ≡ true
-    → bank .buffer (writeOf s address value .chip) ≡ part g (s .image) ++ drop (g .count) (bank .buffer s)
+abbrev pub Copies : Buffer → Group → Chip → ℕ → ℕ → Type 0
+Copies b g s address value =
+    refuses s address value ≡ false → up g (holdsOf b (s .image)) ≡ false → up g (holdsOf b (imageAfter s address value)) ≡ true
+    → b .bytes (writeOf s address value .chip) ≡ registersOf g (s .image) ++ drop (g .count) (b .bytes s)
 
--- where none of a bank's holds rises, its buffer stays
-abbrev pub Keeps : Bank → Chip → ℕ → ℕ → Type 0
-Keeps bank s address value =
-    every (λ g. not (up g (holdsOf bank (imageAfter s address value)) && not (up g (holdsOf bank (s .image))))) (bank .groups) ≡ true
-    → bank .buffer (writeOf s address value .chip) ≡ bank .buffer s
+-- where none of a buffer's holds rises, its bytes stay
+abbrev pub Keeps : Buffer → Chip → ℕ → ℕ → Type 0
+Keeps b s address value =
+    every (λ g. not (up g (holdsOf b (imageAfter s address value)) && not (up g (holdsOf b (s .image))))) (b .groups) ≡ true
+    → b .bytes (writeOf s address value .chip) ≡ b .bytes s
 
 pub record Step (s : Chip) (address value : ℕ) : Type 0 where
   -- a write is refused by 13 alone, and a refused one changes nothing

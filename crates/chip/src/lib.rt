@@ -4,7 +4,7 @@ ghost use mathlib.Core.List.{_++_};
 ghost use Prim.Native.Nat.{ℕ, _+_, _≤_};
 ghost use lib.ListN.{length, take, drop};
 ghost use Rattle.chip.specs.declared.Chip.{Chip};
-ghost use Rattle.chip.specs.Machine.{matrix, packets, converter, part, refill, two, writeOf};
+ghost use Rattle.chip.specs.Machine.{matrix, packets, converter, registersOf, filled, two, writeOf};
 ghost use Rattle.chip.specs.Step.{Step};
 use map::Map;
 use refusals::Refusal;
@@ -56,7 +56,7 @@ fn filled(packet: [u8; 32], image: [u8; 256], first: usize, count: usize) -> [u8
 
 // The 24 bytes 0x18 to 0x2F.
 fn copied(image: [u8; 256]) -> [u8; 24]
-    ensures { λ r. ⌜ r ≡ part matrix image ⌝ }
+    ensures { λ r. ⌜ r ≡ registersOf matrix image ⌝ }
 {
     let mut out = [0u8; 24];
     let mut i: usize = 0;
@@ -69,7 +69,7 @@ fn copied(image: [u8; 256]) -> [u8; 24]
 
 // Whether two packet holds are up in a byte of 0x4A.
 fn two_up(holds: u8) -> bool
-    ensures { λ r. ⌜ r ≡ two (packets .holds holds) ⌝ }
+    ensures { λ r. ⌜ r ≡ two holds ⌝ }
 {
     let avi = holds / Map::AVI_PACKET_UPDATE_MASK % 2 == 1;
     let audio = holds / Map::AUDIO_INFOFRAME_PACKET_UPDATE_MASK % 2 == 1;
@@ -79,7 +79,7 @@ fn two_up(holds: u8) -> bool
 
 // The packet buffer as the holds in 0x4A go from one byte to another.
 fn packet_after(packet: [u8; 32], image: [u8; 256], old: u8, new: u8) -> [u8; 32]
-    ensures { λ r. ⌜ r ≡ refill (packets .groups) (packets .holds old) (packets .holds new) image packet ⌝ }
+    ensures { λ r. ⌜ r ≡ filled (packets .groups) old new image packet ⌝ }
 {
     if (new / Map::AVI_PACKET_UPDATE_MASK % 2 == 1)
         & !(old / Map::AVI_PACKET_UPDATE_MASK % 2 == 1)
@@ -109,7 +109,7 @@ fn packet_after(packet: [u8; 32], image: [u8; 256], old: u8, new: u8) -> [u8; 32
 
 // The coefficient buffer as the hold in 0x1A goes from one byte to another.
 fn coefficients_after(coefficients: [u8; 24], image: [u8; 256], old: u8, new: u8) -> [u8; 24]
-    ensures { λ r. ⌜ r ≡ refill (converter .groups) (converter .holds old) (converter .holds new) image coefficients ⌝ }
+    ensures { λ r. ⌜ r ≡ filled (converter .groups) old new image coefficients ⌝ }
 {
     if (new / Map::COEFFICIENT_UPDATE_MASK % 2 == 1)
         & !(old / Map::COEFFICIENT_UPDATE_MASK % 2 == 1)

@@ -1,30 +1,76 @@
 -- When a group in use stays what it is. Assumes nothing.
 use mathlib.Core.Path.{_≡_, refl, sym, ap, _∙_}
 use mathlib.Core.Bool.{false≢true, Bool, true, false, not, _&&_, _||_, cond}
-use mathlib.Core.List.{List, _++_}
-use Prim.Native.Nat.{ℕ, _+_, _-_, _≤_}
+use mathlib.Core.List.{List, [], _∷_, _++_}
+use Prim.Native.Nat.{ℕ, _+_, _*_, _-_, _^_, _≤_, _<_}
 use native.Mathlib.Omega.{arith}
 use lib.Dec.{eqb, leb, ltb}
 use lib.ListN.{length, getD, set, take, drop, length-set, length-take, length-drop}
 use lib.Seq.{getD-set-same, getD-set-other, take-at, take-set-le, drop-set-lt, drop-set-add}
 use borrow.Author.Tests.{eqb-true, eqb-false, leb-true, ltb-true}
+use Rattle.bits.specs.Merge.{bit}
+use Rattle.bits.proofs.Laws.{bit-code}
 use Rattle.chip.specs.declared.Chip.{Chip}
-use Rattle.chip.specs.Machine.{Write, Group, Bank, packets, converter, avi, audio, gc, matrix, up, part, refill, holdsOf, refresh, put, inUse}
+use Rattle.chip.specs.Machine.{Write, Group, Buffer, packets, converter, avi, audio, gc, matrix, up, registersOf, filled, holdsOf, bufferAfter, put, inUse}
 use Rattle.cut.proofs.Latch.{View, Faithful}
 
 -- a write whose byte is stored as it is
 abbrev pub store : Write → Chip → Chip
 store w s = put (w .address) (w .value) s
 
--- the holds after a write
-abbrev pub next : Bank → ℕ → Write → ℕ
-next B n w = cond (eqb (w .address) (B .register)) (B .holds (w .value)) n
+-- a byte with nothing but the holds of some groups
+abbrev pub only : List Group → ℕ → ℕ
+only [] n = 0
+only (g ∷ gs) n = 2 ^ g .hold * bit (g .hold) n + only gs n
+
+-- what a walk goes by: a buffer's holds in an image, and these after a write
+abbrev pub status : Buffer → List ℕ → ℕ
+status B image = only (B .groups) (holdsOf B image)
+
+abbrev pub next : Buffer → ℕ → Write → ℕ
+next B n w = cond (eqb (w .address) (B .register)) (only (B .groups) (w .value)) n
+
+-- each group's hold is up in both or in none
+abbrev Alike : List Group → ℕ → ℕ → Type 0
+Alike [] m n = Unit {0}
+Alike (g ∷ gs) m n = (up g m ≡ up g n) × Alike gs m n
+
+filled-alike : (gs : List Group) (old m n : ℕ) (image bytes : List ℕ) → Alike gs m n → filled gs old m image bytes ≡ filled gs old n image bytes
+filled-alike [] old m n image bytes a = refl
+filled-alike (g ∷ gs) old m n image bytes a = rw (a .0, filled-alike gs old m n image bytes (a .1))
+
+three-holds : (a b c : ℕ) → a < 2 → b < 2 → c < 2 → let n : ℕ = 64 * a + (32 * b + (16 * c + 0)) in (bit 6 n ≡ a) × (bit 5 n ≡ b) × (bit 4 n ≡ c)
+three-holds a b c ha hb hc = (bit-code 6 _ ∙ omega arith, bit-code 5 _ ∙ omega arith, bit-code 4 _ ∙ omega arith)
+
+packet-holds : (n : ℕ) → let m : ℕ = only (packets .groups) n in (bit 6 m ≡ bit 6 n) × (bit 5 m ≡ bit 5 n) × (bit 4 m ≡ bit 4 n)
+packet-holds n = three-holds (bit 6 n) (bit 5 n) (bit 4 n) (omega arith) (omega arith) (omega arith)
+
+pub avi-same : (n : ℕ) → up avi (only (packets .groups) n) ≡ up avi n
+avi-same n = ap (λ (b : ℕ). eqb b 1) (packet-holds n .0)
+
+pub audio-same : (n : ℕ) → up audio (only (packets .groups) n) ≡ up audio n
+audio-same n = ap (λ (b : ℕ). eqb b 1) (packet-holds n .1)
+
+pub gc-same : (n : ℕ) → up gc (only (packets .groups) n) ≡ up gc n
+gc-same n = ap (λ (b : ℕ). eqb b 1) (packet-holds n .2)
+
+one-hold : (a : ℕ) → a < 2 → bit 5 (32 * a + 0) ≡ a
+one-hold a h = bit-code 5 _ ∙ omega arith
+
+pub matrix-same : (n : ℕ) → up matrix (only (converter .groups) n) ≡ up matrix n
+matrix-same n = ap (λ (b : ℕ). eqb b 1) (one-hold (bit 5 n) (omega arith))
+
+packets-alike : (n : ℕ) → Alike (packets .groups) (only (packets .groups) n) n
+packets-alike n = (avi-same n, (audio-same n, (gc-same n, tt)))
+
+converter-alike : (n : ℕ) → Alike (converter .groups) (only (converter .groups) n) n
+converter-alike n = (matrix-same n, tt)
 
 -- under which a group stays: its hold is the only one up afterwards, or is down before and after and the write is elsewhere
 abbrev pub quiet : Group → ℕ → ℕ → ℕ → Bool
-quiet g n n′ a = cond (up g n′) (eqb n′ (g .hold)) (not (up g n) && (ltb a (g .first) || leb (g .first + g .count) a))
+quiet g n n′ a = cond (up g n′) (eqb n′ (2 ^ g .hold)) (not (up g n) && (ltb a (g .first) || leb (g .first + g .count) a))
 
-abbrev pub view : Bank → Group → View Write
+abbrev pub view : Buffer → Group → View Write
 view B g = record { next = next B; quiet = λ n w. quiet g n (next B n w) (w .address) }
 
 abbrev pub Sized : Chip → Type 0
@@ -50,89 +96,93 @@ pub size-store : (w : Write) (s : Chip) → Sized s → Sized (store w s)
 size-store w s e = ap (λ (l : List ℕ). length l) (image-store w s) ∙ length-set (s .image) (w .address) (w .value) ∙ e
 
 pub outside-part : (g : Group) (w : Write) (s : Chip) → (ltb (w .address) (g .first) || leb (g .first + g .count) (w .address)) ≡ true
-    → part g (store w s .image) ≡ part g (s .image)
-outside-part g w s t = ap (λ (l : List ℕ). part g l) (image-store w s) ∙ outside (s .image) (g .first) (g .count) (w .address) (w .value) t
+    → registersOf g (store w s .image) ≡ registersOf g (s .image)
+outside-part g w s t = ap (λ (l : List ℕ). registersOf g l) (image-store w s) ∙ outside (s .image) (g .first) (g .count) (w .address) (w .value) t
 
 -- a group's registers at the front of a buffer
-pub part-fills : (g : Group) (image buffer : List ℕ) → length image ≡ 256 → g .first + g .count ≤ 256 → take (g .count) (part g image ++ buffer) ≡ part g image
-part-fills g image buffer e h = take-at (part g image) buffer (g .count) (simp (length-take, length-drop) (omega arith))
+pub part-fills : (g : Group) (image buffer : List ℕ) → length image ≡ 256 → g .first + g .count ≤ 256 → take (g .count) (registersOf g image ++ buffer) ≡ registersOf g image
+part-fills g image buffer e h = take-at (registersOf g image) buffer (g .count) (simp (length-take, length-drop) (omega arith))
 
 -- a group whose hold is down is sent from the registers
-pub down-part : (B : Bank) (g : Group) (s : Chip) → up g (holdsOf B (s .image)) ≡ false → inUse B g s ≡ part g (s .image)
+pub down-part : (B : Buffer) (g : Group) (s : Chip) → up g (holdsOf B (s .image)) ≡ false → inUse B g s ≡ registersOf g (s .image)
 unfolding inUse
 down-part B g s h = rw h
 
 -- what is asked of a bank and a group of it; for each group of the chip all four compute
-record Sound (B : Bank) (g : Group) : Type 0 where
+record Sound (B : Buffer) (g : Group) : Type 0 where
   inside : ltb (B .register) 256 ≡ true
   ending : leb (g .first + g .count) 256 ≡ true
-  own : (w : Write) (s : Chip) → B .buffer (store w s) ≡ refresh B (w .address) (w .value) s
+  own : (w : Write) (s : Chip) → B .bytes (store w s) ≡ bufferAfter B (w .address) (w .value) s
   alone : (n : ℕ) (image buffer : List ℕ)
-      → refill (B .groups) n (g .hold) image buffer ≡ cond (not (up g n)) (part g image ++ drop (g .count) buffer) buffer
+      → filled (B .groups) n (2 ^ g .hold) image buffer ≡ cond (not (up g n)) (registersOf g image ++ drop (g .count) buffer) buffer
 
-module _ (B : Bank) (g : Group) (ok : Sound B g) where
-  holds-store : (w : Write) (s : Chip) → Sized s → holdsOf B (store w s .image) ≡ next B (holdsOf B (s .image)) w
+module _ (B : Buffer) (g : Group) (alike : (n : ℕ) → Alike (B .groups) (only (B .groups) n) n) (same : (n : ℕ) → up g (only (B .groups) n) ≡ up g n)
+    (ok : Sound B g) where
+  status-store : (w : Write) (s : Chip) → Sized s → status B (store w s .image) ≡ next B (status B (s .image)) w
   unfolding put
-  holds-store w s e = go (eqb (w .address) (B .register)) refl
+  status-store w s e = go (eqb (w .address) (B .register)) refl
     where
       go : (r : Bool) → eqb (w .address) (B .register) ≡ r
-          → holdsOf B (set (s .image) (w .address) (w .value)) ≡ cond r (B .holds (w .value)) (holdsOf B (s .image))
-      go true q = ap (λ (b : ℕ). B .holds b) (ap (λ (a : ℕ). getD (set (s .image) a (w .value)) (B .register) 0) (eqb-true _ _ q)
+          → status B (set (s .image) (w .address) (w .value)) ≡ cond r (only (B .groups) (w .value)) (status B (s .image))
+      go true q = ap (only (B .groups)) (ap (λ (a : ℕ). getD (set (s .image) a (w .value)) (B .register) 0) (eqb-true _ _ q)
           ∙ getD-set-same (s .image) (B .register) (w .value) 0 (rw e (ltb-true _ _ (ok .inside))))
-      go false q = ap (λ (b : ℕ). B .holds b) (getD-set-other (s .image) (w .address) (B .register) (w .value) 0 (λ h. eqb-false _ _ q (sym h)))
+      go false q = ap (only (B .groups)) (getD-set-other (s .image) (w .address) (B .register) (w .value) 0 (λ h. eqb-false _ _ q (sym h)))
 
   -- the buffer after a write that leaves the group's hold the only one up
-  buffer-store : (w : Write) (s : Chip) → next B (holdsOf B (s .image)) w ≡ g .hold → up g (next B (holdsOf B (s .image)) w) ≡ true
-      → B .buffer (store w s) ≡ cond (not (up g (holdsOf B (s .image)))) (part g (s .image) ++ drop (g .count) (B .buffer s)) (B .buffer s)
+  buffer-store : (w : Write) (s : Chip) → next B (status B (s .image)) w ≡ 2 ^ g .hold → up g (next B (status B (s .image)) w) ≡ true
+      → B .bytes (store w s) ≡ cond (not (up g (holdsOf B (s .image)))) (registersOf g (s .image) ++ drop (g .count) (B .bytes s)) (B .bytes s)
   buffer-store w s h u = ok .own w s ∙ go (eqb (w .address) (B .register)) h u
     where
-      go : (r : Bool) → cond r (B .holds (w .value)) (holdsOf B (s .image)) ≡ g .hold → up g (cond r (B .holds (w .value)) (holdsOf B (s .image))) ≡ true
-          → cond r (refill (B .groups) (holdsOf B (s .image)) (B .holds (w .value)) (s .image) (B .buffer s)) (B .buffer s)
-          ≡ cond (not (up g (holdsOf B (s .image)))) (part g (s .image) ++ drop (g .count) (B .buffer s)) (B .buffer s)
-      go true p q = rw p (ok .alone (holdsOf B (s .image)) (s .image) (B .buffer s))
-      go false p q = rw q
+      go : (r : Bool) → cond r (only (B .groups) (w .value)) (status B (s .image)) ≡ 2 ^ g .hold
+          → up g (cond r (only (B .groups) (w .value)) (status B (s .image))) ≡ true
+          → cond r (filled (B .groups) (holdsOf B (s .image)) (w .value) (s .image) (B .bytes s)) (B .bytes s)
+          ≡ cond (not (up g (holdsOf B (s .image)))) (registersOf g (s .image) ++ drop (g .count) (B .bytes s)) (B .bytes s)
+      go true p q =
+          sym (filled-alike (B .groups) (holdsOf B (s .image)) (only (B .groups) (w .value)) (w .value) (s .image) (B .bytes s) (alike (w .value)))
+          ∙ rw p (ok .alone (holdsOf B (s .image)) (s .image) (B .bytes s))
+      go false p q = rw (sym (same (holdsOf B (s .image))) ∙ q)
 
-  quiet-keeps : (w : Write) (s : Chip) → Sized s → quiet g (holdsOf B (s .image)) (next B (holdsOf B (s .image)) w) (w .address) ≡ true
+  quiet-keeps : (w : Write) (s : Chip) → Sized s → quiet g (status B (s .image)) (next B (status B (s .image)) w) (w .address) ≡ true
       → inUse B g (store w s) ≡ inUse B g s
   unfolding inUse
-  quiet-keeps w s e q = rw holds-store (go (up g (next B (holdsOf B (s .image)) w)) refl q)
+  quiet-keeps w s e q = rw (← same (holdsOf B (store w s .image)), status-store w s e) (go (up g (next B (status B (s .image)) w)) refl q)
     where
-      after : (u : Bool) → take (g .count) (cond (not u) (part g (s .image) ++ drop (g .count) (B .buffer s)) (B .buffer s))
-          ≡ cond u (take (g .count) (B .buffer s)) (part g (s .image))
+      after : (u : Bool) → take (g .count) (cond (not u) (registersOf g (s .image) ++ drop (g .count) (B .bytes s)) (B .bytes s))
+          ≡ cond u (take (g .count) (B .bytes s)) (registersOf g (s .image))
       after true = refl
-      after false = part-fills g (s .image) (drop (g .count) (B .buffer s)) e (leb-true _ _ (ok .ending))
+      after false = part-fills g (s .image) (drop (g .count) (B .bytes s)) e (leb-true _ _ (ok .ending))
 
       down : (u : Bool) → (not u && (ltb (w .address) (g .first) || leb (g .first + g .count) (w .address))) ≡ true
-          → part g (store w s .image) ≡ cond u (take (g .count) (B .buffer s)) (part g (s .image))
+          → registersOf g (store w s .image) ≡ cond u (take (g .count) (B .bytes s)) (registersOf g (s .image))
       down true t = absurd (false≢true t)
       down false t = outside-part g w s t
 
-      go : (u : Bool) → up g (next B (holdsOf B (s .image)) w) ≡ u
-          → cond u (eqb (next B (holdsOf B (s .image)) w) (g .hold))
-          (not (up g (holdsOf B (s .image))) && (ltb (w .address) (g .first) || leb (g .first + g .count) (w .address))) ≡ true
-          → cond u (take (g .count) (B .buffer (store w s))) (part g (store w s .image)) ≡ inUse B g s
+      go : (u : Bool) → up g (next B (status B (s .image)) w) ≡ u
+          → cond u (eqb (next B (status B (s .image)) w) (2 ^ g .hold))
+          (not (up g (status B (s .image))) && (ltb (w .address) (g .first) || leb (g .first + g .count) (w .address))) ≡ true
+          → cond u (take (g .count) (B .bytes (store w s))) (registersOf g (store w s .image)) ≡ inUse B g s
       go true p t = ap (λ (l : List ℕ). take (g .count) l) (buffer-store w s (eqb-true _ _ t) p) ∙ after (up g (holdsOf B (s .image)))
-      go false p t = down (up g (holdsOf B (s .image))) t
+      go false p t = down (up g (holdsOf B (s .image))) (rw same at t)
 
-  faithful : Faithful store (view B g) Sized (λ s. holdsOf B (s .image)) (inUse B g)
-  faithful = record { lasts = size-store; tracks = holds-store; keeps = quiet-keeps }
+  faithful : Faithful store (view B g) Sized (λ s. status B (s .image)) (inUse B g)
+  faithful = record { lasts = size-store; tracks = status-store; keeps = quiet-keeps }
 
 -- a group of the chip, shown truly by its view
-abbrev pub Shown : Bank → Group → Type 0
-Shown B g = Faithful store (view B g) Sized (λ s. holdsOf B (s .image)) (inUse B g)
+abbrev pub Shown : Buffer → Group → Type 0
+Shown B g = Faithful store (view B g) Sized (λ s. status B (s .image)) (inUse B g)
 
 pub avi-shown : Shown packets avi
 unfolding put
-avi-shown = faithful packets avi (search)
+avi-shown = faithful packets avi packets-alike avi-same (search)
 
 pub audio-shown : Shown packets audio
 unfolding put
-audio-shown = faithful packets audio (search)
+audio-shown = faithful packets audio packets-alike audio-same (search)
 
 pub gc-shown : Shown packets gc
 unfolding put
-gc-shown = faithful packets gc (search)
+gc-shown = faithful packets gc packets-alike gc-same (search)
 
 pub matrix-shown : Shown converter matrix
 unfolding put
-matrix-shown = faithful converter matrix (search)
+matrix-shown = faithful converter matrix converter-alike matrix-same (search)

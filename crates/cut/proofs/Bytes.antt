@@ -4,7 +4,7 @@ use mathlib.Core.Path.{_≡_, refl, sym, ap, subst, subst⁻¹, _∙_}
 use mathlib.Core.Logic.{_⊎_, ⊎-elim}
 use mathlib.Core.Bool.{Bool, true, false, cond}
 use mathlib.Core.List.{List, [], _∷_, map}
-use Prim.Native.Nat.{ℕ, zero, suc, _+_, _*_, _/_, _%_, _<_}
+use Prim.Native.Nat.{ℕ, zero, suc, _+_, _*_, _<_}
 use native.Mathlib.Omega.{arith}
 use lib.Dec.{eqb, lit<}
 use lib.ListN.{getD, set}
@@ -15,12 +15,12 @@ use Rattle.bits.proofs.Laws.{merge-left, merge-right, merge-bit}
 use Rattle.map.specs.Map as reg
 use Rattle.registers.specs.Classes.{classAt, readOnly, named, free, bits}
 use Rattle.chip.specs.declared.Chip.{Chip}
-use Rattle.chip.specs.Machine.{Write, _gets_, Bank, Group, packets, converter, put, stored}
+use Rattle.chip.specs.Machine.{Write, _gets_, Buffer, Group, packets, converter, put, stored}
 use Rattle.writes.specs.Steps.{Step, _raising_}
 use Rattle.writes.proofs.Carries.{masked}
 use Rattle.writes.specs.List.{decided, byte, written}
 use Rattle.cut.proofs.Latch.{nexts, walk, nexts-map, walk-map, acts}
-use Rattle.cut.proofs.Bank.{store, next, quiet, view}
+use Rattle.cut.proofs.Bank.{store, only, next, quiet, view}
 
 -- two bytes of register a with the same read-only and free bits
 pub record Kept (a x y : ℕ) : Type 0 where
@@ -65,39 +65,38 @@ byte-bit : (a j old wanted : ℕ) → j < 8
 unfolding byte
 byte-bit a j old wanted h = rw (merge-bit 8 j (readOnly a) _ _ h, merge-bit 8 j (free a) _ _ h, merge-bit 8 j (named a) _ _ h)
 
-sixteenth : (n : ℕ) → n / 16 ≡ n / 2 / 2 / 2 / 2
-sixteenth n = omega arith
-
-eighths : (q : ℕ) → q % 8 ≡ q % 2 + 2 * (q / 2 % 2) + 4 * (q / 2 / 2 % 2)
-eighths q = omega arith
-
-pub three-bits : (n : ℕ) → n / 16 % 8 ≡ bit 4 n + 2 * bit 5 n + 4 * bit 6 n
-three-bits n = ap (λ (q : ℕ). q % 8) (sixteenth n) ∙ eighths (n / 2 / 2 / 2 / 2)
-
 -- the hold and mute bits of a list's byte are the step's; GC's hold is the image's
-packets-byte : (old x wanted : ℕ) → bit 4 old ≡ 0 → byte reg.infoframeUpdate old (merge 8 0x60 x wanted) / 16 % 8 ≡ (32 * bit 5 x + 64 * bit 6 x) / 16 % 8
+packets-byte : (old x wanted : ℕ) → bit 4 old ≡ 0
+    → only (packets .groups) (byte reg.infoframeUpdate old (merge 8 0x60 x wanted)) ≡ only (packets .groups) (32 * bit 5 x + 64 * bit 6 x)
 unfolding classAt
 packets-byte old x wanted h =
     let b : ℕ = byte reg.infoframeUpdate old (merge 8 0x60 x wanted) in
     let b4 : bit 4 b ≡ bit 4 old = byte-bit reg.infoframeUpdate 4 old _ (lit< tt) in
     let b5 : bit 5 b ≡ bit 5 x = byte-bit reg.infoframeUpdate 5 old _ (lit< tt) ∙ merge-bit 8 5 0x60 x wanted (lit< tt) in
     let b6 : bit 6 b ≡ bit 6 x = byte-bit reg.infoframeUpdate 6 old _ (lit< tt) ∙ merge-bit 8 6 0x60 x wanted (lit< tt) in
-    three-bits b ∙ rw (b4, b5, b6, h) (omega arith)
+    rw (b4, b5, b6, h) (clean-holds (bit 5 x) (bit 6 x) (omega arith) (omega arith))
+  where
+    clean-holds : (a b : ℕ) → a < 2 → b < 2 → 64 * b + (32 * a + (16 * 0 + 0)) ≡ only (packets .groups) (32 * a + 64 * b)
+    clean-holds a b h k = omega arith
 
-converter-byte : (old x wanted : ℕ) → byte reg.coefficientUpdate old (merge 8 0x20 x wanted) / 32 % 2 ≡ (32 * bit 5 x + 64 * bit 6 x) / 32 % 2
+converter-byte : (old x wanted : ℕ)
+    → only (converter .groups) (byte reg.coefficientUpdate old (merge 8 0x20 x wanted)) ≡ only (converter .groups) (32 * bit 5 x + 64 * bit 6 x)
 unfolding classAt
 converter-byte old x wanted =
     let b : ℕ = byte reg.coefficientUpdate old (merge 8 0x20 x wanted) in
     let b5 : bit 5 b ≡ bit 5 x = byte-bit reg.coefficientUpdate 5 old _ (lit< tt) ∙ merge-bit 8 5 0x20 x wanted (lit< tt) in
-    omega arith
+    rw b5 (clean-hold (bit 5 x) (bit 6 x) (omega arith))
+  where
+    clean-hold : (a b : ℕ) → a < 2 → 32 * a + 0 ≡ only (converter .groups) (32 * a + 64 * b)
+    clean-hold a b h = omega arith
 
-pub mute-byte : (old x wanted : ℕ) → byte reg.gc old (merge 8 0xC0 x wanted) / 64 % 4 ≡ x / 64 % 4
+pub mute-byte : (old x wanted : ℕ) → let b : ℕ = byte reg.gc old (merge 8 0xC0 x wanted) in bit 6 b + 2 * bit 7 b ≡ bit 6 x + 2 * bit 7 x
 unfolding classAt
 mute-byte old x wanted =
     let b : ℕ = byte reg.gc old (merge 8 0xC0 x wanted) in
     let b6 : bit 6 b ≡ bit 6 x = byte-bit reg.gc 6 old _ (lit< tt) ∙ merge-bit 8 6 0xC0 x wanted (lit< tt) in
     let b7 : bit 7 b ≡ bit 7 x = byte-bit reg.gc 7 old _ (lit< tt) ∙ merge-bit 8 7 0xC0 x wanted (lit< tt) in
-    omega arith
+    rw (b6, b7)
 
 -- a step with no more than its hold bits
 abbrev pub clean : Step → Write
@@ -108,16 +107,16 @@ unfolding written
 place want image i = refl
 
 -- of a list's write a walk sees what it sees of the step
-unfoldable pub Seen : (ℕ → ℕ) → List ℕ → Bank → Type 0
+unfoldable pub Seen : (ℕ → ℕ) → List ℕ → Buffer → Type 0
 Seen want image B = (n : ℕ) (i : Step) → next B n (written want image i) ≡ next B n (clean i)
 
-seen : (want : ℕ → ℕ) (image : List ℕ) (B : Bank)
-    → ((x : ℕ) → B .holds (written want image (B .register raising x) .value) ≡ B .holds (clean (B .register raising x) .value)) → Seen want image B
+seen : (want : ℕ → ℕ) (image : List ℕ) (B : Buffer)
+    → ((x : ℕ) → only (B .groups) (written want image (B .register raising x) .value) ≡ only (B .groups) (clean (B .register raising x) .value)) → Seen want image B
 unfolding Seen written
 seen want image B h n i = go (eqb (i .register) (B .register)) refl
   where
-    go : (r : Bool) → eqb (i .register) (B .register) ≡ r → cond r (B .holds (written want image i .value)) n ≡ cond r (B .holds (clean i .value)) n
-    go true p = subst⁻¹ (λ (a : ℕ). B .holds (written want image (a raising i .raised) .value) ≡ B .holds (clean i .value)) (eqb-true _ _ p) (h (i .raised))
+    go : (r : Bool) → eqb (i .register) (B .register) ≡ r → cond r (only (B .groups) (written want image i .value)) n ≡ cond r (only (B .groups) (clean i .value)) n
+    go true p = subst⁻¹ (λ (a : ℕ). only (B .groups) (written want image (a raising i .raised) .value) ≡ only (B .groups) (clean i .value)) (eqb-true _ _ p) (h (i .raised))
     go false p = refl
 
 pub packets-seen : (want : ℕ → ℕ) (image : List ℕ) → bit 4 (getD image reg.infoframeUpdate 0) ≡ 0 → Seen want image packets
@@ -128,7 +127,7 @@ pub converter-seen : (want : ℕ → ℕ) (image : List ℕ) → Seen want image
 unfolding written decided
 converter-seen want image = seen want image converter (λ x. converter-byte _ x _)
 
-module _ (want : ℕ → ℕ) (image : List ℕ) (B : Bank) (g : Group) (see : Seen want image B) where
+module _ (want : ℕ → ℕ) (image : List ℕ) (B : Buffer) (g : Group) (see : Seen want image B) where
   pub walk-seen : (may : Bool) (n : ℕ) (is : List Step) → walk (view B g) may n (map (written want image) is) ≡ walk (view B g) may n (map clean is)
   unfolding Seen written
   walk-seen = walk-map (view B g) (written want image) clean see (λ n i. ap (λ (m : ℕ). quiet g n m (i .register)) (see n i))

@@ -4,28 +4,28 @@ use mathlib.Core.Path.{_≡_, refl, sym, ap, subst, _∙_}
 use mathlib.Core.Logic.{_⊎_, inl, inr, ⊎-map, _≢_}
 use mathlib.Core.Bool.{false≢true, Bool, true, false, _||_, cond}
 use mathlib.Core.List.{List, [], _∷_, _++_, map, map-append}
-use Prim.Native.Nat.{ℕ, zero, suc, _/_, _%_, _≤_, _<_}
+use Prim.Native.Nat.{ℕ, zero, suc, _+_, _*_, _≤_, _<_}
 use native.Mathlib.Nat.{not-suc-le-zero, le-of-suc-le-suc}
 use native.Mathlib.Omega.{arith}
 use lib.Dec.{eqb, ltb, lit<}
 use lib.ListN.{length-append, length, getD, take}
 use lib.Seq.{ext-getD, take-length, take-append-le, getD-take, getD-drop, getD-set-same, getD-set-other}
-use borrow.Author.Tests.{eqb-true, ltb-true, ltb-false}
+use borrow.Author.Tests.{eqb-true, eqb-false, ltb-true, ltb-false}
 use Rattle.map.specs.Map as reg
 use Rattle.bits.specs.Merge.{bit}
 use Rattle.bits.proofs.Below.{at-below}
 use Rattle.registers.specs.Classes.{classAt, readOnly, free}
 use Rattle.matrix.specs.Matrix.{fields}
 use Rattle.chip.specs.declared.Chip.{Chip}
-use Rattle.chip.specs.Machine.{Write, _gets_, Group, Bank, avi, audio, gc, matrix, packets, converter, up, part, holdsOf, inUse, writeOf, mute, coefficients}
+use Rattle.chip.specs.Machine.{Write, _gets_, Group, Buffer, avi, audio, gc, matrix, packets, converter, up, registersOf, holdsOf, inUse, writeOf, gcInUse, mute, coefficients}
 use Rattle.writes.specs.Steps.{Step, _raising_, steps}
 use Rattle.writes.specs.List.{decided, written, listWith, isWritten, leftUp, finished, ready}
 use Rattle.cut.specs.Demand.{Plan, cut, done, Either, Stays, After, Demand3}
 use Rattle.cut.proofs.Latch.{nexts, walk, acts, status-acts, calm, once}
-use Rattle.cut.proofs.Bank.{store, view, Sized, Shown, image-store, size-store, down-part, avi-shown, audio-shown, gc-shown, matrix-shown}
-use Rattle.cut.proofs.Bytes.{clean, place, three-bits, mute-byte, Seen, packets-seen, converter-seen, walk-seen, nexts-seen}
+use Rattle.cut.proofs.Bank.{store, only, status, avi-same, audio-same, gc-same, matrix-same, view, Sized, Shown, image-store, size-store, down-part, avi-shown, audio-shown, gc-shown, matrix-shown}
+use Rattle.cut.proofs.Bytes.{clean, place, mute-byte, Seen, packets-seen, converter-seen, walk-seen, nexts-seen}
 use Rattle.cut.proofs.Bytes.{Agree, agree-self, agree-trans, agree-bit, written-agree, agree-acts}
-use Rattle.cut.proofs.Taken.{neat, tidy, neat-at, tidy-seen, Fit, after-acts, taken-at}
+use Rattle.cut.proofs.Taken.{neat, neat-only, tidy, neat-at, tidy-seen, Fit, after-acts, taken-at}
 use Rattle.writes.proofs.Last.{last, read, last-none}
 use Rattle.cut.proofs.Last.{stored-last}
 
@@ -36,18 +36,24 @@ pub record Ready (image : List ℕ) : Type 0 where
 
 -- the packet holds of such an image: none, audio's or AVI's
 abbrev three : ℕ → Bool
-three n = eqb n 0 || eqb n 2 || eqb n 4
+three n = eqb n 0 || eqb n 32 || eqb n 64
 
-pub neat-elim : (P : ℕ → Type 0) → P 0 → P 2 → P 4 → (q : ℕ) → neat (q % 8) ≡ true → P (q % 8)
-neat-elim P p0 p2 p4 q t =
-    let n : ℕ = q % 8 in
-    go n (eqb n 0) (eqb n 2) (eqb n 4) refl refl refl (rw t at (at-below (λ n. cond (neat n) (three n) true) 8 n refl (omega arith)))
+pub neat-elim : (P : ℕ → Type 0) → P 0 → P 32 → P 64 → (q : ℕ) → neat (only (packets .groups) q) ≡ true → P (only (packets .groups) q)
+neat-elim P p0 p32 p64 q t =
+    let i : ℕ = 4 * bit 6 q + 2 * bit 5 q + bit 4 q in
+    let e : only (packets .groups) q ≡ 16 * i = sixteens (bit 6 q) (bit 5 q) (bit 4 q) in
+    let n : ℕ = 16 * i in
+    subst P (sym e) (go n (eqb n 0) (eqb n 32) (eqb n 64) refl refl refl
+    (rw (sym (ap neat e) ∙ t) at (at-below (λ i. cond (neat (16 * i)) (three (16 * i)) true) 8 i refl (omega arith))))
   where
-    go : (n : ℕ) (x y z : Bool) → eqb n 0 ≡ x → eqb n 2 ≡ y → eqb n 4 ≡ z → (x || y || z) ≡ true → P n
+    go : (n : ℕ) (x y z : Bool) → eqb n 0 ≡ x → eqb n 32 ≡ y → eqb n 64 ≡ z → (x || y || z) ≡ true → P n
     go n true y z e f g t = subst P (sym (eqb-true _ _ e)) p0
-    go n false true z e f g t = subst P (sym (eqb-true _ _ f)) p2
-    go n false false true e f g t = subst P (sym (eqb-true _ _ g)) p4
+    go n false true z e f g t = subst P (sym (eqb-true _ _ f)) p32
+    go n false false true e f g t = subst P (sym (eqb-true _ _ g)) p64
     go n false false false e f g t = absurd (false≢true t)
+
+    sixteens : (a b c : ℕ) → 64 * a + (32 * b + (16 * c + 0)) ≡ 16 * (4 * a + 2 * b + c)
+    sixteens a b c = omega arith
 
 -- what a list between mute and open must do: pass the walks, and leave each register as the finished image has it
 pub record Walked (n m : ℕ) (ms : List Step) : Type 0 where
@@ -61,7 +67,7 @@ pub record Walked (n m : ℕ) (ms : List Step) : Type 0 where
   pub matrix-ends : nexts (view converter matrix) m (map clean (steps ms)) ≡ 0
 
 pub record Good (want : ℕ → ℕ) (image : List ℕ) (ms : List Step) : Type 0 where
-  pub walked : Walked (holdsOf packets image) (holdsOf converter image) ms
+  pub walked : Walked (status packets image) (status converter image) ms
   pub finishes : (a : ℕ) → a < 256 → read (written want image) a (last a (steps ms) 0) (getD image a 0) ≡ finished want image a
   pub rests : (a : ℕ) → a < 256 → isWritten a ≡ false → last a (steps ms) 0 ≡ 0
 
@@ -91,13 +97,12 @@ tail-stays [] w s a (suc (suc k)) h l = elsewhere w s a h
 tail-stays (v ∷ vs) w s a zero h l = absurd (not-suc-le-zero l)
 tail-stays (v ∷ vs) w s a (suc k) h l = tail-stays vs w (store v s) a k h (le-of-suc-le-suc l)
 
-gc-low : (q : ℕ) → neat (q % 8) ≡ true → up gc (q % 8) ≡ false
-gc-low = neat-elim (λ (n : ℕ). up gc n ≡ false) refl refl refl
-
-gc-bit : (x : ℕ) → neat (x / 16 % 8) ≡ true → bit 4 x ≡ 0
+-- on an image that planning takes the GC hold is down
+gc-bit : (x : ℕ) → neat (only (packets .groups) x) ≡ true → bit 4 x ≡ 0
 gc-bit x h =
-    neat-elim (λ (n : ℕ). x / 16 % 8 ≡ n → bit 4 x ≡ 0) (λ e. omega (arith, three-bits x)) (λ e. omega (arith, three-bits x))
-    (λ e. omega (arith, three-bits x)) (x / 16) h refl
+    let z : up gc x ≡ false = sym (gc-same x) ∙ neat-elim (λ (n : ℕ). up gc n ≡ false) refl refl refl x h in
+    let y : (bit 4 x ≡ 1) → ⊥ = eqb-false (bit 4 x) 1 z in
+    omega arith
 
 -- a state that cut runs may lead to: the read-only and free bits, and the registers that no list writes, are as they were
 pub record Near (s u : Chip) : Type 0 where
@@ -145,19 +150,22 @@ module _ (mid : (ℕ → ℕ) → List ℕ → List Step) (good : (want : ℕ �
     abbrev f : Step → Write
     f = written want (s .image)
 
-    facts : Walked (holdsOf packets (s .image)) (holdsOf converter (s .image)) ms
+    facts : Walked (status packets (s .image)) (status converter (s .image)) ms
     facts = good want (s .image) r .walked
 
+    neat-start : neat (status packets (s .image)) ≡ true
+    neat-start = neat-only (holdsOf packets (s .image)) ∙ r .holds
+
     seen-p : Seen want (s .image) packets
-    seen-p = packets-seen want (s .image) (gc-bit (getD (s .image) reg.infoframeUpdate 0) (r .holds))
+    seen-p = packets-seen want (s .image) (gc-bit (getD (s .image) reg.infoframeUpdate 0) neat-start)
 
     -- no write is refused, so a run, and a cut one, store their bytes as they are
     fit : Fit want (s .image) s is
     fit = record {
       agree = agree-self (s .image);
       sized = r .whole;
-      holds = r .holds;
-      walks = tidy-seen want (s .image) seen-p (holdsOf packets (s .image)) is ∙ facts .tidies;
+      holds = neat-start;
+      walks = tidy-seen want (s .image) seen-p (status packets (s .image)) is ∙ facts .tidies;
     }
 
     cut-acts : (k : ℕ) → cut P want s k ≡ acts store (take k (map f is)) s
@@ -170,29 +178,32 @@ module _ (mid : (ℕ → ℕ) → List ℕ → List Step) (good : (want : ℕ �
     taken k h = rw (cut-acts k) (taken-at want (s .image) is s k fit h)
 
     -- one group: old or new at every cut, and at the end as it stands in the registers
-    module _ (B : Bank) (g : Group) (F : Shown B g) (see : Seen want (s .image) B) where
-      holds-acts : (vs : List Step) (u : Chip) → Sized u → holdsOf B (acts store (map f vs) u .image) ≡ nexts (view B g) (holdsOf B (u .image)) (map clean vs)
-      holds-acts vs u e = status-acts store F (map f vs) u e ∙ nexts-seen want (s .image) B g see (holdsOf B (u .image)) vs
+    module _ (B : Buffer) (g : Group) (F : Shown B g) (see : Seen want (s .image) B) where
+      holds-acts : (vs : List Step) (u : Chip) → Sized u → status B (acts store (map f vs) u .image) ≡ nexts (view B g) (status B (u .image)) (map clean vs)
+      holds-acts vs u e = status-acts store F (map f vs) u e ∙ nexts-seen want (s .image) B g see (status B (u .image)) vs
 
-      group-cut : walk (view B g) true (holdsOf B (s .image)) (map clean is) ≡ true → (k : ℕ) → Either (inUse B g) s (done P want s) (cut P want s k)
-      group-cut t k = rw (cut-acts k, done-acts) (once store F (map f is) s k (r .whole) (walk-seen want (s .image) B g see true (holdsOf B (s .image)) is ∙ t))
+      group-cut : walk (view B g) true (status B (s .image)) (map clean is) ≡ true → (k : ℕ) → Either (inUse B g) s (done P want s) (cut P want s k)
+      group-cut t k = rw (cut-acts k, done-acts) (once store F (map f is) s k (r .whole) (walk-seen want (s .image) B g see true (status B (s .image)) is ∙ t))
 
-      group-done : nexts (view B g) (holdsOf B (s .image)) (map clean is) ≡ 0 → up g 0 ≡ false → inUse B g (done P want s) ≡ part g (done P want s .image)
-      group-done t z = down-part B g (done P want s) (ap (λ (n : ℕ). up g n) (rw done-acts (holds-acts is s (r .whole)) ∙ t) ∙ z)
+      group-done : nexts (view B g) (status B (s .image)) (map clean is) ≡ 0 → up g 0 ≡ false → ((n : ℕ) → up g (only (B .groups) n) ≡ up g n)
+          → inUse B g (done P want s) ≡ registersOf g (done P want s .image)
+      group-done t z same =
+          down-part B g (done P want s) (sym (same (holdsOf B (done P want s .image))) ∙ ap (λ (n : ℕ). up g n) (rw done-acts (holds-acts is s (r .whole)) ∙ t) ∙ z)
 
     ready-cut : (k : ℕ) → Ready (cut P want s k .image)
     ready-cut k = record {
       whole = rw (cut-acts k) (sized-acts (take k (map f is)) s (r .whole));
-      holds = rw (cut-acts k, take-map f k is, holds-acts packets gc gc-shown seen-p (take k is) s (r .whole), ← take-map clean k is)
-          (neat-at _ (map clean is) k (r .holds) (facts .tidies));
+      holds = sym (neat-only (holdsOf packets (cut P want s k .image))) ∙ rw (cut-acts k, take-map f k is, holds-acts packets gc gc-shown seen-p (take k is) s (r .whole), ← take-map clean k is)
+          (neat-at _ (map clean is) k neat-start (facts .tidies));
     }
 
     -- the mute bits after a write to their register
-    mute-store : (x : ℕ) (u : Chip) → Sized u → up gc (holdsOf packets (u .image)) ≡ false → mute (store (f (reg.gc raising x)) u) ≡ x / 64 % 4
-    unfolding mute written decided
+    mute-store : (x : ℕ) (u : Chip) → Sized u → up gc (status packets (u .image)) ≡ false → mute (store (f (reg.gc raising x)) u) ≡ bit 6 x + 2 * bit 7 x
+    unfolding gcInUse written decided
     mute-store x u e h =
-        let d : inUse packets gc (store (f (reg.gc raising x)) u) ≡ part gc (store (f (reg.gc raising x)) u .image) =
-        down-part packets gc (store (f (reg.gc raising x)) u) (ap (λ (n : ℕ). up gc n) (gc-shown .tracks (f (reg.gc raising x)) u e) ∙ h) in
+        let d : inUse packets gc (store (f (reg.gc raising x)) u) ≡ registersOf gc (store (f (reg.gc raising x)) u .image) =
+        down-part packets gc (store (f (reg.gc raising x)) u)
+        (sym (gc-same (holdsOf packets (store (f (reg.gc raising x)) u .image))) ∙ ap (λ (n : ℕ). up gc n) (gc-shown .tracks (f (reg.gc raising x)) u e) ∙ h) in
         rw (d, image-store, getD-take {A = ℕ} 1 _ 0 0 (lit< tt), getD-drop, getD-set-same (u .image) reg.gc _ 0 (rw e (lit< tt)))
         (mute-byte (getD (s .image) reg.gc 0) x (want reg.gc))
 
@@ -204,7 +215,7 @@ module _ (mid : (ℕ → ℕ) → List ℕ → List Step) (good : (want : ℕ �
     unfolding dark
     dark-sized = size-store (f (reg.gc raising reg.setAvMuteMask)) s (r .whole)
 
-    dark-holds : holdsOf packets (dark .image) ≡ holdsOf packets (s .image)
+    dark-holds : status packets (dark .image) ≡ status packets (s .image)
     unfolding dark written
     dark-holds = gc-shown .tracks (f (reg.gc raising reg.setAvMuteMask)) s (r .whole)
 
@@ -230,28 +241,28 @@ module _ (mid : (ℕ → ℕ) → List ℕ → List Step) (good : (want : ℕ �
     opens =
         let u : Chip = acts store ws dark in
         let e : done P want s ≡ store opening u = done-acts ∙ rw (map-append, acts-append) in
-        let h : holdsOf packets (u .image) ≡ 0 =
+        let h : status packets (u .image) ≡ 0 =
         holds-acts packets gc gc-shown seen-p ms dark dark-sized ∙ ap (λ (n : ℕ). nexts (view packets gc) n (map clean ms)) dark-holds ∙ facts .closes in
         rw e (mute-store reg.clearAvMuteMask u (sized-acts ws dark dark-sized) (ap (λ (n : ℕ). up gc n) h))
 
     mutes : (j : ℕ) → suc j < length (P want (s .image)) → mute (cut P want s (suc j)) ≡ 1
-    unfolding mute dark
+    unfolding gcInUse dark
     mutes j h =
         let le : j ≤ length ws = omega (arith, count) in
         let e : cut P want s (suc j) ≡ acts store (take j ws) dark =
         cut-dark j ∙ ap (λ (l : List Write). acts store l dark) (take-append-le j ws (opening ∷ []) le) in
         let c : inUse packets gc (acts store (take j ws) dark) ≡ inUse packets gc dark =
         calm store gc-shown ws dark j dark-sized
-        (rw dark-holds (walk-seen want (s .image) packets gc seen-p false (holdsOf packets (s .image)) ms ∙ facts .gc-calm)) in
-        rw (e, c) (mute-store reg.setAvMuteMask s (r .whole) (gc-low (getD (s .image) reg.infoframeUpdate 0 / 16) (r .holds)))
+        (rw dark-holds (walk-seen want (s .image) packets gc seen-p false (status packets (s .image)) ms ∙ facts .gc-calm)) in
+        rw (e, c) (mute-store reg.setAvMuteMask s (r .whole) (neat-elim (λ (n : ℕ). up gc n ≡ false) refl refl refl (holdsOf packets (s .image)) neat-start))
 
     ended : After (done P want s)
     unfolding coefficients
     ended = record {
       opened = opens;
-      avi = group-done packets avi avi-shown seen-p (facts .ends) refl;
-      audio = group-done packets audio audio-shown seen-p (facts .ends) refl;
-      matrix = ap fields (group-done converter matrix matrix-shown (converter-seen want (s .image)) (facts .matrix-ends) refl);
+      avi = group-done packets avi avi-shown seen-p (facts .ends) refl avi-same;
+      audio = group-done packets audio audio-shown seen-p (facts .ends) refl audio-same;
+      matrix = ap fields (group-done converter matrix matrix-shown (converter-seen want (s .image)) (facts .matrix-ends) refl matrix-same);
     }
 
     -- the registers after some of the steps
@@ -312,9 +323,9 @@ module _ (mid : (ℕ → ℕ) → List ℕ → List Step) (good : (want : ℕ �
       at-each a h = registers want u (near .ready) a h ∙ finished-near want s u near a h ∙ sym (registers want s r a h)
 
   ending-part : (g : Group) (shown : Chip → List ℕ) (of : List ℕ → List ℕ)
-      → ((want : ℕ → ℕ) (t : Chip) → Ready (t .image) → shown (done P want t) ≡ of (part g (done P want t .image)))
+      → ((want : ℕ → ℕ) (t : Chip) → Ready (t .image) → shown (done P want t) ≡ of (registersOf g (done P want t .image)))
       → (want : ℕ → ℕ) (s u : Chip) → Ready (s .image) → Near s u → shown (done P want u) ≡ shown (done P want s)
-  ending-part g shown of h want s u r near = h want u (near .ready) ∙ ap (λ (l : List ℕ). of (part g l)) (ends-alike want s u r near) ∙ sym (h want s r)
+  ending-part g shown of h want s u r near = h want u (near .ready) ∙ ap (λ (l : List ℕ). of (registersOf g l)) (ends-alike want s u r near) ∙ sym (h want s r)
 
   pub avi-latched : Latched P (inUse packets avi)
   avi-latched = record {

@@ -1,5 +1,5 @@
 -- No write of a list is refused: from holds of which no two are up, a list whose walk keeps them so is stored write by write. Assumes nothing.
-use mathlib.Core.Path.{_≡_, refl, ap, _∙_}
+use mathlib.Core.Path.{_≡_, refl, sym, ap, _∙_}
 use mathlib.Core.Logic.{⊎-elim}
 use mathlib.Core.Bool.{false≢true, Bool, true, false, not, _&&_, _||_}
 use mathlib.Core.List.{List, [], _∷_, map}
@@ -12,12 +12,15 @@ use Rattle.chip.specs.Machine.{Write, _gets_, avi, audio, gc, packets, up, hold
 use Rattle.writes.specs.Steps.{Step}
 use Rattle.writes.specs.List.{written}
 use Rattle.cut.proofs.Latch.{View, first, nexts, walk, walk-map, acts}
-use Rattle.cut.proofs.Bank.{store, next, Sized, size-store, gc-shown}
+use Rattle.cut.proofs.Bank.{store, only, status, next, avi-same, audio-same, gc-same, Sized, size-store, gc-shown}
 use Rattle.cut.proofs.Bytes.{clean, Seen, Agree, written-stored, agree-store}
 
 -- holds on which planning is not refused, as `ready` has them
 abbrev pub neat : ℕ → Bool
 neat n = not (up gc n) && not (up avi n && up audio n)
+
+pub neat-only : (n : ℕ) → neat (only (packets .groups) n) ≡ neat n
+neat-only n = rw (avi-same n, audio-same n, gc-same n)
 
 pub neat-two : (n : ℕ) → neat n ≡ true → two n ≡ false
 neat-two n = go (up avi n) (up audio n) (up gc n)
@@ -45,14 +48,18 @@ tidy-seen want image see n is = walk-map tidy (written want image) clean see (λ
 
 -- a write that the machine stores as it is, and that leaves the holds so
 module _ (w : Write) (s : Chip) (z : Sized s) (e : stored (w .address) (w .value) (s .image) ≡ w .value) where
-  later : holdsOf packets (imageAfter s (w .address) (w .value)) ≡ next packets (holdsOf packets (s .image)) w
+  later : status packets (imageAfter s (w .address) (w .value)) ≡ next packets (status packets (s .image)) w
   unfolding put
-  later = ap (λ (b : ℕ). holdsOf packets (set (s .image) (w .address) b)) e ∙ gc-shown .tracks w s z
+  later = ap (λ (b : ℕ). status packets (set (s .image) (w .address) b)) e ∙ gc-shown .tracks w s z
 
-  module _ (n : neat (holdsOf packets (s .image)) ≡ true) (n′ : neat (next packets (holdsOf packets (s .image)) w) ≡ true) where
+  module _ (n : neat (status packets (s .image)) ≡ true) (n′ : neat (next packets (status packets (s .image)) w) ≡ true) where
     takes : refuses s (w .address) (w .value) ≡ false
     unfolding refuses
-    takes = rw (neat-two (holdsOf packets (s .image)) n, later, neat-two (next packets (holdsOf packets (s .image)) w) n′)
+    takes =
+        let after : List ℕ = imageAfter s (w .address) (w .value) in
+        let b : two (holdsOf packets (s .image)) ≡ false = neat-two (holdsOf packets (s .image)) (sym (neat-only (holdsOf packets (s .image))) ∙ n) in
+        let a : two (holdsOf packets after) ≡ false = neat-two (holdsOf packets after) (sym (neat-only (holdsOf packets after)) ∙ ap neat later ∙ n′) in
+        rw (b, a)
 
     took : writeOf s (w .address) (w .value) ≡ record { refusal = 0; chip = store w s }
     unfolding writeOf
@@ -66,12 +73,12 @@ module _ (want : ℕ → ℕ) (image₀ : List ℕ) where
   pub record Fit (s : Chip) (is : List Step) : Type 0 where
     pub agree : Agree (s .image) image₀
     pub sized : Sized s
-    pub holds : neat (holdsOf packets (s .image)) ≡ true
-    pub walks : walk tidy false (holdsOf packets (s .image)) (map f is) ≡ true
+    pub holds : neat (status packets (s .image)) ≡ true
+    pub walks : walk tidy false (status packets (s .image)) (map f is) ≡ true
 
   next-neat : (i : Step) (is : List Step) (s : Chip) → Fit s (i ∷ is)
-      → (neat (next packets (holdsOf packets (s .image)) (f i)) ≡ true) × (walk tidy false (next packets (holdsOf packets (s .image)) (f i)) (map f is) ≡ true)
-  next-neat i is s fit = ⊎-elim (λ q. q) (λ q. absurd (false≢true (q .0))) (first tidy false (holdsOf packets (s .image)) (f i) (map f is) (fit .walks))
+      → (neat (next packets (status packets (s .image)) (f i)) ≡ true) × (walk tidy false (next packets (status packets (s .image)) (f i)) (map f is) ≡ true)
+  next-neat i is s fit = ⊎-elim (λ q. q) (λ q. absurd (false≢true (q .0))) (first tidy false (status packets (s .image)) (f i) (map f is) (fit .walks))
 
   head-taken : (i : Step) (is : List Step) (s : Chip) → Fit s (i ∷ is) → writeOf s (f i .address) (f i .value) ≡ record { refusal = 0; chip = store (f i) s }
   head-taken i is s fit = took (f i) s (fit .sized) (written-stored want image₀ i s (fit .agree)) (fit .holds) (next-neat i is s fit .0)

@@ -10,7 +10,7 @@ use Rattle.map.specs.Map as reg
 use Rattle.registers.specs.Classes.{readOnly, free}
 use Rattle.matrix.specs.Matrix.{fields}
 use Rattle.chip.specs.declared.Chip.{Chip}
-use Rattle.chip.specs.Machine.{Write, _gets_, avi, audio, matrix, packets, part, writeOf, after, inUse, coefficients, mute}
+use Rattle.chip.specs.Machine.{Write, _gets_, avi, audio, matrix, packets, registersOf, writeOf, after, inUse, coefficients, mute}
 use Rattle.writes.specs.List.{isWritten, finished, ready}
 
 -- how a request and an image give a list
@@ -42,9 +42,9 @@ pub record Between (s r t : Chip) : Type 0 where
 -- "all are new and the picture is open": what is in use is what stands in the registers
 pub record After (r : Chip) : Type 0 where
   pub opened : mute r ≡ 2
-  pub avi : inUse packets avi r ≡ part avi (r .image)
-  pub audio : inUse packets audio r ≡ part audio (r .image)
-  pub matrix : coefficients r ≡ fields (part matrix (r .image))
+  pub avi : inUse packets avi r ≡ registersOf avi (r .image)
+  pub audio : inUse packets audio r ≡ registersOf audio (r .image)
+  pub matrix : coefficients r ≡ fields (registersOf matrix (r .image))
 
 -- "the registers and all three groups in use are those of the run without a cut"
 pub record Same (s t : Chip) : Type 0 where

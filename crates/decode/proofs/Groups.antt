@@ -20,7 +20,7 @@ use Rattle.matrix.proofs.Pairs.{none-small}
 use Rattle.request.specs.declared.Sound.{Sound}
 use Rattle.request.specs.declared.Sound.the-variants.{Off, On}
 use Rattle.request.specs.declared.Request.{Request}
-use Rattle.chip.specs.Machine.{avi, audio, matrix, part}
+use Rattle.chip.specs.Machine.{avi, audio, matrix, registersOf}
 use Rattle.plan.specs.Wanted.{wanted, audioBytes}
 use Rattle.writes.specs.List.{isWritten, decided, byte}
 use Rattle.decode.specs.Ends.{Stands}
@@ -66,7 +66,7 @@ module _ (r : Request) (image : List ℕ) (long : length image ≡ 256) (g : Ran
       let c : colorimetry (modeOf (r .vic)) (r .encoding) ≤ 2 = colour-small (modeOf (r .vic)) (r .encoding) s in
       avi-thin _ _ _ (r .vic) (checksum-small _) (omega (arith, g .encoding)) (omega (arith, c, s .aspect)) (omega (arith, g .vic))
 
-  pub avi-in : drop 2 (part avi image) ≡ drop 3 (aviFrame (r .vic) (r .encoding))
+  pub avi-in : drop 2 (registersOf avi image) ≡ drop 3 (aviFrame (r .vic) (r .encoding))
   unfolding isWritten decided classAt
   avi-in = ap (drop 2) (window image 0x52 16 (omega arith)) ∙ bytes-read 0x54 14 (lit≤ tt) refl ∙ ap thin (wants r .aviBytes) ∙ avi-bytes
 
@@ -97,7 +97,7 @@ module _ (r : Request) (image : List ℕ) (long : length image ≡ 256) (g : Ran
         zero-at 0x7C (sym (there r image st 0x7C (lit< tt) refl)),
       )
 
-  pub audio-in : drop 2 (part audio image) ≡ drop 3 (audioBytes (r .sound))
+  pub audio-in : drop 2 (registersOf audio image) ≡ drop 3 (audioBytes (r .sound))
   unfolding isWritten decided classAt
   audio-in =
       let k = sound-bytes (r .sound) (g .sound) in
@@ -106,10 +106,10 @@ module _ (r : Request) (image : List ℕ) (long : length image ≡ 256) (g : Ran
 
   -- ---- the twelve coefficients
 
-  pub matrix-in : fields (part matrix image) ≡ r .matrix .coefficients
+  pub matrix-in : fields (registersOf matrix image) ≡ r .matrix .coefficients
   matrix-in = of (g .matrix)
     where
-      of : (r .matrix ≡ noMatrix) ⊎ Filled (r .matrix) → fields (part matrix image) ≡ r .matrix .coefficients
+      of : (r .matrix ≡ noMatrix) ⊎ Filled (r .matrix) → fields (registersOf matrix image) ≡ r .matrix .coefficients
       of (inl e) =
           coefficients-read r image long g st (ap (λ (m : Matrix). length (m .coefficients)) e)
           (λ i. subst (λ (m : Matrix). getD (m .coefficients) i 0 < 8192) (sym e) (none-small i))

@@ -345,33 +345,20 @@ fn wanted_image(r: Request, pair: Pair) -> [u8; 256]
     with_frames(enabled, r)
 }
 
-// Whether a packet's hold is up, by the three holds as one number.
-fn up(hold: u8, holds: u8) -> bool
-    requires { ⌜ 0 < hold ⌝ }
-    ensures { λ r. ⌜ r ≡ eqb (holds / hold % 2) 1 ⌝ }
-{
-    holds / hold % 2 == 1
-}
-
+// Whether the audio hold is up in a byte of 0x4A.
 fn audio_up(holds: u8) -> bool
     ensures { λ r. ⌜ r ≡ up audio holds ⌝ }
 {
-    up(
-        Map::AUDIO_INFOFRAME_PACKET_UPDATE_MASK / Map::GC_PACKET_UPDATE_MASK,
-        holds,
-    )
+    holds / Map::AUDIO_INFOFRAME_PACKET_UPDATE_MASK % 2 == 1
 }
 
 // GC hold down, and not both other holds up.
 fn is_ready(holds: u8) -> bool
     ensures { λ r. ⌜ r ≡ (not (up gc holds) && not (up avi holds && up audio holds)) ⌝ }
 {
-    !up(1, holds)
-        & !(up(
-            Map::AVI_PACKET_UPDATE_MASK / Map::GC_PACKET_UPDATE_MASK,
-            holds,
-        )
-            & audio_up(holds))
+    let gc = holds / Map::GC_PACKET_UPDATE_MASK % 2 == 1;
+    let avi = holds / Map::AVI_PACKET_UPDATE_MASK % 2 == 1;
+    !gc & !(avi & audio_up(holds))
 }
 
 // The list, at the front of the buffer.
@@ -416,7 +403,7 @@ pub fn plan(input: &[u8], image: &[u8], writes: &mut [u8]) -> Planned
     if image.len() != 256 {
         return refused(Refusal::IMAGE_LENGTH);
     }
-    let holds = image[Map::INFOFRAME_UPDATE as usize] / Map::GC_PACKET_UPDATE_MASK % 8;
+    let holds = image[Map::INFOFRAME_UPDATE as usize];
     if !is_ready(holds) {
         return refused(Refusal::HOLDS_UP);
     }

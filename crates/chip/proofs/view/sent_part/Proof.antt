@@ -4,7 +4,7 @@ use mathlib.Core.Logic.{_≢_}
 use native.Mathlib.Omega.{arith}
 use borrow.Author.Tests.{eq-eqb, ne-eqb}
 use Rattle.chip.specs.View.{viewRefusal}
-use Rattle.chip.proofs.Holds.{avi-bit, audio-bit}
+use Rattle.bits.proofs.Laws.{bit-code}
 use Rattle.chip.proofs.Seen.{Clear, clear, none, taken, refused}
 use borrow.Author.Needs.{needs}
 use Rattle.chip.proofs.view.sent_part.Statement.{statement}
@@ -41,7 +41,7 @@ returns-2 : tie.Need-returns-2
 returns-2 c =
     let e = c .before .before .before in
     let a = e .before .before .before .before .args in
-    c .place .ensures ∙ sym (taken (a .image .now) (a .packet .now) (a .which) (accepted e) ∙ simp (eq-eqb _ _ (c .before .if2 .taken), avi-bit))
+    c .place .ensures ∙ sym (taken (a .image .now) (a .packet .now) (a .which) (accepted e) ∙ simp (eq-eqb _ _ (c .before .if2 .taken), bit-code 6))
 
 place-requires-2 : tie.Need-place-requires-2
 place-requires-2 c κs = search needs
@@ -50,7 +50,7 @@ returns-3 : tie.Need-returns-3
 returns-3 c =
     let e = c .before .before .before in
     let a = e .before .before .before .before .args in
-    c .place2 .ensures ∙ sym (taken (a .image .now) (a .packet .now) (a .which) (accepted e) ∙ simp (ne-eqb _ _ (c .before .if2 .left), audio-bit))
+    c .place2 .ensures ∙ sym (taken (a .image .now) (a .packet .now) (a .which) (accepted e) ∙ simp (ne-eqb _ _ (c .before .if2 .left), bit-code 5))
 
 pub sent-part-spec : {M : Type 1} → statement M
 sent-part-spec =
