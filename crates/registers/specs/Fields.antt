@@ -23,9 +23,11 @@ use Rattle.map.specs.Map.{audioInfoframeChecksum, audioInfoframeByte1}
 pub record Field : Type 0 where
   pub address : ℕ
   pub mask : ℕ
+  -- the bits that must be set, in their place; 0 for a field of which the list says none
+  pub value : ℕ
 
 abbrev pub field : ℕ → ℕ → Field
-field address mask = record { address = address; mask = mask }
+field address mask = record { address = address; mask = mask; value = 0 }
 
 -- the mask of a field that fills its register
 abbrev pub whole : ℕ
@@ -77,7 +79,21 @@ namedFields =
     field audioInfoframeChecksum whole ∷ [] ++
     bytes audioInfoframeByte1 5
 
+-- the fields of the list that lie in register a
+abbrev pub fieldsAt : ℕ → List Field → List Field
+fieldsAt a [] = []
+fieldsAt a (f ∷ fs) = cond (eqb a (f .address)) (f ∷ fieldsAt a fs) (fieldsAt a fs)
+
+-- the bits that lie in one of the fields
+abbrev pub masks : List Field → ℕ
+masks [] = 0
+masks (f ∷ fs) = bitOr (f .mask) (masks fs)
+
+-- those of them that must be 1
+abbrev pub values : List Field → ℕ
+values [] = 0
+values (f ∷ fs) = bitOr (f .value) (values fs)
+
 -- the bits of register a that lie in a field of the list, 0 where it has none
 abbrev pub maskIn : List Field → ℕ → ℕ
-maskIn [] a = 0
-maskIn (f ∷ fs) a = bitOr (cond (eqb a (f .address)) (f .mask) 0) (maskIn fs a)
+maskIn fs a = masks (fieldsAt a fs)

@@ -1,4 +1,6 @@
 pub mod Classes
 pub mod Fields
+pub mod Precedence
+pub mod Rows
 pub mod Steps
 pub mod Table14

@@ -3,7 +3,7 @@ ghost use mathlib.Core.Path.{_≡_};
 ghost use mathlib.Core.Bool.{_&&_, not};
 ghost use Prim.Native.Nat.{ℕ, _<_};
 ghost use Rattle.lists.specs.Among.{among};
-ghost use Rattle.registers.specs.Classes.{classAt, readOnly, mandated, named, free, bits, Rule};
+ghost use Rattle.registers.specs.Classes.{classAt, readOnly, named, Rule};
 ghost use Rattle.registers.specs.Classes.{readOnlyMasks, namedMasks, freeMasks, mandatedBits};
 ghost use Rattle.registers.specs.Steps.{others, hasNamed, elsewhere};
 ghost use Rattle.registers.specs.Fields.{namedFields, maskIn};
@@ -26,39 +26,15 @@ pub fn read_only(a: u8) -> u8
     table::READ_ONLY[a as usize]
 }
 
-pub fn mandated(a: u8) -> u8
-    ensures { λ r. ⌜ r ≡ mandated a ⌝ }
-{
-    table::MANDATED[a as usize]
-}
-
-pub fn named(a: u8) -> u8
-    ensures { λ r. ⌜ r ≡ named a ⌝ }
-{
-    table::NAMED[a as usize]
-}
-
-pub fn free(a: u8) -> u8
-    ensures { λ r. ⌜ r ≡ free a ⌝ }
-{
-    table::FREE[a as usize]
-}
-
-pub fn bits(a: u8) -> u8
-    ensures { λ r. ⌜ r ≡ bits a ⌝ }
-{
-    table::BITS[a as usize]
-}
-
 pub fn class_at(a: u8) -> Class
     ensures { λ r. ⌜ r ≡ classAt a ⌝ }
 {
     Class {
-        read_only: read_only(a),
-        mandated: mandated(a),
-        named: named(a),
-        free: free(a),
-        bits: bits(a),
+        read_only: table::READ_ONLY[a as usize],
+        mandated: table::MANDATED[a as usize],
+        named: table::NAMED[a as usize],
+        free: table::FREE[a as usize],
+        bits: table::BITS[a as usize],
     }
 }
 
