@@ -1,5 +1,5 @@
--- The main register map of source document 000 (section 5): addresses, masks and shifts. Each is the twin of a constant of `Map`.
--- A field that fills its register has no mask of its own.
+-- The main register map of source document 000 (section 5): addresses, masks, shifts and defaults. Each is the twin of a constant of `Map`.
+-- That they are those of the printed addresses and bits [high:low] is said in `Printed`. A field that fills its register has no mask.
 use Prim.Native.Nat.{ℕ}
 
 -- 0x01: N[19:16]
@@ -8,9 +8,6 @@ n0 = 0x01
 
 abbrev pub n0Mask : ℕ
 n0Mask = 0x0F
-
-abbrev pub n0Shift : ℕ
-n0Shift = 0
 
 -- 0x02: N[15:8]
 abbrev pub n1 : ℕ
@@ -26,9 +23,6 @@ ctsManual0 = 0x07
 
 abbrev pub ctsManual0Mask : ℕ
 ctsManual0Mask = 0x0F
-
-abbrev pub ctsManual0Shift : ℕ
-ctsManual0Shift = 0
 
 -- 0x08: CTS Manual[15:8]
 abbrev pub ctsManual1 : ℕ
@@ -51,14 +45,14 @@ ctsSelectShift = 7
 abbrev pub audioSelectMask : ℕ
 audioSelectMask = 0x70
 
-abbrev pub audioSelectShift : ℕ
-audioSelectShift = 4
-
 abbrev pub audioModeMask : ℕ
 audioModeMask = 0x0C
 
-abbrev pub audioModeShift : ℕ
-audioModeShift = 2
+abbrev pub audioSelectDefault : ℕ
+audioSelectDefault = 0x00
+
+abbrev pub audioModeDefault : ℕ
+audioModeDefault = 0x00
 
 -- 0x0C: I2S3 Enable to I2S0 Enable, I2S Format
 abbrev pub i2sConfig : ℕ
@@ -67,20 +61,11 @@ i2sConfig = 0x0C
 abbrev pub i2s3EnableMask : ℕ
 i2s3EnableMask = 0x20
 
-abbrev pub i2s3EnableShift : ℕ
-i2s3EnableShift = 5
-
 abbrev pub i2s2EnableMask : ℕ
 i2s2EnableMask = 0x10
 
-abbrev pub i2s2EnableShift : ℕ
-i2s2EnableShift = 4
-
 abbrev pub i2s1EnableMask : ℕ
 i2s1EnableMask = 0x08
-
-abbrev pub i2s1EnableShift : ℕ
-i2s1EnableShift = 3
 
 abbrev pub i2s0EnableMask : ℕ
 i2s0EnableMask = 0x04
@@ -91,8 +76,8 @@ i2s0EnableShift = 2
 abbrev pub i2sFormatMask : ℕ
 i2sFormatMask = 0x03
 
-abbrev pub i2sFormatShift : ℕ
-i2sFormatShift = 0
+abbrev pub i2sFormatDefault : ℕ
+i2sFormatDefault = 0x00
 
 -- 0x15: I2S Sampling Frequency, Input ID
 abbrev pub i2sFreqIdCfg : ℕ
@@ -107,8 +92,8 @@ i2sSamplingFrequencyShift = 4
 abbrev pub inputIdMask : ℕ
 inputIdMask = 0x0F
 
-abbrev pub inputIdShift : ℕ
-inputIdShift = 0
+abbrev pub inputIdDefault : ℕ
+inputIdDefault = 0x00
 
 -- 0x16: Output Format
 abbrev pub videoInputCfg1 : ℕ
@@ -116,9 +101,6 @@ videoInputCfg1 = 0x16
 
 abbrev pub outputFormatMask : ℕ
 outputFormatMask = 0x80
-
-abbrev pub outputFormatShift : ℕ
-outputFormatShift = 7
 
 -- 0x18: CSC Enable, CSC Scaling Factor, A1 to C4: the first of 24 registers, two for each coefficient, its high five bits first
 abbrev pub csc : ℕ
@@ -142,18 +124,12 @@ cscScalingFactorShift = 5
 abbrev pub cscHighMask : ℕ
 cscHighMask = 0x1F
 
-abbrev pub cscHighShift : ℕ
-cscHighShift = 0
-
 -- 0x1A: Coefficient Update
 abbrev pub coefficientUpdate : ℕ
 coefficientUpdate = 0x1A
 
 abbrev pub coefficientUpdateMask : ℕ
 coefficientUpdateMask = 0x20
-
-abbrev pub coefficientUpdateShift : ℕ
-coefficientUpdateShift = 5
 
 -- 0x3B: PR Mode, PR PLL Manual, PR Value Manual
 abbrev pub pixelRepetition : ℕ
@@ -168,14 +144,8 @@ prModeShift = 5
 abbrev pub prPllManualMask : ℕ
 prPllManualMask = 0x18
 
-abbrev pub prPllManualShift : ℕ
-prPllManualShift = 3
-
 abbrev pub prValueManualMask : ℕ
 prValueManualMask = 0x06
-
-abbrev pub prValueManualShift : ℕ
-prValueManualShift = 1
 
 -- 0x3C: VIC Manual
 abbrev pub vicManual : ℕ
@@ -184,18 +154,12 @@ vicManual = 0x3C
 abbrev pub vicManualMask : ℕ
 vicManualMask = 0x3F
 
-abbrev pub vicManualShift : ℕ
-vicManualShift = 0
-
 -- 0x40: GC Packet Enable
 abbrev pub packetEnable0 : ℕ
 packetEnable0 = 0x40
 
 abbrev pub gcPacketEnableMask : ℕ
 gcPacketEnableMask = 0x80
-
-abbrev pub gcPacketEnableShift : ℕ
-gcPacketEnableShift = 7
 
 -- 0x44: N CTS Packet Enable, Audio Sample Packet Enable, AVI InfoFrame Enable, Audio InfoFrame Enable
 abbrev pub packetEnable1 : ℕ
@@ -204,26 +168,14 @@ packetEnable1 = 0x44
 abbrev pub nCtsPacketEnableMask : ℕ
 nCtsPacketEnableMask = 0x40
 
-abbrev pub nCtsPacketEnableShift : ℕ
-nCtsPacketEnableShift = 6
-
 abbrev pub audioSamplePacketEnableMask : ℕ
 audioSamplePacketEnableMask = 0x20
-
-abbrev pub audioSamplePacketEnableShift : ℕ
-audioSamplePacketEnableShift = 5
 
 abbrev pub aviInfoframeEnableMask : ℕ
 aviInfoframeEnableMask = 0x10
 
-abbrev pub aviInfoframeEnableShift : ℕ
-aviInfoframeEnableShift = 4
-
 abbrev pub audioInfoframeEnableMask : ℕ
 audioInfoframeEnableMask = 0x08
-
-abbrev pub audioInfoframeEnableShift : ℕ
-audioInfoframeEnableShift = 3
 
 -- 0x4A: Auto Checksum Enable, and the packet holds: AVI, Audio InfoFrame and GC Packet Update
 abbrev pub infoframeUpdate : ℕ
@@ -232,26 +184,14 @@ infoframeUpdate = 0x4A
 abbrev pub autoChecksumEnableMask : ℕ
 autoChecksumEnableMask = 0x80
 
-abbrev pub autoChecksumEnableShift : ℕ
-autoChecksumEnableShift = 7
-
 abbrev pub aviPacketUpdateMask : ℕ
 aviPacketUpdateMask = 0x40
-
-abbrev pub aviPacketUpdateShift : ℕ
-aviPacketUpdateShift = 6
 
 abbrev pub audioInfoframePacketUpdateMask : ℕ
 audioInfoframePacketUpdateMask = 0x20
 
-abbrev pub audioInfoframePacketUpdateShift : ℕ
-audioInfoframePacketUpdateShift = 5
-
 abbrev pub gcPacketUpdateMask : ℕ
 gcPacketUpdateMask = 0x10
-
-abbrev pub gcPacketUpdateShift : ℕ
-gcPacketUpdateShift = 4
 
 -- 0x4B: Clear AV Mute, Set AV Mute
 abbrev pub gc : ℕ
@@ -260,14 +200,8 @@ gc = 0x4B
 abbrev pub clearAvMuteMask : ℕ
 clearAvMuteMask = 0x80
 
-abbrev pub clearAvMuteShift : ℕ
-clearAvMuteShift = 7
-
 abbrev pub setAvMuteMask : ℕ
 setAvMuteMask = 0x40
-
-abbrev pub setAvMuteShift : ℕ
-setAvMuteShift = 6
 
 -- 0x52: AVI InfoFrame Version: the first of 16 registers
 abbrev pub aviInfoframeVersion : ℕ
@@ -279,9 +213,6 @@ aviInfoframeCount = 16
 abbrev pub aviInfoframeVersionMask : ℕ
 aviInfoframeVersionMask = 0x07
 
-abbrev pub aviInfoframeVersionShift : ℕ
-aviInfoframeVersionShift = 0
-
 -- 0x53: AVI InfoFrame Length
 abbrev pub aviInfoframeLength : ℕ
 aviInfoframeLength = 0x53
@@ -289,14 +220,11 @@ aviInfoframeLength = 0x53
 abbrev pub aviInfoframeLengthMask : ℕ
 aviInfoframeLengthMask = 0x1F
 
-abbrev pub aviInfoframeLengthShift : ℕ
-aviInfoframeLengthShift = 0
-
 -- 0x54: AVI InfoFrame Checksum
 abbrev pub aviInfoframeChecksum : ℕ
 aviInfoframeChecksum = 0x54
 
--- 0x55: AVI data byte 1: Y1Y0, Active Format Information Status, Bar Information, Scan Information
+-- 0x55: AVI data byte 1: Y1Y0
 abbrev pub aviInfoframeByte1 : ℕ
 aviInfoframeByte1 = 0x55
 
@@ -305,78 +233,6 @@ y1y0Mask = 0x60
 
 abbrev pub y1y0Shift : ℕ
 y1y0Shift = 5
-
-abbrev pub activeFormatInformationStatusMask : ℕ
-activeFormatInformationStatusMask = 0x10
-
-abbrev pub activeFormatInformationStatusShift : ℕ
-activeFormatInformationStatusShift = 4
-
-abbrev pub barInformationMask : ℕ
-barInformationMask = 0x0C
-
-abbrev pub barInformationShift : ℕ
-barInformationShift = 2
-
-abbrev pub scanInformationMask : ℕ
-scanInformationMask = 0x03
-
-abbrev pub scanInformationShift : ℕ
-scanInformationShift = 0
-
--- 0x56: AVI data byte 2: Colorimetry, Picture Aspect Ratio, Active Format Aspect Ratio
-abbrev pub aviInfoframeByte2 : ℕ
-aviInfoframeByte2 = 0x56
-
-abbrev pub colorimetryMask : ℕ
-colorimetryMask = 0xC0
-
-abbrev pub colorimetryShift : ℕ
-colorimetryShift = 6
-
-abbrev pub pictureAspectRatioMask : ℕ
-pictureAspectRatioMask = 0x30
-
-abbrev pub pictureAspectRatioShift : ℕ
-pictureAspectRatioShift = 4
-
-abbrev pub activeFormatAspectRatioMask : ℕ
-activeFormatAspectRatioMask = 0x0F
-
-abbrev pub activeFormatAspectRatioShift : ℕ
-activeFormatAspectRatioShift = 0
-
--- 0x57: AVI data byte 3: ITC, EC, Q, Non-Uniform Picture Scaling
-abbrev pub aviInfoframeByte3 : ℕ
-aviInfoframeByte3 = 0x57
-
-abbrev pub itcMask : ℕ
-itcMask = 0x80
-
-abbrev pub itcShift : ℕ
-itcShift = 7
-
-abbrev pub ecMask : ℕ
-ecMask = 0x70
-
-abbrev pub ecShift : ℕ
-ecShift = 4
-
-abbrev pub qMask : ℕ
-qMask = 0x0C
-
-abbrev pub qShift : ℕ
-qShift = 2
-
-abbrev pub nonUniformPictureScalingMask : ℕ
-nonUniformPictureScalingMask = 0x03
-
-abbrev pub nonUniformPictureScalingShift : ℕ
-nonUniformPictureScalingShift = 0
-
--- 0x58: AVI data byte 4: the VIC
-abbrev pub aviInfoframeByte4 : ℕ
-aviInfoframeByte4 = 0x58
 
 -- 0x70: Audio InfoFrame Version: the first of 13 registers
 abbrev pub audioInfoframeVersion : ℕ
@@ -388,9 +244,6 @@ audioInfoframeCount = 13
 abbrev pub audioInfoframeVersionMask : ℕ
 audioInfoframeVersionMask = 0x07
 
-abbrev pub audioInfoframeVersionShift : ℕ
-audioInfoframeVersionShift = 0
-
 -- 0x71: Audio InfoFrame Length
 abbrev pub audioInfoframeLength : ℕ
 audioInfoframeLength = 0x71
@@ -398,32 +251,13 @@ audioInfoframeLength = 0x71
 abbrev pub audioInfoframeLengthMask : ℕ
 audioInfoframeLengthMask = 0x1F
 
-abbrev pub audioInfoframeLengthShift : ℕ
-audioInfoframeLengthShift = 0
-
 -- 0x72: Audio InfoFrame Checksum
 abbrev pub audioInfoframeChecksum : ℕ
 audioInfoframeChecksum = 0x72
 
--- 0x73: Audio data byte 1: Coding Type, CC
+-- 0x73: Audio data byte 1
 abbrev pub audioInfoframeByte1 : ℕ
 audioInfoframeByte1 = 0x73
-
-abbrev pub codingTypeMask : ℕ
-codingTypeMask = 0xF0
-
-abbrev pub codingTypeShift : ℕ
-codingTypeShift = 4
-
-abbrev pub ccMask : ℕ
-ccMask = 0x07
-
-abbrev pub ccShift : ℕ
-ccShift = 0
-
--- 0x76: Audio data byte 4: Speaker Mapping, CA
-abbrev pub audioInfoframeByte4 : ℕ
-audioInfoframeByte4 = 0x76
 
 -- 0x98: Table 14: Fixed
 abbrev pub fixed98 : ℕ
@@ -455,9 +289,6 @@ hdcpHdmiCfg = 0xAF
 
 abbrev pub hdmiDviModeSelectMask : ℕ
 hdmiDviModeSelectMask = 0x02
-
-abbrev pub hdmiDviModeSelectShift : ℕ
-hdmiDviModeSelectShift = 1
 
 -- 0xE0: Table 14: Fixed
 abbrev pub fixedE0 : ℕ
