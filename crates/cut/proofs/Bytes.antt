@@ -158,6 +158,10 @@ agree-bit x y k a j h = ⊎-elim (λ t. same (free a) t (k a .frees)) (λ t. sam
     same : (m : ℕ) → bit j m ≡ 1 → merge 8 m (getD x a 0) 0 ≡ merge 8 m (getD y a 0) 0 → bit j (getD x a 0) ≡ bit j (getD y a 0)
     same m t e = sym (masked m j (getD x a 0) h t) ∙ ap (λ (n : ℕ). bit j n) e ∙ masked m j (getD y a 0) h t
 
+pub agree-free : (x y : List ℕ) → Agree x y → (a : ℕ) → merge 8 (free a) (getD x a 0) 0 ≡ merge 8 (free a) (getD y a 0) 0
+unfolding Agree
+agree-free x y k a = k a .frees
+
 pub written-agree : (want : ℕ → ℕ) (image image₀ : List ℕ) (i : Step) → Agree image image₀ → written want image i ≡ written want image₀ i
 unfolding written Agree
 written-agree want image image₀ i k = ap (λ (v : ℕ). i .register gets v) (byte-kept (i .register) _ (k (i .register)))

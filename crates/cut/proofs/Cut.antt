@@ -8,8 +8,8 @@ use Prim.Native.Nat.{ℕ, zero, suc, _+_, _*_, _≤_, _<_}
 use native.Mathlib.Nat.{not-suc-le-zero, le-of-suc-le-suc}
 use native.Mathlib.Omega.{arith}
 use lib.Dec.{eqb, ltb, lit<}
-use lib.ListN.{length-append, length, getD, take}
-use lib.Seq.{ext-getD, take-length, take-append-le, getD-take, getD-drop, getD-set-same, getD-set-other}
+use lib.ListN.{length-append, length-map, List·getD-map, length, getD, take}
+use lib.Seq.{ext-getD, take-append-le, getD-take, getD-drop, getD-set-same, getD-set-other}
 use borrow.Author.Tests.{eqb-true, eqb-false, ltb-true, ltb-false}
 use Rattle.map.specs.Map as reg
 use Rattle.bits.specs.Merge.{bit}
@@ -20,13 +20,17 @@ use Rattle.chip.specs.declared.Chip.{Chip}
 use Rattle.chip.specs.Machine.{Write, _gets_, Group, Buffer, avi, audio, gc, matrix, packets, converter, up, registersOf, holdsOf, inUse, writeOf, gcInUse, mute, coefficients}
 use Rattle.writes.specs.Steps.{Step, _raising_, steps}
 use Rattle.writes.specs.List.{decided, written, listWith, isWritten, leftUp, finished, ready}
-use Rattle.cut.specs.Demand.{Plan, cut, done, Either, Stays, After, Demand3}
+use Rattle.cut.specs.Run.{Event, write, Fair, Stays, Careful, Covered, Untouched}
+use Rattle.cut.specs.Demand.{sent, After, Same, Demand3, cuts}
+use Rattle.cut.proofs.Planned.{Plan, cut, done, Either}
+use Rattle.cut.proofs.Retry.{retries}
 use Rattle.cut.proofs.Latch.{nexts, walk, acts, status-acts, calm, once}
 use Rattle.cut.proofs.Bank.{store, only, status, avi-same, audio-same, gc-same, matrix-same, view, Sized, Shown, image-store, size-store, down-part, avi-shown, audio-shown, gc-shown, matrix-shown}
 use Rattle.cut.proofs.Bytes.{clean, place, mute-byte, Seen, packets-seen, converter-seen, walk-seen, nexts-seen}
-use Rattle.cut.proofs.Bytes.{Agree, agree-self, agree-trans, agree-bit, written-agree, agree-acts}
-use Rattle.cut.proofs.Taken.{neat, neat-only, tidy, neat-at, tidy-seen, Fit, after-acts, taken-at}
+use Rattle.cut.proofs.Bytes.{Agree, agree-self, agree-trans, agree-bit, agree-free, written-agree, agree-acts}
+use Rattle.cut.proofs.Taken.{neat, neat-only, tidy, neat-at, tidy-seen, Fit, run-acts, run-all, taken-at}
 use Rattle.writes.proofs.Last.{last, read, last-none}
+use Rattle.writes.proofs.Image.{is-image}
 use Rattle.cut.proofs.Last.{stored-last}
 
 -- an image on which planning is not refused by 7 or 8
@@ -169,10 +173,10 @@ module _ (mid : (ℕ → ℕ) → List ℕ → List Step) (good : (want : ℕ �
     }
 
     cut-acts : (k : ℕ) → cut P want s k ≡ acts store (take k (map f is)) s
-    cut-acts k = after-acts want (s .image) is s k fit
+    cut-acts k = run-acts want (s .image) is s k fit
 
     done-acts : done P want s ≡ acts store (map f is) s
-    done-acts = rw take-length at (after-acts want (s .image) is s (length (map f is)) fit)
+    done-acts = run-all want (s .image) is s fit
 
     taken : (k : ℕ) → k < length (map f is) → let w : Write = getD (map f is) k (0 gets 0) in writeOf (cut P want s k) (w .address) (w .value) .refusal ≡ 0
     taken k h = rw (cut-acts k) (taken-at want (s .image) is s k fit h)
@@ -347,36 +351,79 @@ module _ (mid : (ℕ → ℕ) → List ℕ → List Step) (good : (want : ℕ �
     ending = ending-part matrix coefficients fields (λ want s r. ended want s r .matrix);
   }
 
-  pub demand3 : (want : ℕ → ℕ) (s : Chip) → Ready (s .image) → Demand3 P want s
-  demand3 want s r = record {
-    start = refl;
-    between = λ k lo hi. record {
-      muted = muted k lo hi;
-      avi = avi-latched .either want s r k;
-      audio = audio-latched .either want s r k;
-      matrix = matrix-latched .either want s r k;
-    };
-    ended = ended want s r;
-    registers = registers want s r;
-    taken = taken want s r;
-    whole = λ k. ready-cut want s r k .whole;
-    ready = λ k. ready-cut want s r k .holds;
-    again = λ k. let near : Near s (cut P want s k) = near-cut want s s k (near-self s r) in record {
-      registers = ends-alike want s (cut P want s k) r near;
-      avi = avi-latched .ending want s (cut P want s k) r near;
-      audio = audio-latched .ending want s (cut P want s k) r near;
-      matrix = matrix-latched .ending want s (cut P want s k) r near;
-    };
-    covered = covered want s r;
-    vic = vic want s r;
-    protection = λ k. (kept reg.hdcpHdmiCfg 7 k (lit< tt) (inl (protected .0)), kept reg.hdcpHdmiCfg 4 k (lit< tt) (inl (protected .1)));
-    kept = kept;
-    unwritten = λ a k. others-stay want s r k a;
-  }
-    where
-      kept : (a j k : ℕ) → j < 8 → (bit j (free a) ≡ 1) ⊎ (bit j (readOnly a) ≡ 1) → Stays a j s (cut P want s k)
-      kept a j k h = agree-bit (cut P want s k .image) (s .image) (near-cut want s s k (near-self s r) .kept) a j h
+  -- after any number of cuts the state is near, so that a run from there ends as the run without a cut
+  abbrev planned : (ℕ → ℕ) → List ℕ → List Event
+  planned want image = sent (P want image)
 
-      muted : (k : ℕ) → 0 < k → k < length (P want (s .image)) → mute (cut P want s k) ≡ 1
-      muted zero lo hi = absurd (not-suc-le-zero lo)
-      muted (suc j) lo hi = mutes want s r j hi
+  pub near-cuts : (want : ℕ → ℕ) (s u : Chip) (ks : List ℕ) → Near s u → Near s (cuts (planned want) ks u)
+  near-cuts want s u [] near = near
+  near-cuts want s u (k ∷ ks) near = near-cuts want s (cut P want u k) ks (near-cut want s u k near)
+
+  same-end : (want : ℕ → ℕ) (s u : Chip) → Ready (s .image) → Near s u → Same (done P want s) (done P want u)
+  same-end want s u r near = record {
+    registers = ends-alike want s u r near;
+    avi = avi-latched .ending want s u r near;
+    audio = audio-latched .ending want s u r near;
+    matrix = matrix-latched .ending want s u r near;
+  }
+
+  module _ (want : ℕ → ℕ) (s : Chip) (r : Ready (s .image))
+      (fair : (k : ℕ) → k < length (P want (s .image)) → Fair (s .image) (getD (P want (s .image)) k (0 gets 0))) where
+    abbrev list : List Write
+    list = P want (s .image)
+
+    as-long : length (sent list) ≡ length list
+    as-long = length-map list write
+
+    -- fair on the image of the start is fair on that of a cut, which has the same free bits
+    still-fair : (k : ℕ) (w : Write) → Fair (s .image) w → Fair (cut P want s k .image) w
+    still-fair k w f = record {
+      itsRegister = f .itsRegister;
+      itsMandated = f .itsMandated;
+      itsFree = f .itsFree ∙ sym (agree-free (cut P want s k .image) (s .image) (near-cut want s s k (near-self s r) .kept) (w .address));
+    }
+
+    careful : Careful (sent list) s
+    careful = record {
+      fair = λ k h. rw (List·getD-map write list k (0 gets 0)) (still-fair k _ (fair k (rw as-long at h)));
+      taken = λ k h. rw (List·getD-map write list k (0 gets 0)) (taken want s r k (rw as-long at h));
+      between = λ k lo hi. record {
+        muted = muted k lo (rw as-long at hi);
+        avi = avi-latched .either want s r k;
+        audio = audio-latched .either want s r k;
+        matrix = matrix-latched .either want s r k;
+      };
+    }
+      where
+        muted : (k : ℕ) → 0 < k → k < length (P want (s .image)) → mute (cut P want s k) ≡ 1
+        muted zero lo hi = absurd (not-suc-le-zero lo)
+        muted (suc j) lo hi = mutes want s r j hi
+
+    covers : Covered (sent list) s
+    covers = record { moves = covered want s r; vic = λ k m. rw as-long (vic want s r k m) }
+
+    kept : (a j k : ℕ) → j < 8 → (bit j (free a) ≡ 1) ⊎ (bit j (readOnly a) ≡ 1) → Stays a j s (cut P want s k)
+    kept a j k h = agree-bit (cut P want s k .image) (s .image) (near-cut want s s k (near-self s r) .kept) a j h
+
+    untouched : Untouched (sent list) s
+    untouched = record {
+      protection = λ k. (kept reg.hdcpHdmiCfg 7 k (lit< tt) (inl (protected .0)), kept reg.hdcpHdmiCfg 4 k (lit< tt) (inl (protected .1)));
+      bits = kept;
+      unwritten = λ a k. others-stay want s r k a;
+    }
+
+    whole-end : length (done P want s .image) ≡ 256
+    whole-end = rw (done-acts want s r) (sized-acts list s (r .whole))
+
+    pub demand3 : Demand3 (planned want) want s
+    demand3 = record {
+      careful = careful;
+      covered = covers;
+      untouched = untouched;
+      ended = ended want s r;
+      registers = is-image want (s .image) (done P want s .image) whole-end (registers want s r);
+      whole = λ ks. near-cuts want s s ks (near-self s r) .ready .whole;
+      ready = λ ks. near-cuts want s s ks (near-self s r) .ready .holds;
+      again = λ ks. same-end want s (cuts (planned want) ks s) r (near-cuts want s s ks (near-self s r));
+      retried = retries (sent list) s (r .whole) (careful .taken);
+    }

@@ -4,5 +4,7 @@ pub mod Bank
 pub mod Bytes
 pub mod Taken
 pub mod Last
+pub mod Planned
 pub mod Cut
+pub mod Fairness
 pub mod WriteList

@@ -8,9 +8,11 @@ use native.Mathlib.Nat.{not-suc-le-zero, le-of-suc-le-suc}
 use lib.ListN.{length, getD, set, take}
 use Rattle.chip.specs.declared.Chip.{Chip}
 use Rattle.chip.specs.declared.Wrote.{Wrote}
-use Rattle.chip.specs.Machine.{Write, _gets_, avi, audio, gc, packets, up, holdsOf, put, stored, imageAfter, two, refuses, writeOf, after}
+use Rattle.chip.specs.Machine.{Write, _gets_, avi, audio, gc, packets, up, holdsOf, put, stored, imageAfter, two, refuses, writeOf}
 use Rattle.writes.specs.Steps.{Step}
 use Rattle.writes.specs.List.{written}
+use Rattle.cut.specs.Run.{run}
+use Rattle.cut.specs.Demand.{sent}
 use Rattle.cut.proofs.Latch.{View, first, nexts, walk, walk-map, acts}
 use Rattle.cut.proofs.Bank.{store, only, status, next, avi-same, audio-same, gc-same, Sized, size-store, gc-shown}
 use Rattle.cut.proofs.Bytes.{clean, Seen, Agree, written-stored, agree-store}
@@ -92,11 +94,15 @@ module _ (want : ℕ → ℕ) (image₀ : List ℕ) where
   }
 
   -- at every cut the machine's state is that of plain stores
-  pub after-acts : (is : List Step) (s : Chip) (k : ℕ) → Fit s is → after (take k (map f is)) s ≡ acts store (take k (map f is)) s
-  after-acts is s zero fit = refl
-  after-acts [] s (suc k) fit = refl
-  after-acts (i ∷ is) s (suc k) fit =
-      ap (λ (w : Wrote). after (take k (map f is)) (w .chip)) (head-taken i is s fit) ∙ after-acts is (store (f i) s) k (tail-fit i is s fit)
+  pub run-acts : (is : List Step) (s : Chip) (k : ℕ) → Fit s is → run (take k (sent (map f is))) s ≡ acts store (take k (map f is)) s
+  run-acts is s zero fit = refl
+  run-acts [] s (suc k) fit = refl
+  run-acts (i ∷ is) s (suc k) fit =
+      ap (λ (w : Wrote). run (take k (sent (map f is))) (w .chip)) (head-taken i is s fit) ∙ run-acts is (store (f i) s) k (tail-fit i is s fit)
+
+  pub run-all : (is : List Step) (s : Chip) → Fit s is → run (sent (map f is)) s ≡ acts store (map f is) s
+  run-all [] s fit = refl
+  run-all (i ∷ is) s fit = ap (λ (w : Wrote). run (sent (map f is)) (w .chip)) (head-taken i is s fit) ∙ run-all is (store (f i) s) (tail-fit i is s fit)
 
   pub taken-at : (is : List Step) (s : Chip) (k : ℕ) → Fit s is → k < length (map f is)
       → writeOf (acts store (take k (map f is)) s) (getD (map f is) k (0 gets 0) .address) (getD (map f is) k (0 gets 0) .value) .refusal ≡ 0

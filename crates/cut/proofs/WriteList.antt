@@ -12,7 +12,8 @@ use Rattle.chip.specs.declared.Chip.{Chip}
 use Rattle.chip.specs.Machine.{audio, packets, converter, up, holdsOf}
 use Rattle.writes.specs.Steps.{middle}
 use Rattle.writes.specs.List.{middleOf, writeList, written, ready}
-use Rattle.cut.specs.Demand.{Demand3}
+use Rattle.cut.specs.Demand.{sent, Demand3}
+use Rattle.cut.proofs.Fairness.{each-fair}
 use Rattle.cut.proofs.Bank.{only, status, audio-same}
 use Rattle.cut.proofs.Taken.{neat, neat-only}
 use Rattle.cut.proofs.Cut.{Ready, neat-elim, Walked, Good, demand3}
@@ -42,5 +43,5 @@ planned-good want image r = record {
   rests = λ a h t. last-step (up audio (holdsOf packets image)) a h ∙ final-none a t;
 }
 
-pub holds : (want : ℕ → ℕ) (s : Chip) → length (s .image) ≡ 256 → ready (s .image) ≡ true → Demand3 writeList want s
-holds want s whole ready = demand3 middleOf planned-good want s (record { whole = whole; holds = ready })
+pub holds : (want : ℕ → ℕ) (s : Chip) → length (s .image) ≡ 256 → ready (s .image) ≡ true → Demand3 (λ image. sent (writeList want image)) want s
+holds want s whole ready = demand3 middleOf planned-good want s (record { whole = whole; holds = ready }) (each-fair want (s .image))

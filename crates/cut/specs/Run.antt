@@ -91,7 +91,7 @@ pub record Covered (es : List Event) (s : Chip) : Type 0 where
 
 -- "HDCP and CEC are never built, and their bits (0xAF[7], 0xAF[4] among them) stay as the image has them": no cut has moved these two, nor any
 -- free or read-only bit, nor any register that no list writes
-pub record Kept (es : List Event) (s : Chip) : Type 0 where
+pub record Untouched (es : List Event) (s : Chip) : Type 0 where
   pub protection : (k : ℕ) → Stays reg.hdcpHdmiCfg 7 s (cut es s k) × Stays reg.hdcpHdmiCfg 4 s (cut es s k)
   pub bits : (a j k : ℕ) → j < 8 → (bit j (free a) ≡ 1) ⊎ (bit j (readOnly a) ≡ 1) → Stays a j s (cut es s k)
   pub unwritten : (a k : ℕ) → a < 256 → isWritten a ≡ false → getD (cut es s k .image) a 0 ≡ getD (s .image) a 0
