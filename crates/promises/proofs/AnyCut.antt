@@ -5,21 +5,20 @@ use mathlib.Core.List.{List}
 use Prim.Native.Nat.{ℕ}
 use native.Mathlib.Omega.{arith}
 use lib.Dec.{eqb, ltb}
-use lib.ListN.{length, drop, replicate}
-use lib.Seq.{take-length}
-use borrow.Author.Tests.{eqb-true, eq-eqb}
+use lib.ListN.{length, getD, drop, replicate}
+use borrow.Author.Tests.{eqb-true, eq-eqb, le-ltb}
 use Rattle.matrix.specs.Matrix.{Bytes}
 use Rattle.chip.specs.declared.Chip.{Chip}
-use Rattle.chip.specs.Machine.{Write, after}
 use Rattle.request.specs.declared.Request.{Request}
 use Rattle.request.specs.declared.Checked.{Checked}
 use Rattle.request.specs.Read.{readOf, pairFor}
 use Rattle.plan.specs.Wanted.{wanted}
 use Rattle.plan.specs.declared.Planned.{Planned}
-use Rattle.writes.specs.List.{writeList, ready}
+use Rattle.writes.specs.List.{finishedImage, ready}
+use Rattle.writes.proofs.Image.{image-length, image-at}
 use Rattle.plan.specs.Plan.{laterRefusal, refusalOf, writesOf, planOf, bufferOf}
 use Rattle.plan.proofs.Ordered.{refusals}
-use Rattle.cut.specs.Demand.{Demand3, cut, done}
+use Rattle.cut.specs.Demand.{toItsEnd, cuts, Demand3}
 use Rattle.cut.proofs.WriteList.{holds}
 use Rattle.writes.proofs.InOrder.{in-order}
 use Rattle.writes.proofs.Carries.{entries}
@@ -29,7 +28,7 @@ use Rattle.decode.proofs.Ranged.{Ranged, read-ranged}
 use Rattle.decode.proofs.Groups.{avi-in, audio-in, matrix-in}
 use Rattle.decode.proofs.Answers.{finished-again, read-back}
 use Rattle.promises.specs.Rules.{asked, Listed, Demand2, Accepted, OnSomeImage}
-use Rattle.promises.specs.AnyCut.{AnyCut}
+use Rattle.promises.specs.AnyCut.{listOf, Again, AnyCut}
 
 -- an answer without a refusal comes from no refusal
 answered : (input image buffer : List ℕ) → planOf input image buffer .refusal ≡ 0 → refusalOf input image buffer ≡ 0
@@ -80,22 +79,16 @@ listed : (input image buffer : List ℕ) → refusalOf input image buffer ≡ 0 
 unfolding planOf bufferOf writesOf
 listed input image buffer r = record { count = rw r; list = rw r }
 
--- the end of a run is its cut after the last write
-at-end : (input : List ℕ) (s : Chip) → cut writeList (asked input) s (length (writeList (asked input) (s .image))) ≡ done writeList (asked input) s
-at-end input s = ap (λ (ws : List Write). after ws s) (take-length (writeList (asked input) (s .image)))
-
-whole-end : (input : List ℕ) (s : Chip) → Demand3 writeList (asked input) s → length (done writeList (asked input) s .image) ≡ 256
-whole-end input s d = ap (λ (t : Chip). length (t .image)) (sym (at-end input s)) ∙ d .whole (length (writeList (asked input) (s .image)))
-
 pub any-cut : (input buffer : List ℕ) (s : Chip) → planOf input (s .image) buffer .refusal ≡ 0 → AnyCut input buffer s
 any-cut input buffer s z =
     let r : refusalOf input (s .image) buffer ≡ 0 = answered input (s .image) buffer z in
     let f = fine input (s .image) buffer r in
-    let d : Demand3 writeList (asked input) s = holds (asked input) s (f .whole) (f .clear) in
+    let d : Demand3 (listOf input) (asked input) s = holds (asked input) s (f .whole) (f .clear) in
     let q : Request = readOf input .request in
-    let e : Chip = done writeList (asked input) s in
-    let sized : length (e .image) ≡ 256 = whole-end input s d in
-    let stands : Stands q (e .image) = λ a h. finished-again (wanted q) (s .image) (e .image) a (d .registers a h) in
+    let e : Chip = toItsEnd (listOf input) s in
+    let sized : length (e .image) ≡ 256 = ap length (d .registers) ∙ image-length (wanted q) (s .image) in
+    let stands : Stands q (e .image) =
+    λ a h. finished-again (wanted q) (s .image) (e .image) a (ap (λ (l : List ℕ). getD l a 0) (d .registers) ∙ image-at (wanted q) (s .image) a h) in
     let g : Ranged q = read-ranged input (f .read) in
     record {
       listed = listed input (s .image) buffer r;
@@ -103,9 +96,11 @@ any-cut input buffer s z =
       newAvi = ap (drop 2) (d .ended .avi) ∙ avi-in q (e .image) sized g stands;
       newAudio = ap (drop 2) (d .ended .audio) ∙ audio-in q (e .image) sized g stands;
       newMatrix = d .ended .matrix ∙ matrix-in q (e .image) sized g stands;
-      again = λ k. answer input (cut writeList (asked input) s k .image) buffer
-          (accepted input (cut writeList (asked input) s k .image) buffer
-          (record { read = f .read; whole = d .whole k; clear = d .ready k; paired = f .paired; long = f .long }));
+      again = λ ks room long.
+          let image : List ℕ = cuts (listOf input) ks s .image in
+          let y : refusalOf input image room ≡ 0 = accepted input image room
+          (record { read = f .read; whole = d .whole ks; clear = d .ready ks; paired = f .paired; long = le-ltb (length room) 256 long }) in
+          record { accepted = answer input image room y; listed = listed input image room y };
     }
 
 pub rules : (input buffer : List ℕ) (s : Chip) → Demand2 input buffer s
@@ -115,19 +110,18 @@ rules input buffer s = record {
   order = in-order (asked input) (s .image);
   entries = entries (asked input) (s .image);
   finished = λ z. any-cut input buffer s z .demand .registers;
-  readBack = λ b z room h. read-back input (s .image) (done writeList (asked input) s .image) .answered (ran b z) room h;
+  readBack = λ b z room h. read-back input (s .image) (finishedImage (asked input) (s .image)) .answered (ran b z) room h;
 }
   where
-    ran : Bytes input → planOf input (s .image) buffer .refusal ≡ 0 → Ran input (s .image) (done writeList (asked input) s .image)
+    ran : Bytes input → planOf input (s .image) buffer .refusal ≡ 0 → Ran input (s .image) (finishedImage (asked input) (s .image))
     ran b z =
-        let c : AnyCut input buffer s = any-cut input buffer s z in
         let f = fine input (s .image) buffer (answered input (s .image) buffer z) in
         record {
           bytes = b;
           read = f .read;
           paired = eqb-true _ _ (f .paired);
-          sized = whole-end input s (c .demand);
-          registers = c .demand .registers;
+          sized = image-length (asked input) (s .image);
+          registers = image-at (asked input) (s .image);
         }
 
 -- ---- accepted on some image: on zeros

@@ -1,8 +1,8 @@
 -- Demand 3, of the planning entry: "Take an accepted request, a chip in a state from which it was accepted, and a cut after any write".
 use mathlib.Core.Path.{_≡_}
 use mathlib.Core.List.{List}
-use Prim.Native.Nat.{ℕ}
-use lib.ListN.{drop}
+use Prim.Native.Nat.{ℕ, _≤_}
+use lib.ListN.{length, drop}
 use Rattle.frames.specs.Frames.{aviFrame}
 use Rattle.request.specs.Read.{readOf}
 use Rattle.chip.specs.declared.Chip.{Chip}
@@ -10,18 +10,28 @@ use Rattle.chip.specs.Machine.{avi, audio, packets, inUse, coefficients}
 use Rattle.plan.specs.Wanted.{audioBytes}
 use Rattle.writes.specs.List.{writeList}
 use Rattle.plan.specs.Plan.{planOf}
-use Rattle.cut.specs.Demand.{Demand3, cut, done}
+use Rattle.cut.specs.Run.{Event}
+use Rattle.cut.specs.Demand.{sent, toItsEnd, cuts, Demand3}
 use Rattle.promises.specs.Rules.{asked, Listed}
+
+-- the list of a request on an image, sent write by write
+abbrev pub listOf : List ℕ → List ℕ → List Event
+listOf input image = sent (writeList (asked input) image)
+
+-- "planned again on the registers as the cut left them", with any buffer: the request is accepted, and its list on that image is the one planned
+pub record Again (input image buffer : List ℕ) : Type 0 where
+  pub accepted : planOf input image buffer .refusal ≡ 0
+  pub listed : Listed input image buffer
 
 pub record AnyCut (input buffer : List ℕ) (s : Chip) : Type 0 where
   -- the list that planning leaves in the lent buffer, with its count, is the one that the demand is about
   pub listed : Listed input (s .image) buffer
   -- every clause of the demand, at every cut
-  pub demand : Demand3 writeList (asked input) s
-  -- "If the same request is planned again on the registers as the cut left them": it is accepted there
-  pub again : (k : ℕ) → planOf input (cut writeList (asked input) s k .image) buffer .refusal ≡ 0
+  pub demand : Demand3 (listOf input) (asked input) s
+  -- after one cut, two, or any number of them
+  pub again : (ks room : List ℕ) → 256 ≤ length room → Again input (cuts (listOf input) ks s .image) room
   -- "After the last, all are new": what is in use is the request's own. (Beside version and length lie free bits, which are the image's; the
   -- checksum and the data bytes are whole.)
-  pub newAvi : drop 2 (inUse packets avi (done writeList (asked input) s)) ≡ drop 3 (aviFrame (readOf input .request .vic) (readOf input .request .encoding))
-  pub newAudio : drop 2 (inUse packets audio (done writeList (asked input) s)) ≡ drop 3 (audioBytes (readOf input .request .sound))
-  pub newMatrix : coefficients (done writeList (asked input) s) ≡ readOf input .request .matrix .coefficients
+  pub newAvi : drop 2 (inUse packets avi (toItsEnd (listOf input) s)) ≡ drop 3 (aviFrame (readOf input .request .vic) (readOf input .request .encoding))
+  pub newAudio : drop 2 (inUse packets audio (toItsEnd (listOf input) s)) ≡ drop 3 (audioBytes (readOf input .request .sound))
+  pub newMatrix : coefficients (toItsEnd (listOf input) s) ≡ readOf input .request .matrix .coefficients

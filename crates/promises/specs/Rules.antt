@@ -3,19 +3,19 @@ use mathlib.Core.Path.{_≡_}
 use mathlib.Core.Logic.{_↔_}
 use mathlib.Core.List.{List, _++_}
 use Prim.Native.Nat.{ℕ, _<_, _≤_}
-use lib.ListN.{length, getD, set, drop}
+use lib.ListN.{length, set, drop}
 use Rattle.refusals.specs.Rows.{Condition, at}
 use Rattle.matrix.specs.Matrix.{Bytes}
 use Rattle.chip.specs.declared.Chip.{Chip}
 use Rattle.request.specs.declared.Request.{Request}
 use Rattle.request.specs.Read.{readOf}
 use Rattle.plan.specs.Wanted.{wanted}
-use Rattle.writes.specs.List.{writeList, finished}
-use Rattle.writes.specs.List.{flat}
+use Rattle.writes.specs.List.{writeList, flat, finishedImage}
 use Rattle.plan.specs.Plan.{planRules, planOf, bufferOf}
 use Rattle.decode.specs.Ends.{bytesOf, Acceptable}
 use Rattle.decode.specs.Theorems.{Answered}
-use Rattle.cut.specs.Demand.{done}
+use Rattle.cut.specs.Run.{run}
+use Rattle.cut.specs.Demand.{sent}
 use Rattle.writes.specs.Order.{Order}
 use Rattle.writes.specs.Carried.{Entries}
 
@@ -39,13 +39,13 @@ pub record Demand2 (input buffer : List ℕ) (s : Chip) : Type 0 where
   pub listed : planOf input (s .image) buffer .refusal ≡ 0 → Listed input (s .image) buffer
   pub order : Order (asked input) (s .image)
   pub entries : Entries (asked input) (s .image)
-  -- "the finished image", register by register, is what the list leaves on the chip
+  -- "the finished image" is what the list leaves on the chip
   pub finished : planOf input (s .image) buffer .refusal ≡ 0
-      → (a : ℕ) → a < 256 → getD (done writeList (asked input) s .image) a 0 ≡ finished (asked input) (s .image) a
+      → run (sent (writeList (asked input) (s .image))) s .image ≡ finishedImage (asked input) (s .image)
   -- "and the finished image reads back as the same request, but for the frame-rate family, which no register names": byte for byte the
   -- request, its family byte 0
   pub readBack : Bytes input → planOf input (s .image) buffer .refusal ≡ 0
-      → (room : List ℕ) → 35 ≤ length room → Answered (set input 2 0) (done writeList (asked input) s .image) room
+      → (room : List ℕ) → 35 ≤ length room → Answered (set input 2 0) (finishedImage (asked input) (s .image)) room
 
 -- "accepted on some image", of a request and its bytes
 pub record Accepted (r : Request) : Type 0 where
