@@ -10,7 +10,7 @@ use borrow.Author.Tests.{eqb-true, eqb-false}
 use Rattle.refusals.specs.Rows.{noExactPair}
 use Rattle.clock.specs.declared.Clock.{Clock}
 use Rattle.clock.specs.declared.Pair.{Pair}
-use Rattle.clock.specs.Modes.{clockOf}
+use Rattle.clock.specs.Clocks.{clockOf}
 use Rattle.clock.specs.Pairs.{reference, Exact, recommendedOf, Coherent}
 use Rattle.clock.specs.Found.{refused, given, exactly, nearestOf, coherentOf}
 use Rattle.clock.specs.Theorems.{CoherentPairs}
@@ -115,8 +115,8 @@ pub coherence : CoherentPairs
 coherence =
     record {
       clocks = λ clock rate num den h. found clock rate num den (reference-some rate h);
-      modes = λ vic family rate o h.
-          let s = sized vic family o in
-          found (clockOf vic family) rate (s .some) (s .part) (reference-some rate h);
+      modes = λ video rate o h.
+          let s = sized video o in
+          found (clockOf video) rate (s .some) (s .part) (reference-some rate h);
       one = λ clock rate den h. one clock rate den (reference-some rate h);
     }

@@ -4,6 +4,5 @@ pub mod Ratio
 pub mod Range
 pub mod Exactness
 pub mod Offered
-pub mod Listed
 pub mod Coherence
 pub mod Rows

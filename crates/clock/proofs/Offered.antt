@@ -7,9 +7,11 @@ use lib.Dec.{eqb, ltb, leb}
 use borrow.Author.Tests.{ltb-true, leb-true, eqb-true}
 use Rattle.lists.proofs.Find.{found}
 use Rattle.lists.proofs.Both.{both-left, both-right}
-use Rattle.clock.specs.declared.Mode.{Mode}
+use Rattle.video.specs.declared.Mode.{Mode}
+use Rattle.video.specs.declared.Video.{Video}
 use Rattle.clock.specs.declared.Clock.{Clock}
-use Rattle.clock.specs.Modes.{modes, modeOf, rowOf, unlisted, offered, clockIn, clockOf, Sized}
+use Rattle.video.specs.Modes.{modes, modeOf, rowOf, unlisted, offered}
+use Rattle.clock.specs.Clocks.{clockIn, clockOf, Sized}
 
 abbrev test : Mode → Bool
 test m = eqb (m .families) 0 || (ltb 0 (m .hertz) && leb (m .hertz) 148500000)
@@ -21,14 +23,14 @@ either n b t h = go (eqb n 0) refl t
     go true e q = absurd (omega (arith, eqb-true n 0 e))
     go false e q = q
 
-hertz : (vic family : ℕ) → offered vic family ≡ true → (0 < modeOf vic .hertz) × (modeOf vic .hertz ≤ 148500000)
+hertz : (video : Video) → offered video ≡ true → (0 < modeOf (video .vic) .hertz) × (modeOf (video .vic) .hertz ≤ 148500000)
 unfolding modeOf
-hertz vic family o =
-    let m : Mode = rowOf vic modes in
-    let l : family < m .families = ltb-true family (m .families) o in
+hertz video o =
+    let m : Mode = rowOf (video .vic) modes in
+    let l : video .family < m .families = ltb-true (video .family) (m .families) o in
     let p : Bool = ltb 0 (m .hertz) in
     let q : Bool = leb (m .hertz) 148500000 in
-    let b : (p && q) ≡ true = either (m .families) (p && q) (found test (λ m. eqb (m .vic) vic) unlisted modes refl refl) (omega arith) in
+    let b : (p && q) ≡ true = either (m .families) (p && q) (found test (λ m. eqb (m .vic) (video .vic)) unlisted modes refl refl) (omega arith) in
     (ltb-true 0 (m .hertz) (both-left p q b), leb-true (m .hertz) 148500000 (both-right p q b))
 
 sized-in : (h family : ℕ) → 0 < h → h ≤ 148500000 → Sized (clockIn h family)
@@ -38,9 +40,9 @@ sized-in h family p q = go (eqb family 0)
     go true = record { some = p; most = omega arith; part = omega arith; parts = omega arith }
     go false = record { some = omega arith; most = omega arith; part = omega arith; parts = omega arith }
 
-pub sized : (vic family : ℕ) → offered vic family ≡ true → Sized (clockOf vic family)
+pub sized : (video : Video) → offered video ≡ true → Sized (clockOf video)
 unfolding clockOf
-sized vic family o = let b = hertz vic family o in rw o (sized-in (modeOf vic .hertz) family (b .0) (b .1))
+sized video o = let b = hertz video o in rw o (sized-in (modeOf (video .vic) .hertz) (video .family) (b .0) (b .1))
 
 -- what the refusal of a clock says
 pub no-refusal : (h family : ℕ) → clockIn h family .refusal ≡ 0
@@ -50,19 +52,19 @@ no-refusal h family = go (eqb family 0)
     go true = refl
     go false = refl
 
-pub accepted : (vic family : ℕ) → clockOf vic family .refusal ≡ 0 → offered vic family ≡ true
+pub accepted : (video : Video) → clockOf video .refusal ≡ 0 → offered video ≡ true
 unfolding clockOf
-accepted vic family = go (offered vic family)
+accepted video = go (offered video)
   where
-    go : (b : Bool) → cond b (clockIn (modeOf vic .hertz) family) (record { refusal = 4; num = 0; den = 0 }) .refusal ≡ 0 → b ≡ true
+    go : (b : Bool) → cond b (clockIn (modeOf (video .vic) .hertz) (video .family)) (record { refusal = 4; num = 0; den = 0 }) .refusal ≡ 0 → b ≡ true
     go true e = refl
     go false e = absurd (omega arith)
 
-pub declined : (vic family : ℕ) → (clockOf vic family .refusal ≡ 0 → ⊥) → (offered vic family ≡ false) × (clockOf vic family .refusal ≡ 4)
+pub declined : (video : Video) → (clockOf video .refusal ≡ 0 → ⊥) → (offered video ≡ false) × (clockOf video .refusal ≡ 4)
 unfolding clockOf
-declined vic family = go (offered vic family)
+declined video = go (offered video)
   where
-    go : (b : Bool) → (cond b (clockIn (modeOf vic .hertz) family) (record { refusal = 4; num = 0; den = 0 }) .refusal ≡ 0 → ⊥)
-        → (b ≡ false) × (cond b (clockIn (modeOf vic .hertz) family) (record { refusal = 4; num = 0; den = 0 }) .refusal ≡ 4)
-    go true e = absurd (e (no-refusal (modeOf vic .hertz) family))
+    go : (b : Bool) → (cond b (clockIn (modeOf (video .vic) .hertz) (video .family)) (record { refusal = 4; num = 0; den = 0 }) .refusal ≡ 0 → ⊥)
+        → (b ≡ false) × (cond b (clockIn (modeOf (video .vic) .hertz) (video .family)) (record { refusal = 4; num = 0; den = 0 }) .refusal ≡ 4)
+    go true e = absurd (e (no-refusal (modeOf (video .vic) .hertz) (video .family)))
     go false e = (refl, refl)

@@ -12,16 +12,18 @@ use Rattle.refusals.specs.Rows.{Condition, at, modeNotOffered, fieldOutOfRange,
 use Rattle.refusals.proofs.First.{Tried, tried}
 use Rattle.clock.specs.declared.Clock.{Clock}
 use Rattle.clock.specs.declared.Pair.{Pair}
-use Rattle.clock.specs.Modes.{modeOf, offered, clockIn, clockOf}
+use Rattle.video.specs.declared.Video.{Video}
+use Rattle.video.specs.Modes.{modeOf, offered}
+use Rattle.clock.specs.Clocks.{clockIn, clockOf}
 use Rattle.clock.specs.Pairs.{Coherent, other}
 use Rattle.clock.specs.Found.{refused, coherentOf, pairOf}
 use Rattle.clock.specs.Theorems.{clockRules, ClockRefusals, pairRules, PairRefusals}
 use Rattle.clock.proofs.Coherence.{coherence}
 use Rattle.clock.proofs.Offered.{no-refusal}
 
-module _ (vic family rate coherent : ℕ) where
+module _ (video : Video) (rate coherent : ℕ) where
   abbrev rules : List Condition
-  rules = pairRules vic family rate coherent
+  rules = pairRules video rate coherent
 
   outside : (a b : Bool) → ltb 6 rate ≡ a → ltb 1 coherent ≡ b → (a || b) ≡ true → at rules 1 .When
   outside true b ea eb e = inl (ltb-true 6 rate ea)
@@ -35,34 +37,34 @@ module _ (vic family rate coherent : ℕ) where
       within (inl h) = omega (arith, ltb-false 6 rate ea)
       within (inr h) = omega (arith, ltb-false 1 coherent (eb ∙ e))
 
-  last : (c : Pair) → Coherent (clockOf vic family) rate c → coherent ≡ 1 → (t : Bool) → eqb (c .refusal) 9 ≡ t → Tried (drop 2 rules) (c .refusal)
+  last : (c : Pair) → Coherent (clockOf video) rate c → coherent ≡ 1 → (t : Bool) → eqb (c .refusal) 9 ≡ t → Tried (drop 2 rules) (c .refusal)
   last c w one true e = let nine = eqb-true (c .refusal) 9 e in inl ((one, w .refused .0 nine), nine)
   last c w one false e = let other = eqb-false (c .refusal) 9 e in inr ((λ a. other (w .refused .1 (a .1))), w .exact other .0)
 
-  pub in-turn : Tried rules (pairOf vic family rate coherent .refusal)
+  pub in-turn : Tried rules (pairOf video rate coherent .refusal)
   unfolding pairOf
-  in-turn = go (offered vic family) (ltb 6 rate || ltb 1 coherent) (eqb coherent 1) refl refl refl
+  in-turn = go (offered video) (ltb 6 rate || ltb 1 coherent) (eqb coherent 1) refl refl refl
     where
-      go : (o t k : Bool) → offered vic family ≡ o → (ltb 6 rate || ltb 1 coherent) ≡ t → eqb coherent 1 ≡ k
+      go : (o t k : Bool) → offered video ≡ o → (ltb 6 rate || ltb 1 coherent) ≡ t → eqb coherent 1 ≡ k
           → Tried rules
-          (cond {A = Pair} (not o) (refused modeNotOffered) (cond t (refused fieldOutOfRange) (cond k (coherentOf (clockOf vic family) rate) (other rate))) .refusal)
+          (cond {A = Pair} (not o) (refused modeNotOffered) (cond t (refused fieldOutOfRange) (cond k (coherentOf (clockOf video) rate) (other rate))) .refusal)
       go false t k eo et ek = inl (eo, refl)
       go true true k eo et ek = inr ((λ a. false≢true (sym a ∙ eo)), inl (outside (ltb 6 rate) (ltb 1 coherent) refl refl et, refl))
       go true false true eo et ek =
           let r = inside (ltb 6 rate) (ltb 1 coherent) refl refl et in
-          let c : Pair = coherentOf (clockOf vic family) rate in
-          inr ((λ a. false≢true (sym a ∙ eo)), inr (r .1, last c (coherence .modes vic family rate eo (r .0)) (eqb-true coherent 1 ek) (eqb (c .refusal) 9) refl))
+          let c : Pair = coherentOf (clockOf video) rate in
+          inr ((λ a. false≢true (sym a ∙ eo)), inr (r .1, last c (coherence .modes video rate eo (r .0)) (eqb-true coherent 1 ek) (eqb (c .refusal) 9) refl))
       go true false false eo et ek =
           let r = inside (ltb 6 rate) (ltb 1 coherent) refl refl et in
           inr ((λ a. false≢true (sym a ∙ eo)), inr (r .1, inr ((λ a. eqb-false coherent 1 ek (a .0)), refl)))
 
 pub clock-refusals : ClockRefusals
 unfolding clockOf
-clock-refusals vic family = tried (clockRules vic family) _ refl (go (offered vic family) refl)
+clock-refusals video = tried (clockRules video) _ refl (go (offered video) refl)
   where
-    go : (o : Bool) → offered vic family ≡ o → Tried (clockRules vic family) (cond {A = Clock} o (clockIn (modeOf vic .hertz) family) (record { refusal = number modeNotOffered; num = 0; den = 0 }) .refusal)
+    go : (o : Bool) → offered video ≡ o → Tried (clockRules video) (cond {A = Clock} o (clockIn (modeOf (video .vic) .hertz) (video .family)) (record { refusal = number modeNotOffered; num = 0; den = 0 }) .refusal)
     go false e = inl (e, refl)
-    go true e = inr ((λ f. false≢true (sym f ∙ e)), no-refusal (modeOf vic .hertz) family)
+    go true e = inr ((λ f. false≢true (sym f ∙ e)), no-refusal (modeOf (video .vic) .hertz) (video .family))
 
 pub pair-refusals : PairRefusals
-pair-refusals vic family rate coherent = tried (pairRules vic family rate coherent) _ refl (in-turn vic family rate coherent)
+pair-refusals video rate coherent = tried (pairRules video rate coherent) _ refl (in-turn video rate coherent)

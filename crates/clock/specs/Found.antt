@@ -11,7 +11,9 @@ use Rattle.clock.specs.declared.NCts.{NCts}
 use Rattle.clock.specs.declared.Pair.{Pair}
 use Rattle.clock.specs.declared.Recommended.{Recommended}
 use Rattle.clock.specs.Gcd.{gcdOf}
-use Rattle.clock.specs.Modes.{offered, clockOf}
+use Rattle.video.specs.declared.Video.{Video}
+use Rattle.video.specs.Modes.{offered}
+use Rattle.clock.specs.Clocks.{clockOf}
 use Rattle.clock.specs.Pairs.{reference, recommended, recommendedOf, other}
 
 -- a row of the recommended pairs, by its place
@@ -67,8 +69,8 @@ coherentOf clock rate =
     cond (exactly clock rate (r .n) (r .cts)) (given (r .n) (r .cts)) (nearestOf clock rate)
 
 -- N/CTS on single fields: refusals 4, 5, 9
-unfoldable pub pairOf : ℕ → ℕ → ℕ → ℕ → Pair
-pairOf vic family rate coherent =
-    cond (not (offered vic family)) (refused modeNotOffered)
+unfoldable pub pairOf : Video → ℕ → ℕ → Pair
+pairOf video rate coherent =
+    cond (not (offered video)) (refused modeNotOffered)
     (cond (ltb 6 rate || ltb 1 coherent) (refused fieldOutOfRange)
-    (cond (eqb coherent 1) (coherentOf (clockOf vic family) rate) (other rate)))
+    (cond (eqb coherent 1) (coherentOf (clockOf video) rate) (other rate)))

@@ -1,4 +1,4 @@
-pub mod Modes
+pub mod Clocks
 pub mod Gcd
 pub mod Pairs
 pub mod Found

@@ -8,7 +8,9 @@ use Rattle.refusals.specs.Rows.{modeNotOffered, fieldOutOfRange, noExactPair, C
 use Rattle.clock.specs.declared.Clock.{Clock}
 use Rattle.clock.specs.declared.Pair.{Pair}
 use Rattle.clock.specs.Gcd.{gcdOf, Greatest, Lowest}
-use Rattle.clock.specs.Modes.{offered, clockOf}
+use Rattle.video.specs.declared.Video.{Video}
+use Rattle.video.specs.Modes.{offered}
+use Rattle.clock.specs.Clocks.{clockOf}
 use Rattle.clock.specs.Pairs.{Exact, Coherent}
 use Rattle.clock.specs.Found.{coherentOf, pairOf}
 
@@ -20,22 +22,22 @@ pub record EuclidsRule : Type 0 where
 -- "N and CTS": for coherent audio the pair that is found is the one that is asked for, and there is no other
 pub record CoherentPairs : Type 0 where
   pub clocks : (clock : Clock) (rate : ℕ) → 0 < clock .num → 0 < clock .den → rate < 7 → Coherent clock rate (coherentOf clock rate)
-  pub modes : (vic family rate : ℕ) → offered vic family ≡ true → rate < 7 → Coherent (clockOf vic family) rate (coherentOf (clockOf vic family) rate)
+  pub modes : (video : Video) (rate : ℕ) → offered video ≡ true → rate < 7 → Coherent (clockOf video) rate (coherentOf (clockOf video) rate)
   pub one : (clock : Clock) (rate : ℕ) → 0 < clock .den → rate < 7 → (a b : Pair) → Coherent clock rate a → Coherent clock rate b → a ≡ b
 
 -- "A call on single fields checks those .. whose fields it takes": row 4 for a clock, "VIC not listed below, or family not offered by it"
-abbrev pub clockRules : ℕ → ℕ → List Condition
-clockRules vic family = modeNotOffered when (offered vic family ≡ false) ∷ []
+abbrev pub clockRules : Video → List Condition
+clockRules video = modeNotOffered when (offered video ≡ false) ∷ []
 
 abbrev pub ClockRefusals : Type 0
-ClockRefusals = (vic family : ℕ) → Given (clockRules vic family) (clockOf vic family .refusal)
+ClockRefusals = (video : Video) → Given (clockRules video) (clockOf video .refusal)
 
 -- rows 4, 5 and 9 for N/CTS: "any other field outside its range", and "coherent audio, and no exact pair exists"
-abbrev pub pairRules : ℕ → ℕ → ℕ → ℕ → List Condition
-pairRules vic family rate coherent =
-    modeNotOffered when (offered vic family ≡ false) ∷
+abbrev pub pairRules : Video → ℕ → ℕ → List Condition
+pairRules video rate coherent =
+    modeNotOffered when (offered video ≡ false) ∷
     fieldOutOfRange when ((6 < rate) ⊎ (1 < coherent)) ∷
-    noExactPair when ((coherent ≡ 1) × ((n cts : ℕ) → Exact (clockOf vic family) rate n cts → ⊥)) ∷ []
+    noExactPair when ((coherent ≡ 1) × ((n cts : ℕ) → Exact (clockOf video) rate n cts → ⊥)) ∷ []
 
 abbrev pub PairRefusals : Type 0
-PairRefusals = (vic family rate coherent : ℕ) → Given (pairRules vic family rate coherent) (pairOf vic family rate coherent .refusal)
+PairRefusals = (video : Video) (rate coherent : ℕ) → Given (pairRules video rate coherent) (pairOf video rate coherent .refusal)

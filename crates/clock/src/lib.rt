@@ -1,21 +1,13 @@
-// Modes, the exact clock fraction, Euclid's rule, and N and CTS: document 01, "Modes and clocks" and "N and CTS".
+// The exact clock fraction, Euclid's rule, and N and CTS: document 01, "Modes and clocks" and "N and CTS".
 ghost use mathlib.Core.Path.{_≡_};
 ghost use Prim.Native.Nat.{_<_, _≤_, _+_, _-_, _*_, min};
-ghost use Rattle.clock.specs.Modes.{modeOf, clockOf, Sized};
+ghost use Rattle.clock.specs.Clocks.{clockOf, Sized};
 ghost use Rattle.clock.specs.Pairs.{reference, recommendedOf, audioOff};
 ghost use Rattle.clock.specs.Gcd.{gcdOf};
 ghost use Rattle.clock.specs.Found.{recommendedAt, numbered, given, nearestK, leastK, mostK, nearestIn, nearestOf, exactly, coherentOf, pairOf};
 ghost use Rattle.clock.specs.Theorems.{EuclidsRule, CoherentPairs, ClockRefusals, PairRefusals};
 use refusals::Refusal;
-
-// A listed mode. A VIC that is not listed offers no family.
-pub struct Mode {
-    pub vic: u8,
-    pub hertz: u32,
-    pub families: u8,
-    pub aspect: u8,
-    pub colorimetry: u8,
-}
+use video::Video;
 
 // A clock in Hz, kept exact: num / den.
 pub struct Clock {
@@ -44,115 +36,6 @@ pub struct Recommended {
     pub n: [u32; 7],
     pub cts: [u32; 7],
 }
-
-// "Modes and clocks", row by row as the definition has them.
-const MODES: [Mode; 15] = [
-    Mode {
-        vic: 1,
-        hertz: 25200000,
-        families: 2,
-        aspect: 1,
-        colorimetry: 1,
-    },
-    Mode {
-        vic: 2,
-        hertz: 27027000,
-        families: 2,
-        aspect: 1,
-        colorimetry: 1,
-    },
-    Mode {
-        vic: 3,
-        hertz: 27027000,
-        families: 2,
-        aspect: 2,
-        colorimetry: 1,
-    },
-    Mode {
-        vic: 4,
-        hertz: 74250000,
-        families: 2,
-        aspect: 2,
-        colorimetry: 2,
-    },
-    Mode {
-        vic: 5,
-        hertz: 74250000,
-        families: 2,
-        aspect: 2,
-        colorimetry: 2,
-    },
-    Mode {
-        vic: 16,
-        hertz: 148500000,
-        families: 2,
-        aspect: 2,
-        colorimetry: 2,
-    },
-    Mode {
-        vic: 17,
-        hertz: 27000000,
-        families: 1,
-        aspect: 1,
-        colorimetry: 1,
-    },
-    Mode {
-        vic: 18,
-        hertz: 27000000,
-        families: 1,
-        aspect: 2,
-        colorimetry: 1,
-    },
-    Mode {
-        vic: 19,
-        hertz: 74250000,
-        families: 1,
-        aspect: 2,
-        colorimetry: 2,
-    },
-    Mode {
-        vic: 20,
-        hertz: 74250000,
-        families: 1,
-        aspect: 2,
-        colorimetry: 2,
-    },
-    Mode {
-        vic: 31,
-        hertz: 148500000,
-        families: 1,
-        aspect: 2,
-        colorimetry: 2,
-    },
-    Mode {
-        vic: 32,
-        hertz: 74250000,
-        families: 2,
-        aspect: 2,
-        colorimetry: 2,
-    },
-    Mode {
-        vic: 34,
-        hertz: 74250000,
-        families: 2,
-        aspect: 2,
-        colorimetry: 2,
-    },
-    Mode {
-        vic: 60,
-        hertz: 59400000,
-        families: 2,
-        aspect: 2,
-        colorimetry: 2,
-    },
-    Mode {
-        vic: 62,
-        hertz: 74250000,
-        families: 2,
-        aspect: 2,
-        colorimetry: 2,
-    },
-];
 
 // The recommended pairs, row by row as the definition has them.
 const RECOMMENDED: [Recommended; 10] = [
@@ -224,32 +107,12 @@ const RATES: [u32; 7] = [32000, 44100, 48000, 88200, 96000, 176400, 192000];
 // N of the "Other" row.
 const OTHERS: [u32; 7] = [4096, 6272, 6144, 12544, 12288, 25088, 24576];
 
-// The mode of a VIC.
-pub fn mode_of(vic: u8) -> Mode
-    ensures { λ r. ⌜ r ≡ modeOf vic ⌝ }
+// The clock of a video, or refusal 4.
+pub fn clock_of(video: Video) -> Clock
+    ensures { λ r. ⌜ r ≡ clockOf video ⌝ }
 {
-    let mut i: usize = 0;
-    while i < 15 {
-        let row = MODES[i];
-        if row.vic == vic {
-            return row;
-        }
-        i = i + 1;
-    }
-    Mode {
-        vic: 0,
-        hertz: 0,
-        families: 0,
-        aspect: 0,
-        colorimetry: 0,
-    }
-}
-
-// The clock of a mode in a family, or refusal 4.
-pub fn clock_of(vic: u8, family: u8) -> Clock
-    ensures { λ r. ⌜ r ≡ clockOf vic family ⌝ }
-{
-    let row = mode_of(vic);
+    let family = video.family;
+    let row = video::mode_of(video.vic);
     if row.families <= family {
         return Clock {
             refusal: Refusal::MODE_NOT_OFFERED,
@@ -466,10 +329,10 @@ fn given(n: u32, cts: u32) -> Pair
 }
 
 // N and CTS on single fields: refusals 4, 5 and 9.
-pub fn pair_of(vic: u8, family: u8, rate: u8, coherent: u8) -> Pair
-    ensures { λ r. ⌜ r ≡ pairOf vic family rate coherent ⌝ }
+pub fn pair_of(video: Video, rate: u8, coherent: u8) -> Pair
+    ensures { λ r. ⌜ r ≡ pairOf video rate coherent ⌝ }
 {
-    let clock = clock_of(vic, family);
+    let clock = clock_of(video);
     if clock.refusal != Refusal::NONE {
         return refused(clock.refusal);
     }

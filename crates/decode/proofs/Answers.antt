@@ -63,7 +63,7 @@ ends-tested r f image a s =
     let z : readOf (bytesOf q) .refusal ≡ 0 = ap (λ (c : Checked). c .refusal) (a .read) in
     rw (eq-eqb (readOf (bytesOf q) .refusal) 0 z, eq-eqb (pairFor q .refusal) 0 (a .paired)) (stands-tested q image 256 s)
 
-test-ends : (r : Request) (f : ℕ) (image : List ℕ) → Shaped (r .matrix) → r .family ≡ 0 → endsIn r f image ≡ true → Ends r image
+test-ends : (r : Request) (f : ℕ) (image : List ℕ) → Shaped (r .matrix) → r .video .family ≡ 0 → endsIn r f image ≡ true → Ends r image
 unfolding endsIn
 test-ends r f image h e t =
     let q : Request = inFamily f r in
@@ -212,7 +212,7 @@ module _ (input before image : List ℕ) where
 
   ends : Ran input before image → Ends (inFamily 0 r) image
   ends ran = record {
-    family = r .family;
+    family = r .video .family;
     zero = refl;
     acceptable = record {
       read = ap readOf (back input (ran .bytes) (ran .read)) ∙ ap (λ (n : ℕ). numbered n) (ran .read);

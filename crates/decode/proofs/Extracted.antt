@@ -78,15 +78,15 @@ module _ (r : Request) (image : List ℕ) (long : length image ≡ 256) (g : Ran
   w : Wants r
   w = wants r
 
-  vic : at image reg.vicManual % 64 ≡ r .vic
+  vic : at image reg.vicManual % 64 ≡ r .video .vic
   unfolding isWritten decided classAt
   vic = omega (arith, reads r image st reg.vicManual 0 6 (lit< tt) refl, w .vic, g .vic)
 
-  encoding : at image reg.aviInfoframeByte1 / 32 % 4 ≡ r .encoding
+  encoding : at image reg.aviInfoframeByte1 / 32 % 4 ≡ r .video .encoding
   unfolding isWritten decided classAt
   encoding = omega (arith, reads r image st reg.aviInfoframeByte1 5 2 (lit< tt) refl, w .encoding, g .encoding)
 
-  link : at image reg.hdcpHdmiCfg / 2 % 2 ≡ r .link
+  link : at image reg.hdcpHdmiCfg / 2 % 2 ≡ r .video .link
   unfolding isWritten decided classAt
   link = omega (arith, reads r image st reg.hdcpHdmiCfg 1 1 (lit< tt) refl, w .link, g .link)
 
@@ -94,7 +94,7 @@ module _ (r : Request) (image : List ℕ) (long : length image ≡ 256) (g : Ran
 
   packets : at image reg.packetEnable1 / 32 % 2 ≡ withAudio (r .sound)
   unfolding isWritten decided classAt
-  packets = reads r image st reg.packetEnable1 5 1 (lit< tt) refl ∙ rw (w .audio) (enabled (r .sound) (r .link) (g .link))
+  packets = reads r image st reg.packetEnable1 5 1 (lit< tt) refl ∙ rw (w .audio) (enabled (r .sound) (r .video .link) (g .link))
 
   rate : at image reg.i2sFreqIdCfg / 16 % 16 ≡ rateCode (r .sound) * 16 / 16 % 16
   unfolding isWritten decided classAt

@@ -11,7 +11,7 @@ use lib.ListN.{length, getD, take, drop, replicate}
 use Rattle.lists.proofs.Both.{both-left, both-right}
 use Rattle.bits.specs.Merge.{merge}
 use Rattle.registers.specs.Classes.{classAt}
-use Rattle.clock.specs.Modes.{modeOf}
+use Rattle.video.specs.Modes.{modeOf}
 use Rattle.frames.specs.Frames.{colorimetry, allocation, checksumOf, aviFrame, audioFrame, audioOffFrame}
 use Rattle.frames.proofs.Small.{mode-small, colour-small}
 use Rattle.matrix.specs.declared.Matrix.{Matrix}
@@ -59,14 +59,14 @@ module _ (r : Request) (image : List ℕ) (long : length image ≡ 256) (g : Ran
 
   -- ---- AVI
 
-  avi-bytes : thin (drop 3 (aviFrame (r .vic) (r .encoding))) ≡ drop 3 (aviFrame (r .vic) (r .encoding))
+  avi-bytes : thin (drop 3 (aviFrame (r .video))) ≡ drop 3 (aviFrame (r .video))
   unfolding aviFrame
   avi-bytes =
-      let s = mode-small (r .vic) in
-      let c : colorimetry (modeOf (r .vic)) (r .encoding) ≤ 2 = colour-small (modeOf (r .vic)) (r .encoding) s in
-      avi-thin _ _ _ (r .vic) (checksum-small _) (omega (arith, g .encoding)) (omega (arith, c, s .aspect)) (omega (arith, g .vic))
+      let s = mode-small (r .video .vic) in
+      let c : colorimetry (modeOf (r .video .vic)) (r .video .encoding) ≤ 2 = colour-small (modeOf (r .video .vic)) (r .video .encoding) s in
+      avi-thin _ _ _ (r .video .vic) (checksum-small _) (omega (arith, g .encoding)) (omega (arith, c, s .aspect)) (omega (arith, g .vic))
 
-  pub avi-in : drop 2 (registersOf avi image) ≡ drop 3 (aviFrame (r .vic) (r .encoding))
+  pub avi-in : drop 2 (registersOf avi image) ≡ drop 3 (aviFrame (r .video))
   unfolding isWritten decided classAt
   avi-in = ap (drop 2) (window image 0x52 16 (omega arith)) ∙ bytes-read 0x54 14 (lit≤ tt) refl ∙ ap thin (wants r .aviBytes) ∙ avi-bytes
 

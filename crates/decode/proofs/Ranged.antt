@@ -10,8 +10,10 @@ use lib.ListN.{length, getD, drop, length-drop}
 use borrow.Author.Tests.{eqb-true, ltb-true, ltb-false, leb-true}
 use Rattle.lists.specs.Find.{every}
 use Rattle.lists.proofs.Both.{both-left, both-right, neither-left, neither-right}
-use Rattle.clock.specs.declared.Mode.{Mode}
-use Rattle.clock.specs.Modes.{modes, rowOf, modeOf, offered}
+use Rattle.video.specs.declared.Mode.{Mode}
+use Rattle.video.specs.declared.Video.{Video}
+use Rattle.video.specs.Video.{videoIn}
+use Rattle.video.specs.Modes.{modes, rowOf, modeOf, offered}
 use Rattle.matrix.specs.declared.Matrix.{Matrix}
 use Rattle.matrix.specs.Matrix.{fields, isAllowed, matrixOf, noMatrix}
 use Rattle.matrix.proofs.Pairs.{sized, mode-small, fields-small, length-fields}
@@ -20,7 +22,7 @@ use Rattle.request.specs.declared.Sound.the-variants.{Off, On}
 use Rattle.request.specs.declared.Request.{Request}
 use Rattle.request.specs.declared.Checked.{Checked}
 use Rattle.request.specs.Sections.{walked, bodyOf}
-use Rattle.request.specs.Request.{present, vic, family, encoding, link, rate, channels, coherent, requestIn}
+use Rattle.request.specs.Request.{present, encoding, link, rate, channels, coherent, requestIn}
 use Rattle.request.specs.Read.{audioOutside, outside, readOf}
 use Rattle.request.proofs.Ordered.{passed}
 use Rattle.decode.specs.Ends.{bytesOf, Acceptable}
@@ -37,10 +39,10 @@ pub record Filled (m : Matrix) : Type 0 where
   pub small : (i : ℕ) → getD (m .coefficients) i 0 < 8192
 
 pub record Ranged (r : Request) : Type 0 where
-  pub vic : r .vic < 64
-  pub family : r .family < 2
-  pub encoding : r .encoding < 4
-  pub link : r .link < 2
+  pub vic : r .video .vic < 64
+  pub family : r .video .family < 2
+  pub encoding : r .video .encoding < 4
+  pub link : r .video .link < 2
   pub sound : InRange (r .sound)
   pub matrix : (r .matrix ≡ noMatrix) ⊎ Filled (r .matrix)
 
@@ -63,9 +65,9 @@ row-small vic family (m ∷ ms) t h =
         (omega arith, omega arith)
     go false e s l ih = ih l
 
-listed : (vic family : ℕ) → offered vic family ≡ true → (vic < 64) × (family < 2)
+listed : (v : Video) → offered v ≡ true → (v .vic < 64) × (v .family < 2)
 unfolding modeOf
-listed vic family o = row-small vic family modes refl (ltb-true family (rowOf vic modes .families) o)
+listed v o = row-small (v .vic) (v .family) modes refl (ltb-true (v .family) (rowOf (v .vic) modes .families) o)
 
 -- ---- the fields of a matrix
 
@@ -81,7 +83,7 @@ filled body s =
 
 -- ---- what the tests of a request say
 
-module _ (v a m : List ℕ) (o : offered (vic v) (family v) ≡ true) (x : outside v a m ≡ false) where
+module _ (v a m : List ℕ) (o : offered (videoIn v) ≡ true) (x : outside v a m ≡ false) where
   abbrev later : Bool
   later = (present a && audioOutside a) || (present m && not (isAllowed m))
 
@@ -113,7 +115,7 @@ module _ (v a m : List ℕ) (o : offered (vic v) (family v) ≡ true) (x : outsi
 
   pub in-range : Ranged (requestIn v a m)
   unfolding outside
-  in-range = let l = listed (vic v) (family v) o in record {
+  in-range = let l = listed (videoIn v) o in record {
     vic = l .0;
     family = l .1;
     encoding = omega (arith, ltb-false 2 (encoding v) (neither-left (ltb 2 (encoding v)) (ltb 1 (link v) || later) x));

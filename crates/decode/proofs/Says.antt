@@ -10,6 +10,7 @@ use lib.ListN.{length, getD, length-append}
 use lib.Seq.{take-at, drop-at}
 use borrow.Author.Tests.{ltb-true, ltb-false, le-leb, ne-eqb}
 use Rattle.lists.specs.Among.{among}
+use Rattle.video.specs.Video.{videoBody}
 use Rattle.matrix.specs.declared.Matrix.{Matrix}
 use Rattle.matrix.specs.Coefficient.{coefficientBytes}
 use Rattle.matrix.specs.Matrix.{matrixOf, noMatrix}
@@ -36,7 +37,7 @@ section counts more body rest n l t =
 -- ---- the bodies of a request
 
 abbrev video : Request → List ℕ
-video r = r .vic ∷ r .family ∷ r .encoding ∷ r .link ∷ []
+video r = videoBody (r .video)
 
 abbrev audio : Sound → List ℕ
 audio Off = []

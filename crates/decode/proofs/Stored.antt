@@ -59,21 +59,21 @@ cc Off = 0
 cc (On rate channels coherent) = channels - 1
 
 pub record Wants (r : Request) : Type 0 where
-  pub vic : wanted r reg.vicManual ≡ r .vic
-  pub encoding : wanted r reg.aviInfoframeByte1 ≡ r .encoding * 32 + 16
-  pub link : wanted r reg.hdcpHdmiCfg ≡ r .link * 2
-  pub audio : wanted r reg.packetEnable1 ≡ withAudio (r .sound) * 104 + r .link * 16
+  pub vic : wanted r reg.vicManual ≡ r .video .vic
+  pub encoding : wanted r reg.aviInfoframeByte1 ≡ r .video .encoding * 32 + 16
+  pub link : wanted r reg.hdcpHdmiCfg ≡ r .video .link * 2
+  pub audio : wanted r reg.packetEnable1 ≡ withAudio (r .sound) * 104 + r .video .link * 16
   pub rate : wanted r reg.i2sFreqIdCfg ≡ rateCode (r .sound) * 16
   pub channels : wanted r reg.audioInfoframeByte1 ≡ cc (r .sound)
   pub coherent : wanted r reg.audioSource ≡ ctsSelect (r .sound) * 128
   pub csc : each (wanted r) reg.csc 24 ≡ cscBytes (r .matrix)
   -- the checksum and the data bytes of the two InfoFrames, but for the reserved ones
-  pub aviBytes : each (wanted r) reg.aviInfoframeChecksum 14 ≡ drop 3 (aviFrame (r .vic) (r .encoding))
+  pub aviBytes : each (wanted r) reg.aviInfoframeChecksum 14 ≡ drop 3 (aviFrame (r .video))
   pub soundBytes : each (wanted r) reg.audioInfoframeChecksum 6 ≡ take 6 (drop 3 (audioBytes (r .sound)))
 
 module _ (r : Request) where
   abbrev sounding : Sound → Request
-  sounding s = record { vic = r .vic; family = r .family; encoding = r .encoding; link = r .link; sound = s; matrix = r .matrix }
+  sounding s = record { video = r .video; sound = s; matrix = r .matrix }
 
   low : {a : ℕ} {v : ℕ} → (s : Sound) → a < 256 → look a (wantedBytes (sounding s)) 0 ≡ v → wanted (sounding s) a ≡ v
   low {a} s h e = stored (sounding s) a h ∙ e

@@ -5,6 +5,8 @@ use mathlib.Core.List.{List, [], _∷_, _++_}
 use Prim.Native.Nat.{ℕ, _<_}
 use lib.Dec.{eqb}
 use lib.ListN.{getD}
+use Rattle.video.specs.Video.{videoCount, videoBody}
+use Rattle.video.specs.Video as video
 use Rattle.matrix.specs.declared.Matrix.{Matrix}
 use Rattle.matrix.specs.Coefficient.{coefficientBytes}
 use Rattle.request.specs.declared.Sound.{Sound}
@@ -23,11 +25,11 @@ matrixSection m = cond (eqb (m .on) 0) (0 ∷ []) (25 ∷ m .mode ∷ coefficien
 
 -- the bytes of a request
 unfoldable pub bytesOf : Request → List ℕ
-bytesOf r = 4 ∷ r .vic ∷ r .family ∷ r .encoding ∷ r .link ∷ audioSection (r .sound) ++ matrixSection (r .matrix)
+bytesOf r = videoCount ∷ videoBody (r .video) ++ audioSection (r .sound) ++ matrixSection (r .matrix)
 
 -- the request in another family
 abbrev pub inFamily : ℕ → Request → Request
-inFamily f r = record { vic = r .vic; family = f; encoding = r .encoding; link = r .link; sound = r .sound; matrix = r .matrix }
+inFamily f r = record { video = video.inFamily f (r .video); sound = r .sound; matrix = r .matrix }
 
 -- a request that is accepted on some image: no row of 1 to 6 and 9 refuses its bytes, and they say it
 pub record Acceptable (r : Request) : Type 0 where
@@ -43,6 +45,6 @@ Stands r image = (a : ℕ) → a < 256 → finished (wanted r) image a ≡ getD 
 -- "Decoding answers a request exactly when, for that request in one of its families, accepted on some image, .."; "Family is answered as 0"
 pub record Ends (r : Request) (image : List ℕ) : Type 0 where
   pub family : ℕ
-  pub zero : r .family ≡ 0
+  pub zero : r .video .family ≡ 0
   pub acceptable : Acceptable (inFamily family r)
   pub stands : Stands (inFamily family r) image

@@ -7,6 +7,7 @@ use lib.ListN.{getD, take, drop}
 use Rattle.map.specs.Map as reg
 use Rattle.matrix.specs.declared.Matrix.{Matrix}
 use Rattle.matrix.specs.Matrix.{fields, noMatrix}
+use Rattle.video.specs.declared.Video.{Video}
 use Rattle.request.specs.declared.Sound.{Sound}
 use Rattle.request.specs.declared.Sound.the-variants.{Off, On}
 use Rattle.request.specs.declared.Request.{Request}
@@ -30,13 +31,19 @@ matrixIn image =
     cond (eqb (at image reg.csc / reg.cscEnableMask % 2) 0) noMatrix
     (record { on = 1; mode = at image reg.csc / 2 ^ reg.cscScalingFactorShift % 4; coefficients = fields (take reg.cscCount (drop reg.csc image)) })
 
-unfoldable pub extract : List ℕ → Request
-extract image =
+abbrev pub videoNamed : List ℕ → Video
+videoNamed image =
     record {
       vic = at image reg.vicManual % 64;
       family = 0;
       encoding = at image reg.aviInfoframeByte1 / 2 ^ reg.y1y0Shift % 4;
       link = at image reg.hdcpHdmiCfg / reg.hdmiDviModeSelectMask % 2;
+    }
+
+unfoldable pub extract : List ℕ → Request
+extract image =
+    record {
+      video = videoNamed image;
       sound = soundIn image;
       matrix = matrixIn image;
     }

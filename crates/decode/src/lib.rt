@@ -16,6 +16,7 @@ use matrix::Matrix;
 use refusals::Refusal;
 use request::Request;
 use request::Sound;
+use video::Video;
 
 // The number of a refusal, 0 for none, and the count of bytes of the request.
 pub struct Decoded {
@@ -75,10 +76,12 @@ fn extract(image: &[u8]) -> Request
     let sound = sound_in(image);
     let matrix = matrix_in(image);
     Request {
-        vic: image[Map::VIC_MANUAL as usize] % 64,
-        family: 0,
-        encoding: (image[Map::AVI_INFOFRAME_BYTE1 as usize] >> Map::Y1Y0_SHIFT) % 4,
-        link: image[Map::HDCP_HDMI_CFG as usize] / Map::HDMI_DVI_MODE_SELECT_MASK % 2,
+        video: Video {
+            vic: image[Map::VIC_MANUAL as usize] % 64,
+            family: 0,
+            encoding: (image[Map::AVI_INFOFRAME_BYTE1 as usize] >> Map::Y1Y0_SHIFT) % 4,
+            link: image[Map::HDCP_HDMI_CFG as usize] / Map::HDMI_DVI_MODE_SELECT_MASK % 2,
+        },
         sound: sound,
         matrix: matrix,
     }
@@ -127,10 +130,10 @@ fn bytes_of(q: Request) -> Bytes
     let matrix = q.matrix;
     let mut out = [0u8; 35];
     out[0] = 4;
-    out[1] = q.vic;
-    out[2] = q.family;
-    out[3] = q.encoding;
-    out[4] = q.link;
+    out[1] = q.video.vic;
+    out[2] = q.video.family;
+    out[3] = q.video.encoding;
+    out[4] = q.video.link;
     match sound {
         Sound::Off => with_matrix(out, 6, matrix),
         Sound::On {

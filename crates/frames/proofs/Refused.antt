@@ -6,7 +6,7 @@ use lib.ListN.{drop}
 use Rattle.lists.proofs.Decides.{equal, less, opposite, together}
 use Rattle.refusals.specs.Rows.{at}
 use Rattle.refusals.proofs.First.{test, tried}
-use Rattle.clock.proofs.Listed.{not-listed}
+use Rattle.video.proofs.Listed.{not-listed}
 use Rattle.frames.specs.declared.Avi.{Avi}
 use Rattle.frames.specs.declared.Audio.{Audio}
 use Rattle.frames.specs.Frames.{aviOf, audioOf, aviRules, audioRules, FrameRefusals}
@@ -23,9 +23,9 @@ unfolding aviOf audioOf
 refusals =
     record {
       avi =
-          λ vic encoding. tried (aviRules vic encoding) _ refl
-          (test aviNumber (at (aviRules vic encoding) 0) (drop 1 (aviRules vic encoding)) _ _ _ refl (not-listed vic)
-          (λ l. test aviNumber (at (aviRules vic encoding) 1) [] _ _ _ refl (less 2 encoding) (λ e. refl)));
+          λ video. tried (aviRules video) _ refl
+          (test aviNumber (at (aviRules video) 0) (drop 1 (aviRules video)) _ _ _ refl (not-listed (video .vic))
+          (λ l. test aviNumber (at (aviRules video) 1) [] _ _ _ refl (less 2 (video .encoding)) (λ e. refl)));
       audio =
           λ channels. tried (audioRules channels) _ refl
           (test audioNumber (at (audioRules channels) 0) [] _ _ _ refl (together (opposite (equal channels 2)) (opposite (equal channels 8))) (λ c. refl));

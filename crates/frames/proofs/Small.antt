@@ -6,8 +6,8 @@ use lib.Dec.{eqb, leb, lit≤}
 use borrow.Author.Tests.{leb-true}
 use Rattle.lists.proofs.Both.{both-left, both-right}
 use Rattle.lists.proofs.Find.{found}
-use Rattle.clock.specs.declared.Mode.{Mode}
-use Rattle.clock.specs.Modes.{modes, unlisted, modeOf}
+use Rattle.video.specs.declared.Mode.{Mode}
+use Rattle.video.specs.Modes.{modes, unlisted, modeOf}
 use Rattle.frames.specs.Frames.{colorimetry}
 
 pub record Small (m : Mode) : Type 0 where

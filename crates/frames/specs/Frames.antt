@@ -8,8 +8,9 @@ use lib.Dec.{eqb, ltb}
 use lib.ListN.{replicate}
 use Rattle.lists.specs.Among.{among}
 use Rattle.refusals.specs.Rows.{modeNotOffered, fieldOutOfRange, number, Condition, _when_, Given}
-use Rattle.clock.specs.declared.Mode.{Mode}
-use Rattle.clock.specs.Modes.{listed, modeOf}
+use Rattle.video.specs.declared.Mode.{Mode}
+use Rattle.video.specs.declared.Video.{Video}
+use Rattle.video.specs.Modes.{listed, modeOf}
 use Rattle.frames.specs.declared.Avi.{Avi}
 use Rattle.frames.specs.declared.Audio.{Audio}
 
@@ -39,15 +40,17 @@ aviPayload y c m vic = (y * 32 + 16) ∷ (c * 64 + m * 16 + 8) ∷ 0 ∷ vic ∷
 abbrev pub aviHeader : List ℕ
 aviHeader = 0x82 ∷ 0x02 ∷ 0x0D ∷ []
 
-unfoldable pub aviFrame : ℕ → ℕ → List ℕ
-aviFrame vic encoding = frame aviHeader (aviPayload encoding (colorimetry (modeOf vic) encoding) (modeOf vic .aspect) vic)
+unfoldable pub aviFrame : Video → List ℕ
+aviFrame video =
+    let mode : Mode = modeOf (video .vic) in
+    frame aviHeader (aviPayload (video .encoding) (colorimetry mode (video .encoding)) (mode .aspect) (video .vic))
 
 -- the AVI frame on single fields: refusals 4 and 5
-unfoldable pub aviOf : ℕ → ℕ → Avi
-aviOf vic encoding =
-    cond (eqb (modeOf vic .families) 0) (record { refusal = number modeNotOffered; bytes = replicate 17 0 })
-    (cond (ltb 2 encoding) (record { refusal = number fieldOutOfRange; bytes = replicate 17 0 })
-    (record { refusal = 0; bytes = aviFrame vic encoding }))
+unfoldable pub aviOf : Video → Avi
+aviOf video =
+    cond (eqb (modeOf (video .vic) .families) 0) (record { refusal = number modeNotOffered; bytes = replicate 17 0 })
+    (cond (ltb 2 (video .encoding)) (record { refusal = number fieldOutOfRange; bytes = replicate 17 0 })
+    (record { refusal = 0; bytes = aviFrame video }))
 
 -- "CC is channels less one; CA is 0x00 for 2 and 0x13 for 8; the rest 0." Byte 1 is CT3 to CT0 0 CC2 to CC0, byte 4 is CA.
 abbrev pub audioPayload : ℕ → ℕ → List ℕ
@@ -75,15 +78,15 @@ audioOf channels =
 
 -- "A call on single fields checks those .. whose fields it takes": row 4, "VIC not listed below", and row 5, "any other field outside its
 -- range": the encoding is 0 to 2, and the channels are 2 or 8
-abbrev pub aviRules : ℕ → ℕ → List Condition
-aviRules vic encoding = modeNotOffered when (among vic listed ≡ false) ∷ fieldOutOfRange when (2 < encoding) ∷ []
+abbrev pub aviRules : Video → List Condition
+aviRules video = modeNotOffered when (among (video .vic) listed ≡ false) ∷ fieldOutOfRange when (2 < video .encoding) ∷ []
 
 abbrev pub audioRules : ℕ → List Condition
 audioRules channels = fieldOutOfRange when ((channels ≢ 2) × (channels ≢ 8)) ∷ []
 
 -- the refusals of the two calls
 pub record FrameRefusals : Type 0 where
-  pub avi : (vic encoding : ℕ) → Given (aviRules vic encoding) (aviOf vic encoding .refusal)
+  pub avi : (video : Video) → Given (aviRules video) (aviOf video .refusal)
   pub audio : (channels : ℕ) → Given (audioRules channels) (audioOf channels .refusal)
 
 -- The checksum does what document 01 says, whatever the header and the payload; and no other byte does.

@@ -3,8 +3,9 @@ ghost use mathlib.Core.Path.{_≡_};
 ghost use Prim.Native.Nat.{_%_, _≤_};
 ghost use Rattle.frames.specs.Frames.{total, checksumOf, frame, Checksum};
 ghost use Rattle.frames.specs.Frames.{colorimetry, aviHeader, aviPayload, aviOf, audioHeader, audioPayload, audioOf, audioOffFrame, FrameRefusals};
-use clock::Mode;
 use refusals::Refusal;
+use video::Mode;
+use video::Video;
 
 // An AVI InfoFrame: header, checksum, payload; or the number of a refusal with zeros beside it.
 pub struct Avi {
@@ -79,11 +80,13 @@ fn avi_frame(y: u8, c: u8, m: u8, vic: u8) -> [u8; 17]
     bytes
 }
 
-// The AVI InfoFrame of a VIC and an encoding.
-pub fn avi_of(vic: u8, encoding: u8) -> Avi
-    ensures { λ r. ⌜ r ≡ aviOf vic encoding ⌝ }
+// The AVI InfoFrame of a video: its VIC and its encoding.
+pub fn avi_of(video: Video) -> Avi
+    ensures { λ r. ⌜ r ≡ aviOf video ⌝ }
 {
-    let mode = clock::mode_of(vic);
+    let vic = video.vic;
+    let encoding = video.encoding;
+    let mode = video::mode_of(vic);
     if mode.families == 0 {
         return Avi {
             refusal: Refusal::MODE_NOT_OFFERED,

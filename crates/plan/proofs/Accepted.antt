@@ -9,12 +9,13 @@ use lib.Dec.{eqb, ltb, lit≤}
 use lib.ListN.{getD}
 use borrow.Author.Tests.{eqb-true, ltb-true, ltb-false, not-false}
 use Rattle.lists.proofs.Both.{neither-left, neither-right}
-use Rattle.clock.specs.Modes.{offered, modeOf}
+use Rattle.video.specs.Video.{videoIn}
+use Rattle.video.specs.Modes.{offered, modeOf}
 use Rattle.matrix.specs.Matrix.{isAllowed, matrixOf, noMatrix}
 use Rattle.matrix.proofs.Pairs.{mode-small, fields-small, none-small}
 use Rattle.request.specs.declared.Sound.the-variants.{Off, On}
 use Rattle.request.specs.Sections.{Walk, walked, bodyOf}
-use Rattle.request.specs.Request.{present, vic, family, encoding, link, rate, channels, coherent, requestIn}
+use Rattle.request.specs.Request.{present, encoding, link, rate, channels, coherent, requestIn}
 use Rattle.request.specs.Read.{audioOutside, outside, readOf}
 use Rattle.request.proofs.Ordered.{passed}
 use Rattle.plan.specs.Wanted.{SoundFits, MatrixFits, Fits}
@@ -39,13 +40,13 @@ module _ (v a m : List ℕ) where
   matrix-fits false h = record { on = lit≤ tt; mode = lit≤ tt; coefficients = none-small }
   matrix-fits true h = record { on = lit≤ tt; mode = mode-small m (not-false (isAllowed m) h); coefficients = fields-small _ }
 
-  request-fits : offered (vic v) (family v) ≡ true → outside v a m ≡ false → Fits (requestIn v a m)
+  request-fits : offered (videoIn v) ≡ true → outside v a m ≡ false → Fits (requestIn v a m)
   unfolding outside
   request-fits o h =
       let past : (ltb 1 (link v) || ((present a && audioOutside a) || (present m && not (isAllowed m)))) ≡ false = neither-right (ltb 2 (encoding v)) _ h in
       let last : ((present a && audioOutside a) || (present m && not (isAllowed m))) ≡ false = neither-right (ltb 1 (link v)) _ past in
       record {
-        vic = λ e. omega (arith, ltb-true (family v) (modeOf (vic v) .families) o);
+        vic = λ e. omega (arith, ltb-true (videoIn v .family) (modeOf (videoIn v .vic) .families) o);
         encoding = ltb-false 2 (encoding v) (neither-left (ltb 2 (encoding v)) _ h);
         link = ltb-false 1 (link v) (neither-left (ltb 1 (link v)) _ past);
         sound = sound-fits (present a) (neither-left _ (present m && not (isAllowed m)) last);

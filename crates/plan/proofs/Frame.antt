@@ -6,7 +6,8 @@ use lib.Dec.{leb}
 use lib.ListN.{getD}
 use borrow.Author.Tests.{ne-eqb, le-ltb, leb-true}
 use Rattle.bits.proofs.Below.{at-below}
-use Rattle.clock.specs.Modes.{modeOf}
+use Rattle.video.specs.declared.Video.{Video}
+use Rattle.video.specs.Modes.{modeOf}
 use Rattle.frames.specs.Frames.{aviOf, aviFrame, audioOf, audioFrame}
 use Rattle.plan.specs.Wanted.{rateCodes}
 
@@ -15,9 +16,9 @@ unfolding audioOf
 audio-given channels (inl e) = rw e
 audio-given channels (inr e) = rw e
 
-pub avi-given : (vic encoding : ℕ) → modeOf vic .families ≢ 0 → encoding ≤ 2 → aviOf vic encoding .bytes ≡ aviFrame vic encoding
+pub avi-given : (video : Video) → modeOf (video .vic) .families ≢ 0 → video .encoding ≤ 2 → aviOf video .bytes ≡ aviFrame video
 unfolding aviOf
-avi-given vic encoding h l = simp (ne-eqb _ _ h, le-ltb _ _ l)
+avi-given video h l = simp (ne-eqb _ _ h, le-ltb _ _ l)
 
 pub code-small : (rate : ℕ) → rate < 7 → getD rateCodes rate 0 ≤ 15
 code-small rate h = leb-true _ _ (at-below (λ i. leb (getD rateCodes i 0) 15) 7 rate refl h)

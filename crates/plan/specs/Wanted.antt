@@ -8,7 +8,7 @@ use lib.Dec.{eqb}
 use lib.ListN.{getD, set, drop, replicate}
 use Rattle.map.specs.Map as reg
 use Rattle.clock.specs.declared.Pair.{Pair}
-use Rattle.clock.specs.Modes.{modeOf}
+use Rattle.video.specs.Modes.{modeOf}
 use Rattle.matrix.specs.declared.Matrix.{Matrix}
 use Rattle.frames.specs.Frames.{aviFrame, audioFrame, audioOffFrame}
 use Rattle.chip.specs.Machine.{Write, _gets_}
@@ -80,23 +80,23 @@ inputBytes r =
     reg.audioSource gets (ctsSelect (r .sound) * 2 ^ reg.ctsSelectShift) ∷
     reg.i2sConfig gets (inputs (r .sound) * 2 ^ reg.i2s0EnableShift) ∷
     reg.i2sFreqIdCfg gets (rateCode (r .sound) * 2 ^ reg.i2sSamplingFrequencyShift) ∷
-    reg.videoInputCfg1 gets cond (eqb (r .encoding) 1) reg.outputFormatMask 0 ∷ []
+    reg.videoInputCfg1 gets cond (eqb (r .video .encoding) 1) reg.outputFormatMask 0 ∷ []
 
 -- "0x3B[6:5] = 2", the VIC, the enables, "0x4A[7] is 1", HDMI or DVI
 abbrev pub enableBytes : Request → List Write
 enableBytes r =
     reg.pixelRepetition gets (2 * 2 ^ reg.prModeShift) ∷
-    reg.vicManual gets r .vic ∷
-    reg.packetEnable0 gets (r .link * reg.gcPacketEnableMask) ∷
+    reg.vicManual gets r .video .vic ∷
+    reg.packetEnable0 gets (r .video .link * reg.gcPacketEnableMask) ∷
     reg.packetEnable1
-    gets (withAudio (r .sound) * (reg.nCtsPacketEnableMask + reg.audioSamplePacketEnableMask + reg.audioInfoframeEnableMask) + r .link * reg.aviInfoframeEnableMask) ∷
+    gets (withAudio (r .sound) * (reg.nCtsPacketEnableMask + reg.audioSamplePacketEnableMask + reg.audioInfoframeEnableMask) + r .video .link * reg.aviInfoframeEnableMask) ∷
     reg.infoframeUpdate gets reg.autoChecksumEnableMask ∷
-    reg.hdcpHdmiCfg gets (r .link * reg.hdmiDviModeSelectMask) ∷ []
+    reg.hdcpHdmiCfg gets (r .video .link * reg.hdmiDviModeSelectMask) ∷ []
 
 -- the InfoFrames, whose first byte has no register
 abbrev pub frameBytes : Request → List Write
 frameBytes r =
-    run reg.aviInfoframeVersion (drop 1 (aviFrame (r .vic) (r .encoding))) ++ run reg.audioInfoframeVersion (drop 1 (audioBytes (r .sound)))
+    run reg.aviInfoframeVersion (drop 1 (aviFrame (r .video))) ++ run reg.audioInfoframeVersion (drop 1 (audioBytes (r .sound)))
 
 -- the registers with a named bit, but for 0x4B, whose bits are the step's
 abbrev pub wantedBytes : Request → List Write
@@ -124,8 +124,8 @@ pub record MatrixFits (m : Matrix) : Type 0 where
   pub coefficients : (i : ℕ) → getD (m .coefficients) i 0 < 8192
 
 pub record Fits (r : Request) : Type 0 where
-  pub vic : modeOf (r .vic) .families ≢ 0
-  pub encoding : r .encoding ≤ 2
-  pub link : r .link ≤ 1
+  pub vic : modeOf (r .video .vic) .families ≢ 0
+  pub encoding : r .video .encoding ≤ 2
+  pub link : r .video .link ≤ 1
   pub sound : SoundFits (r .sound)
   pub matrix : MatrixFits (r .matrix)

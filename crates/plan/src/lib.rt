@@ -8,7 +8,7 @@ ghost use lib.Dec.{eqb};
 ghost use lib.ListN.{getD, length};
 ghost use Rattle.bits.specs.Merge.{merge};
 ghost use Rattle.map.specs.Map.{outputFormatMask};
-ghost use Rattle.clock.specs.Modes.{modeOf};
+ghost use Rattle.video.specs.Modes.{modeOf};
 ghost use Rattle.frames.specs.Frames.{aviFrame};
 ghost use Rattle.matrix.specs.Matrix.{Bytes};
 ghost use Rattle.request.specs.Read.{pairFor};
@@ -27,6 +27,7 @@ use matrix::Matrix;
 use refusals::Refusal;
 use request::Request;
 use request::Sound;
+use video::Video;
 
 mod steps;
 
@@ -197,13 +198,13 @@ fn with_inputs(out: [u8; 256], r: Request) -> [u8; 256]
     next[Map::I2S_CONFIG as usize] = inputs(sound) * (1 << Map::I2S0_ENABLE_SHIFT);
     next[Map::I2S_FREQ_ID_CFG as usize] = rate_code(sound)
         * (1 << Map::I2S_SAMPLING_FREQUENCY_SHIFT);
-    next[Map::VIDEO_INPUT_CFG1 as usize] = output_format(r.encoding);
+    next[Map::VIDEO_INPUT_CFG1 as usize] = output_format(r.video.encoding);
     next
 }
 
 // The VIC, the enables and HDMI or DVI.
 fn with_enables(out: [u8; 256], r: Request) -> [u8; 256]
-    requires { ⌜ r .link ≤ 1 ⌝ }
+    requires { ⌜ r .video .link ≤ 1 ⌝ }
     ensures { λ image. ⌜ image ≡ stores out (enableBytes r) ⌝ }
 {
     let sound = r.sound;
@@ -212,21 +213,21 @@ fn with_enables(out: [u8; 256], r: Request) -> [u8; 256]
         + Map::AUDIO_INFOFRAME_ENABLE_MASK;
     let mut next = out;
     next[Map::PIXEL_REPETITION as usize] = 2 * (1 << Map::PR_MODE_SHIFT);
-    next[Map::VIC_MANUAL as usize] = r.vic;
-    next[Map::PACKET_ENABLE0 as usize] = r.link * Map::GC_PACKET_ENABLE_MASK;
+    next[Map::VIC_MANUAL as usize] = r.video.vic;
+    next[Map::PACKET_ENABLE0 as usize] = r.video.link * Map::GC_PACKET_ENABLE_MASK;
     next[Map::PACKET_ENABLE1 as usize] = with_audio(sound) * audio
-        + r.link * Map::AVI_INFOFRAME_ENABLE_MASK;
+        + r.video.link * Map::AVI_INFOFRAME_ENABLE_MASK;
     next[Map::INFOFRAME_UPDATE as usize] = Map::AUTO_CHECKSUM_ENABLE_MASK;
-    next[Map::HDCP_HDMI_CFG as usize] = r.link * Map::HDMI_DVI_MODE_SELECT_MASK;
+    next[Map::HDCP_HDMI_CFG as usize] = r.video.link * Map::HDMI_DVI_MODE_SELECT_MASK;
     next
 }
 
-// The AVI InfoFrame of a VIC that is listed.
-fn avi_bytes(vic: u8, encoding: u8) -> [u8; 17]
-    requires { ⌜ (modeOf vic .families ≢ 0) × (encoding ≤ 2) ⌝ }
-    ensures { λ r. ⌜ r ≡ aviFrame vic encoding ⌝ }
+// The AVI InfoFrame of a video whose VIC is listed.
+fn avi_bytes(video: Video) -> [u8; 17]
+    requires { ⌜ (modeOf (video .vic) .families ≢ 0) × (video .encoding ≤ 2) ⌝ }
+    ensures { λ r. ⌜ r ≡ aviFrame video ⌝ }
 {
-    let frame = frames::avi_of(vic, encoding);
+    let frame = frames::avi_of(video);
     frame.bytes
 }
 
@@ -236,7 +237,7 @@ fn with_frames(out: [u8; 256], r: Request) -> [u8; 256]
     ensures { λ image. ⌜ image ≡ stores out (frameBytes r) ⌝ }
 {
     let sound = r.sound;
-    let video = avi_bytes(r.vic, r.encoding);
+    let video = avi_bytes(r.video);
     let audio = audio_bytes(sound);
     let next = laid(out, Map::AVI_INFOFRAME_VERSION as usize, &video[1..]);
     laid(next, Map::AUDIO_INFOFRAME_VERSION as usize, &audio[1..])

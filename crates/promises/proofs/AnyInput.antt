@@ -8,7 +8,9 @@ use lib.Dec.{eqb, ltb}
 use Rattle.clock.specs.declared.Pair.{Pair}
 use Rattle.clock.specs.declared.Clock.{Clock}
 use Rattle.clock.specs.declared.NCts.{NCts}
-use Rattle.clock.specs.Modes.{offered, clockOf}
+use Rattle.video.specs.declared.Video.{Video}
+use Rattle.video.specs.Modes.{offered}
+use Rattle.clock.specs.Clocks.{clockOf}
 use Rattle.clock.specs.Pairs.{recommendedOf}
 use Rattle.clock.specs.Found.{numbered, leastK, mostK, nearestIn, nearestOf, exactly, coherentOf, pairOf}
 use Rattle.matrix.proofs.Codes as preview
@@ -39,9 +41,9 @@ settled = record {
   ncts = λ request. one _;
   line = λ request. one _;
   preview = λ matrix a b c. one _;
-  clock = λ vic family. one _;
-  pair = λ vic family rate coherent. one _;
-  avi = λ vic encoding. one _;
+  clock = λ video. one _;
+  pair = λ video rate coherent. one _;
+  avi = λ video. one _;
   audio = λ channels. one _;
   write = λ s address value. one _;
   enter = λ s address value. two _ _;
@@ -75,12 +77,12 @@ coherent-zeroed clock rate =
     let r : NCts = recommendedOf clock rate in
     one-of (exactly clock rate (r .n) (r .cts)) (λ h. absurd (h refl)) (nearest-zeroed _ _ _)
 
-pair-zeroed : (vic family rate coherent : ℕ) → Zeroed (pairOf vic family rate coherent)
+pair-zeroed : (video : Video) (rate coherent : ℕ) → Zeroed (pairOf video rate coherent)
 unfolding pairOf
-pair-zeroed vic family rate coherent =
-    one-of (not (offered vic family)) (refusal-zeroed 4)
+pair-zeroed video rate coherent =
+    one-of (not (offered video)) (refusal-zeroed 4)
     (one-of (ltb 6 rate || ltb 1 coherent) (refusal-zeroed 5)
-    (one-of (eqb coherent 1) (coherent-zeroed (clockOf vic family) rate) (λ h. absurd (h refl))))
+    (one-of (eqb coherent 1) (coherent-zeroed (clockOf video) rate) (λ h. absurd (h refl))))
 
 ncts-zeroed : (request : List ℕ) → Zeroed (nctsOf request)
 unfolding nctsOf pairFor
@@ -88,7 +90,7 @@ ncts-zeroed request = one-of (eqb (readOf request .refusal) 0) (of (readOf reque
   where
     of : (s : Sound) → Zeroed (pairIn (readOf request .request) s)
     of Off = λ h. absurd (h refl)
-    of (On rate channels coherent) = pair-zeroed _ _ rate coherent
+    of (On rate channels coherent) = pair-zeroed _ rate coherent
 
 pub any-input : Demand1
 any-input = record {

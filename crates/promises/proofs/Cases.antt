@@ -4,7 +4,8 @@ use Prim.Native.Nat.{ℕ, _*_, _∣_}
 use native.Mathlib.Omega.{arith}
 use lib.Dec.{lit<}
 use Rattle.clock.specs.Gcd.{steps, gcdOf}
-use Rattle.clock.specs.Modes.{modeOf, clockOf}
+use Rattle.video.specs.Modes.{modeOf}
+use Rattle.clock.specs.Clocks.{clockOf}
 use Rattle.clock.specs.Pairs.{reference, recommendedOf}
 use Rattle.clock.specs.Found.{nearestK, nearestIn, nearestOf, exactly, coherentOf, pairOf}
 use Rattle.clock.proofs.Ratio.{divides}
@@ -13,9 +14,9 @@ use Rattle.matrix.specs.Matrix.{fields, inRange, isAllowed}
 use Rattle.matrix.specs.Preview.{codeOf, previewOf}
 use Rattle.request.specs.Sections.{walk, walked}
 use Rattle.request.specs.Read.{outside, combined, judged, readOf, pairFor, nctsOf, lineOf}
-use Rattle.promises.specs.Cases.{MarkedCases}
+use Rattle.promises.specs.Cases.{mode, MarkedCases}
 
-multiple : (n cts : ℕ) → reference 0 * cts * clockOf 4 1 .den ≡ clockOf 4 1 .num * n → 23296 ∣ n
+multiple : (n cts : ℕ) → reference 0 * cts * clockOf (mode 4 1) .den ≡ clockOf (mode 4 1) .num * n → 23296 ∣ n
 unfolding reference clockOf modeOf gcdOf steps
 multiple n cts e = divides 74250000000 4100096000 (lit< tt) n cts (omega arith)
 

@@ -6,7 +6,8 @@ use Prim.Native.Nat.{ℕ}
 use lib.Dec.{eqb}
 use lib.ListN.{length}
 use Rattle.clock.specs.Gcd.{steps, gcdOf}
-use Rattle.clock.specs.Modes.{modeOf, clockOf}
+use Rattle.video.specs.Modes.{modeOf}
+use Rattle.clock.specs.Clocks.{clockOf}
 use Rattle.clock.specs.Pairs.{reference, recommendedOf}
 use Rattle.clock.specs.Found.{nearestK, nearestIn, nearestOf, exactly, coherentOf, pairOf}
 use Rattle.request.specs.Sections.{walk, walked}

@@ -32,6 +32,6 @@ pub record AnyCut (input buffer : List ℕ) (s : Chip) : Type 0 where
   pub again : (ks room : List ℕ) → 256 ≤ length room → Again input (cuts (listOf input) ks s .image) room
   -- "After the last, all are new": what is in use is the request's own. (Beside version and length lie free bits, which are the image's; the
   -- checksum and the data bytes are whole.)
-  pub newAvi : drop 2 (inUse packets avi (toItsEnd (listOf input) s)) ≡ drop 3 (aviFrame (readOf input .request .vic) (readOf input .request .encoding))
+  pub newAvi : drop 2 (inUse packets avi (toItsEnd (listOf input) s)) ≡ drop 3 (aviFrame (readOf input .request .video))
   pub newAudio : drop 2 (inUse packets audio (toItsEnd (listOf input) s)) ≡ drop 3 (audioBytes (readOf input .request .sound))
   pub newMatrix : coefficients (toItsEnd (listOf input) s) ≡ readOf input .request .matrix .coefficients

@@ -5,9 +5,10 @@ use mathlib.Core.List.{List}
 use Prim.Native.Nat.{ℕ}
 use Rattle.registers.specs.declared.Class.{Class}
 use Rattle.registers.specs.Classes.{classAt}
+use Rattle.video.specs.declared.Video.{Video}
 use Rattle.clock.specs.declared.Clock.{Clock}
 use Rattle.clock.specs.declared.Pair.{Pair}
-use Rattle.clock.specs.Modes.{clockOf}
+use Rattle.clock.specs.Clocks.{clockOf}
 use Rattle.clock.specs.Found.{pairOf}
 use Rattle.frames.specs.declared.Avi.{Avi}
 use Rattle.frames.specs.declared.Audio.{Audio}
@@ -48,9 +49,9 @@ pub record Settled : Type 0 where
   pub ncts : (request : List ℕ) → Settles {A = Pair} (Is (nctsOf request))
   pub line : (request : List ℕ) → Settles {A = Line} (Is (lineOf request))
   pub preview : (matrix : List ℕ) (a b c : ℕ) → Settles {A = Pixel} (Previews matrix a b c)
-  pub clock : (vic family : ℕ) → Settles {A = Clock} (Is (clockOf vic family))
-  pub pair : (vic family rate coherent : ℕ) → Settles {A = Pair} (Is (pairOf vic family rate coherent))
-  pub avi : (vic encoding : ℕ) → Settles {A = Avi} (Is (aviOf vic encoding))
+  pub clock : (video : Video) → Settles {A = Clock} (Is (clockOf video))
+  pub pair : (video : Video) (rate coherent : ℕ) → Settles {A = Pair} (Is (pairOf video rate coherent))
+  pub avi : (video : Video) → Settles {A = Avi} (Is (aviOf video))
   pub audio : (channels : ℕ) → Settles {A = Audio} (Is (audioOf channels))
   pub write : (s : Chip) (address value : ℕ) → Settles {A = Wrote} (Is (writeOf s address value))
   -- over slices: the number, and the three slices as a state

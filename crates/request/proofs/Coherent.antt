@@ -12,7 +12,8 @@ use Rattle.lists.specs.Among.{among}
 use Rattle.refusals.specs.Rows.{noExactPair, _when_, Given}
 use Rattle.refusals.proofs.First.{Tried, then, tried}
 use Rattle.clock.specs.declared.Pair.{Pair}
-use Rattle.clock.specs.Modes.{offered}
+use Rattle.video.specs.Video.{videoIn}
+use Rattle.video.specs.Modes.{offered}
 use Rattle.clock.specs.Found.{numbered}
 use Rattle.clock.specs.Theorems.{pairRules}
 use Rattle.clock.proofs.Rows.{in-turn}
@@ -20,7 +21,7 @@ use Rattle.request.specs.declared.Sound.the-variants.{Off, On}
 use Rattle.matrix.specs.Matrix.{Bytes}
 use Rattle.request.specs.declared.Request.{Request}
 use Rattle.request.specs.Sections.{Walk, ends, notAllowed, whole, after, walk, walked, sections, bodyOf}
-use Rattle.request.specs.Request.{Present, present, vic, family, rate, channels, coherent, Outside, requestIn, NoPair, readRules, nctsRules}
+use Rattle.request.specs.Request.{Present, present, rate, channels, coherent, Outside, requestIn, NoPair, readRules, nctsRules}
 use Rattle.request.specs.Read.{checked, pairIn, pairFor, readOf, nctsOf, accepted, lineOf, Rows}
 use Rattle.request.proofs.Ordered.{tried-read, Judged, passed, full, is-outside}
 
@@ -30,8 +31,8 @@ in-range v a m o p (inl h) = o (inr (inr (inl (p, inl h))))
 in-range v a m o p (inr h) = o (inr (inr (inl (p, inr (inr h)))))
 
 -- the rules of the call on single fields, where the mode is offered and the fields are in range: row 9 is left
-nine : (w : Walk) → offered (vic (bodyOf 0 w)) (family (bodyOf 0 w)) ≡ true → ((6 < rate (bodyOf 1 w)) ⊎ (1 < coherent (bodyOf 1 w)) → ⊥) → Present (bodyOf 1 w)
-    → (n : ℕ) → Tried (pairRules (vic (bodyOf 0 w)) (family (bodyOf 0 w)) (rate (bodyOf 1 w)) (coherent (bodyOf 1 w))) n → Tried (noExactPair when (NoPair w) ∷ []) n
+nine : (w : Walk) → offered (videoIn (bodyOf 0 w)) ≡ true → ((6 < rate (bodyOf 1 w)) ⊎ (1 < coherent (bodyOf 1 w)) → ⊥) → Present (bodyOf 1 w)
+    → (n : ℕ) → Tried (pairRules (videoIn (bodyOf 0 w)) (rate (bodyOf 1 w)) (coherent (bodyOf 1 w))) n → Tried (noExactPair when (NoPair w) ∷ []) n
 nine w o r p n (inl h) = absurd (false≢true (sym (h .0) ∙ o))
 nine w o r p n (inr (_, inl h)) = absurd (r (h .0))
 nine w o r p n (inr (_, inr (_, inl h))) = inl ((p, h .0 .0, h .0 .1), h .1)
@@ -49,7 +50,7 @@ sounds w bytes j = go (present (bodyOf 1 w)) refl
         → Tried (noExactPair when (NoPair w) ∷ []) (pairIn r (cond b (On (rate (bodyOf 1 w)) (channels (bodyOf 1 w)) (coherent (bodyOf 1 w))) Off) .refusal)
     go true e =
         let p = full (bodyOf 1 w) .passes e in
-        nine w (j .mode) (in-range (bodyOf 0 w) (bodyOf 1 w) (bodyOf 2 w) (is-outside (bodyOf 0 w) (bodyOf 1 w) (bodyOf 2 w) bytes .fails (j .inside)) p) p _ (in-turn _ _ _ _)
+        nine w (j .mode) (in-range (bodyOf 0 w) (bodyOf 1 w) (bodyOf 2 w) (is-outside (bodyOf 0 w) (bodyOf 1 w) (bodyOf 2 w) bytes .fails (j .inside)) p) p _ (in-turn _ _ _)
     go false e = inr ((λ x. full (bodyOf 1 w) .fails e (x .0)), refl)
 
 abbrev numberOf : Pair → ℕ

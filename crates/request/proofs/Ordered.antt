@@ -11,10 +11,11 @@ use Rattle.lists.proofs.Decides.{Decides, failing, itself, equal, less, opposit
 use Rattle.matrix.specs.Matrix.{isAllowed, Allowed, Bytes}
 use Rattle.matrix.proofs.Numbers.{numbers}
 use Rattle.refusals.proofs.First.{Tried, test}
-use Rattle.clock.specs.Modes.{offered}
+use Rattle.video.specs.Video.{videoIn}
+use Rattle.video.specs.Modes.{offered}
 use Rattle.request.specs.declared.Checked.{Checked}
 use Rattle.request.specs.Sections.{Walk, ends, notAllowed, whole, bodyOf}
-use Rattle.request.specs.Request.{Present, present, vic, family, encoding, link, rate, channels, coherent, AudioOutside, Outside, Combined, requestIn, readRules}
+use Rattle.request.specs.Request.{Present, present, encoding, link, rate, channels, coherent, AudioOutside, Outside, Combined, requestIn, readRules}
 use Rattle.request.specs.Read.{audioOutside, outside, combined, emptied, judged, checked}
 
 -- the three kinds of walk are different
@@ -50,7 +51,7 @@ judged-rules : (w : Walk) → Bytes (bodyOf 2 w) → Tried (drop 3 (readRules w)
 unfolding judged
 judged-rules w bytes =
     let rs : List Condition = readRules w in
-    test numberOf (at rs 3) (drop 4 rs) _ _ _ refl (failing (offered (vic (bodyOf 0 w)) (family (bodyOf 0 w))))
+    test numberOf (at rs 3) (drop 4 rs) _ _ _ refl (failing (offered (videoIn (bodyOf 0 w))))
     (λ n. test numberOf (at rs 4) (drop 5 rs) _ _ _ refl (is-outside (bodyOf 0 w) (bodyOf 1 w) (bodyOf 2 w) bytes)
     (λ m. test numberOf (at rs 5) [] _ _ _ refl (is-combined (bodyOf 0 w) (bodyOf 1 w) (bodyOf 2 w)) (λ o. refl)))
 
@@ -77,7 +78,7 @@ tried-read (whole bodies rest) bytes =
 module _ (v a m : List ℕ) where
   pub record Judged (c : Checked) : Type 0 where
     pub request : c .request ≡ requestIn v a m
-    pub mode : offered (vic v) (family v) ≡ true
+    pub mode : offered (videoIn v) ≡ true
     pub inside : outside v a m ≡ false
     pub apart : combined v a m ≡ false
 
@@ -85,7 +86,7 @@ module _ (v a m : List ℕ) where
   judgement o x y =
       cond (not o) (emptied 4) (cond x (emptied 5) (cond y (emptied 6) (record { refusal = 0; request = requestIn v a m })))
 
-  by-tests : (o x y : Bool) → offered (vic v) (family v) ≡ o → outside v a m ≡ x → combined v a m ≡ y → judgement o x y .refusal ≡ 0 → Judged (judgement o x y)
+  by-tests : (o x y : Bool) → offered (videoIn v) ≡ o → outside v a m ≡ x → combined v a m ≡ y → judgement o x y .refusal ≡ 0 → Judged (judgement o x y)
   unfolding judgement
   by-tests false x y e f g z = absurd (omega arith)
   by-tests true true y e f g z = absurd (omega arith)
@@ -94,7 +95,7 @@ module _ (v a m : List ℕ) where
 
   pub accepted : judged v a m .refusal ≡ 0 → Judged (judged v a m)
   unfolding judged judgement
-  accepted = by-tests (offered (vic v) (family v)) (outside v a m) (combined v a m) refl refl refl
+  accepted = by-tests (offered (videoIn v)) (outside v a m) (combined v a m) refl refl refl
 
 -- a walk that no row refuses: its request is what its bodies say, in a mode that is offered, with each field in range
 pub passed : (w : Walk) → checked w .refusal ≡ 0 → Judged (bodyOf 0 w) (bodyOf 1 w) (bodyOf 2 w) (checked w)

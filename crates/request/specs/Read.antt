@@ -7,7 +7,8 @@ use lib.Dec.{eqb, ltb}
 use lib.ListN.{getD, length, take}
 use Rattle.lists.specs.Among.{among}
 use Rattle.clock.specs.declared.Pair.{Pair}
-use Rattle.clock.specs.Modes.{offered}
+use Rattle.video.specs.Video.{videoIn, noVideo}
+use Rattle.video.specs.Modes.{offered}
 use Rattle.clock.specs.Pairs.{audioOff}
 use Rattle.clock.specs.Found.{pairOf, numbered}
 use Rattle.matrix.specs.Matrix.{isAllowed, noMatrix, Bytes}
@@ -16,14 +17,14 @@ use Rattle.request.specs.declared.Sound.the-variants.{Off, On}
 use Rattle.request.specs.declared.Request.{Request}
 use Rattle.request.specs.declared.Checked.{Checked}
 use Rattle.request.specs.Sections.{Walk, ends, notAllowed, whole, walked}
-use Rattle.request.specs.Request.{present, vic, family, encoding, link, rate, channels, coherent, requestIn, readRules, nctsRules}
+use Rattle.request.specs.Request.{present, encoding, link, rate, channels, coherent, requestIn, readRules, nctsRules}
 use Rattle.request.specs.declared.Line.{Line}
 use Rattle.refusals.specs.Rows.{Row, inputEnds, countNotAllowed, bytesAfter, modeNotOffered, fieldOutOfRange, combination, number, Given}
 use Rattle.frames.specs.Frames.{aviOf, audioOf, audioOffFrame}
 
 -- a refusal stands beside an empty request: fields 0, audio off, no matrix
 abbrev pub emptied : ℕ → Checked
-emptied number = record { refusal = number; request = record { vic = 0; family = 0; encoding = 0; link = 0; sound = Off; matrix = noMatrix } }
+emptied number = record { refusal = number; request = record { video = noVideo; sound = Off; matrix = noMatrix } }
 
 abbrev pub refusedRequest : Row → Checked
 refusedRequest row = emptied (number row)
@@ -43,7 +44,7 @@ combined video audio matrix =
 -- rows 4 to 6, in order
 unfoldable pub judged : List ℕ → List ℕ → List ℕ → Checked
 judged video audio matrix =
-    cond (not (offered (vic video) (family video))) (refusedRequest modeNotOffered)
+    cond (not (offered (videoIn video))) (refusedRequest modeNotOffered)
     (cond (outside video audio matrix) (refusedRequest fieldOutOfRange)
     (cond (combined video audio matrix) (refusedRequest combination)
     (record { refusal = 0; request = requestIn video audio matrix })))
@@ -62,7 +63,7 @@ readOf input = checked (walked input)
 -- N and CTS for a request: refusal 9
 abbrev pub pairIn : Request → Sound → Pair
 pairIn r Off = audioOff
-pairIn r (On rate channels coherent) = pairOf (r .vic) (r .family) rate coherent
+pairIn r (On rate channels coherent) = pairOf (r .video) rate coherent
 
 unfoldable pub pairFor : Request → Pair
 pairFor r = pairIn r (r .sound)
@@ -81,10 +82,10 @@ abbrev pub accepted : Request → Pair → Line
 accepted r p =
     record {
       refusal = 0;
-      vic = r .vic;
+      vic = r .video .vic;
       n = p .n;
       cts = p .cts;
-      avi = getD (aviOf (r .vic) (r .encoding) .bytes) 3 0;
+      avi = getD (aviOf (r .video) .bytes) 3 0;
       audio = audioChecksum (r .sound);
     }
 

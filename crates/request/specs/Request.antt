@@ -7,7 +7,9 @@ use Prim.Native.Nat.{ℕ, _<_}
 use lib.Dec.{eqb}
 use lib.ListN.{getD, length}
 use Rattle.refusals.specs.Rows.{inputEnds, countNotAllowed, bytesAfter, modeNotOffered, fieldOutOfRange, combination, noExactPair, Condition, _when_}
-use Rattle.clock.specs.Modes.{offered, clockOf}
+use Rattle.video.specs.Video.{videoIn}
+use Rattle.video.specs.Modes.{offered}
+use Rattle.clock.specs.Clocks.{clockOf}
 use Rattle.clock.specs.Pairs.{Exact}
 use Rattle.matrix.specs.Matrix.{Allowed, matrixOf, noMatrix}
 use Rattle.request.specs.declared.Sound.{Sound}
@@ -23,17 +25,11 @@ abbrev pub present : List ℕ → Bool
 present body = not (eqb (length body) 0)
 
 -- the fields, in the order of the sections
-abbrev pub vic : List ℕ → ℕ
-vic video = getD video 0 0
-
-abbrev pub family : List ℕ → ℕ
-family video = getD video 1 0
-
 abbrev pub encoding : List ℕ → ℕ
-encoding video = getD video 2 0
+encoding video = videoIn video .encoding
 
 abbrev pub link : List ℕ → ℕ
-link video = getD video 3 0
+link video = videoIn video .link
 
 abbrev pub rate : List ℕ → ℕ
 rate audio = getD audio 0 0
@@ -63,7 +59,7 @@ readRules w =
     inputEnds when (w ≡ ends) ∷
     countNotAllowed when (w ≡ notAllowed) ∷
     bytesAfter when Present (restOf w) ∷
-    modeNotOffered when (offered (vic (bodyOf 0 w)) (family (bodyOf 0 w)) ≡ false) ∷
+    modeNotOffered when (offered (videoIn (bodyOf 0 w)) ≡ false) ∷
     fieldOutOfRange when Outside (bodyOf 0 w) (bodyOf 1 w) (bodyOf 2 w) ∷
     combination when Combined (bodyOf 0 w) (bodyOf 1 w) (bodyOf 2 w) ∷ []
 
@@ -71,7 +67,7 @@ readRules w =
 abbrev pub NoPair : Walk → Type 0
 NoPair w =
     Present (bodyOf 1 w) × (coherent (bodyOf 1 w) ≡ 1)
-    × ((n cts : ℕ) → Exact (clockOf (vic (bodyOf 0 w)) (family (bodyOf 0 w))) (rate (bodyOf 1 w)) n cts → ⊥)
+    × ((n cts : ℕ) → Exact (clockOf (videoIn (bodyOf 0 w))) (rate (bodyOf 1 w)) n cts → ⊥)
 
 abbrev pub nctsRules : Walk → List Condition
 nctsRules w = readRules w ++ noExactPair when (NoPair w) ∷ []
@@ -83,10 +79,7 @@ soundOf audio = cond (present audio) (On (rate audio) (channels audio) (coherent
 abbrev pub requestIn : List ℕ → List ℕ → List ℕ → Request
 requestIn video audio matrix =
     record {
-      vic = vic video;
-      family = family video;
-      encoding = encoding video;
-      link = link video;
+      video = videoIn video;
       sound = soundOf audio;
       matrix = cond (present matrix) (matrixOf matrix) noMatrix;
     }

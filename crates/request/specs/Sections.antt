@@ -5,10 +5,11 @@ use Prim.Native.Nat.{ℕ}
 use lib.Dec.{leb}
 use lib.ListN.{getD, length, take, drop}
 use Rattle.lists.specs.Among.{among}
+use Rattle.video.specs.Video.{videoCount}
 
 -- the counts that each section allows: video, audio, matrix
 abbrev pub sections : List (List ℕ)
-sections = (4 ∷ []) ∷ (0 ∷ 3 ∷ []) ∷ (0 ∷ 25 ∷ []) ∷ []
+sections = (videoCount ∷ []) ∷ (0 ∷ 3 ∷ []) ∷ (0 ∷ 25 ∷ []) ∷ []
 
 -- what a walk finds: the input ends before a count or inside a section; a count that the section does not allow; or the bodies of the
 -- sections, and the bytes after the last

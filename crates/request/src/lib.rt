@@ -11,6 +11,7 @@ use clock::Pair;
 use matrix::Matrix;
 use refusals::Refusal;
 use sections::section;
+use video::Video;
 
 pub mod sections;
 
@@ -26,10 +27,7 @@ pub enum Sound {
 
 // What the three sections ask for.
 pub struct Request {
-    pub vic: u8,
-    pub family: u8,
-    pub encoding: u8,
-    pub link: u8,
+    pub video: Video,
     pub sound: Sound,
     pub matrix: Matrix,
 }
@@ -54,14 +52,12 @@ pub struct Checked {
 fn refused(number: u8) -> Checked
     ensures { λ r. ⌜ r ≡ emptied number ⌝ }
 {
+    let video = video::no_video();
     let matrix = matrix::none();
     Checked {
         refusal: number,
         request: Request {
-            vic: 0,
-            family: 0,
-            encoding: 0,
-            link: 0,
+            video: video,
             sound: Sound::Off,
             matrix: matrix,
         },
@@ -126,7 +122,8 @@ fn judge(video: &[u8], audio: &[u8], body: &[u8]) -> Checked
     requires { ⌜ (4 ≤ length (now video)) × (length (now audio) % 3 ≡ 0) ⌝ }
     ensures { λ r. ⌜ r ≡ judged (now (video .entry)) (now (audio .entry)) (now (body .entry)) ⌝ }
 {
-    let clock = clock::clock_of(video[0], video[1]);
+    let asked = video::video_in(video);
+    let clock = clock::clock_of(asked);
     if clock.refusal != Refusal::NONE {
         return refused(Refusal::MODE_NOT_OFFERED);
     }
@@ -141,10 +138,7 @@ fn judge(video: &[u8], audio: &[u8], body: &[u8]) -> Checked
     Checked {
         refusal: Refusal::NONE,
         request: Request {
-            vic: video[0],
-            family: video[1],
-            encoding: video[2],
-            link: video[3],
+            video: asked,
             sound: sound,
             matrix: matrix,
         },
@@ -190,7 +184,7 @@ pub fn pair_for(r: Request) -> Pair
             rate,
             channels: _,
             coherent,
-        } => clock::pair_of(r.vic, r.family, rate, coherent),
+        } => clock::pair_of(r.video, rate, coherent),
     }
 }
 
@@ -248,13 +242,14 @@ pub fn line_of(s: &[u8]) -> Line
         };
     }
     let request = checked.request;
-    let frame = frames::avi_of(request.vic, request.encoding);
+    let video = request.video;
+    let frame = frames::avi_of(video);
     let bytes = frame.bytes;
     let sound = request.sound;
     let audio = audio_checksum(sound);
     Line {
         refusal: Refusal::NONE,
-        vic: request.vic,
+        vic: video.vic,
         n: pair.n,
         cts: pair.cts,
         avi: bytes[3],

@@ -1,7 +1,7 @@
 -- `clock::clock_of` meets its contract. Assumes nothing.
 use borrow.Author.Needs.{needs}
 use borrow.Author.Tests.{eq-eqb, ne-eqb, lt-ltb, le-ltb}
-use Rattle.clock.specs.Modes.{clockOf}
+use Rattle.clock.specs.Clocks.{clockOf}
 use Rattle.clock.proofs.clock_of.Statement.{statement}
 use Rattle.clock.proofs.clock_of.Tie as tie
 

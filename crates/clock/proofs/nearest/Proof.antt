@@ -6,7 +6,7 @@ use native.Mathlib.Omega.{arith}
 use borrow.Author.Needs.{needs}
 use Rattle.clock.specs.declared.Clock.{Clock}
 use Rattle.clock.specs.Gcd.{gcdOf}
-use Rattle.clock.specs.Modes.{Sized}
+use Rattle.clock.specs.Clocks.{Sized}
 use Rattle.clock.specs.Found.{nearestOf}
 use Rattle.clock.proofs.Divisor.{some}
 use Rattle.clock.proofs.Ratio.{u-some, v-some}

@@ -4,17 +4,18 @@ use mathlib.Core.Bool.{true}
 use borrow.Author.Needs.{needs}
 use borrow.Author.Tests.{lt-ltb, le-ltb, eq-eqb, ne-eqb}
 use Rattle.clock.specs.declared.Clock.{Clock}
-use Rattle.clock.specs.Modes.{offered, Sized}
+use Rattle.video.specs.Modes.{offered}
+use Rattle.clock.specs.Clocks.{Sized}
 use Rattle.clock.specs.Found.{pairOf}
 use Rattle.clock.proofs.Offered.{sized, accepted, declined}
 use Rattle.clock.proofs.pair_of.Statement.{statement}
 use Rattle.clock.proofs.pair_of.Tie as tie
 
 -- past the first test the mode is offered
-taken-up : (c : tie.Else1) → let a = c .before .before .before .args in offered (a .vic) (a .family) ≡ true
+taken-up : (c : tie.Else1) → let a = c .before .before .before .args in offered (a .video) ≡ true
 taken-up c =
     let p = c .before .before in
-    accepted (p .before .args .vic) (p .before .args .family) (ap (λ (k : Clock). k .refusal) (sym (p .clock-of .ensures)) ∙ c .if1 .left)
+    accepted (p .before .args .video) (ap (λ (k : Clock). k .refusal) (sym (p .clock-of .ensures)) ∙ c .if1 .left)
 
 clock-of-requires : tie.Need-clock-of-requires
 clock-of-requires c κs = search needs
@@ -27,7 +28,7 @@ unfolding pairOf
 returns c =
     let p = c .before .before .before in
     let e = ap (λ (k : Clock). k .refusal) (p .clock-of .ensures) in
-    let d = declined (p .before .args .vic) (p .before .args .family) (λ z. c .before .if1 .taken (e ∙ z)) in
+    let d = declined (p .before .args .video) (λ z. c .before .if1 .taken (e ∙ z)) in
     rw (c .refused .ensures, e ∙ d .1, d .0)
 
 refused-requires-2 : tie.Need-refused-requires-2
@@ -50,7 +51,7 @@ coherent-pair-requires : tie.Need-coherent-pair-requires
 coherent-pair-requires c κs =
     let p = c .before .before in
     let q = p .before .before .before in
-    (search needs, subst Sized (sym (q .clock-of .ensures)) (sized (q .before .args .vic) (q .before .args .family) (taken-up (p .before))))
+    (search needs, subst Sized (sym (q .clock-of .ensures)) (sized (q .before .args .video) (taken-up (p .before))))
 
 returns-4 : tie.Need-returns-4
 unfolding pairOf

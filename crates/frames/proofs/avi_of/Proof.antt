@@ -23,8 +23,8 @@ colour-requires c κs = search needs
 
 avi-frame-requires : tie.Need-avi-frame-requires
 avi-frame-requires c κs =
-    let v = c .before .before .before .before .before .args .vic in
-    let e = c .before .before .before .before .before .args .encoding in
+    let v = c .before .before .before .before .before .args .video .vic in
+    let e = c .before .before .before .before .before .args .video .encoding in
     let m = c .before .before .before .before .mode-of .result in
     let s : Small m = rw (c .before .before .before .before .mode-of .ensures) (mode-small v) in
     (omega arith, rw (c .colour .ensures) (colour-small m e s), s .aspect)

@@ -1,5 +1,8 @@
 -- `request::judge` meets its contract: rows 4 to 6. Assumes nothing.
-use mathlib.Core.Path.{sym, _∙_}
+use mathlib.Core.Path.{_≡_, sym, _∙_}
+use mathlib.Core.Bool.{true}
+use Rattle.video.specs.Video.{videoIn}
+use Rattle.video.specs.Modes.{offered}
 use Rattle.request.specs.Read.{judged}
 use Rattle.request.proofs.Judged.{matrix-read}
 use Rattle.clock.proofs.Offered.{accepted, declined}
@@ -7,11 +10,8 @@ use borrow.Author.Needs.{needs}
 use Rattle.request.proofs.judge.Statement.{statement}
 use Rattle.request.proofs.judge.Tie as tie
 
-shared-slice-read-clock-of : tie.Need-shared-slice-read-clock-of
-shared-slice-read-clock-of c = search needs
-
-shared-slice-read-clock-of-2 : tie.Need-shared-slice-read-clock-of-2
-shared-slice-read-clock-of-2 c = search needs
+video-in-requires : tie.Need-video-in-requires
+video-in-requires c κs = search needs
 
 clock-of-requires : tie.Need-clock-of-requires
 clock-of-requires c κs = search needs
@@ -22,8 +22,15 @@ refused-requires c κs = search needs
 returns : tie.Need-returns
 unfolding judged
 returns c =
-    let o = declined _ _ (rw (c .before .before .before .clock-of .ensures) at (c .before .if1 .taken)) .0 in
+    let k = c .before .before .before in
+    let o = rw (k .before .video-in .ensures) at (declined _ (rw (k .clock-of .ensures) at (c .before .if1 .taken)) .0) in
     simp (o, c .refused .ensures)
+
+-- past the first test the mode is offered
+mode : (c : tie.After-is-outside) → offered (videoIn (c .before .before .before .before .before .before .before .before .args .video .now)) ≡ true
+mode c =
+    let k = c .before .before .before in
+    rw (k .before .video-in .ensures) at (accepted _ (rw (k .clock-of .ensures) at (c .before .if1 .left)))
 
 is-outside-requires : tie.Need-is-outside-requires
 is-outside-requires c κs = search needs
@@ -35,7 +42,7 @@ returns-2 : tie.Need-returns-2
 unfolding judged
 returns-2 c =
     let b = c .before .before in
-    let o = accepted _ _ (rw (b .before .before .before .clock-of .ensures) at (b .before .if1 .left)) in
+    let o = mode b in
     simp (o, ← b .is-outside .ensures, c .before .if2 .taken, c .refused2 .ensures)
 
 is-combined-requires : tie.Need-is-combined-requires
@@ -49,7 +56,7 @@ unfolding judged
 returns-3 c =
     let d = c .before .before in
     let b = d .before .before in
-    let o = accepted _ _ (rw (b .before .before .before .clock-of .ensures) at (b .before .if1 .left)) in
+    let o = mode b in
     simp (o, ← b .is-outside .ensures, d .before .if2 .left, ← d .is-combined .ensures, c .before .if3 .taken, c .refused3 .ensures)
 
 sound-of-requires : tie.Need-sound-of-requires
@@ -58,35 +65,21 @@ sound-of-requires c κs = search needs
 read-requires : tie.Need-read-requires
 read-requires c κs = search needs
 
-shared-slice-read-t8 : tie.Need-shared-slice-read-t8
-shared-slice-read-t8 c = search needs
-
-shared-slice-read-t10 : tie.Need-shared-slice-read-t10
-shared-slice-read-t10 c = search needs
-
-shared-slice-read-t17 : tie.Need-shared-slice-read-t17
-shared-slice-read-t17 c = search needs
-
-shared-slice-read-t19 : tie.Need-shared-slice-read-t19
-shared-slice-read-t19 c = search needs
-
 returns-4 : tie.Need-returns-4
 unfolding judged
 returns-4 c =
-    let r = c .before .before .before .before in
-    let e = r .before .before in
+    let e = c .before .before in
     let d = e .before in
     let b = d .before .before in
-    let o = accepted _ _ (rw (b .before .before .before .clock-of .ensures) at (b .before .if1 .left)) in
+    let o = mode b in
     let m = matrix-read _ _ _ (sym (b .is-outside .ensures) ∙ d .before .if2 .left) in
-    simp (o, ← b .is-outside .ensures, d .before .if2 .left, ← d .is-combined .ensures, e .if3 .left, r .before .sound-of .ensures, r .read .ensures, m)
+    simp (o, ← b .is-outside .ensures, d .before .if2 .left, ← d .is-combined .ensures, e .if3 .left, c .before .sound-of .ensures, c .read .ensures, m, b .before .before .before .before .video-in .ensures)
 
 pub judge-spec : {M : Type 1} → statement M
 judge-spec =
     tie.close
     (tie.spec
-    shared-slice-read-clock-of
-    shared-slice-read-clock-of-2
+    video-in-requires
     clock-of-requires
     refused-requires
     returns
@@ -98,8 +91,4 @@ judge-spec =
     returns-3
     sound-of-requires
     read-requires
-    shared-slice-read-t8
-    shared-slice-read-t10
-    shared-slice-read-t17
-    shared-slice-read-t19
     returns-4)

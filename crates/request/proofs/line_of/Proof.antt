@@ -21,13 +21,13 @@ avi-of-requires c κs = search needs
 audio-checksum-requires : tie.Need-audio-checksum-requires
 audio-checksum-requires c κs = search needs
 
-array-read-t12 : tie.Need-array-read-t12
-array-read-t12 c = search needs
+array-read-t13 : tie.Need-array-read-t13
+array-read-t13 c = search needs
 
 returns-2 : tie.Need-returns-2
 unfolding lineOf
 returns-2 c =
-    let e = c .before .before .before .before in
+    let e = c .before .before .before .before .before in
     let p = e .before .before in
     simp (← p .ncts .ensures, eq-eqb _ _ (e .if1 .left), ← p .before .read .ensures, c .before .before .avi-of .ensures, c .audio-checksum .ensures)
 
@@ -40,5 +40,5 @@ line-of-spec =
     returns
     avi-of-requires
     audio-checksum-requires
-    array-read-t12
+    array-read-t13
     returns-2)

@@ -1,4 +1,4 @@
--- `clock::mode_of` meets its contract: the rows not passed yet hold the answer. Assumes nothing.
+-- `video::mode_of` meets its contract: the rows not passed yet hold the answer. Assumes nothing.
 use mathlib.Core.Path.{_≡_, refl, sym, _∙_}
 use Prim.Native.Nat.{_-_, _≤_}
 use native.Mathlib.Omega.{arith}
@@ -6,10 +6,10 @@ use borrow.Author.Needs.{needs}
 use borrow.Author.Tests.{eq-eqb, ne-eqb}
 use lib.Dec.{eqb}
 use lib.ListN.{drop}
-use Rattle.clock.specs.Modes.{modes, modeOf, rowOf, unlisted}
+use Rattle.video.specs.Modes.{modes, modeOf, rowOf, unlisted}
 use Rattle.lists.proofs.Find.{passes, fails}
-use Rattle.clock.proofs.mode_of.Statement.{statement}
-use Rattle.clock.proofs.mode_of.Tie as tie
+use Rattle.video.proofs.mode_of.Statement.{statement}
+use Rattle.video.proofs.mode_of.Tie as tie
 
 abbrev Inv-loop : tie.InvT-loop
 Inv-loop vic i₀ i = (i ≤ 15) × (modeOf vic ≡ rowOf vic (drop i modes))

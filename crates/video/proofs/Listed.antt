@@ -10,8 +10,8 @@ use Rattle.lists.specs.Among.{among}
 use Rattle.lists.specs.Find.{every}
 use Rattle.lists.proofs.Both.{both-left, both-right}
 use Rattle.lists.proofs.Decides.{failing, Decides}
-use Rattle.clock.specs.declared.Mode.{Mode}
-use Rattle.clock.specs.Modes.{modes, listed, rowOf, modeOf}
+use Rattle.video.specs.declared.Mode.{Mode}
+use Rattle.video.specs.Modes.{modes, listed, rowOf, modeOf}
 
 -- the row offers a family
 abbrev offers : Mode → Bool

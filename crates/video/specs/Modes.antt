@@ -1,12 +1,11 @@
--- Document 01, "Modes and clocks": the listed VICs, their clocks in both families, and their picture aspect.
-use mathlib.Core.Bool.{Bool, cond}
+-- Document 01, "Modes and clocks": the listed VICs, with their clocks in Hz, the families that they offer, and their picture aspect.
+use mathlib.Core.Bool.{Bool}
 use mathlib.Core.List.{List, [], _∷_, map}
-use Prim.Native.Nat.{ℕ, _*_, _<_, _≤_}
+use Prim.Native.Nat.{ℕ}
 use lib.Dec.{eqb, ltb}
 use Rattle.lists.specs.Find.{find}
-use Rattle.refusals.specs.Rows.{modeNotOffered, number}
-use Rattle.clock.specs.declared.Mode.{Mode}
-use Rattle.clock.specs.declared.Clock.{Clock}
+use Rattle.video.specs.declared.Mode.{Mode}
+use Rattle.video.specs.declared.Video.{Video}
 
 -- VIC; clock in Hz at family 0; how many families it offers; picture aspect as the AVI InfoFrame's M has it, 1 for 4:3 and 2 for 16:9;
 -- colorimetry as its C has it where the encoding is not RGB ("InfoFrames": 1 for VIC 1, 2, 3, 17, 18 and 2 for the rest)
@@ -46,21 +45,5 @@ unfoldable pub modeOf : ℕ → Mode
 modeOf vic = rowOf vic modes
 
 -- the VIC is listed, and offers the family
-abbrev pub offered : ℕ → ℕ → Bool
-offered vic family = ltb family (modeOf vic .families)
-
--- "Family 1 is that clock times 1000/1001, kept exact"
-abbrev pub clockIn : ℕ → ℕ → Clock
-clockIn hertz family =
-    cond (eqb family 0) (record { refusal = 0; num = hertz; den = 1 }) (record { refusal = 0; num = hertz * 1000; den = 1001 })
-
--- refusal 4: VIC not listed, or family not offered by it
-unfoldable pub clockOf : ℕ → ℕ → Clock
-clockOf vic family = cond (offered vic family) (clockIn (modeOf vic .hertz) family) (record { refusal = number modeNotOffered; num = 0; den = 0 })
-
--- bounds on the two numbers of a clock that is offered, so that no product overflows
-pub record Sized (clock : Clock) : Type 0 where
-  pub some : 0 < clock .num
-  pub most : clock .num ≤ 148500000000
-  pub part : 0 < clock .den
-  pub parts : clock .den ≤ 1001
+abbrev pub offered : Video → Bool
+offered video = ltb (video .family) (modeOf (video .vic) .families)

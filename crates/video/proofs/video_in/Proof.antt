@@ -1,0 +1,27 @@
+-- `video::video_in` meets its contract. Assumes nothing.
+use borrow.Author.Needs.{needs}
+use Rattle.video.proofs.video_in.Statement.{statement}
+use Rattle.video.proofs.video_in.Tie as tie
+
+byte-at-requires : tie.Need-byte-at-requires
+byte-at-requires c κs = search needs
+
+byte-at-requires-2 : tie.Need-byte-at-requires-2
+byte-at-requires-2 c κs = search needs
+
+byte-at-requires-3 : tie.Need-byte-at-requires-3
+byte-at-requires-3 c κs = search needs
+
+byte-at-requires-4 : tie.Need-byte-at-requires-4
+byte-at-requires-4 c κs = search needs
+
+returns : tie.Need-returns
+returns c =
+    let p = c .before in
+    let q = p .before in
+    simp (q .before .byte-at .ensures, q .byte-at2 .ensures, p .byte-at3 .ensures, c .byte-at4 .ensures)
+
+pub video-in-spec : {M : Type 1} → statement M
+video-in-spec =
+    tie.close
+    (tie.spec byte-at-requires byte-at-requires-2 byte-at-requires-3 byte-at-requires-4 returns)
