@@ -1,7 +1,7 @@
 # The C programs beside the library. tools/setup finds the compiler and, on Arm, the emulator, and installs what is missing.
 #   make programs  accident, listing and vectors, over the exported library: then tools/listing 04 10 00 00 01 03 02 02 01 00
 #   make host      the example host: then host/run --cut 40 --brief
-#   make bench     planning and decoding, the library against plain C
+#   make bench     planning and decoding, the library against plain C: times, instructions, and whether the bars are met
 #   make tests     tests/run
 #   make peers     Linux's reader of InfoFrames on every packet that we finish; fetches its source (Debian's linux-source), no part of the gate
 LIB      = target/staticlib/libstation.a
@@ -15,8 +15,8 @@ all: $(BINARIES)
 programs: $(PROGRAMS)
 host: target/c/host
 	@echo "target/c/host is built; run it by host/run [--cut K] [--brief] [BYTE...]"
-bench: target/c/bench
-	@setup=$$(tools/setup) && eval "$$setup" && $$RUN target/c/bench
+bench:
+	@bench/run
 peers:
 	@tests/peers/run
 tests:

@@ -1,5 +1,10 @@
-/* The benchmark: planning and decoding, the library and plain C in one run, ns for each call and the ratio. The two take turns, and each
- * keeps its best round. `bench check` only compares their answers, `bench stack` only measures the stack that the library uses. */
+/* The benchmark: planning and decoding, the library and plain C in one run, ns for each call and the ratio. The sides take turns, and each
+ * keeps its best round. A round is short, so that some are not disturbed on a busy machine, and its time is the processor's.
+ *   bench                      the times, and whether the bars are met: the status is 1 where they are not
+ *   bench check                only compares the answers
+ *   bench stack                only measures the stack that the library uses
+ *   bench count SIDE CALL N    N calls and nothing else, for a tool that counts instructions: SIDE library, plain or rule, CALL plan,
+ *                              decode or refused */
 #include "plain.h"
 #include <stdio.h>
 #include <stdlib.h>
@@ -7,10 +12,10 @@
 #include <time.h>
 #include <ucontext.h>
 
-enum { INPUTS = 64, CALLS = 20000, ROUNDS = 12 };
+enum { INPUTS = 64, CALLS = 10 * INPUTS, ROUNDS = 400, IMAGE = 256, WRITES = 256, LONGEST = 35 };
 
-static struct { uint8_t request[35], start[256], finished[256], damaged[256]; size_t length; } in[INPUTS];
-static uint8_t room[256];
+static struct { uint8_t request[LONGEST], start[IMAGE], finished[IMAGE], damaged[IMAGE]; size_t length; } in[INPUTS];
+static uint8_t room[WRITES];
 static uint32_t sum;    /* keeps the calls alive */
 
 static uint32_t noise(void) {
@@ -19,13 +24,15 @@ static uint32_t noise(void) {
     return x;
 }
 
+/* Requests over HDMI that are accepted, three of four with sound, half of these coherent, half of all with a matrix; the image that each
+ * ends in; and that image with one mandated bit turned over. */
 static void make_inputs(void) {
-    static const uint8_t vics[15] = { 1, 2, 3, 4, 5, 16, 17, 18, 19, 20, 31, 32, 34, 60, 62 };
+    static const uint8_t vics[] = { 1, 2, 3, 4, 5, 16, 17, 18, 19, 20, 31, 32, 34, 60, 62 };
     for (int i = 0; i < INPUTS; ) {
-        uint8_t list[256], *r = in[i].request;
-        size_t n = 5;
+        uint8_t list[WRITES], *r = in[i].request;
+        size_t n = 0;
         int matrix = noise() % 2;
-        r[0] = 4, r[1] = vics[noise() % 15], r[2] = noise() % 2, r[3] = matrix ? noise() % 3 : 0, r[4] = 1;
+        r[n++] = 4, r[n++] = vics[noise() % sizeof vics], r[n++] = noise() % 2, r[n++] = matrix ? noise() % 3 : 0, r[n++] = 1;
         if (noise() % 4) r[n++] = 3, r[n++] = noise() % 7, r[n++] = noise() % 2 ? 8 : 2, r[n++] = noise() % 2;
         else r[n++] = 0;
         r[n++] = matrix ? 25 : 0;
@@ -37,89 +44,91 @@ static void make_inputs(void) {
             }
         }
         in[i].length = n;
-        for (int a = 0; a < 256; a++) in[i].start[a] = (uint8_t)noise();
+        for (int a = 0; a < IMAGE; a++) in[i].start[a] = (uint8_t)noise();
         in[i].start[0x4A] &= noise() % 2 ? 0xCF : 0xAF;
-        struct station_count c = plain_plan(r, n, in[i].start, 256, list, 256);
+        struct station_count c = plain_plan(r, n, in[i].start, IMAGE, list, WRITES);
         if (c.refusal) continue;
-        memcpy(in[i].finished, in[i].start, 256);
+        memcpy(in[i].finished, in[i].start, IMAGE);
         for (uint32_t w = 0; w < c.count; w++) in[i].finished[list[2 * w]] = list[2 * w + 1];
-        memcpy(in[i].damaged, in[i].finished, 256);
+        memcpy(in[i].damaged, in[i].finished, IMAGE);
         in[i].damaged[0xE0] ^= 1;
         i++;
     }
 }
 
-typedef struct station_count plan_call(const uint8_t *, size_t, const uint8_t *, size_t, uint8_t *, size_t);
-typedef struct station_count decode_call(const uint8_t *, size_t, uint8_t *, size_t);
+/* The sides, and what is called. */
+enum { LIBRARY, PLAIN, RULE, SIDES };
+enum { PLAN, DECODE, REFUSED, WHATS };
+static const struct {
+    const char *name;
+    struct station_count (*plan)(const uint8_t *, size_t, const uint8_t *, size_t, uint8_t *, size_t);
+    struct station_count (*decode)(const uint8_t *, size_t, uint8_t *, size_t);
+} sides[SIDES] = {
+    [LIBRARY] = { "library", station_plan, station_decode },
+    [PLAIN] = { "plain", plain_plan, plain_decode },
+    [RULE] = { "rule", rule_plan, rule_decode },
+};
+static const struct { const char *name, *title; double bar; } whats[WHATS] = {
+    [PLAN] = { "plan", "planning", 1.5 },
+    [DECODE] = { "decode", "decoding", 2.0 },
+    [REFUSED] = { "refused", "decoding, refused 11", 2.0 },
+};
+
+static inline struct station_count call(int side, int what, int i) {
+    if (what == PLAN) return sides[side].plan(in[i].request, in[i].length, in[i].start, IMAGE, room, sizeof room);
+    return sides[side].decode(what == REFUSED ? in[i].damaged : in[i].finished, IMAGE, room, sizeof room);
+}
 
 static double now(void) {
     struct timespec t;
-    clock_gettime(CLOCK_MONOTONIC, &t);
+    clock_gettime(CLOCK_PROCESS_CPUTIME_ID, &t);
     return (double)t.tv_sec * 1e9 + (double)t.tv_nsec;
 }
 
-static double time_plan(plan_call *f, int clear) {
+static double time_of(int side, int what, int clear) {
     double from = now();
     for (int k = 0; k < CALLS; k++) {
-        int i = k % INPUTS;
         if (clear) memset(room, 0, sizeof room);
-        sum += f(in[i].request, in[i].length, in[i].start, 256, room, sizeof room).count + room[7];
+        sum += call(side, what, k % INPUTS).count + room[1];
     }
     return (now() - from) / CALLS;
 }
 
-static double time_decode(decode_call *f, int damaged, int clear) {
-    double from = now();
-    for (int k = 0; k < CALLS; k++) {
-        int i = k % INPUTS;
-        if (clear) memset(room, 0, 35);
-        sum += f(damaged ? in[i].damaged : in[i].finished, 256, room, sizeof room).count + room[1];
-    }
-    return (now() - from) / CALLS;
-}
-
-static void line(const char *what, int clear, double ours, double plain) {
-    printf("%-34s %-12s %9.1f ns %9.1f ns %8.2f\n", what, clear ? "cleared" : "not cleared", ours, plain, ours / plain);
-}
-
-/* The two must answer alike before their times are worth anything. */
+/* The sides must answer alike before their times are worth anything. */
 static int alike(void) {
-    uint8_t one[256], two[256];
-    for (int i = 0; i < INPUTS; i++) {
-        memset(one, 0x5A, 256), memset(two, 0x5A, 256);
-        struct station_count a = station_plan(in[i].request, in[i].length, in[i].start, 256, one, 256);
-        struct station_count b = plain_plan(in[i].request, in[i].length, in[i].start, 256, two, 256);
-        if (a.refusal != b.refusal || a.count != b.count || memcmp(one, two, 256)) return 0;
-        for (int d = 0; d < 2; d++) {
-            a = station_decode(d ? in[i].damaged : in[i].finished, 256, one, 256);
-            b = plain_decode(d ? in[i].damaged : in[i].finished, 256, two, 256);
-            if (a.refusal != b.refusal || a.count != b.count || memcmp(one, two, 256)) return 0;
+    uint8_t kept[WRITES];
+    for (int i = 0; i < INPUTS; i++)
+        for (int what = 0; what < WHATS; what++) {
+            memset(room, 0x5A, sizeof room);
+            struct station_count a = call(LIBRARY, what, i);
+            memcpy(kept, room, sizeof room);
+            for (int side = PLAIN; side < SIDES; side++) {
+                memset(room, 0x5A, sizeof room);
+                struct station_count b = call(side, what, i);
+                if (a.refusal != b.refusal || a.count != b.count || memcmp(kept, room, sizeof room)) return 0;
+            }
         }
-    }
     return 1;
 }
 
 /* The library's calls on a painted stack: how many bytes of it are no longer as they were painted, over all inputs. */
 static uint8_t stack[1 << 16];
 static ucontext_t here, there;
-static int at, decoding;
+static int at, what_now;
 
-static void call(void) {
-    if (decoding) sum += station_decode(in[at].finished, 256, room, sizeof room).count;
-    else sum += station_plan(in[at].request, in[at].length, in[at].start, 256, room, sizeof room).count;
-}
+static void call_now(void) { sum += call(LIBRARY, what_now, at).count; }
 
 static void call_there(void) {
     memset(stack, 0xA5, sizeof stack);
     getcontext(&there);
     there.uc_stack.ss_sp = stack, there.uc_stack.ss_size = sizeof stack, there.uc_link = &here;
-    makecontext(&there, call, 0);
+    makecontext(&there, call_now, 0);
     swapcontext(&here, &there);
 }
 
-static size_t deepest(int decode) {
+static size_t deepest(int what) {
     size_t most = 0;
-    for (at = 0, decoding = decode; at < INPUTS; at++) {
+    for (at = 0, what_now = what; at < INPUTS; at++) {
         size_t clean = 0;
         call_there();
         while (clean < sizeof stack && stack[clean] == 0xA5) clean++;
@@ -128,35 +137,54 @@ static size_t deepest(int decode) {
     return most;
 }
 
+/* Times, in rounds by turns; the ratios are to plain C, and to plain C that finds N and CTS by the rule. */
+static int measured(void) {
+    double worst[WHATS] = { 0 };
+    int met = 1;
+    printf("best of %d rounds of %d calls, over %d requests and images; the sides in turns\n", ROUNDS, CALLS, INPUTS);
+    printf("%-22s %-12s %10s %12s %7s %14s %7s\n", "", "buffer", "library", "plain C -O2", "ratio", "by the rule", "ratio");
+    for (int what = 0; what < WHATS; what++)
+        for (int clear = 0; clear < 2; clear++) {
+            double best[SIDES] = { 1e18, 1e18, 1e18 }, t;
+            for (int r = 0; r < ROUNDS; r++)
+                for (int side = 0; side < SIDES; side++)
+                    if ((t = time_of(side, what, clear)) < best[side]) best[side] = t;
+            double ratio = best[LIBRARY] / best[PLAIN];
+            printf("%-22s %-12s %7.1f ns %9.1f ns %7.2f %11.1f ns %7.2f\n", whats[what].title, clear ? "cleared" : "not cleared",
+                   best[LIBRARY], best[PLAIN], ratio, best[RULE], best[LIBRARY] / best[RULE]);
+            if (ratio > worst[what]) worst[what] = ratio;
+        }
+    for (int what = 0; what < WHATS; what++) {
+        int good = worst[what] <= whats[what].bar;
+        met &= good;
+        printf("%s: %.2f times plain C at most, the bar is %.1f: %s\n", whats[what].title, worst[what], whats[what].bar,
+               good ? "met" : "NOT MET");
+    }
+    return met;
+}
+
+static int counted(const char *side, const char *what, const char *number) {
+    int s = 0, w = 0;
+    while (s < SIDES && strcmp(side, sides[s].name)) s++;
+    while (w < WHATS && strcmp(what, whats[w].name)) w++;
+    if (s == SIDES || w == WHATS) return 2;
+    for (long k = 0, n = strtol(number, NULL, 10); k < n; k++) sum += call(s, w, (int)(k % INPUTS)).count;
+    return 0;
+}
+
 int main(int count, char **words) {
     make_inputs();
+    if (count == 5 && !strcmp(words[1], "count")) return counted(words[2], words[3], words[4]);
     if (!alike()) {
         puts("the library and plain C answer differently");
         return 1;
     }
-    if (count > 1 && !strcmp(words[1], "check")) return 0;
-    size_t planning = deepest(0), back = deepest(1);
-    printf("stack: planning %zu bytes, decoding %zu bytes\n", planning, back);
-    if (count > 1 && !strcmp(words[1], "stack")) return 0;
-    printf("best of %d rounds of %d calls, over %d requests and images\n", ROUNDS, CALLS, INPUTS);
-    printf("%-34s %-12s %12s %12s %8s\n", "", "buffer", "library", "plain C -O2", "ratio");
-    for (int clear = 0; clear < 2; clear++) {
-        double ours = 1e18, plain = 1e18, t;
-        for (int r = 0; r < ROUNDS; r++) {
-            if ((t = time_plan(station_plan, clear)) < ours) ours = t;
-            if ((t = time_plan(plain_plan, clear)) < plain) plain = t;
-        }
-        line("planning", clear, ours, plain);
+    if (count == 2 && !strcmp(words[1], "check")) return 0;
+    if (count > 2 || (count == 2 && strcmp(words[1], "stack"))) {
+        fputs("bench [check | stack | count SIDE CALL N]\n", stderr);
+        return 2;
     }
-    for (int clear = 0; clear < 2; clear++) {
-        for (int damaged = 0; damaged < 2; damaged++) {
-            double ours = 1e18, plain = 1e18, t;
-            for (int r = 0; r < ROUNDS; r++) {
-                if ((t = time_decode(station_decode, damaged, clear)) < ours) ours = t;
-                if ((t = time_decode(plain_decode, damaged, clear)) < plain) plain = t;
-            }
-            line(damaged ? "decoding, refused 11" : "decoding", clear, ours, plain);
-        }
-    }
-    return sum == 1;
+    printf("stack: planning %zu bytes, decoding %zu bytes\n", deepest(PLAN), deepest(DECODE));
+    if (count == 2) return 0;
+    return measured() ? 0 : 1;
 }

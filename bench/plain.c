@@ -1,18 +1,22 @@
 /* The planner and the decoder as a C programmer would write them with speed in mind: constant tables, one pass. Nothing is proved of it;
- * the benchmark compares its answers with the library's before it takes the time. */
+ * the tests compare its answers with the model's, the benchmark with the library's before it takes the time. */
 #include "plain.h"
 #include <string.h>
 
-/* For each VIC: the row of `pairs` at family 0 and 1 (0 where it is not offered), 4:3, ITU-R 601. */
-static const struct { uint8_t row[2], narrow, itu601; } modes[64] = {
-    [1] = { { 1, 2 }, 1, 1 },   [2] = { { 3, 4 }, 1, 1 },   [3] = { { 3, 4 }, 0, 1 },   [4] = { { 5, 6 }, 0, 0 },
-    [5] = { { 5, 6 }, 0, 0 },   [16] = { { 7, 8 }, 0, 0 },  [17] = { { 4, 0 }, 1, 1 },  [18] = { { 4, 0 }, 0, 1 },
-    [19] = { { 5, 0 }, 0, 0 },  [20] = { { 5, 0 }, 0, 0 },  [31] = { { 7, 0 }, 0, 0 },  [32] = { { 5, 6 }, 0, 0 },
-    [34] = { { 5, 6 }, 0, 0 },  [60] = { { 9, 10 }, 0, 0 }, [62] = { { 5, 6 }, 0, 0 },
+/* The bytes of each section and of the longest request, with its three counts; the VICs have six bits. */
+enum { VIDEO = 4, SOUND = 3, MATRIX = 25, LONGEST = 3 + VIDEO + SOUND + MATRIX, VICS = 64, RATES = 7 };
+
+/* For each VIC: the row of `pairs` at family 0 and 1 (0 where it is not offered), 4:3, ITU-R 601, the clock at family 0 in Hz. */
+static const struct { uint8_t row[2], narrow, itu601; uint32_t hertz; } modes[VICS] = {
+    [1] = { { 1, 2 }, 1, 1, 25200000 },   [2] = { { 3, 4 }, 1, 1, 27027000 },   [3] = { { 3, 4 }, 0, 1, 27027000 },
+    [4] = { { 5, 6 }, 0, 0, 74250000 },   [5] = { { 5, 6 }, 0, 0, 74250000 },   [16] = { { 7, 8 }, 0, 0, 148500000 },
+    [17] = { { 4, 0 }, 1, 1, 27000000 },  [18] = { { 4, 0 }, 0, 1, 27000000 },  [19] = { { 5, 0 }, 0, 0, 74250000 },
+    [20] = { { 5, 0 }, 0, 0, 74250000 },  [31] = { { 7, 0 }, 0, 0, 148500000 }, [32] = { { 5, 6 }, 0, 0, 74250000 },
+    [34] = { { 5, 6 }, 0, 0, 74250000 },  [60] = { { 9, 10 }, 0, 0, 59400000 }, [62] = { { 5, 6 }, 0, 0, 74250000 },
 };
 
 /* N and CTS for coherent audio, by clock and rate; row 0 is for audio that is not coherent. N 0: no exact pair. */
-static const struct { uint32_t n, cts; } pairs[11][7] = {
+static const struct { uint32_t n, cts; } pairs[11][RATES] = {
     { { 4096, 0 }, { 6272, 0 }, { 6144, 0 }, { 12544, 0 }, { 12288, 0 }, { 25088, 0 }, { 24576, 0 } },
     { { 4096, 25200 }, { 6272, 28000 }, { 6144, 25200 }, { 12544, 28000 }, { 12288, 25200 }, { 25088, 28000 }, { 24576, 25200 } },
     { { 4576, 28125 }, { 7007, 31250 }, { 6864, 28125 }, { 14014, 31250 }, { 13728, 28125 }, { 28028, 31250 }, { 27456, 28125 } },
@@ -25,7 +29,33 @@ static const struct { uint32_t n, cts; } pairs[11][7] = {
     { { 4096, 59400 }, { 5488, 57750 }, { 6144, 59400 }, { 10976, 57750 }, { 12288, 59400 }, { 21952, 57750 }, { 24576, 59400 } },
     { { 5824, 84375 }, { 4459, 46875 }, { 5824, 56250 }, { 8918, 46875 }, { 11648, 56250 }, { 17836, 46875 }, { 23296, 56250 } },
 };
-static const uint8_t rate_codes[7] = { 0x30, 0x00, 0x20, 0x80, 0xA0, 0xC0, 0xE0 };
+
+/* By the rule: the recommended pair of Tables 80 to 82 for this clock, top / bottom, where it is exact; else the exact pair whose N is
+ * nearest to 128 fs / 1000. 128 fs is in `by_128`. */
+static const uint32_t by_128[RATES] = { 4096000, 5644800, 6144000, 11289600, 12288000, 22579200, 24576000 };
+static const struct { uint64_t top, bottom; struct { uint32_t n, cts; } pairs[RATES]; } recommended[] = {
+    { 25200000000, 1001,
+      { { 4576, 28125 }, { 7007, 31250 }, { 6864, 28125 }, { 14014, 31250 }, { 13728, 28125 }, { 28028, 31250 }, { 27456, 28125 } } },
+    { 25200000, 1,
+      { { 4096, 25200 }, { 6272, 28000 }, { 6144, 25200 }, { 12544, 28000 }, { 12288, 25200 }, { 25088, 28000 }, { 24576, 25200 } } },
+    { 27000000, 1,
+      { { 4096, 27000 }, { 6272, 30000 }, { 6144, 27000 }, { 12544, 30000 }, { 12288, 27000 }, { 25088, 30000 }, { 24576, 27000 } } },
+    { 27027000, 1,
+      { { 4096, 27027 }, { 6272, 30030 }, { 6144, 27027 }, { 12544, 30030 }, { 12288, 27027 }, { 25088, 30030 }, { 24576, 27027 } } },
+    { 74250000000, 1001,
+      { { 11648, 210937 }, { 17836, 234375 }, { 11648, 140625 }, { 35672, 234375 }, { 23296, 140625 }, { 71344, 234375 },
+        { 46592, 140625 } } },
+    { 74250000, 1,
+      { { 4096, 74250 }, { 6272, 82500 }, { 6144, 74250 }, { 12544, 82500 }, { 12288, 74250 }, { 25088, 82500 }, { 24576, 74250 } } },
+    { 148500000000, 1001,
+      { { 11648, 421875 }, { 8918, 234375 }, { 5824, 140625 }, { 17836, 234375 }, { 11648, 140625 }, { 35672, 234375 },
+        { 23296, 140625 } } },
+    { 148500000, 1,
+      { { 4096, 148500 }, { 6272, 165000 }, { 6144, 148500 }, { 12544, 165000 }, { 12288, 148500 }, { 25088, 165000 },
+        { 24576, 148500 } } },
+};
+
+static const uint8_t rate_codes[RATES] = { 0x30, 0x00, 0x20, 0x80, 0xA0, 0xC0, 0xE0 };
 
 /* The writes in order: address, the bits kept from the image, bits added to the finished byte (a hold). Audio first is the same list with
  * the two packets changed over. */
@@ -58,47 +88,85 @@ static const uint8_t always[256] = {
 struct asked { uint8_t vic, family, encoding, link; const uint8_t *sound, *matrix; };
 
 static uint32_t read(const uint8_t *r, size_t length, struct asked *q) {
-    size_t at = 6;
+    size_t at = 1 + VIDEO;
     if (length < 1) return 1;
-    if (r[0] != 4) return 2;
-    if (length < 6) return 1;
-    q->sound = q->matrix = NULL;
-    if (r[5] == 3) {
-        if (length < 9) return 1;
-        q->sound = r + 6;
-        at = 9;
-    } else if (r[5] != 0) return 2;
+    if (r[0] != VIDEO) return 2;
     if (length < at + 1) return 1;
-    if (r[at] == 25) {
-        if (length < at + 26) return 1;
-        q->matrix = r + at + 1;
-        at += 26;
+    q->sound = q->matrix = NULL;
+    if (r[at] == SOUND) {
+        if (length < at + 1 + SOUND) return 1;
+        q->sound = r + at + 1;
+        at += SOUND;
     } else if (r[at] != 0) return 2;
-    else at++;
+    at++;
+    if (length < at + 1) return 1;
+    if (r[at] == MATRIX) {
+        if (length < at + 1 + MATRIX) return 1;
+        q->matrix = r + at + 1;
+        at += MATRIX;
+    } else if (r[at] != 0) return 2;
+    at++;
     if (length != at) return 3;
     q->vic = r[1], q->family = r[2], q->encoding = r[3], q->link = r[4];
-    if (q->vic > 63 || q->family > 1 || !modes[q->vic].row[q->family]) return 4;
+    if (q->vic >= VICS || q->family > 1 || !modes[q->vic].row[q->family]) return 4;
     if (q->encoding > 2 || q->link > 1) return 5;
     if (q->sound && (q->sound[0] > 6 || (q->sound[1] != 2 && q->sound[1] != 8) || q->sound[2] > 1)) return 5;
     if (q->matrix) {
         if (q->matrix[0] > 2) return 5;
-        for (int k = 1; k < 25; k += 2)
+        for (int k = 1; k < MATRIX; k += 2)
             if (q->matrix[k] > 0x0F && q->matrix[k] < 0xF0) return 5;
     }
     if ((q->encoding && !q->matrix) || (!q->link && (q->sound || q->encoding))) return 6;
     return 0;
 }
 
+/* N and CTS of a request with sound; 0 where no exact pair exists. */
+typedef int find_pair(const struct asked *q, uint32_t *n, uint32_t *cts);
+
+static int looked_up(const struct asked *q, uint32_t *n, uint32_t *cts) {
+    unsigned row = q->sound[2] ? modes[q->vic].row[q->family] : 0;
+    *n = pairs[row][q->sound[0]].n;
+    *cts = pairs[row][q->sound[0]].cts;
+    return *n != 0;
+}
+
+static uint64_t divisor(uint64_t a, uint64_t b) {
+    while (b) {
+        uint64_t rest = a % b;
+        a = b, b = rest;
+    }
+    return a;
+}
+
+/* The clock is top / bottom, and N and CTS are exact where 128 fs CTS bottom = top N. */
+static int by_rule(const struct asked *q, uint32_t *n, uint32_t *cts) {
+    unsigned rate = q->sound[0];
+    if (!q->sound[2]) {
+        *n = pairs[0][rate].n, *cts = 0;
+        return 1;
+    }
+    uint64_t top = q->family ? 1000ull * modes[q->vic].hertz : modes[q->vic].hertz, bottom = q->family ? 1001 : 1, fs = by_128[rate];
+    for (size_t i = 0; i < sizeof recommended / sizeof recommended[0]; i++) {
+        if (recommended[i].top * bottom != top * recommended[i].bottom) continue;
+        *n = recommended[i].pairs[rate].n, *cts = recommended[i].pairs[rate].cts;
+        if (fs * *cts * bottom == top * *n) return 1;
+        break;
+    }
+    uint64_t g = divisor(top, fs * bottom), step = fs * bottom / g, turns = top / g;     /* N is a multiple of `step`, CTS of `turns` */
+    uint64_t least = (fs + 1500 * step - 1) / (1500 * step), most = fs / (300 * step), k = fs / (1000 * step);
+    if (most > 1048575 / turns) most = 1048575 / turns;
+    if (k < least || 2 * fs > 1000 * step * (2 * k + 1)) k++;
+    if (k < least) k = least;
+    if (k > most) k = most;
+    *n = (uint32_t)(k * step), *cts = (uint32_t)(k * turns);
+    return least <= most;
+}
+
 /* The finished bytes for a request, free bits 0. Answers 0 where no exact pair exists. */
-static int want(const struct asked *q, uint8_t *b) {
+static inline int want(const struct asked *q, find_pair *find, uint8_t *b) {
     uint32_t n = 6144, cts = 0;
     unsigned sum;
-    if (q->sound) {
-        unsigned row = q->sound[2] ? modes[q->vic].row[q->family] : 0;
-        n = pairs[row][q->sound[0]].n;
-        cts = pairs[row][q->sound[0]].cts;
-        if (!n) return 0;
-    }
+    if (q->sound && !find(q, &n, &cts)) return 0;
     memcpy(b, always, 256);
     b[0x01] = (uint8_t)(n >> 16), b[0x02] = (uint8_t)(n >> 8), b[0x03] = (uint8_t)n;
     b[0x07] = (uint8_t)(cts >> 16), b[0x08] = (uint8_t)(cts >> 8), b[0x09] = (uint8_t)cts;
@@ -128,15 +196,15 @@ static int want(const struct asked *q, uint8_t *b) {
     return 1;
 }
 
-struct station_count plain_plan(const uint8_t *request, size_t request_length, const uint8_t *image, size_t image_length, uint8_t *writes,
-                                size_t writes_length) {
+static inline struct station_count plan(const uint8_t *request, size_t request_length, const uint8_t *image, size_t image_length,
+                                        uint8_t *writes, size_t writes_length, find_pair *find) {
     struct asked q;
     uint8_t b[256];
     uint32_t refusal = read(request, request_length, &q);
     if (refusal) return (struct station_count){ refusal, 0 };
     if (image_length != 256) return (struct station_count){ 7, 0 };
     if ((image[0x4A] & 0x10) || (image[0x4A] & 0x60) == 0x60) return (struct station_count){ 8, 0 };
-    if (!want(&q, b)) return (struct station_count){ 9, 0 };
+    if (!want(&q, find, b)) return (struct station_count){ 9, 0 };
     if (writes_length < 256) return (struct station_count){ 10, 0 };
     const struct step *s = steps[image[0x4A] >> 5 & 1];
     writes[0] = 0x4B;
@@ -148,30 +216,31 @@ struct station_count plain_plan(const uint8_t *request, size_t request_length, c
     return (struct station_count){ 0, COUNT };
 }
 
-static int stands(const struct asked *q, const uint8_t *image) {
+static inline int stands(const struct asked *q, const uint8_t *image, find_pair *find) {
     uint8_t b[256], wrong = 0;
-    if (!want(q, b)) return 0;
+    if (!want(q, find, b)) return 0;
     for (int k = 0; k < STEPS; k++) wrong |= (uint8_t)((image[steps[0][k].address] ^ b[steps[0][k].address]) & ~steps[0][k].keep);
     return wrong == 0;
 }
 
-struct station_count plain_decode(const uint8_t *image, size_t image_length, uint8_t *request, size_t request_length) {
+static inline struct station_count decode(const uint8_t *image, size_t image_length, uint8_t *request, size_t request_length,
+                                          find_pair *find) {
     static const uint8_t rates[16] = { 1, 9, 2, 0, 9, 9, 9, 9, 3, 9, 4, 9, 5, 9, 6, 9 };
-    uint8_t r[35] = { 4, image_length == 256 ? image[0x3C] & 0x3F : 0 };
-    size_t at = 5;
+    uint8_t r[LONGEST] = { VIDEO, image_length == 256 ? image[0x3C] & 0x3F : 0 };
+    size_t at = 1 + VIDEO;
     struct asked q;
     if (image_length != 256) return (struct station_count){ 7, 0 };
-    if (request_length < 35) return (struct station_count){ 10, 0 };
+    if (request_length < LONGEST) return (struct station_count){ 10, 0 };
     r[3] = image[0x55] >> 5 & 3;
     r[4] = image[0xAF] >> 1 & 1;
     if (image[0x44] & 0x20) {
-        r[at++] = 3;
+        r[at++] = SOUND;
         r[at++] = rates[image[0x15] >> 4];
         r[at++] = (uint8_t)(image[0x73] + 1);
         r[at++] = image[0x0A] >> 7;
     } else r[at++] = 0;
     if (image[0x18] & 0x80) {
-        r[at++] = 25;
+        r[at++] = MATRIX;
         r[at++] = image[0x18] >> 5 & 3;
         for (int a = 0x18; a < 0x30; a += 2) {
             r[at++] = (uint8_t)(((image[a] & 0x1F) ^ 0x10) - 0x10);
@@ -179,10 +248,21 @@ struct station_count plain_decode(const uint8_t *image, size_t image_length, uin
         }
     } else r[at++] = 0;
     if (read(r, at, &q)) return (struct station_count){ 11, 0 };
-    if (!stands(&q, image)) {
+    if (!stands(&q, image, find)) {
         q.family = 1;
-        if (!q.sound || !q.sound[2] || !modes[q.vic].row[1] || !stands(&q, image)) return (struct station_count){ 11, 0 };
+        if (!q.sound || !q.sound[2] || !modes[q.vic].row[1] || !stands(&q, image, find)) return (struct station_count){ 11, 0 };
     }
     memcpy(request, r, at);
     return (struct station_count){ 0, (uint32_t)at };
 }
+
+#define PLAN(name, find) \
+    struct station_count name(const uint8_t *r, size_t rl, const uint8_t *i, size_t il, uint8_t *w, size_t wl) { \
+        return plan(r, rl, i, il, w, wl, find); \
+    }
+#define DECODE(name, find) \
+    struct station_count name(const uint8_t *i, size_t il, uint8_t *r, size_t rl) { return decode(i, il, r, rl, find); }
+PLAN(plain_plan, looked_up)
+PLAN(rule_plan, by_rule)
+DECODE(plain_decode, looked_up)
+DECODE(rule_decode, by_rule)

@@ -1,6 +1,6 @@
 /* tests: `tests lib` compares the library with the model; `tests self` the model with itself, which tries the harness; `tests wrong` runs
- * every wrong library of tests/wrong and says how many were caught, after two right ones (the model, and the plain C of bench/). Each
- * ends with 'N passed, M failed'. `tests line` prints what the small program should print. */
+ * every wrong library of tests/wrong and says how many were caught, after three right ones (the model, and the two plain ones of bench/).
+ * Each ends with 'N passed, M failed'. `tests line` prints what the small program should print. */
 #include "../bench/plain.h"
 #include "harness.h"
 #include "model/model.h"
@@ -38,11 +38,13 @@ static int caught(void) {
     printf("wrong libraries, each with one fault\n");
     int control = harness(&model, ALL, SHARE, 1, 0, s);
     printf("  the right one: %s\n", control ? first_difference : "no difference");
-    struct face plain = model;
-    plain.plan = plain_plan;
-    plain.decode = plain_decode;
+    struct face plain = model, rule = model;
+    plain.plan = plain_plan, plain.decode = plain_decode;
+    rule.plan = rule_plan, rule.decode = rule_decode;
     control += harness(&plain, ALL, 5 * SHARE, 1, 0, s);
     printf("  the plain planner and decoder of bench/: %s\n", first_difference[0] ? first_difference : "no difference");
+    control += harness(&rule, ALL, 5 * SHARE, 1, 0, s);
+    printf("  the same, N and CTS by the rule: %s\n", first_difference[0] ? first_difference : "no difference");
     for (const struct wrong *const *set = wrong_sets; *set; set++)
         for (const struct wrong *w = *set; w->fault; w++, all++) {
             struct face f = model;
@@ -58,7 +60,7 @@ static int caught(void) {
             fflush(stdout);
         }
     printf("  %d of %d wrong libraries caught, %d of them by demand 3 alone as well\n", all - missed, all, cuts);
-    printf("%d passed, %d failed\n", all - missed + 2 - control, missed + control);
+    printf("%d passed, %d failed\n", all - missed + 3 - control, missed + control);
     return missed != 0 || control != 0;
 }
 
