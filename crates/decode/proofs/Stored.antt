@@ -17,7 +17,7 @@ use Rattle.request.specs.declared.Request.{Request}
 use Rattle.plan.specs.Wanted.{stores, wantedBytes, wantedImage, wanted, cscBytes, withAudio, rateCode, ctsSelect, audioBytes}
 
 -- the last value stored at a, and d where none is
-abbrev look : ℕ → List Write → ℕ → ℕ
+abbrev pub look : ℕ → List Write → ℕ → ℕ
 look a [] d = d
 look a (w ∷ ws) d = look a ws (cond (eqb a (w .address)) (w .value) d)
 
@@ -34,7 +34,7 @@ at-end (w ∷ ws) image a h =
     at-end ws (set image (w .address) (w .value)) a (subst (λ (n : ℕ). a < n) (sym (length-set image (w .address) (w .value))) h)
     ∙ ap (look a ws) (one image a (w .address) (w .value) h)
 
-stored : (r : Request) (a : ℕ) → a < 256 → wanted r a ≡ look a (wantedBytes r) 0
+pub stored : (r : Request) (a : ℕ) → a < 256 → wanted r a ≡ look a (wantedBytes r) 0
 unfolding wanted wantedImage
 stored r a h = at-end (wantedBytes r) (replicate 256 0) a h ∙ ap (look a (wantedBytes r)) (getD-replicate 256 a 0 0 h)
 

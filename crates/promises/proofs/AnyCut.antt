@@ -28,6 +28,7 @@ use Rattle.decode.proofs.Ranged.{Ranged, read-ranged}
 use Rattle.decode.proofs.Groups.{avi-in, audio-in, matrix-in}
 use Rattle.decode.proofs.Answers.{finished-again, read-back}
 use Rattle.promises.specs.Rules.{asked, Listed, Demand2, Accepted, OnSomeImage}
+use Rattle.promises.proofs.Ended.{avi-head, audio-head, enable-in, mode-in}
 use Rattle.promises.specs.AnyCut.{listOf, Again, AnyCut}
 
 -- an answer without a refusal comes from no refusal
@@ -96,6 +97,10 @@ any-cut input buffer s z =
       newAvi = ap (drop 2) (d .ended .avi) ∙ avi-in q (e .image) sized g stands;
       newAudio = ap (drop 2) (d .ended .audio) ∙ audio-in q (e .image) sized g stands;
       newMatrix = d .ended .matrix ∙ matrix-in q (e .image) sized g stands;
+      headAvi = rw (d .ended .avi) (avi-head q (e .image) g stands);
+      headAudio = rw (d .ended .audio) (audio-head q (e .image) g stands);
+      newEnable = enable-in q (e .image) g stands;
+      newMode = mode-in q (e .image) g stands;
       again = λ ks room long.
           let image : List ℕ = cuts (listOf input) ks s .image in
           let y : refusalOf input image room ≡ 0 = accepted input image room

@@ -1,12 +1,12 @@
 -- Demand 3, of the planning entry: "Take an accepted request, a chip in a state from which it was accepted, and a cut after any write".
 use mathlib.Core.Path.{_≡_}
 use mathlib.Core.List.{List}
-use Prim.Native.Nat.{ℕ, _≤_}
-use lib.ListN.{length, drop}
+use Prim.Native.Nat.{ℕ, _%_, _≤_}
+use lib.ListN.{length, getD, drop}
 use Rattle.frames.specs.Frames.{aviFrame}
 use Rattle.request.specs.Read.{readOf}
 use Rattle.chip.specs.declared.Chip.{Chip}
-use Rattle.chip.specs.Machine.{avi, audio, packets, inUse, coefficients}
+use Rattle.chip.specs.Machine.{avi, audio, packets, inUse, coefficients, enableInUse, modeInUse}
 use Rattle.plan.specs.Wanted.{audioBytes}
 use Rattle.writes.specs.List.{writeList}
 use Rattle.plan.specs.Plan.{planOf}
@@ -23,6 +23,10 @@ pub record Again (input image buffer : List ℕ) : Type 0 where
   pub accepted : planOf input image buffer .refusal ≡ 0
   pub listed : Listed input image buffer
 
+-- a packet's version and length, whose named bits are [2:0] and [4:0]; the bits beside them are free, and the image's
+abbrev pub Headed : ℕ → ℕ → List ℕ → Type 0
+Headed version count registers = (getD registers 0 0 % 8 ≡ version) × (getD registers 1 0 % 32 ≡ count)
+
 pub record AnyCut (input buffer : List ℕ) (s : Chip) : Type 0 where
   -- the list that planning leaves in the lent buffer, with its count, is the one that the demand is about
   pub listed : Listed input (s .image) buffer
@@ -30,8 +34,12 @@ pub record AnyCut (input buffer : List ℕ) (s : Chip) : Type 0 where
   pub demand : Demand3 (listOf input) (asked input) s
   -- after one cut, two, or any number of them
   pub again : (ks room : List ℕ) → 256 ≤ length room → Again input (cuts (listOf input) ks s .image) room
-  -- "After the last, all are new": what is in use is the request's own. (Beside version and length lie free bits, which are the image's; the
-  -- checksum and the data bytes are whole.)
+  -- "After the last, all are new": what is in use is the request's own. "AVI header 0x82, 0x02, 0x0D; audio header 0x84, 0x01, 0x0A"
+  pub headAvi : Headed 0x02 0x0D (inUse packets avi (toItsEnd (listOf input) s))
+  pub headAudio : Headed 0x01 0x0A (inUse packets audio (toItsEnd (listOf input) s))
   pub newAvi : drop 2 (inUse packets avi (toItsEnd (listOf input) s)) ≡ drop 3 (aviFrame (readOf input .request .video))
   pub newAudio : drop 2 (inUse packets audio (toItsEnd (listOf input) s)) ≡ drop 3 (audioBytes (readOf input .request .sound))
   pub newMatrix : coefficients (toItsEnd (listOf input) s) ≡ readOf input .request .matrix .coefficients
+  -- "Enable and mode in 0x18[7:5] act at once." "With a matrix: converter on. No matrix: converter off, mode 1"
+  pub newEnable : enableInUse (toItsEnd (listOf input) s) ≡ readOf input .request .matrix .on
+  pub newMode : modeInUse (toItsEnd (listOf input) s) ≡ readOf input .request .matrix .mode
