@@ -1,28 +1,21 @@
 -- What the bodies that a walk finds say of the input's length, over any sections. Assumes nothing.
-use mathlib.Core.Path.{_≡_, refl}
-use mathlib.Core.Bool.{Bool, true, false, false≢true, cond, _&&_, _||_}
+use mathlib.Core.Path.{_≡_, refl, ap, _∙_}
+use mathlib.Core.Bool.{Bool, true, false, false≢true, _||_}
 use mathlib.Core.List.{List, [], _∷_}
-use Prim.Native.Nat.{ℕ, suc, _+_, _≤_, max}
+use Prim.Native.Nat.{ℕ, suc, _+_, _≤_}
 use native.Mathlib.Omega.{arith}
-use lib.Dec.{eqb, leb}
-use lib.ListN.{length, take, drop, length-drop}
-use lib.Seq.{length-take-le}
-use borrow.Author.Tests.{leb-true, eqb-true, eq-eqb}
+use lib.Dec.{eqb}
+use lib.ListN.{length, length-append}
+use borrow.Author.Tests.{eqb-true, eq-eqb}
 use Rattle.lists.specs.Among.{among}
 use Rattle.lists.proofs.Both.{both-left, both-right}
-use Rattle.request.specs.Sections.{Walk, ends, notAllowed, whole, after, walk}
+use Rattle.request.specs.Sections.{Walk, ends, notAllowed, whole, walk, laid, fits, largest, longestOf}
+use Rattle.request.proofs.Walks.{Found, found}
 
 -- the bytes of sections with these bodies, each after its count
 abbrev pub span : List (List ℕ) → ℕ
 span [] = 0
 span (b ∷ bs) = suc (length b) + span bs
-
--- each body has a count that its section allows
-abbrev pub fits : List (List ℕ) → List (List ℕ) → Bool
-fits [] [] = true
-fits [] (b ∷ bs) = false
-fits (c ∷ cs) [] = false
-fits (c ∷ cs) (b ∷ bs) = among (length b) c && fits cs bs
 
 -- the input's length is that of the sections and of the bytes after them
 abbrev pub Counted : List (List ℕ) → ℕ → Walk → Type 0
@@ -30,27 +23,17 @@ Counted cs n ends = Unit {0}
 Counted cs n notAllowed = Unit {0}
 Counted cs n (whole bodies rest) = (n ≡ span bodies + length rest) × (fits cs bodies ≡ true)
 
-longer : (c : List ℕ) (cs : List (List ℕ)) (body : List ℕ) (n : ℕ) (w : Walk) → among (length body) c ≡ true → Counted cs n w
-    → Counted (c ∷ cs) (suc (length body) + n) (after body w)
-longer c cs body n ends t h = tt
-longer c cs body n notAllowed t h = tt
-longer c cs body n (whole bodies rest) t h = (omega arith, rw t (h .1))
+length-laid : (bodies : List (List ℕ)) (rest : List ℕ) → length (laid bodies rest) ≡ span bodies + length rest
+length-laid [] rest = omega arith
+length-laid (b ∷ bs) rest = omega (arith, length-append b (laid bs rest), length-laid bs rest)
 
 pub counted : (cs : List (List ℕ)) (s : List ℕ) → Counted cs (length s) (walk cs s)
-unfolding walk
-counted [] s = (omega arith, refl)
-counted (c ∷ cs) [] = tt
-counted (c ∷ cs) (n ∷ s) = go (among n c) refl (leb n (length s)) refl (counted cs (drop n s))
+counted cs s = go (walk cs s) (found cs s)
   where
-    go : (a : Bool) → among n c ≡ a → (t : Bool) → leb n (length s) ≡ t → Counted cs (length (drop n s)) (walk cs (drop n s))
-        → Counted (c ∷ cs) (suc (length s)) (cond a (cond t (after (take n s) (walk cs (drop n s))) ends) notAllowed)
-    go false e t f h = tt
-    go true e false f h = tt
-    go true e true f h =
-        let l : n ≤ length s = leb-true n (length s) f in
-        let b : length (take n s) ≡ n = length-take-le n s l in
-        let q : suc (length (take n s)) + length (drop n s) ≡ suc (length s) = omega (arith, length-drop n s) in
-        rw (← q) (longer c cs (take n s) (length (drop n s)) (walk cs (drop n s)) (rw b e) h)
+    go : (w : Walk) → Found cs s w → Counted cs (length s) w
+    go ends f = tt
+    go notAllowed f = tt
+    go (whole bodies rest) f = (ap length (f .1) ∙ length-laid bodies rest, f .0)
 
 -- the spans that sections can have: each count of the first with each span of the others
 abbrev counts : List ℕ → ℕ → List ℕ → List ℕ
@@ -103,20 +86,12 @@ spanned (c ∷ cs) [] t = absurd (false≢true t)
 spanned (c ∷ cs) (b ∷ bs) t =
     joined-both (length b) (span bs) c (spans cs) (both-left (among (length b) c) (fits cs bs) t) (spanned cs bs (both-right (among (length b) c) (fits cs bs) t))
 
--- the largest count of a section, and the largest span of the sections
-abbrev largest : List ℕ → ℕ
-largest [] = 0
-largest (n ∷ c) = max n (largest c)
-
-abbrev pub room : List (List ℕ) → ℕ
-room [] = 0
-room (c ∷ cs) = suc (largest c) + room cs
-
+-- a count is at most the largest of its section, and a span at most the longest
 pub at-most : (n : ℕ) (c : List ℕ) → among n c ≡ true → n ≤ largest c
 at-most n [] t = absurd (false≢true t)
 at-most n (x ∷ c) t = either (n ≤ largest (x ∷ c)) n x c (λ e. omega arith) (λ l. omega (arith, at-most n c l)) t
 
-pub within : (cs bodies : List (List ℕ)) → fits cs bodies ≡ true → span bodies ≤ room cs
+pub within : (cs bodies : List (List ℕ)) → fits cs bodies ≡ true → span bodies ≤ longestOf cs
 within [] [] t = omega arith
 within [] (b ∷ bs) t = absurd (false≢true t)
 within (c ∷ cs) [] t = absurd (false≢true t)

@@ -11,9 +11,9 @@ use lib.ListN.{length, take, drop, getD, length-take}
 use lib.Seq.{length-take-le, take-take, take-nil}
 use borrow.Author.Tests.{leb-true, leb-false, le-leb, lt-leb, eqb-true}
 use Rattle.lists.specs.Among.{among}
-use Rattle.request.specs.Sections.{Walk, ends, notAllowed, whole, after, walk, walked, sections}
+use Rattle.request.specs.Sections.{Walk, ends, notAllowed, whole, after, walk, walked, sections, longestOf}
 use Rattle.request.specs.Read.{emptied, judged, checked, readOf, nctsOf, lineOf, Lengths}
-use Rattle.request.proofs.Counted.{span, Counted, counted, spans, spanned, room, at-most, within}
+use Rattle.request.proofs.Counted.{span, Counted, counted, spans, spanned, at-most, within}
 
 -- what is left of a walk where the input is cut after n bytes: of the bytes after the sections, those that are not cut off
 abbrev cut : ℕ → Walk → Walk
@@ -34,14 +34,14 @@ cut-after body m (whole bodies rest) =
     let e : suc (length body) + m - (suc (length body) + span bodies) ≡ m - span bodies = omega arith in
     rw e
 
-walk-cut : (cs : List (List ℕ)) (n : ℕ) (s : List ℕ) → room cs ≤ n → walk cs (take n s) ≡ cut n (walk cs s)
+walk-cut : (cs : List (List ℕ)) (n : ℕ) (s : List ℕ) → longestOf cs ≤ n → walk cs (take n s) ≡ cut n (walk cs s)
 unfolding walk
 walk-cut [] n s h = rw (sub-zero n)
 walk-cut (c ∷ cs) zero s h = absurd (omega arith)
 walk-cut (c ∷ cs) (suc n) [] h = refl
 walk-cut (c ∷ cs) (suc n) (x ∷ s) h = go (among x c) refl (leb x (length s)) refl (walk-cut cs (n - x) (drop x s))
   where
-    go : (a : Bool) → among x c ≡ a → (t : Bool) → leb x (length s) ≡ t → (room cs ≤ n - x → walk cs (take (n - x) (drop x s)) ≡ cut (n - x) (walk cs (drop x s)))
+    go : (a : Bool) → among x c ≡ a → (t : Bool) → leb x (length s) ≡ t → (longestOf cs ≤ n - x → walk cs (take (n - x) (drop x s)) ≡ cut (n - x) (walk cs (drop x s)))
         → cond a (cond (leb x (length (take n s))) (after (take x (take n s)) (walk cs (drop x (take n s)))) ends) notAllowed
         ≡ cut (suc n) (cond a (cond t (after (take x s) (walk cs (drop x s))) ends) notAllowed)
     go false e t f ih = refl
@@ -60,7 +60,7 @@ some-left zero l h = absurd (omega arith)
 some-left (suc n) [] h = refl
 some-left (suc n) (x ∷ l) h = rw (eqb·suc-zero (length (take n l)), eqb·suc-zero (length l))
 
-checked-cut : (cs : List (List ℕ)) (n k : ℕ) (w : Walk) → room cs < n → Counted cs k w → checked (cut n w) ≡ checked w
+checked-cut : (cs : List (List ℕ)) (n k : ℕ) (w : Walk) → longestOf cs < n → Counted cs k w → checked (cut n w) ≡ checked w
 checked-cut cs n k ends h c = refl
 checked-cut cs n k notAllowed h c = refl
 checked-cut cs n k (whole bodies rest) h c = rw (some-left (n - span bodies) rest (omega (arith, within cs bodies (c .1))))
@@ -75,12 +75,12 @@ one-of-them cs k (whole bodies rest) c z = go (eqb (length rest) 0) refl z
     go true e z = let l : length rest ≡ 0 = eqb-true (length rest) 0 e in let q : k ≡ span bodies = omega arith in rw q (spanned cs bodies (c .1))
     go false e z = absurd (omega arith)
 
-read-cut : (input : List ℕ) (n : ℕ) → room sections < n → readOf (take n input) ≡ readOf input
+read-cut : (input : List ℕ) (n : ℕ) → longestOf sections < n → readOf (take n input) ≡ readOf input
 unfolding readOf walked
 read-cut input n h =
     ap checked (walk-cut sections n input (omega arith)) ∙ checked-cut sections n (length input) (walk sections input) h (counted sections input)
 
-ncts-cut : (input : List ℕ) (n : ℕ) → room sections < n → nctsOf (take n input) ≡ nctsOf input
+ncts-cut : (input : List ℕ) (n : ℕ) → longestOf sections < n → nctsOf (take n input) ≡ nctsOf input
 unfolding nctsOf
 ncts-cut input n h = rw (read-cut input n h)
 
@@ -89,7 +89,8 @@ unfolding readOf walked lineOf
 lengths input =
     record {
       accepted = one-of-them sections (length input) (walk sections input) (counted sections input);
-      read = λ n h. read-cut input n (omega arith);
-      ncts = λ n h. ncts-cut input n (omega arith);
-      line = λ n h. rw (ncts-cut input n (omega arith), read-cut input n (omega arith));
+      most = refl;
+      read = λ n h. read-cut input n h;
+      ncts = λ n h. ncts-cut input n h;
+      line = λ n h. rw (ncts-cut input n h, read-cut input n h);
     }

@@ -1,145 +1,165 @@
--- The walk over lists is the walk by places. Assumes nothing.
-use mathlib.Core.Path.{_≡_, refl, sym, ap, _∙_}
-use mathlib.Core.Bool.{Bool, true, false, false≢true, cond, not, or-false, _||_}
-use mathlib.Core.List.{List, [], _∷_}
-use mathlib.Core.Logic.{_≢_}
-use Prim.Native.Nat.{ℕ, suc, _+_, _-_, _%_, _≤_, _<_}
-use native.Mathlib.Numerals.{add-one}
+-- What a walk finds is what stands in the input, over any sections. Assumes nothing.
+--     joined      bodies, and then what the rest of the walk finds
+--     begun       a walk over an input that begins with whole sections
+--     found       what stands in the input, by what the walk finds
+--     walks       both ways
+use mathlib.Core.Path.{_≡_, refl, sym, ap, subst, _∙_}
+use mathlib.Core.Logic.{_⊎_, inl, inr}
+use mathlib.Core.Bool.{Bool, true, false, false≢true, cond, _&&_}
+use mathlib.Core.List.{List, [], _∷_, _++_}
+use Prim.Native.Nat.{ℕ, zero, suc, _+_, _≤_, _<_}
+use native.Mathlib.Nat.{not-suc-le-zero, le-of-suc-le-suc}
 use native.Mathlib.Omega.{arith}
-use lib.Dec.{leb, ltb, eqb, lit≤}
-use lib.ListN.{getD, length, take, drop, length-take, length-drop, drop-of-length-le}
-use lib.Seq.{drop-cons, drop-drop}
-use borrow.Author.Tests.{leb-true, leb-false, ltb-true, ltb-false, le-leb, lt-leb, eqb-true, eqb-false, eq-eqb, ne-eqb}
+use lib.Dec.{leb}
+use lib.ListN.{length, take, drop, getD, length-append, length-drop, take-append-drop}
+use lib.Seq.{length-take-le, take-append-seam, drop-append-seam, drop-cons, take-length, drop-length}
+use borrow.Author.Tests.{leb-true, leb-false, le-leb, lt-leb}
 use Rattle.lists.specs.Among.{among}
-use Rattle.refusals.specs.Rows.{inputEnds, countNotAllowed}
-use Rattle.request.specs.declared.sections.Part.{Part}
-use Rattle.request.specs.Sections.{Walk, ends, notAllowed, whole, after, walk, walked, sections}
-use Rattle.request.specs.Part.{partOf, noPart}
-use Rattle.request.specs.Read.{emptied, judged, checked, readOf}
+use Rattle.lists.proofs.Both.{both-left, both-right}
+use Rattle.request.specs.Sections.{Walk, ends, notAllowed, whole, after, walk, laid, fits, Begun, Ends, NotAllowed, Walks}
 
--- what is found where a section is refused
-abbrev pub failed : ℕ → Walk
-failed number = cond (eqb number 1) ends notAllowed
+abbrev pub joined : List (List ℕ) → Walk → Walk
+joined [] w = w
+joined (b ∷ bs) w = after b (joined bs w)
 
--- the walk, from a section's part on
-abbrev pub from : List (List ℕ) → List ℕ → Part → Walk
-from more s p = cond (eqb (p .refusal) 0) (after (take (p .end - p .start) (drop (p .start) s)) (walk more (drop (p .end) s))) (failed (p .refusal))
+pub joined-ends : (bodies : List (List ℕ)) → joined bodies ends ≡ ends
+joined-ends [] = refl
+joined-ends (b ∷ bs) = rw (joined-ends bs)
 
-module _ (s : List ℕ) (place k : ℕ) (more : List (List ℕ)) where
-  n : ℕ
-  n = getD s place 0
+pub joined-refused : (bodies : List (List ℕ)) → joined bodies notAllowed ≡ notAllowed
+joined-refused [] = refl
+joined-refused (b ∷ bs) = rw (joined-refused bs)
 
-  body : (a t : Bool) → length s - suc place ≡ length (drop (suc place) s) → place < length s
-      → among n (getD sections k []) ≡ a → ltb (length s - suc place) n ≡ t
-      → walk (getD sections k [] ∷ more) (n ∷ drop (suc place) s)
-      ≡ from more s (cond (not a) (noPart countNotAllowed) (cond t (noPart inputEnds) (record { refusal = 0; start = suc place; end = suc place + n })))
-  unfolding walk
-  body false t l h e g = rw e
-  body true true l h e g = rw (e, lt-leb n (length (drop (suc place) s)) (rw (← l) (ltb-true _ _ g)))
-  body true false l h e g =
-      let m : suc place + n - suc place ≡ n = omega arith in
-      rw (e, le-leb n (length (drop (suc place) s)) (rw (← l) (ltb-false _ _ g)), m, drop-drop)
+pub joined-whole : (bodies : List (List ℕ)) (rest : List ℕ) → joined bodies (whole [] rest) ≡ whole bodies rest
+joined-whole [] rest = refl
+joined-whole (b ∷ bs) rest = rw (joined-whole bs rest)
 
-  pub walk-part : walk (getD sections k [] ∷ more) (drop place s) ≡ from more s (partOf s place k)
-  unfolding partOf walk n
-  walk-part = go (leb (length s) place) refl
+-- a body more
+pub joined-more : (bodies : List (List ℕ)) (b : List ℕ) (w : Walk) → joined (bodies ++ (b ∷ [])) w ≡ joined bodies (after b w)
+joined-more [] b w = refl
+joined-more (x ∷ bs) b w = rw (joined-more bs b w)
+
+-- a section that is whole
+pub one : (c : List ℕ) (cs : List (List ℕ)) (b left : List ℕ) → among (length b) c ≡ true
+    → walk (c ∷ cs) (length b ∷ (b ++ left)) ≡ after b (walk cs left)
+unfolding walk
+one c cs b left t =
+    let l : length b ≤ length (b ++ left) = simp length-append (omega arith) in
+    rw (t, le-leb (length b) (length (b ++ left)) l, take-append-seam b left, drop-append-seam b left)
+
+pub begun : (cs bodies : List (List ℕ)) (left : List ℕ) → length bodies ≤ length cs → fits (take (length bodies) cs) bodies ≡ true
+    → walk cs (laid bodies left) ≡ joined bodies (walk (drop (length bodies) cs) left)
+begun cs [] left h f = refl
+begun [] (b ∷ bs) left h f = absurd (not-suc-le-zero h)
+begun (c ∷ cs) (b ∷ bs) left h f =
+    one c cs b (laid bs left) (both-left (among (length b) c) _ f)
+    ∙ ap (after b) (begun cs bs left (le-of-suc-le-suc h) (both-right (among (length b) c) _ f))
+
+-- what fits has a body for each section
+pub as-many : (cs bodies : List (List ℕ)) → fits cs bodies ≡ true → length bodies ≡ length cs
+as-many [] [] t = refl
+as-many [] (b ∷ bs) t = absurd (false≢true t)
+as-many (c ∷ cs) [] t = absurd (false≢true t)
+as-many (c ∷ cs) (b ∷ bs) t = ap suc (as-many cs bs (both-right (among (length b) c) _ t))
+
+-- what the next section says, where it is not whole
+pub none-left : (c : List ℕ) (cs : List (List ℕ)) → walk (c ∷ cs) [] ≡ ends
+unfolding walk
+none-left c cs = refl
+
+pub cut-short : (c : List ℕ) (cs : List (List ℕ)) (n : ℕ) (left : List ℕ) → among n c ≡ true → length left < n → walk (c ∷ cs) (n ∷ left) ≡ ends
+unfolding walk
+cut-short c cs n left t h = rw (t, lt-leb n (length left) h)
+
+pub not-counted : (c : List ℕ) (cs : List (List ℕ)) (n : ℕ) (left : List ℕ) → among n c ≡ false → walk (c ∷ cs) (n ∷ left) ≡ notAllowed
+unfolding walk
+not-counted c cs n left t = rw t
+
+module _ (table : List (List ℕ)) (input : List ℕ) where
+  -- the counts that the next section allows, and the sections after it
+  abbrev nextIn : List (List ℕ) → List ℕ
+  nextIn bodies = getD table (length bodies) []
+
+  abbrev moreIn : List (List ℕ) → List (List ℕ)
+  moreIn bodies = drop (suc (length bodies)) table
+
+  from-next : (b : Begun table input) → walk table input ≡ joined (b .bodies) (walk (nextIn (b .bodies) ∷ moreIn (b .bodies)) (b .left))
+  from-next b =
+      ap (walk table) (b .made) ∙ begun table (b .bodies) (b .left) (omega (arith, b .some)) (b .fitting)
+      ∙ ap (λ (t : List (List ℕ)). joined (b .bodies) (walk t (b .left))) (drop-cons table (length (b .bodies)) [] (b .some))
+
+  ends-there : Ends table input → walk table input ≡ ends
+  ends-there e = from-next (e .begun) ∙ go (e .begun .bodies) (e .begun .left) (e .there)
     where
-      go : (b : Bool) → leb (length s) place ≡ b
-          → walk (getD sections k [] ∷ more) (drop place s)
-          ≡ from more s (cond b (noPart inputEnds) (cond (not (among n (getD sections k []))) (noPart countNotAllowed) (cond (ltb (length s - (place + 1)) n) (noPart inputEnds) (record { refusal = 0; start = place + 1; end = place + 1 + n }))))
-      go true e = rw (drop-of-length-le s (leb-true _ _ e))
-      go false e =
-          let h : place < length s = leb-false _ _ e in
-          rw (add-one, drop-cons s place 0) (body (among n (getD sections k [])) (ltb (length s - suc place) n) (sym (length-drop (suc place) s)) h refl refl)
+      go : (bodies : List (List ℕ)) (left : List ℕ)
+          → (length left ≡ 0) ⊎ ((among (getD left 0 0) (nextIn bodies) ≡ true) × (length left ≤ getD left 0 0))
+          → joined bodies (walk (nextIn bodies ∷ moreIn bodies) left) ≡ ends
+      go bodies [] t = rw (none-left (nextIn bodies) (moreIn bodies)) (joined-ends bodies)
+      go bodies (n ∷ left) (inl z) = absurd (omega arith)
+      go bodies (n ∷ left) (inr t) = rw (cut-short (nextIn bodies) (moreIn bodies) n left (t .0) (t .1)) (joined-ends bodies)
 
-  -- a section that is not refused: its count is one of those that the section allows
-  pub counted : partOf s place k .refusal ≡ 0 → among (partOf s place k .end - partOf s place k .start) (getD sections k []) ≡ true
-  unfolding partOf
-  counted = go (leb (length s) place) (among (getD s place 0) (getD sections k [])) refl (ltb (length s - (place + 1)) (getD s place 0))
+  refused-there : NotAllowed table input → walk table input ≡ notAllowed
+  refused-there e = from-next (e .begun) ∙ go (e .begun .bodies) (e .begun .left) (e .present) (e .refused)
     where
-      found : Bool → Bool → Bool → Part
-      found b a t =
-          cond b (noPart inputEnds) (cond (not a) (noPart countNotAllowed) (cond t (noPart inputEnds) (record { refusal = 0; start = place + 1; end = place + 1 + getD s place 0 })))
+      go : (bodies : List (List ℕ)) (left : List ℕ) → 0 < length left → among (getD left 0 0) (nextIn bodies) ≡ false
+          → joined bodies (walk (nextIn bodies ∷ moreIn bodies) left) ≡ notAllowed
+      go bodies [] h t = absurd (omega arith)
+      go bodies (n ∷ left) h t = rw (not-counted (nextIn bodies) (moreIn bodies) n left t) (joined-refused bodies)
 
-      go : (b a : Bool) → among (getD s place 0) (getD sections k []) ≡ a → (t : Bool) → found b a t .refusal ≡ 0
-          → among (found b a t .end - found b a t .start) (getD sections k []) ≡ true
-      go true a e t z = absurd (omega arith)
-      go false false e t z = absurd (omega arith)
-      go false true e true z = absurd (omega arith)
-      go false true e false z = let m : place + 1 + getD s place 0 - (place + 1) ≡ getD s place 0 = omega arith in rw m e
-
--- the counts of the video and of the audio section
-pub four : (n : ℕ) → among n (getD sections 0 []) ≡ true → n ≡ 4
-four n t = eqb-true n 4 (sym (or-false (eqb n 4)) ∙ t)
-
-pub thirds : (n : ℕ) → among n (getD sections 1 []) ≡ true → n % 3 ≡ 0
-thirds n t = go (eqb n 0) refl (eqb n 3) refl (rw or-false at t)
-  where
-    go : (a : Bool) → eqb n 0 ≡ a → (b : Bool) → eqb n 3 ≡ b → (a || b) ≡ true → n % 3 ≡ 0
-    go true e b f t = rw (eqb-true n 0 e)
-    go false e true f t = rw (eqb-true n 3 f)
-    go false e false f t = absurd (false≢true t)
-
--- a refused section's number is 1 or 2
-pub small : (s : List ℕ) (place k : ℕ) → partOf s place k .refusal ≤ 2
-unfolding partOf
-small s place k = go (leb (length s) place) (among (getD s place 0) (getD sections k [])) (ltb (length s - (place + 1)) (getD s place 0))
-  where
-    go : (b a t : Bool)
-        → cond b (noPart inputEnds) (cond (not a) (noPart countNotAllowed) (cond t (noPart inputEnds) (record { refusal = 0; start = place + 1; end = place + 1 + getD s place 0 }))) .refusal ≤ 2
-    go true a t = lit≤ tt
-    go false false t = lit≤ tt
-    go false true true = lit≤ tt
-    go false true false = lit≤ tt
-
--- the bytes of a part
-abbrev pub bytes : List ℕ → Part → List ℕ
-bytes s p = take (p .end - p .start) (drop (p .start) s)
-
--- the three sections, each by its part: a walk goes on past a section that is not refused
-abbrev pub past : List ℕ → Part → Walk → Walk
-past s p w = cond (eqb (p .refusal) 0) (after (bytes s p) w) (failed (p .refusal))
-
-module _ (s : List ℕ) (p q r : Part) (e : p ≡ partOf s 0 0) (f : q ≡ partOf s (p .end) 1) (g : r ≡ partOf s (q .end) 2) where
-  third : walk (getD sections 2 [] ∷ []) (drop (q .end) s) ≡ past s r (whole [] (drop (r .end) s))
+  whole-there : (bodies : List (List ℕ)) (rest : List ℕ) → fits table bodies ≡ true → input ≡ laid bodies rest → walk table input ≡ whole bodies rest
   unfolding walk
-  third = walk-part s (q .end) 2 [] ∙ rw (← g)
+  whole-there bodies rest f e =
+      let l : length bodies ≡ length table = as-many table bodies f in
+      let all : take (length bodies) table ≡ table = rw l (take-length table) in
+      let none : drop (length bodies) table ≡ [] = rw l (drop-length table) in
+      ap (walk table) e ∙ begun table bodies rest (omega arith) (rw all f) ∙ rw none (joined-whole bodies rest)
 
-  second : walk (getD sections 1 [] ∷ getD sections 2 [] ∷ []) (drop (p .end) s) ≡ past s q (past s r (whole [] (drop (r .end) s)))
-  second = walk-part s (p .end) 1 (getD sections 2 [] ∷ []) ∙ rw (← f) (ap (past s q) third)
+-- what stands in the input, by what the walk finds
+abbrev pub Found : List (List ℕ) → List ℕ → Walk → Type 0
+Found table input ends = Ends table input
+Found table input notAllowed = NotAllowed table input
+Found table input (whole bodies rest) = (fits table bodies ≡ true) × (input ≡ laid bodies rest)
 
-  pub by-parts : walked s ≡ past s p (past s q (past s r (whole [] (drop (r .end) s))))
-  unfolding walked
-  by-parts = walk-part s 0 0 (getD sections 1 [] ∷ getD sections 2 [] ∷ []) ∙ rw (← e) (ap (past s p) second)
+module _ (c : List ℕ) (cs : List (List ℕ)) (b : List ℕ) (input : List ℕ) (t : among (length b) c ≡ true) where
+  longer : Begun cs input → Begun (c ∷ cs) (length b ∷ (b ++ input))
+  longer r =
+      record {
+        bodies = b ∷ r .bodies;
+        left = r .left;
+        some = omega (arith, r .some);
+        fitting = rw t (r .fitting);
+        made = ap (λ (l : List ℕ). length b ∷ (b ++ l)) (r .made);
+      }
 
--- a refusal in a later section is that of the walk
-pub after-failed : (body : List ℕ) (n : ℕ) → after body (failed n) ≡ failed n
-after-failed body n = go (eqb n 1)
+  later : (w : Walk) → Found cs input w → Found (c ∷ cs) (length b ∷ (b ++ input)) (after b w)
+  unfolding longer
+  later ends f = record { begun = longer (f .begun); there = f .there }
+  later notAllowed f = record { begun = longer (f .begun); present = f .present; refused = f .refused }
+  later (whole bodies rest) f = (rw t (f .0), ap (λ (l : List ℕ). length b ∷ (b ++ l)) (f .1))
+
+-- no section is whole yet
+at-once : (c : List ℕ) (cs : List (List ℕ)) (input : List ℕ) → Begun (c ∷ cs) input
+at-once c cs input = record { bodies = []; left = input; some = omega arith; fitting = refl; made = refl }
+
+pub found : (table : List (List ℕ)) (input : List ℕ) → Found table input (walk table input)
+unfolding walk at-once
+found [] input = (refl, refl)
+found (c ∷ cs) [] = record { begun = at-once c cs []; there = inl refl }
+found (c ∷ cs) (n ∷ input) = go (among n c) refl (leb n (length input)) refl (found cs (drop n input))
   where
-    go : (b : Bool) → after body (cond b ends notAllowed) ≡ cond b ends notAllowed
-    go true = refl
-    go false = refl
+    go : (a : Bool) → among n c ≡ a → (t : Bool) → leb n (length input) ≡ t → Found cs (drop n input) (walk cs (drop n input))
+        → Found (c ∷ cs) (n ∷ input) (cond a (cond t (after (take n input) (walk cs (drop n input))) ends) notAllowed)
+    go false e t f more = record { begun = at-once c cs (n ∷ input); present = omega arith; refused = e }
+    go true e false f more = record { begun = at-once c cs (n ∷ input); there = inr (e, leb-false n (length input) f) }
+    go true e true f more =
+        let b : length (take n input) ≡ n = length-take-le n input (leb-true n (length input) f) in
+        subst (λ (l : List ℕ). Found (c ∷ cs) l (after (take n input) (walk cs (drop n input)))) (rw (b, take-append-drop n input))
+        (later c cs (take n input) (drop n input) (rw b e) (walk cs (drop n input)) more)
 
-pub checked-failed : (n : ℕ) → n ≢ 0 → n ≤ 2 → checked (failed n) ≡ emptied n
-checked-failed n z h = go (eqb n 1) refl
-  where
-    go : (b : Bool) → eqb n 1 ≡ b → checked (cond b ends notAllowed) ≡ emptied n
-    go true e = rw (eqb-true n 1 e)
-    go false e = let y : n ≢ 1 = eqb-false n 1 e in let t : n ≡ 2 = omega arith in rw t
-
--- what is read where a section is refused, and where none is
-pub read-failed : (s : List ℕ) (n : ℕ) → walked s ≡ failed n → n ≢ 0 → n ≤ 2 → emptied n ≡ readOf s
-unfolding readOf
-read-failed s n w z h = rw w (sym (checked-failed n z h))
-
-module _ (s a b c rest : List ℕ) (w : walked s ≡ whole (a ∷ b ∷ c ∷ []) rest) where
-  pub read-after : length rest ≢ 0 → emptied 3 ≡ readOf s
-  unfolding readOf
-  read-after h = rw (w, ne-eqb (length rest) 0 h)
-
-  pub read-whole : length rest ≡ 0 → judged a b c ≡ readOf s
-  unfolding readOf
-  read-whole h = rw (w, eq-eqb (length rest) 0 h)
-
-pub length-bytes : (s : List ℕ) (p : Part) → p .start ≤ p .end → p .end ≤ length s → length (bytes s p) ≡ p .end - p .start
-length-bytes s p h l = simp (length-take, length-drop) (omega arith)
+pub walks : (table : List (List ℕ)) (input : List ℕ) → Walks table input
+walks table input =
+    record {
+      whole = λ bodies rest. ((λ e. subst (Found table input) e (found table input)), λ f. whole-there table input bodies rest (f .0) (f .1));
+      ends = ((λ e. subst (Found table input) e (found table input)), ends-there table input);
+      notAllowed = ((λ e. subst (Found table input) e (found table input)), refused-there table input);
+    }

@@ -1,4 +1,4 @@
 pub mod Sections
-pub mod Part
+pub mod Places
 pub mod Request
 pub mod Read

@@ -2,7 +2,7 @@
 use mathlib.Core.Path.{_≡_}
 use mathlib.Core.Bool.{Bool, true, cond, not, _&&_, _||_}
 use mathlib.Core.List.{List, [], _∷_}
-use Prim.Native.Nat.{ℕ, _≤_}
+use Prim.Native.Nat.{ℕ, _<_}
 use lib.Dec.{eqb, ltb}
 use lib.ListN.{getD, length, take}
 use Rattle.lists.specs.Among.{among}
@@ -16,7 +16,7 @@ use Rattle.request.specs.declared.Sound.{Sound}
 use Rattle.request.specs.declared.Sound.the-variants.{Off, On}
 use Rattle.request.specs.declared.Request.{Request}
 use Rattle.request.specs.declared.Checked.{Checked}
-use Rattle.request.specs.Sections.{Walk, ends, notAllowed, whole, walked}
+use Rattle.request.specs.Sections.{longest, Walk, ends, notAllowed, whole, walked}
 use Rattle.request.specs.Request.{present, encoding, link, rate, channels, coherent, requestIn, readRules, nctsRules}
 use Rattle.request.specs.declared.Line.{Line}
 use Rattle.refusals.specs.Rows.{Row, inputEnds, countNotAllowed, bytesAfter, modeNotOffered, fieldOutOfRange, combination, number, Given}
@@ -103,7 +103,8 @@ pub record Rows (input : List ℕ) : Type 0 where
 -- "Lengths are therefore 7, 10, 32 or 35"
 pub record Lengths (input : List ℕ) : Type 0 where
   pub accepted : readOf input .refusal ≡ 0 → among (length input) (7 ∷ 10 ∷ 32 ∷ 35 ∷ []) ≡ true
-  -- so the first 36 bytes of an input decide: cut after them, or later, it is answered as it is whole
-  pub read : (n : ℕ) → 36 ≤ n → readOf (take n input) ≡ readOf input
-  pub ncts : (n : ℕ) → 36 ≤ n → nctsOf (take n input) ≡ nctsOf input
-  pub line : (n : ℕ) → 36 ≤ n → lineOf (take n input) ≡ lineOf input
+  pub most : longest ≡ 35
+  -- so one byte more than the longest decides: cut there, or later, an input is answered as it is whole
+  pub read : (n : ℕ) → longest < n → readOf (take n input) ≡ readOf input
+  pub ncts : (n : ℕ) → longest < n → nctsOf (take n input) ≡ nctsOf input
+  pub line : (n : ℕ) → longest < n → lineOf (take n input) ≡ lineOf input

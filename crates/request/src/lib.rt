@@ -4,13 +4,17 @@ ghost use mathlib.Core.Bool.{not, _&&_};
 ghost use Prim.Native.Nat.{ℕ, _%_, _≤_};
 ghost use lib.ListN.{length};
 ghost use Rattle.matrix.specs.Matrix.{isAllowed};
+ghost use Rattle.request.specs.Sections.{Walks, RequestWalks};
 ghost use Rattle.request.specs.Request.{present, soundOf};
 ghost use Rattle.request.specs.Read.{audioOutside, outside, combined, judged, readOf, pairFor, nctsOf, audioChecksum, lineOf, emptied, Rows, Lengths};
 ghost use mathlib.Core.List.{List};
 use clock::Pair;
 use matrix::Matrix;
 use refusals::Refusal;
-use sections::section;
+use sections::AUDIO;
+use sections::MATRIX;
+use sections::VIDEO;
+use sections::walk;
 use video::Video;
 
 pub mod sections;
@@ -149,28 +153,24 @@ fn judge(video: &[u8], audio: &[u8], body: &[u8]) -> Checked
 pub fn read(s: &[u8]) -> Checked
     ensures { λ r. ⌜ r ≡ readOf (now (s .entry)) ⌝ }
 {
-    let video = section(s, 0, 0);
-    if video.refusal != Refusal::NONE {
-        return refused(video.refusal);
+    let places = walk(s);
+    if places.refusal != Refusal::NONE {
+        return refused(places.refusal);
     }
-    let audio = section(s, video.end, 1);
-    if audio.refusal != Refusal::NONE {
-        return refused(audio.refusal);
-    }
-    let matrix = section(s, audio.end, 2);
-    if matrix.refusal != Refusal::NONE {
-        return refused(matrix.refusal);
-    }
-    let end = matrix.end;
-    if end != s.len() {
+    let ends = places.ends;
+    let video_end = ends[VIDEO];
+    let audio_end = ends[AUDIO];
+    let matrix_end = ends[MATRIX];
+    if matrix_end != s.len() {
         return refused(Refusal::BYTES_AFTER);
     }
-    let a = video.start;
-    let b = video.end;
-    let c = audio.start;
-    let d = audio.end;
-    let e = matrix.start;
-    judge(&s[a..b], &s[c..d], &s[e..end])
+    let audio_start = video_end + 1;
+    let matrix_start = audio_end + 1;
+    judge(
+        &s[1..video_end],
+        &s[audio_start..audio_end],
+        &s[matrix_start..matrix_end],
+    )
 }
 
 // N and CTS for a request: row 9.
@@ -256,6 +256,12 @@ pub fn line_of(s: &[u8]) -> Line
         audio: audio,
     }
 }
+
+// The sections as they stand in an input: over any sections, and the three of a request.
+pub fn in_sections()
+    ensures { λ _. ⌜ ((table : List (List ℕ)) (input : List ℕ) → Walks table input) ⌝ }
+    ensures { λ _. ⌜ ((input : List ℕ) → RequestWalks input) ⌝ }
+{}
 
 // The rows of a request, in document 01's order.
 pub fn rows()

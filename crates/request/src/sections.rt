@@ -1,68 +1,79 @@
-// The three sections, walked in order: count present, count allowed, body present.
+// The sections, walked in order: count present, count allowed, body present.
 ghost use mathlib.Core.Path.{_≡_};
 ghost use mathlib.Core.List.{[]};
-ghost use Prim.Native.Nat.{_≤_};
-ghost use lib.ListN.{getD, length};
+ghost use lib.ListN.{getD};
 ghost use Rattle.lists.specs.Among.{among};
-ghost use Rattle.request.specs.Sections.{sections};
-ghost use Rattle.request.specs.Part.{partOf};
+ghost use Rattle.request.specs.Sections.{sections, walked};
+ghost use Rattle.request.specs.Places.{placesOf};
 use refusals::Refusal;
 
-// A section's body, by its places in the input, or the number of a refusal with zeros beside it.
-pub struct Part {
+// How many sections there are, and the place of each in the order.
+pub const SECTIONS: usize = 3;
+
+pub const VIDEO: usize = 0;
+
+pub const AUDIO: usize = 1;
+
+pub const MATRIX: usize = 2;
+
+// Where the body of each section ends in the input, or the number of a refusal with zeros beside it. A body starts after its count, which
+// stands where the body before it ends.
+pub struct Places {
     pub refusal: u8,
-    pub start: usize,
-    pub end: usize,
+    pub ends: [usize; 3],
 }
 
-// Whether section k allows a count.
-pub fn allows(k: u8, count: u8) -> bool
+// Whether section k allows a count: a line for each section.
+pub fn allows(k: usize, count: u8) -> bool
     ensures { λ r. ⌜ r ≡ among count (getD sections k []) ⌝ }
 {
-    if k == 0 {
+    if k == VIDEO {
         return count == 4;
     }
-    if k == 1 {
+    if k == AUDIO {
         return (count == 0) | (count == 3);
     }
-    if k == 2 {
+    if k == MATRIX {
         return (count == 0) | (count == 25);
     }
     false
 }
 
-// Section k, whose count stands at a place.
-pub fn section(s: &[u8], place: usize, k: u8) -> Part
-    ensures { λ r. ⌜ r ≡ partOf (now (s .entry)) place k ⌝ }
-    ensures { λ r. ⌜ (r .start ≤ r .end) × (r .end ≤ length (now (s .entry))) ⌝ }
+// The sections of an input: rows 1 and 2.
+pub fn walk(s: &[u8]) -> Places
+    ensures { λ r. ⌜ r ≡ placesOf (walked (now (s .entry))) ⌝ }
 {
-    if s.len() <= place {
-        return Part {
-            refusal: Refusal::INPUT_ENDS,
-            start: 0,
-            end: 0,
-        };
+    let mut ends = [0usize; 3];
+    let mut place: usize = 0;
+    let mut k: usize = 0;
+    while k < SECTIONS {
+        if s.len() <= place {
+            return Places {
+                refusal: Refusal::INPUT_ENDS,
+                ends: [0usize; 3],
+            };
+        }
+        let count = s[place];
+        if !allows(k, count) {
+            return Places {
+                refusal: Refusal::COUNT_NOT_ALLOWED,
+                ends: [0usize; 3],
+            };
+        }
+        let start = place + 1;
+        let n = count as usize;
+        if s.len() - start < n {
+            return Places {
+                refusal: Refusal::INPUT_ENDS,
+                ends: [0usize; 3],
+            };
+        }
+        place = start + n;
+        ends[k] = place;
+        k = k + 1;
     }
-    let count = s[place];
-    if !allows(k, count) {
-        return Part {
-            refusal: Refusal::COUNT_NOT_ALLOWED,
-            start: 0,
-            end: 0,
-        };
-    }
-    let start = place + 1;
-    let n = count as usize;
-    if s.len() - start < n {
-        return Part {
-            refusal: Refusal::INPUT_ENDS,
-            start: 0,
-            end: 0,
-        };
-    }
-    Part {
+    Places {
         refusal: Refusal::NONE,
-        start,
-        end: start + n,
+        ends: ends,
     }
 }
