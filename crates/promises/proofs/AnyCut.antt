@@ -29,6 +29,7 @@ use Rattle.decode.proofs.Groups.{avi-in, audio-in, matrix-in}
 use Rattle.decode.proofs.Answers.{finished-again, read-back}
 use Rattle.promises.specs.Rules.{asked, Listed, Demand2, Accepted, OnSomeImage}
 use Rattle.promises.proofs.Ended.{avi-head, audio-head, enable-in, mode-in}
+use Rattle.promises.proofs.Filled.{filled, paired, never-three}
 use Rattle.promises.specs.AnyCut.{listOf, Again, AnyCut}
 
 -- an answer without a refusal comes from no refusal
@@ -115,9 +116,15 @@ rules input buffer s = record {
   order = in-order (asked input) (s .image);
   entries = entries (asked input) (s .image);
   finished = λ z. any-cut input buffer s z .demand .registers;
+  fields = λ z. let f = fits z in filled input (s .image) (f .read) (eqb-true _ _ (f .paired)) _ (image-at (asked input) (s .image));
+  pair = paired input;
+  neverThree = λ z. let f = fits z in never-three input (s .image) (f .read) (eqb-true _ _ (f .paired));
   readBack = λ b z room h. read-back input (s .image) (finishedImage (asked input) (s .image)) .answered (ran b z) room h;
 }
   where
+    fits : planOf input (s .image) buffer .refusal ≡ 0 → Fine input (s .image) buffer
+    fits z = fine input (s .image) buffer (answered input (s .image) buffer z)
+
     ran : Bytes input → planOf input (s .image) buffer .refusal ≡ 0 → Ran input (s .image) (finishedImage (asked input) (s .image))
     ran b z =
         let f = fine input (s .image) buffer (answered input (s .image) buffer z) in

@@ -3,3 +3,7 @@ pub mod Ended
 pub mod AnyCut
 pub mod AnyInput
 pub mod Example
+pub mod Bits
+pub mod Named
+pub mod Places
+pub mod Filled

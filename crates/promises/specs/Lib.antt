@@ -4,3 +4,4 @@ pub mod Settled
 pub mod Rules
 pub mod AnyCut
 pub mod Example
+pub mod Finished

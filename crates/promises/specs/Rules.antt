@@ -8,7 +8,7 @@ use Rattle.refusals.specs.Rows.{Condition, at}
 use Rattle.matrix.specs.Matrix.{Bytes}
 use Rattle.chip.specs.declared.Chip.{Chip}
 use Rattle.request.specs.declared.Request.{Request}
-use Rattle.request.specs.Read.{readOf}
+use Rattle.request.specs.Read.{readOf, nctsOf}
 use Rattle.plan.specs.Wanted.{wanted}
 use Rattle.writes.specs.List.{writeList, flat, finishedImage}
 use Rattle.plan.specs.Plan.{planRules, planOf, bufferOf}
@@ -18,6 +18,7 @@ use Rattle.cut.specs.Run.{run}
 use Rattle.cut.specs.Demand.{sent}
 use Rattle.writes.specs.Order.{Order}
 use Rattle.writes.specs.Carried.{Entries}
+use Rattle.promises.specs.Finished.{Finished, Paired, NeverThree}
 
 -- what the request wants in each register
 abbrev pub asked : List ℕ → ℕ → ℕ
@@ -42,6 +43,12 @@ pub record Demand2 (input buffer : List ℕ) (s : Chip) : Type 0 where
   -- "the finished image" is what the list leaves on the chip
   pub finished : planOf input (s .image) buffer .refusal ≡ 0
       → run (sent (writeList (asked input) (s .image))) s .image ≡ finishedImage (asked input) (s .image)
+  -- it has these numbers in its named fields, with the N and CTS that are answered for the request
+  pub fields : planOf input (s .image) buffer .refusal ≡ 0
+      → Finished (readOf input .request) (nctsOf input) (finishedImage (asked input) (s .image))
+  pub pair : readOf input .refusal ≡ 0 → Paired (readOf input .request .video) (readOf input .request .sound) (nctsOf input)
+  -- "Mode 3 is never written"
+  pub neverThree : planOf input (s .image) buffer .refusal ≡ 0 → NeverThree (writeList (asked input) (s .image))
   -- "and the finished image reads back as the same request, but for the frame-rate family, which no register names": byte for byte the
   -- request, its family byte 0
   pub readBack : Bytes input → planOf input (s .image) buffer .refusal ≡ 0

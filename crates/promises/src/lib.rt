@@ -9,6 +9,7 @@ ghost use Rattle.promises.specs.AnyCut.{AnyCut};
 ghost use Rattle.promises.specs.AnyInput.{Demand1};
 ghost use Rattle.promises.specs.Cases.{MarkedCases};
 ghost use Rattle.promises.specs.Example.{Example};
+ghost use Rattle.promises.specs.Finished.{AllNamed};
 ghost use Rattle.promises.specs.Rules.{Demand2, OnSomeImage};
 ghost use Rattle.promises.specs.Settled.{Settled};
 
@@ -30,6 +31,11 @@ pub fn settled()
 // Demand 2: whatever is asked, whatever image and buffer are lent.
 pub fn demand_2()
     ensures { λ _. ⌜ ((input buffer : List ℕ) (s : Chip) → Demand2 input buffer s) ⌝ }
+{}
+
+// The finished fields of demand 2 leave out no named bit: those of each register are together its named bits.
+pub fn named_fields()
+    ensures { λ _. ⌜ AllNamed ⌝ }
 {}
 
 // "accepted on some image": what decoding asks of a request, which no image decides.

@@ -1,0 +1,187 @@
+-- The finished image of an accepted request, and the N and CTS that are answered for it. Assumes nothing.
+use mathlib.Core.Path.{_≡_, refl, sym, ap, subst, _∙_}
+use mathlib.Core.Bool.{Bool, true, false, cond, _&&_}
+use mathlib.Core.List.{List, [], _∷_}
+use Prim.Native.Nat.{ℕ, zero, suc, _+_, _*_, _/_, _%_, _<_, _≤_}
+use native.Mathlib.Nat.{not-suc-le-zero, le-of-suc-le-suc}
+use native.Mathlib.Omega.{arith}
+use lib.Dec.{eqb, ltb, lit<}
+use lib.ListN.{length, getD}
+use borrow.Author.Tests.{eqb-true, eqb-false, eq-eqb, ne-eqb, le-ltb, ltb-true}
+use Rattle.lists.proofs.Both.{both-left, both-right}
+use Rattle.bits.proofs.Below.{at-below}
+use Rattle.video.specs.declared.Video.{Video}
+use Rattle.video.specs.Modes.{modeOf, offered}
+use Rattle.clock.specs.declared.Pair.{Pair}
+use Rattle.clock.specs.Clocks.{clockOf}
+use Rattle.clock.specs.Pairs.{Coherent, otherRow, other}
+use Rattle.clock.specs.Found.{coherentOf, pairOf}
+use Rattle.clock.proofs.Rates.{reference-most}
+use Rattle.clock.proofs.Coherence.{coherence}
+use Rattle.request.specs.declared.Sound.{Sound}
+use Rattle.request.specs.declared.Sound.the-variants.{Off, On}
+use Rattle.request.specs.declared.Request.{Request}
+use Rattle.request.specs.Sections.{walked, bodyOf}
+use Rattle.request.specs.Read.{readOf, pairIn, pairFor, nctsOf}
+use Rattle.request.proofs.Ordered.{passed}
+use Rattle.bits.specs.Merge.{merge, under, bit}
+use Rattle.registers.specs.Classes.{classAt}
+use Rattle.chip.specs.Machine.{Write, _gets_}
+use Rattle.writes.specs.List.{decided, isWritten, finished, finishedImage, writeList}
+use Rattle.writes.specs.Carried.{requested}
+use Rattle.writes.proofs.Carries.{masked, entries}
+use Rattle.writes.proofs.Image.{image-at}
+use Rattle.plan.specs.Wanted.{wanted, SoundFits, Fits}
+use Rattle.plan.proofs.Accepted.{fits}
+use Rattle.decode.proofs.Ranged.{read-ranged}
+use Rattle.promises.specs.Finished.{Place, place, bitsOf, NeverThree, inM, inC, places, Shows, Each, Finished, Paired}
+use Rattle.promises.proofs.Bits.{same-bits}
+use Rattle.promises.proofs.Named.{field}
+use Rattle.promises.proofs.Places.{Ranges, stand}
+
+-- ---- N and CTS
+
+-- a pair on fields in range
+in-range : (video : Video) (rate coherent : ℕ) → offered video ≡ true → rate ≤ 6 → coherent ≤ 1
+    → pairOf video rate coherent ≡ cond (eqb coherent 1) (coherentOf (clockOf video) rate) (other rate)
+unfolding pairOf
+in-range video rate coherent o h k = rw (o, le-ltb 6 rate h, le-ltb 1 coherent k)
+
+paired-in : (r : Request) (s : Sound) → offered (r .video) ≡ true → SoundFits s → Paired (r .video) s (pairIn r s)
+paired-in r Off o h = (refl, refl, refl)
+paired-in r (On rate channels coherent) o h =
+    let e = in-range (r .video) rate coherent o (h .0) (h .2) in (
+      λ c. subst (λ (p : Pair). Coherent (clockOf (r .video)) rate p)
+          (sym (e ∙ ap (λ (b : Bool). cond b (coherentOf (clockOf (r .video)) rate) (other rate)) (eq-eqb coherent 1 c)))
+          (coherence .modes (r .video) rate o (omega (arith, h .0))),
+      λ c. let f = e ∙ ap (λ (b : Bool). cond b (coherentOf (clockOf (r .video)) rate) (other rate)) (ne-eqb coherent 1 c) in
+          (ap (λ (p : Pair). p .refusal) f, ap (λ (p : Pair). p .n) f, ap (λ (p : Pair). p .cts) f),
+    )
+
+is-offered : (input : List ℕ) → readOf input .refusal ≡ 0 → offered (readOf input .request .video) ≡ true
+unfolding readOf
+is-offered input z = let j = passed (walked input) z in rw (j .request) (j .mode)
+
+asked-pair : (input : List ℕ) → readOf input .refusal ≡ 0 → nctsOf input ≡ pairFor (readOf input .request)
+unfolding nctsOf
+asked-pair input z = rw z
+
+pub paired : (input : List ℕ) → readOf input .refusal ≡ 0
+    → Paired (readOf input .request .video) (readOf input .request .sound) (nctsOf input)
+unfolding pairFor
+paired input z =
+    let r : Request = readOf input .request in
+    subst (λ (p : Pair). Paired (r .video) (r .sound) p) (sym (asked-pair input z))
+    (paired-in r (r .sound) (is-offered input z) (fits input z .sound))
+
+-- ---- what is known of an accepted request
+
+other-small : (rate : ℕ) → rate < 7 → getD otherRow rate 0 < 1048576
+other-small rate h = ltb-true _ _ (at-below (λ n. ltb (getD otherRow n 0) 1048576) 7 rate refl h)
+
+abbrev Small : Pair → Type 0
+Small p = (p .n < 1048576) × (p .cts < 1048576)
+
+-- N and CTS have 20 bits
+small : (video : Video) (s : Sound) (p : Pair) → SoundFits s → Paired video s p → p .refusal ≡ 0 → Small p
+small video Off p h k z = (omega (arith, k .1), omega (arith, k .2))
+small video (On rate channels coherent) p h k z = go (eqb coherent 1) refl
+  where
+    l : rate < 7
+    l = omega (arith, h .0)
+
+    go : (b : Bool) → eqb coherent 1 ≡ b → Small p
+    go true e =
+        let x = k .0 (eqb-true _ _ e) .exact (λ n. omega arith) .1 in
+        (omega (arith, x .most, reference-most rate), omega (arith, x .fits))
+    go false e =
+        let x = k .1 (eqb-false _ _ e) in
+        (omega (arith, x .1, other-small rate l), omega (arith, x .2))
+
+-- C and M of a mode that is listed
+abbrev right : ℕ → Bool
+right vic =
+    cond (eqb (modeOf vic .families) 0) true (eqb (modeOf vic .colorimetry) (inC vic 1) && eqb (modeOf vic .aspect) (inM vic))
+
+all-right : (vic : ℕ) → vic < 64 → right vic ≡ true
+unfolding modeOf
+all-right vic h = at-below right 64 vic refl h
+
+ranges : (input : List ℕ) → readOf input .refusal ≡ 0 → pairFor (readOf input .request) .refusal ≡ 0
+    → Ranges (readOf input .request) (pairFor (readOf input .request))
+ranges input z y =
+    let r : Request = readOf input .request in
+    let f : Fits r = fits input z in
+    let g = read-ranged input z in
+    let q = subst (λ (p : Pair). Paired (r .video) (r .sound) p) (asked-pair input z) (paired input z) in
+    let two = small (r .video) (r .sound) (pairFor r) (f .sound) q y in
+    let t : right (r .video .vic) ≡ true = all-right (r .video .vic) (g .vic) in
+    let m = rw (ne-eqb _ 0 (f .vic)) at t in
+    record {
+      n = two .0;
+      cts = two .1;
+      vic = g .vic;
+      encoding = f .encoding;
+      link = f .link;
+      color = eqb-true _ _ (both-left _ (eqb (modeOf (r .video .vic) .aspect) (inM (r .video .vic))) m);
+      shape = eqb-true _ _ (both-right (eqb (modeOf (r .video .vic) .colorimetry) (inC (r .video .vic) 1)) _ m);
+      sound = f .sound;
+      matrix = f .matrix;
+    }
+
+-- ---- the finished image
+
+-- one place of them all
+pick : (P : Place → Type 0) (fs : List Place) → Each P fs → (k : ℕ) → k < length fs → P (getD fs k (place 0 0 0 0))
+pick P [] e k h = absurd (not-suc-le-zero h)
+pick P (f ∷ fs) e zero h = e .0
+pick P (f ∷ fs) e (suc k) h = pick P fs (e .1) k (le-of-suc-le-suc h)
+
+twenty : (x y z n : ℕ) → x ≡ n / 65536 → y ≡ n / 256 % 256 → z ≡ n % 256 → x * 65536 + y * 256 + z ≡ n
+twenty x y z n e f g = omega arith
+
+pub filled : (input image : List ℕ) → readOf input .refusal ≡ 0 → pairFor (readOf input .request) .refusal ≡ 0
+    → (after : List ℕ) → ((a : ℕ) → a < 256 → getD after a 0 ≡ finished (wanted (readOf input .request)) image a)
+    → Finished (readOf input .request) (nctsOf input) after
+filled input image z y after ends =
+    let r : Request = readOf input .request in
+    let p : Pair = pairFor r in
+    let e = stand r image after ends (ranges input z y) in
+    let at = pick (Shows after) (places r p) e in
+    subst (λ (q : Pair). Finished r q after) (sym (asked-pair input z)) (record {
+      fields = e;
+      n = twenty _ _ _ (p .n) (at 0 (lit< tt)) (at 1 (lit< tt)) (at 2 (lit< tt));
+      cts = twenty _ _ _ (p .cts) (at 3 (lit< tt)) (at 4 (lit< tt)) (at 5 (lit< tt));
+      mode = omega (arith, at 18 (lit< tt), fits input z .matrix .mode);
+    })
+
+-- ---- the mode in each write of 0x18
+
+requested-bit : (j : ℕ) → j < 8 → bit j (requested 0x18) ≡ 1
+unfolding classAt decided merge
+requested-bit j h = eqb-true _ _ (at-below (λ j. eqb (bit j (requested 0x18)) 1) 8 j refl h)
+
+-- a write of 0x18 has the wanted mode
+in-entry : (want : ℕ → ℕ) (image : List ℕ) (k : ℕ) → k < length (writeList want image)
+    → getD (writeList want image) k (0 gets 0) .address ≡ 0x18
+    → bitsOf 6 5 (getD (writeList want image) k (0 gets 0) .value) ≡ bitsOf 6 5 (want 0x18)
+in-entry want image k h e =
+    let w : Write = getD (writeList want image) k (0 gets 0) in
+    let c : under (requested 0x18) (w .value) ≡ under (requested 0x18) (want 0x18)
+    = subst (λ (a : ℕ). under (requested a) (w .value) ≡ under (requested a) (want a)) e (entries want image k h .carries .itsNamed) in
+    same-bits 6 5 (w .value) (want 0x18) (λ j l u.
+    let b : j < 8 = omega arith in
+    let m : bit j (requested 0x18) ≡ 1 = requested-bit j b in
+    sym (masked (requested 0x18) j (w .value) b m) ∙ ap (λ (x : ℕ). bit j x) c ∙ masked (requested 0x18) j (want 0x18) b m)
+
+pub never-three : (input image : List ℕ) → readOf input .refusal ≡ 0 → pairFor (readOf input .request) .refusal ≡ 0
+    → NeverThree (writeList (wanted (readOf input .request)) image)
+unfolding classAt decided isWritten
+never-three input image z y k h e =
+    let r : Request = readOf input .request in
+    let after : List ℕ = finishedImage (wanted r) image in
+    let f = filled input image z y after (image-at (wanted r) image) in
+    let m : bitsOf 6 5 (getD after 0x18 0) < 3 = f .mode in
+    let t : bitsOf 6 5 (getD after 0x18 0) ≡ bitsOf 6 5 (wanted r 0x18)
+    = ap (bitsOf 6 5) (image-at (wanted r) image 0x18 (lit< tt)) ∙ field (wanted r) image 0x18 false 6 5 refl in
+    rw (in-entry (wanted r) image k h e ∙ sym t) m

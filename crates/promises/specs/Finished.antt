@@ -1,0 +1,160 @@
+-- Demand 2, "the finished image", field by field: the number that stands in each named field, in document 01's notation and in the order of
+-- its sentence "Named: N, CTS, ..". Nothing here speaks of writes, of steps or of wanted bytes.
+use mathlib.Core.Path.{_≡_}
+use mathlib.Core.Logic.{_≢_}
+use mathlib.Core.Bool.{cond}
+use mathlib.Core.List.{List, [], _∷_, _++_}
+use Prim.Native.Nat.{ℕ, zero, suc, _+_, _-_, _*_, _/_, _%_, _^_, _<_}
+use lib.Dec.{eqb}
+use lib.ListN.{length, getD}
+use Rattle.lists.specs.Among.{among}
+use Rattle.registers.specs.Classes.{named}
+use Rattle.video.specs.declared.Video.{Video}
+use Rattle.clock.specs.declared.Pair.{Pair}
+use Rattle.clock.specs.Clocks.{clockOf}
+use Rattle.clock.specs.Pairs.{Coherent, otherRow}
+use Rattle.frames.specs.Frames.{aviFrame, audioFrame, audioOffFrame}
+use Rattle.chip.specs.Machine.{Write, _gets_}
+use Rattle.request.specs.declared.Sound.{Sound}
+use Rattle.request.specs.declared.Sound.the-variants.{Off, On}
+use Rattle.request.specs.declared.Request.{Request}
+
+-- the bits [high:low] of a byte, as a number
+abbrev pub bitsOf : ℕ → ℕ → ℕ → ℕ
+bitsOf high low byte = byte / 2 ^ low % 2 ^ (high + 1 - low)
+
+-- the bits [high:low] of a register, and the number that stands there
+pub record Place : Type 0 where
+  pub address : ℕ
+  pub high : ℕ
+  pub low : ℕ
+  pub number : ℕ
+
+abbrev pub place : ℕ → ℕ → ℕ → ℕ → Place
+place address high low number = record { address = address; high = high; low = low; number = number }
+
+-- 1 with audio, 0 without; 1 with eight channels; 1 for coherent audio, whose CTS is manual
+abbrev pub withSound : Sound → ℕ
+withSound Off = 0
+withSound (On rate channels coherent) = 1
+
+abbrev pub eightChannels : Sound → ℕ
+eightChannels Off = 0
+eightChannels (On rate channels coherent) = cond (eqb channels 8) 1 0
+
+abbrev pub manualCts : Sound → ℕ
+manualCts Off = 0
+manualCts (On rate channels coherent) = coherent
+
+-- the map's codes for 32, 44.1, 48, 88.2, 96, 176.4, 192 kHz; "Audio off: .. the 48 kHz rate code"
+abbrev pub codeOf : Sound → ℕ
+codeOf Off = 0b0010
+codeOf (On rate channels coherent) = getD (0b0011 ∷ 0b0000 ∷ 0b0010 ∷ 0b1000 ∷ 0b1010 ∷ 0b1100 ∷ 0b1110 ∷ []) rate 0
+
+-- "C is 0 for RGB, else 1 for VIC 1, 2, 3, 17, 18 and 2 for the rest"; "M from the aspect", which is 4:3, M 1, for VIC 1, 2, 17 and 16:9, M 2,
+-- for the others
+abbrev pub inC : ℕ → ℕ → ℕ
+inC vic encoding = cond (eqb encoding 0) 0 (cond (among vic (1 ∷ 2 ∷ 3 ∷ 17 ∷ 18 ∷ [])) 1 2)
+
+abbrev pub inM : ℕ → ℕ
+inM vic = cond (among vic (1 ∷ 2 ∷ 17 ∷ [])) 1 2
+
+-- "CC is channels less one; CA is 0x00 for 2 and 0x13 for 8; the rest 0." "Audio off: payload all 0."
+abbrev pub inCC : Sound → ℕ
+inCC Off = 0
+inCC (On rate channels coherent) = channels - 1
+
+abbrev pub inCA : Sound → ℕ
+inCA Off = 0x00
+inCA (On rate channels coherent) = cond (eqb channels 8) 0x13 0x00
+
+-- the checksums: byte 3 of a frame, of which crate frames proves that it makes the sum of all bytes zero modulo 256
+abbrev pub audioSum : Sound → ℕ
+audioSum Off = getD audioOffFrame 3 0
+audioSum (On rate channels coherent) = getD (audioFrame channels) 3 0
+
+-- count coefficients of a list from the i-th on, each in two registers: its high five bits, its low eight
+abbrev pub coefficientPlaces : ℕ → List ℕ → ℕ → ℕ → List Place
+coefficientPlaces address k i zero = []
+coefficientPlaces address k i (suc count) =
+    place address 4 0 (getD k i 0 / 256) ∷ place (address + 1) 7 0 (getD k i 0 % 256) ∷ coefficientPlaces (address + 2) k (suc i) count
+
+-- count registers from `first` on that are 0
+abbrev pub zeroPlaces : ℕ → ℕ → List Place
+zeroPlaces first zero = []
+zeroPlaces first (suc count) = place first 7 0 0 ∷ zeroPlaces (first + 1) count
+
+abbrev pub places : Request → Pair → List Place
+places r p =
+    -- "N, CTS"
+    place 0x01 3 0 (p .n / 65536) ∷ place 0x02 7 0 (p .n / 256 % 256) ∷ place 0x03 7 0 (p .n % 256) ∷
+    place 0x07 3 0 (p .cts / 65536) ∷ place 0x08 7 0 (p .cts / 256 % 256) ∷ place 0x09 7 0 (p .cts % 256) ∷
+    -- "CTS select": "Coherent audio sets 0x0A[7] to 1"; "audio select and mode": I2S, and the map's default
+    place 0x0A 7 7 (manualCts (r .sound)) ∷ place 0x0A 6 4 0b000 ∷ place 0x0A 3 2 0b00 ∷
+    -- "I2S enables": "one I2S input is enabled for 2 channels, all four for 8, none when off"; "format": standard I2S
+    place 0x0C 5 5 (eightChannels (r .sound)) ∷ place 0x0C 4 4 (eightChannels (r .sound)) ∷ place 0x0C 3 3 (eightChannels (r .sound)) ∷
+    place 0x0C 2 2 (withSound (r .sound)) ∷ place 0x0C 1 0 0b00 ∷
+    -- "rate, input format, output format": input ID 0; 1 for 4:2:2
+    place 0x15 7 4 (codeOf (r .sound)) ∷ place 0x15 3 0 0 ∷ place 0x16 7 7 (cond (eqb (r .video .encoding) 1) 1 0) ∷
+    -- "CSC with its hold"
+    place 0x18 7 7 (r .matrix .on) ∷ place 0x18 6 5 (r .matrix .mode) ∷ place 0x1A 5 5 0 ∷ [] ++
+    coefficientPlaces 0x18 (r .matrix .coefficients) 0 12 ++
+    -- "0x3B[6:5] = 2 with [4:1] = 0, VIC in 0x3C[5:0]"
+    place 0x3B 6 5 2 ∷ place 0x3B 4 1 0 ∷ place 0x3C 5 0 (r .video .vic) ∷
+    -- "the GC enable 0x40[7], the enables 0x44[6:3]": "with HDMI the GC and AVI enables are 1 and the three audio enables .. 1 exactly with
+    -- audio". "With DVI these five enables are 0", for DVI with audio is refusal 6
+    place 0x40 7 7 (r .video .link) ∷
+    place 0x44 6 6 (withSound (r .sound)) ∷ place 0x44 5 5 (withSound (r .sound)) ∷ place 0x44 3 3 (withSound (r .sound)) ∷
+    place 0x44 4 4 (r .video .link) ∷
+    -- "0x4A[7:5]": "0x4A[7] is 1", the holds are down; "AV mute": "Open: set 0, clear 1"; "HDMI/DVI"
+    place 0x4A 7 7 1 ∷ place 0x4A 6 5 0 ∷ place 0x4B 7 7 1 ∷ place 0x4B 6 6 0 ∷ place 0xAF 1 1 (r .video .link) ∷
+    -- "the AVI version, length, checksum and data bytes 1 to 13": byte 1 is 0 Y A B S, byte 2 C M R, byte 3 ITC EC Q SC, byte 4 the VIC
+    place 0x52 2 0 0x02 ∷ place 0x53 4 0 0x0D ∷ place 0x54 7 0 (getD (aviFrame (r .video)) 3 0) ∷
+    place 0x55 7 7 0 ∷ place 0x55 6 5 (r .video .encoding) ∷ place 0x55 4 4 1 ∷ place 0x55 3 0 0 ∷
+    place 0x56 7 6 (inC (r .video .vic) (r .video .encoding)) ∷ place 0x56 5 4 (inM (r .video .vic)) ∷ place 0x56 3 0 8 ∷
+    place 0x57 7 0 0 ∷ place 0x58 7 0 (r .video .vic) ∷ [] ++
+    zeroPlaces 0x59 9 ++
+    -- "the audio InfoFrame": byte 1 is CT 0 CC, byte 4 CA
+    place 0x70 2 0 0x01 ∷ place 0x71 4 0 0x0A ∷ place 0x72 7 0 (audioSum (r .sound)) ∷
+    place 0x73 7 3 0 ∷ place 0x73 2 0 (inCC (r .sound)) ∷ place 0x74 7 0 0 ∷ place 0x75 7 0 0 ∷ place 0x76 7 0 (inCA (r .sound)) ∷
+    place 0x77 7 0 0 ∷ []
+
+-- a number stands in its place of an image
+abbrev pub Shows : List ℕ → Place → Type 0
+Shows image f = bitsOf (f .high) (f .low) (getD image (f .address) 0) ≡ f .number
+
+-- each does
+abbrev pub Each : (Place → Type 0) → List Place → Type 0
+Each P [] = Unit
+Each P (f ∷ fs) = P f × Each P fs
+
+-- a number of 20 bits in three registers: 0x01[3:0]·65536 + 0x02·256 + 0x03
+abbrev pub twentyAt : ℕ → List ℕ → ℕ
+twentyAt a image = bitsOf 3 0 (getD image a 0) * 65536 + bitsOf 7 0 (getD image (a + 1) 0) * 256 + bitsOf 7 0 (getD image (a + 2) 0)
+
+-- the finished image of a request whose N and CTS are those of p
+pub record Finished (r : Request) (p : Pair) (image : List ℕ) : Type 0 where
+  pub fields : Each (Shows image) (places r p)
+  pub n : twentyAt 0x01 image ≡ p .n
+  pub cts : twentyAt 0x07 image ≡ p .cts
+  pub mode : bitsOf 6 5 (getD image 0x18 0) < 3
+
+-- "Mode 3 is never written"
+abbrev pub NeverThree : List Write → Type 0
+NeverThree list = (k : ℕ) → k < length list → getD list k (0 gets 0) .address ≡ 0x18 → bitsOf 6 5 (getD list k (0 gets 0) .value) < 3
+
+-- the mask of the places in a register
+abbrev pub maskAt : ℕ → List Place → ℕ
+maskAt a [] = 0
+maskAt a (f ∷ fs) = cond (eqb a (f .address)) (2 ^ (f .high + 1) - 2 ^ f .low) 0 + maskAt a fs
+
+-- no named field is left out, and none is there twice: the places of each register are together its named bits
+abbrev pub AllNamed : Type 0
+AllNamed = (r : Request) (p : Pair) (a : ℕ) → a < 256 → maskAt a (places r p) ≡ named a
+
+-- "N and CTS", for a request that is read, as they are answered: "Audio off: N 6144, CTS 0"; "For coherent audio: the recommended pair ..";
+-- "For other audio: N from the "Other" row, CTS 0"
+abbrev pub Paired : Video → Sound → Pair → Type 0
+Paired video Off p = (p .refusal ≡ 0) × (p .n ≡ 6144) × (p .cts ≡ 0)
+Paired video (On rate channels coherent) p =
+    (coherent ≡ 1 → Coherent (clockOf video) rate p) × (coherent ≢ 1 → (p .refusal ≡ 0) × (p .n ≡ getD otherRow rate 0) × (p .cts ≡ 0))
