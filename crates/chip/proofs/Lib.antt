@@ -1,5 +1,1 @@
 pub mod Writes
-pub mod Holds
-pub mod Seen
-pub mod Used
-pub mod Lent

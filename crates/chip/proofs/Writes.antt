@@ -3,12 +3,12 @@ use mathlib.Core.Path.{_≡_, refl, sym, ap, _∙_}
 use mathlib.Core.Logic.{_≢_, _⊎_}
 use mathlib.Core.Bool.{Bool, true, false, false≢true, cond, not, _&&_, _||_}
 use mathlib.Core.List.{List, [], _∷_, _++_}
-use Prim.Native.Nat.{ℕ, _<_, _≤_}
+use Prim.Native.Nat.{ℕ, _+_, _<_, _≤_}
 use native.Mathlib.Omega.{arith}
-use lib.Dec.{eqb, ltb, lit<}
-use lib.ListN.{length, getD, set, drop, length-set}
+use lib.Dec.{eqb, leb, ltb, lit<}
+use lib.ListN.{length, getD, set, drop, length-set, length-append, length-take, length-drop}
 use lib.Seq.{getD-set-same, getD-set-other, set-out}
-use borrow.Author.Tests.{eq-eqb, ne-eqb, eqb-true, eqb-false, ltb-true, ltb-false, not-true}
+use borrow.Author.Tests.{eq-eqb, ne-eqb, eqb-true, eqb-false, leb-true, ltb-true, ltb-false, not-true}
 use Rattle.lists.specs.Find.{every}
 use Rattle.lists.proofs.Both.{both-left, both-right, neither-left, neither-right}
 use Rattle.lists.proofs.Decides.{Decides, itself, either, together}
@@ -19,7 +19,7 @@ use Rattle.bits.proofs.Laws.{merge-bit}
 use Rattle.registers.specs.Classes.{readOnly}
 use Rattle.chip.specs.declared.Chip.{Chip}
 use Rattle.chip.specs.declared.Wrote.{Wrote}
-use Rattle.chip.specs.Machine.{Group, Buffer, avi, audio, gc, matrix, packets, converter, up, holdsOf, filled, bufferAfter, put, stored, imageAfter, two, refuses, writeOf}
+use Rattle.chip.specs.Machine.{Group, Buffer, avi, audio, gc, matrix, packets, converter, up, registersOf, holdsOf, filled, bufferAfter, put, stored, imageAfter, two, refuses, writeOf}
 use Rattle.chip.specs.Step.{TwoUp, writeRules, Copies, Keeps, Step}
 
 -- a test for two packet holds decides that two are up
@@ -45,6 +45,25 @@ quiet false = refl
 filled-same : (gs : List Group) (n : ℕ) (image buffer : List ℕ) → filled gs n n image buffer ≡ buffer
 filled-same [] n image buffer = refl
 filled-same (g ∷ gs) n image buffer = rw (not-true (up g n && not (up g n)) (quiet (up g n))) (filled-same gs n image buffer)
+
+-- a buffer filled at its front keeps its length
+abbrev fits : ℕ → Group → Bool
+fits n g = leb (g .first + g .count) 256 && leb (g .count) n
+
+filled-length : (gs : List Group) (old new n : ℕ) (image bytes : List ℕ) → length image ≡ 256 → length bytes ≡ n → every (fits n) gs ≡ true
+    → length (filled gs old new image bytes) ≡ n
+filled-length [] old new n image bytes w l t = l
+filled-length (g ∷ gs) old new n image bytes w l t =
+    go (up g new && not (up g old)) (filled-length gs old new n image bytes w l (both-right (fits n g) (every (fits n) gs) t))
+  where
+    go : (b : Bool) → length (filled gs old new image bytes) ≡ n
+        → length (cond b (registersOf g image ++ drop (g .count) bytes) (filled gs old new image bytes)) ≡ n
+    go true more =
+        let f = both-left (fits n g) (every (fits n) gs) t in
+        let h : g .first + g .count ≤ 256 = leb-true _ _ (both-left (leb (g .first + g .count) 256) (leb (g .count) n) f) in
+        let k : g .count ≤ n = leb-true _ _ (both-right (leb (g .first + g .count) 256) (leb (g .count) n) f) in
+        simp (length-append, length-take, length-drop) (omega arith)
+    go false more = more
 
 -- of three holds of which no two are up, the one that is up is alone
 alone : (a b c : Bool) → ((a && b) || ((a && c) || (b && c))) ≡ false → ((b ≡ true → a ≡ false) × (c ≡ true → (a ≡ false) × (b ≡ false)))
@@ -160,6 +179,20 @@ module _ (s : Chip) (address value : ℕ) where
         go true e = ap (λ (w : Wrote). w .chip .coefficients) (written-as true e)
         go false e = coefficients-after e ∙ filled-none (converter .groups) (holdsOf converter (s .image)) (holdsOf converter (imageAfter s address value)) (s .image) (s .coefficients) t
 
+    packet-long : length (s .packet) ≡ 32 → length (writeOf s address value .chip .packet) ≡ 32
+    packet-long l = go (refuses s address value) refl
+      where
+        go : (b : Bool) → refuses s address value ≡ b → length (writeOf s address value .chip .packet) ≡ 32
+        go true e = ap (λ (w : Wrote). length (w .chip .packet)) (written-as true e) ∙ l
+        go false e = ap length (packet-after e) ∙ filled-length (packets .groups) (holdsOf packets (s .image)) (holdsOf packets (imageAfter s address value)) 32 (s .image) (s .packet) whole l refl
+
+    coefficients-long : length (s .coefficients) ≡ 24 → length (writeOf s address value .chip .coefficients) ≡ 24
+    coefficients-long l = go (refuses s address value) refl
+      where
+        go : (b : Bool) → refuses s address value ≡ b → length (writeOf s address value .chip .coefficients) ≡ 24
+        go true e = ap (λ (w : Wrote). length (w .chip .coefficients)) (written-as true e) ∙ l
+        go false e = ap length (coefficients-after e) ∙ filled-length (converter .groups) (holdsOf converter (s .image)) (holdsOf converter (imageAfter s address value)) 24 (s .image) (s .coefficients) whole l refl
+
     -- what a write is refused by, and the byte that it stores, as code has them
     pub tested : (byte : ℕ) → byte ≡ stored address value (s .image) → (held holds : Bool) → held ≡ two (holdsOf packets (s .image))
         → holds ≡ two (holdsOf packets (set (s .image) address byte)) → refuses s address value ≡ (held || holds)
@@ -188,6 +221,8 @@ module _ (s : Chip) (address value : ℕ) where
           written = λ e l j h r. rw (written-as false e) (taken-bit l j h r);
           elsewhere = λ a h. rw (written-as (refuses s address value) refl) (other-byte a h (refuses s address value));
           sized = rw (written-as (refuses s address value) refl) (image-sized (refuses s address value));
+          packetSized = packet-long;
+          coefficientsSized = coefficients-long;
           avi = λ e d u. packet-after e ∙ rw (u, d);
           audio = λ e d u. packet-after e ∙ rw (alone (up avi n) (up audio n) (up gc n) (lone e) .0 u, u, d);
           gc = λ e d u. let o = alone (up avi n) (up audio n) (up gc n) (lone e) .1 u in packet-after e ∙ rw (o .0, o .1, u, d);

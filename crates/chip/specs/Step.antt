@@ -1,4 +1,4 @@
--- What one write does, as a reader of document 01 would check it against `writeOf`.
+-- What one write does, as a reader of document 01 would check it: `step` proves it of `writeOf`, which is what `Chip::write` promises.
 use mathlib.Core.Path.{_≡_}
 use mathlib.Core.Logic.{_≢_, _⊎_}
 use mathlib.Core.Bool.{true, false, not, _&&_}
@@ -10,6 +10,7 @@ use Rattle.bits.specs.Merge.{bit}
 use Rattle.refusals.specs.Rows.{twoHolds, Condition, _when_, Given}
 use Rattle.registers.specs.Classes.{readOnly}
 use Rattle.chip.specs.declared.Chip.{Chip}
+use Rattle.chip.specs.declared.Wrote.{Wrote}
 use Rattle.chip.specs.Machine.{Group, Buffer, avi, audio, gc, matrix, packets, converter, up, registersOf, holdsOf, imageAfter, refuses, writeOf}
 
 -- "(machine) two packet holds are up, or the write would leave two up"
@@ -33,6 +34,10 @@ Keeps b s address value =
     every (λ g. not (up g (holdsOf b (imageAfter s address value)) && not (up g (holdsOf b (s .image))))) (b .groups) ≡ true
     → b .bytes (writeOf s address value .chip) ≡ b .bytes s
 
+-- what a write promises: the state that it hands back, and the number of its refusal; `Step` ties it to document 01
+abbrev pub Hands : Chip → ℕ → ℕ → Wrote → Type 0
+Hands s address value wrote = wrote ≡ writeOf s address value
+
 pub record Step (s : Chip) (address value : ℕ) : Type 0 where
   -- a write is refused by 13 alone, and a refused one changes nothing
   pub refusals : Given (writeRules s address value) (writeOf s address value .refusal)
@@ -46,6 +51,8 @@ pub record Step (s : Chip) (address value : ℕ) : Type 0 where
   -- "one byte changed in the image"
   pub elsewhere : (a : ℕ) → a ≢ address → getD (writeOf s address value .chip .image) a 0 ≡ getD (s .image) a 0
   pub sized : length (writeOf s address value .chip .image) ≡ length (s .image)
+  pub packetSized : length (s .packet) ≡ 32 → length (writeOf s address value .chip .packet) ≡ 32
+  pub coefficientsSized : length (s .coefficients) ≡ 24 → length (writeOf s address value .chip .coefficients) ≡ 24
   -- the buffers
   pub avi : Copies packets avi s address value
   pub audio : Copies packets audio s address value

@@ -4,28 +4,10 @@ ghost use mathlib.Core.List.{_++_};
 ghost use Prim.Native.Nat.{ℕ, _+_, _≤_};
 ghost use lib.ListN.{length, take, drop};
 ghost use Rattle.chip.specs.declared.Chip.{Chip};
-ghost use Rattle.chip.specs.Machine.{matrix, packets, converter, registersOf, filled, two, writeOf};
-ghost use Rattle.chip.specs.Step.{Step};
+ghost use Rattle.chip.specs.Machine.{packets, converter, filled, two};
+ghost use Rattle.chip.specs.Step.{Hands, Step};
 use map::Map;
 use refusals::Refusal;
-
-mod converter;
-mod entry;
-mod view;
-
-pub use converter::Count;
-pub use converter::converts;
-pub use converter::matrix_in_use;
-pub use entry::enters;
-pub use entry::write_into;
-pub use view::Part;
-pub use view::State;
-pub use view::mute_of;
-pub use view::sent;
-pub use view::sent_part;
-pub use view::sent_refusal;
-pub use view::shown;
-pub use view::views;
 
 // The state: the register image, the packet buffer and the coefficient buffer.
 pub struct Chip {
@@ -40,35 +22,17 @@ pub struct Wrote {
     pub chip: Chip,
 }
 
-// A packet's registers fill the front of the packet buffer, and the rest stays.
-fn filled(packet: [u8; 32], image: [u8; 256], first: usize, count: usize) -> [u8; 32]
-    requires { ⌜ (first + count ≤ 256) × (count ≤ 32) ⌝ }
-    ensures { λ r. ⌜ r ≡ take count (drop first image) ++ drop count packet ⌝ }
+// Some registers to the front of a buffer, and the rest stays.
+fn fill(image: &[u8], first: usize, count: usize, buffer: &mut [u8])
+    requires { ⌜ (first + count ≤ 256) × (length (now image) ≡ 256) × (count ≤ length (now buffer)) ⌝ }
+    ensures { λ _. ⌜ now (buffer .exit) ≡ take count (drop first (now (image .entry))) ++ drop count (now (buffer .entry)) ⌝ }
 {
-    let mut out = packet;
-    let mut i: usize = 0;
-    while i < count {
-        out[i] = image[first + i];
-        i = i + 1;
-    }
-    out
-}
-
-// The 24 bytes 0x18 to 0x2F.
-fn copied(image: [u8; 256]) -> [u8; 24]
-    ensures { λ r. ⌜ r ≡ registersOf matrix image ⌝ }
-{
-    let mut out = [0u8; 24];
-    let mut i: usize = 0;
-    while i < 24 {
-        out[i] = image[(Map::CSC as usize) + i];
-        i = i + 1;
-    }
-    out
+    let end = first + count;
+    lists::copy(&image[first..end], buffer);
 }
 
 // Whether two packet holds are up in a byte of 0x4A.
-fn two_up(holds: u8) -> bool
+pub fn two_up(holds: u8) -> bool
     ensures { λ r. ⌜ r ≡ two holds ⌝ }
 {
     let avi = holds / Map::AVI_PACKET_UPDATE_MASK % 2 == 1;
@@ -81,48 +45,58 @@ fn two_up(holds: u8) -> bool
 fn packet_after(packet: [u8; 32], image: [u8; 256], old: u8, new: u8) -> [u8; 32]
     ensures { λ r. ⌜ r ≡ filled (packets .groups) old new image packet ⌝ }
 {
+    let mut next = packet;
     if (new / Map::AVI_PACKET_UPDATE_MASK % 2 == 1)
         & !(old / Map::AVI_PACKET_UPDATE_MASK % 2 == 1)
     {
-        return filled(
-            packet,
-            image,
+        fill(
+            &image,
             Map::AVI_INFOFRAME_VERSION as usize,
             Map::AVI_INFOFRAME_COUNT as usize,
+            &mut next,
         );
+        return next;
     }
     if (new / Map::AUDIO_INFOFRAME_PACKET_UPDATE_MASK % 2 == 1)
         & !(old / Map::AUDIO_INFOFRAME_PACKET_UPDATE_MASK % 2 == 1)
     {
-        return filled(
-            packet,
-            image,
+        fill(
+            &image,
             Map::AUDIO_INFOFRAME_VERSION as usize,
             Map::AUDIO_INFOFRAME_COUNT as usize,
+            &mut next,
         );
+        return next;
     }
     if (new / Map::GC_PACKET_UPDATE_MASK % 2 == 1) & !(old / Map::GC_PACKET_UPDATE_MASK % 2 == 1) {
-        return filled(packet, image, Map::GC as usize, 1);
+        fill(&image, Map::GC as usize, 1, &mut next);
+        return next;
     }
-    packet
+    next
 }
 
 // The coefficient buffer as the hold in 0x1A goes from one byte to another.
 fn coefficients_after(coefficients: [u8; 24], image: [u8; 256], old: u8, new: u8) -> [u8; 24]
     ensures { λ r. ⌜ r ≡ filled (converter .groups) old new image coefficients ⌝ }
 {
+    let mut next = coefficients;
     if (new / Map::COEFFICIENT_UPDATE_MASK % 2 == 1)
         & !(old / Map::COEFFICIENT_UPDATE_MASK % 2 == 1)
     {
-        return copied(image);
+        fill(
+            &image,
+            Map::CSC as usize,
+            Map::CSC_COUNT as usize,
+            &mut next,
+        );
     }
-    coefficients
+    next
 }
 
 impl Chip {
     // One write: the new state, or refusal 13 with the state as it was.
     pub fn write(self, address: u8, value: u8) -> Wrote
-        ensures { λ r. ⌜ r ≡ writeOf self address value ⌝ }
+        ensures { λ r. ⌜ Hands self address value r ⌝ }
     {
         let before = self.image;
         let at = address as usize;

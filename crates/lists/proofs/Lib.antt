@@ -2,6 +2,5 @@ pub mod Both
 pub mod Among
 pub mod Find
 pub mod Decides
-pub mod Copy
+pub mod Copied
 pub mod Emit
-pub mod Compared

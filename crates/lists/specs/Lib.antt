@@ -1,3 +1,3 @@
 pub mod Among
 pub mod Find
-pub mod Same
+pub mod Over

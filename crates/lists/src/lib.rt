@@ -1,20 +1,14 @@
-// Laws of lists, and the comparison of two. Nothing of the chip.
+// Laws of lists, and the copy of a slice. Nothing of the chip.
 ghost use mathlib.Core.Path.{_≡_};
-ghost use Rattle.lists.specs.Same.{sameAs};
+ghost use Rattle.lists.specs.Over.{over};
 
-// Whether two slices have the same bytes.
-pub fn same(a: &[u8], b: &[u8]) -> bool
-    ensures { λ r. ⌜ r ≡ sameAs (now (a .entry)) (now (b .entry)) ⌝ }
+// A slice over the front of another: what lies past its end stays, and what does not fit is left out.
+pub fn copy(bytes: &[u8], out: &mut [u8])
+    ensures { λ _. ⌜ now (out .exit) ≡ over (now (bytes .entry)) (now (out .entry)) ⌝ }
 {
-    if a.len() != b.len() {
-        return false;
-    }
     let mut i: usize = 0;
-    while i < a.len() {
-        if a[i] != b[i] {
-            return false;
-        }
+    while (i < bytes.len()) & (i < out.len()) {
+        out[i] = bytes[i];
         i = i + 1;
     }
-    true
 }

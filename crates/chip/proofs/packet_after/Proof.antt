@@ -1,58 +1,94 @@
 -- `chip::packet_after` meets its contract: the hold that rises fills the buffer. Assumes nothing.
+use mathlib.Core.Path.{sym, _∙_}
 use Rattle.bits.proofs.Laws.{bit-code}
 use borrow.Author.Needs.{needs}
 use Rattle.chip.proofs.packet_after.Statement.{statement}
 use Rattle.chip.proofs.packet_after.Tie as tie
 
-cast-filled : tie.Need-cast-filled
-cast-filled c = search needs
+slice-aggregate-fill : tie.Need-slice-aggregate-fill
+slice-aggregate-fill c = search needs
 
-cast-filled-2 : tie.Need-cast-filled-2
-cast-filled-2 c = search needs
+cast-fill : tie.Need-cast-fill
+cast-fill c = search needs
 
-filled-requires : tie.Need-filled-requires
-filled-requires c κs = search needs
+cast-fill-2 : tie.Need-cast-fill-2
+cast-fill-2 c = search needs
+
+slice-aggregate-fill-2 : tie.Need-slice-aggregate-fill-2
+slice-aggregate-fill-2 c = search needs
+
+fill-requires : tie.Need-fill-requires
+fill-requires c κs = search needs
 
 returns : tie.Need-returns
-returns c = simp (bit-code 6 (c .before .before .args .new), bit-code 6 (c .before .before .args .old), bit-code 5 (c .before .before .args .new), bit-code 5 (c .before .before .args .old), bit-code 4 (c .before .before .args .new), bit-code 4 (c .before .before .args .old), c .before .if1 .taken, c .filled .ensures)
+returns c =
+    let f = c .before .before .before .before in
+    let a = f .before .args in
+    c .before .fill .ensures ∙ sym (simp (bit-code 6 (a .new), bit-code 6 (a .old), f .if1 .taken))
 
-cast-filled-3 : tie.Need-cast-filled-3
-cast-filled-3 c = search needs
+slice-aggregate-fill-3 : tie.Need-slice-aggregate-fill-3
+slice-aggregate-fill-3 c = search needs
 
-cast-filled-4 : tie.Need-cast-filled-4
-cast-filled-4 c = search needs
+cast-fill-3 : tie.Need-cast-fill-3
+cast-fill-3 c = search needs
 
-filled-requires-2 : tie.Need-filled-requires-2
-filled-requires-2 c κs = search needs
+cast-fill-4 : tie.Need-cast-fill-4
+cast-fill-4 c = search needs
+
+slice-aggregate-fill-4 : tie.Need-slice-aggregate-fill-4
+slice-aggregate-fill-4 c = search needs
+
+fill-requires-2 : tie.Need-fill-requires-2
+fill-requires-2 c κs = search needs
 
 returns-2 : tie.Need-returns-2
-returns-2 c = simp (bit-code 6 (c .before .before .before .args .new), bit-code 6 (c .before .before .before .args .old), bit-code 5 (c .before .before .before .args .new), bit-code 5 (c .before .before .before .args .old), bit-code 4 (c .before .before .before .args .new), bit-code 4 (c .before .before .before .args .old), c .before .before .if1 .left, c .before .if2 .taken, c .filled2 .ensures)
+returns-2 c =
+    let f = c .before .before .before .before in
+    let a = f .before .before .args in
+    c .before .fill2 .ensures ∙ sym (simp (bit-code 6 (a .new), bit-code 6 (a .old), bit-code 5 (a .new), bit-code 5 (a .old), f .before .if1 .left, f .if2 .taken))
 
-cast-filled-5 : tie.Need-cast-filled-5
-cast-filled-5 c = search needs
+slice-aggregate-fill-5 : tie.Need-slice-aggregate-fill-5
+slice-aggregate-fill-5 c = search needs
 
-filled-requires-3 : tie.Need-filled-requires-3
-filled-requires-3 c κs = search needs
+cast-fill-5 : tie.Need-cast-fill-5
+cast-fill-5 c = search needs
+
+slice-aggregate-fill-6 : tie.Need-slice-aggregate-fill-6
+slice-aggregate-fill-6 c = search needs
+
+fill-requires-3 : tie.Need-fill-requires-3
+fill-requires-3 c κs = search needs
 
 returns-3 : tie.Need-returns-3
-returns-3 c = simp (bit-code 6 (c .before .before .before .before .args .new), bit-code 6 (c .before .before .before .before .args .old), bit-code 5 (c .before .before .before .before .args .new), bit-code 5 (c .before .before .before .before .args .old), bit-code 4 (c .before .before .before .before .args .new), bit-code 4 (c .before .before .before .before .args .old), c .before .before .before .if1 .left, c .before .before .if2 .left, c .before .if3 .taken, c .filled3 .ensures)
+returns-3 c =
+    let f = c .before .before .before .before in
+    let a = f .before .before .before .args in
+    c .before .fill3 .ensures ∙ sym (simp (bit-code 6 (a .new), bit-code 6 (a .old), bit-code 5 (a .new), bit-code 5 (a .old), bit-code 4 (a .new), bit-code 4 (a .old), f .before .before .if1 .left, f .before .if2 .left, f .if3 .taken))
 
 returns-4 : tie.Need-returns-4
-returns-4 c = simp (bit-code 6 (c .before .before .before .args .new), bit-code 6 (c .before .before .before .args .old), bit-code 5 (c .before .before .before .args .new), bit-code 5 (c .before .before .before .args .old), bit-code 4 (c .before .before .before .args .new), bit-code 4 (c .before .before .before .args .old), c .before .before .if1 .left, c .before .if2 .left, c .if3 .left)
+returns-4 c =
+    let a = c .before .before .before .args in
+    sym (simp (bit-code 6 (a .new), bit-code 6 (a .old), bit-code 5 (a .new), bit-code 5 (a .old), bit-code 4 (a .new), bit-code 4 (a .old), c .before .before .if1 .left, c .before .if2 .left, c .if3 .left))
 
 pub packet-after-spec : {M : Type 1} → statement M
 packet-after-spec =
     tie.close
     (tie.spec
-    cast-filled
-    cast-filled-2
-    filled-requires
+    slice-aggregate-fill
+    cast-fill
+    cast-fill-2
+    slice-aggregate-fill-2
+    fill-requires
     returns
-    cast-filled-3
-    cast-filled-4
-    filled-requires-2
+    slice-aggregate-fill-3
+    cast-fill-3
+    cast-fill-4
+    slice-aggregate-fill-4
+    fill-requires-2
     returns-2
-    cast-filled-5
-    filled-requires-3
+    slice-aggregate-fill-5
+    cast-fill-5
+    slice-aggregate-fill-6
+    fill-requires-3
     returns-3
     returns-4)

@@ -1,0 +1,56 @@
+-- A write over lent slices. Assumes nothing.
+use mathlib.Core.Path.{_≡_, refl}
+use mathlib.Core.Logic.{_≢_}
+use mathlib.Core.Bool.{Bool, true, false, cond, not, _&&_}
+use Prim.Native.Nat.{ℕ}
+use lib.Dec.{eqb}
+use lib.ListN.{length}
+use borrow.Author.Tests.{eqb-true, not-false}
+use Rattle.lists.proofs.Both.{both-left, both-right}
+use Rattle.lists.proofs.Decides.{opposite, equal, one-fails}
+use Rattle.refusals.specs.Rows.{at}
+use Rattle.refusals.proofs.First.{test, tried}
+use Rattle.refusals.proofs.Again.{again}
+use Rattle.chip.specs.declared.Chip.{Chip}
+use Rattle.chip.specs.declared.Wrote.{Wrote}
+use Rattle.chip.specs.Machine.{writeOf}
+use Rattle.chip.specs.Step.{writeRules}
+use Rattle.views.specs.Entry.{isSized, enterOf, enterRules, WriteRefusals}
+use Rattle.views.specs.Faces.{Sized}
+use Rattle.chip.proofs.Writes.{stepped}
+use Rattle.views.proofs.Seen.{unlike}
+
+-- the three lengths
+pub sized : (s : Chip) → not (isSized s) ≡ false → Sized s
+sized s e =
+    let t = not-false (isSized s) e in
+    let u = both-right (eqb (length (s .image)) 256) _ t in
+    record {
+      image = eqb-true _ _ (both-left _ _ t);
+      packet = eqb-true _ _ (both-left _ _ u);
+      coefficients = eqb-true _ _ (both-right (eqb (length (s .packet)) 32) _ u);
+    }
+
+module _ (s : Chip) (address value : ℕ) where
+  pub turned-away : not (isSized s) ≡ true → enterOf s address value ≡ record { refusal = 7; chip = s }
+  unfolding enterOf
+  turned-away e = rw e
+
+  pub let-in : not (isSized s) ≡ false → enterOf s address value ≡ writeOf s address value
+  unfolding enterOf
+  let-in e = rw e
+
+  pub refusals : WriteRefusals s address value
+  unfolding enterOf
+  refusals = record {
+    given = tried (enterRules s address value) _ refl
+        (test (λ (w : Wrote). w .refusal) (at (enterRules s address value) 0) (writeRules s address value) (not (isSized s)) _ _ refl
+        (one-fails (eqb (length (s .image)) 256) _ (opposite (equal _ 256)) (unlike (length (s .packet)) (length (s .coefficients)) 32 24))
+        (λ f. again _ (writeRules s address value) (stepped s address value (sized s f .image) .refusals)));
+    kept = go (not (isSized s)) refl;
+  }
+    where
+      go : (b : Bool) → not (isSized s) ≡ b → cond b (record { refusal = 7; chip = s }) (writeOf s address value) .refusal ≢ 0
+          → cond b (record { refusal = 7; chip = s }) (writeOf s address value) .chip ≡ s
+      go true e h = refl
+      go false e h = stepped s address value (sized s e .image) .refused h

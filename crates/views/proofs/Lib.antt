@@ -1,0 +1,4 @@
+pub mod Seen
+pub mod Used
+pub mod Lent
+pub mod Shown

@@ -1,0 +1,127 @@
+-- What the converter goes by, byte by byte. Assumes nothing.
+use mathlib.Core.Path.{_≡_, refl, sym, ap, ap₂, _∙_}
+use mathlib.Core.Logic.{_≢_}
+use mathlib.Core.Bool.{Bool, true, false, cond, not, _&&_}
+use mathlib.Core.List.{List, [], _∷_, _++_}
+use Prim.Native.Nat.{ℕ, zero, suc, _+_, _*_, _/_, _%_, _≤_, _<_}
+use native.Mathlib.Omega.{arith}
+use lib.Dec.{eqb, ltb}
+use lib.ListN.{length, getD, set, take, drop, drop-of-length-le, length-drop}
+use lib.Seq.{sets, take-all, length-take-le}
+use borrow.Author.Tests.{eq-eqb, ne-eqb, lt-ltb, le-ltb}
+use Rattle.lists.proofs.Decides.{less}
+use Rattle.lists.proofs.Emit.{sets-front}
+use Rattle.refusals.specs.Rows.{Given}
+use Rattle.refusals.proofs.Tests.{lowest-given, numbered}
+use Rattle.matrix.specs.Coefficient.{word, field, highByte, coefficientBytes}
+use Rattle.matrix.specs.Matrix.{fields}
+use Rattle.matrix.proofs.Pairs.{two-left, fields-small, length-fields, length-bytes, fields-said}
+use Rattle.chip.specs.declared.Chip.{Chip}
+use Rattle.views.specs.declared.converter.Count.{Count}
+use Rattle.chip.specs.Machine.{matrix, converter, registersOf, up, holdsOf, inUse, coefficients, modeInUse}
+use Rattle.views.specs.Converter.{matrixBytes, matrixTests, matrixRefusal, noCount, matrixCount, matrixOut, matrixRules, MatrixRefusals}
+use Rattle.views.specs.Entry.{lentAs}
+use Rattle.bits.proofs.Laws.{bit-code, two-bits-code}
+use Rattle.views.proofs.Seen.{unlike}
+
+-- a turn stores one coefficient more: what is stored, and what is left to store, is the whole
+pub turn : (bytes out : List ℕ) (i h l f : ℕ) → 2 * i + 1 < length bytes → f ≡ field (word (getD bytes (2 * i) 0) (getD bytes (2 * i + 1) 0))
+    → h ≡ highByte (field f) → l ≡ f % 256
+    → sets (set (set out (2 * i + 1) h) (2 * i + 1 + 1) l) (2 * (i + 1) + 1) (coefficientBytes (fields (drop (2 * (i + 1)) bytes)))
+    ≡ sets out (2 * i + 1) (coefficientBytes (fields (drop (2 * i) bytes)))
+unfolding fields
+turn bytes out i h l f b e p q =
+    let n : 2 * (i + 1) + 1 ≡ suc (suc (2 * i + 1)) = omega arith in
+    let m : 2 * i + 1 + 1 ≡ suc (2 * i + 1) = omega arith in
+    let d : 2 * (i + 1) ≡ suc (suc (2 * i)) = omega arith in
+    let j : 2 * i + 1 ≡ suc (2 * i) = omega arith in
+    let s : field f ≡ f = omega arith in
+    rw (n, m, d, p, q, s, e, j) (sym (ap (λ (s : List ℕ). sets out (suc (2 * i)) (coefficientBytes (fields s))) (two-left bytes (2 * i) (omega arith))))
+
+-- after the last turn nothing is left
+pub turned : (bytes out whole : List ℕ) (i : ℕ) → length bytes ≤ 2 * i → sets out (2 * i + 1) (coefficientBytes (fields (drop (2 * i) bytes))) ≡ whole → out ≡ whole
+unfolding fields
+turned bytes out whole i h e = rw (drop-of-length-le bytes h) at e
+
+module _ (image buffer out : List ℕ) where
+  -- the refusal, and the answer by its number
+  refusal-given : Given (matrixRules image buffer out) (matrixRefusal image buffer out)
+  unfolding matrixRefusal
+  refusal-given =
+      lowest-given (matrixTests image buffer out) (matrixRules image buffer out) refl
+      (refl, unlike (length image) (length buffer) 256 24, λ f. (refl, less (length out) 25, λ g. tt))
+
+  counted : matrixCount image buffer out .refusal ≡ matrixRefusal image buffer out
+  unfolding matrixCount
+  counted = numbered noCount _ (λ (c : Count). c .refusal) (matrixRefusal image buffer out) refl refl
+
+  pub refused : (n : ℕ) → n ≢ 0 → matrixRefusal image buffer out ≡ n
+      → (record { refusal = n; count = 0 } ≡ matrixCount image buffer out) × (out ≡ matrixOut image buffer out)
+  unfolding matrixCount matrixOut
+  refused n h e = rw (e, ne-eqb n 0 h) (refl, refl)
+
+  pub seven : not (eqb (length image) 256 && eqb (length buffer) 24) ≡ true → matrixRefusal image buffer out ≡ 7
+  unfolding matrixRefusal
+  seven e = rw e
+
+  module _ (l : length image ≡ 256) (k : length buffer ≡ 24) where
+    pub ten : length out < 25 → matrixRefusal image buffer out ≡ 10
+    unfolding matrixRefusal
+    ten h = rw (eq-eqb _ _ l, eq-eqb _ _ k, lt-ltb _ _ h)
+
+    -- the bytes in use, the buffer's where the hold is up, else the registers
+    pub held : getD image 0x1A 0 / 32 % 2 ≡ 1 → buffer ≡ inUse converter matrix (lentAs image [] buffer)
+    unfolding inUse
+    held h = sym (simp (bit-code 5 (getD image 0x1A 0), eq-eqb _ _ h) (take-all 24 buffer (omega arith)))
+
+    pub down : getD image 0x1A 0 / 32 % 2 ≢ 1 → registersOf matrix image ≡ inUse converter matrix (lentAs image [] buffer)
+    unfolding inUse
+    down h = sym (simp (bit-code 5 (getD image 0x1A 0), ne-eqb _ _ h))
+
+    -- the 24 bytes that are in use
+    in-use-long : length (inUse converter matrix (lentAs image [] buffer)) ≡ 24
+    unfolding inUse
+    in-use-long = go (up matrix (holdsOf converter image))
+      where
+        go : (b : Bool) → length (cond b (take 24 buffer) (take 24 (drop 24 image))) ≡ 24
+        go true = length-take-le 24 buffer (omega arith)
+        go false = length-take-le 24 (drop 24 image) (simp length-drop (omega arith))
+
+    bytes-long : length (matrixBytes image buffer) ≡ 25
+    unfolding matrixBytes coefficients
+    bytes-long =
+        let f = length-fields (inUse converter matrix (lentAs image [] buffer)) in
+        omega (arith, in-use-long, length-bytes (fields (inUse converter matrix (lentAs image [] buffer))))
+
+    -- the mode stored first, and the coefficients of the bytes in use after it
+    pub written : (bytes : List ℕ) → bytes ≡ inUse converter matrix (lentAs image [] buffer) → 25 ≤ length out
+        → {after : List ℕ} → after ≡ sets (set out 0 (getD image 0x18 0 / 32 % 4)) 1 (coefficientBytes (fields bytes))
+        → (record { refusal = 0; count = 25 } ≡ matrixCount image buffer out) × (after ≡ matrixOut image buffer out)
+    unfolding matrixCount matrixOut matrixRefusal matrixBytes coefficients
+    written bytes e h f = rw (eq-eqb _ _ l, eq-eqb _ _ k, le-ltb _ _ h) (
+      refl,
+      f ∙ ap₂ (λ (m : ℕ) (b : List ℕ). sets out 0 (m ∷ coefficientBytes (fields b))) (sym (two-bits-code 5 (getD image 0x18 0))) e
+          ∙ sets-front (matrixBytes image buffer) out (rw bytes-long h) ∙ ap (λ (n : ℕ). matrixBytes image buffer ++ drop n out) bytes-long,
+    )
+
+  pub refusals : MatrixRefusals image buffer out
+  refusals = record {
+    given = rw counted refusal-given;
+    kept = λ h. let r = refused (matrixRefusal image buffer out) (λ e. h (counted ∙ e)) refl in (sym (ap (λ (c : Count). c .count) (r .0)), sym (r .1));
+  }
+
+-- what a state of the machine shows
+module _ (s : Chip) (i : length (s .image) ≡ 256) (k : length (s .coefficients) ≡ 24) where
+  shown : matrixBytes (s .image) (s .coefficients) ≡ modeInUse s ∷ coefficientBytes (coefficients s)
+  unfolding matrixBytes coefficients inUse
+  shown = refl
+
+  pub answered : (out : List ℕ) → 25 ≤ length out
+      → (matrixCount (s .image) (s .coefficients) out ≡ record { refusal = 0; count = 25 })
+      × (matrixOut (s .image) (s .coefficients) out ≡ (modeInUse s ∷ coefficientBytes (coefficients s)) ++ drop 25 out)
+  unfolding matrixCount matrixOut matrixRefusal
+  answered out h = rw (eq-eqb _ _ i, eq-eqb _ _ k, le-ltb _ _ h) (refl, ap (λ (l : List ℕ). l ++ drop 25 out) shown)
+
+  pub said : fields (coefficientBytes (coefficients s)) ≡ coefficients s
+  unfolding coefficients
+  said = fields-said (fields (inUse converter matrix s)) (fields-small (inUse converter matrix s))

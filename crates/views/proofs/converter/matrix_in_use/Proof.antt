@@ -1,0 +1,110 @@
+-- `views::converter::matrix_in_use` meets its contract, return by return. Assumes nothing.
+use mathlib.Core.Path.{_≡_, _∙_}
+use native.Mathlib.Omega.{arith}
+use lib.ListN.{length, length-set}
+use Rattle.views.proofs.Seen.{both-long}
+use Rattle.views.proofs.Used.{seven, ten, refused, held, down, written}
+use borrow.Author.Needs.{needs}
+use Rattle.views.proofs.converter.matrix_in_use.Statement.{statement}
+use Rattle.views.proofs.converter.matrix_in_use.Tie as tie
+
+-- past the first test both slices have their lengths
+long : (c : tie.Else1)
+    → (length (c .before .before .before .before .args .image .now) ≡ 256) × (length (c .before .before .before .before .args .coefficients .now) ≡ 24)
+long c = let a = c .before .before .before .before .args in both-long (length (a .image .now)) (length (a .coefficients .now)) 256 24 (c .if1 .left)
+
+returns : tie.Need-returns
+returns c =
+    let a = c .before .before .before .before .args in
+    refused (a .image .now) (a .coefficients .now) (a .out .now) 7 (omega arith) (seven _ _ (a .out .now) (c .if1 .taken))
+
+returns-2 : tie.Need-returns-2
+returns-2 c =
+    let e = c .before in
+    let a = e .before .before .before .before .args in
+    refused (a .image .now) (a .coefficients .now) (a .out .now) 10 (omega arith) (ten _ _ (a .out .now) (long e .0) (long e .1) (c .if2 .taken))
+
+cast-out : tie.Need-cast-out
+cast-out c = search needs
+
+shared-slice-read-out : tie.Need-shared-slice-read-out
+shared-slice-read-out c = let l = long (c .before .before) in omega arith
+
+slice-write-out : tie.Need-slice-write-out
+slice-write-out c = search needs
+
+cast-if3 : tie.Need-cast-if3
+cast-if3 c = search needs
+
+shared-slice-read-if3 : tie.Need-shared-slice-read-if3
+shared-slice-read-if3 c = let l = long (c .before .before .before) in omega arith
+
+store-coefficients-requires : tie.Need-store-coefficients-requires
+store-coefficients-requires c κs = let l = long (c .before .before .before .before .before) in (l .1, simp length-set (omega arith))
+
+same-length : tie.Need-same-length
+same-length c = c .before .before .store-coefficients .kept .1 .0 ∙ simp length-set
+
+returns-3 : tie.Need-returns-3
+returns-3 c =
+    let i = c .before .before .before .before in
+    let e = i .before .before .before .before in
+    let a = e .before .before .before .before .args in
+    written (a .image .now) (a .coefficients .now) (a .out .now) (long e .0) (long e .1) _
+    (held _ _ (a .out .now) (long e .0) (long e .1) (i .if3 .taken)) (omega arith) (c .before .before .store-coefficients .ensures)
+
+cast-start : tie.Need-cast-start
+cast-start c = search needs
+
+cast-end : tie.Need-cast-end
+cast-end c = search needs
+
+add-end : tie.Need-add-end
+add-end c = search needs
+
+sub-store-coefficients : tie.Need-sub-store-coefficients
+sub-store-coefficients c = search needs
+
+part-store-coefficients-start : tie.Need-part-store-coefficients-start
+part-store-coefficients-start c = search needs
+
+part-store-coefficients-end : tie.Need-part-store-coefficients-end
+part-store-coefficients-end c = let l = long (c .before .before .before .before) in omega arith
+
+store-coefficients-requires-2 : tie.Need-store-coefficients-requires-2
+store-coefficients-requires-2 c κs = search needs
+
+same-length-2 : tie.Need-same-length-2
+same-length-2 c = c .before .before .store-coefficients2 .kept .1 .0 ∙ simp length-set
+
+returns-4 : tie.Need-returns-4
+returns-4 c =
+    let i = c .before .before .before .before .before in
+    let e = i .before .before .before .before in
+    let a = e .before .before .before .before .args in
+    written (a .image .now) (a .coefficients .now) (a .out .now) (long e .0) (long e .1) _
+    (down _ _ (a .out .now) (long e .0) (long e .1) (i .if3 .left)) (omega arith) (c .before .before .store-coefficients2 .ensures)
+
+pub matrix-in-use-spec : {M : Type 1} → statement M
+matrix-in-use-spec =
+    tie.close
+    (tie.spec
+    returns
+    returns-2
+    cast-out
+    shared-slice-read-out
+    slice-write-out
+    cast-if3
+    shared-slice-read-if3
+    store-coefficients-requires
+    same-length
+    returns-3
+    cast-start
+    cast-end
+    add-end
+    sub-store-coefficients
+    part-store-coefficients-start
+    part-store-coefficients-end
+    store-coefficients-requires-2
+    same-length-2
+    returns-4)

@@ -1,0 +1,46 @@
+-- `views::entry::gathered` meets its contract. Assumes nothing.
+use mathlib.Core.Path.{refl, _∙_}
+use Rattle.lists.proofs.Copied.{over-whole}
+use borrow.Author.Needs.{needs}
+use Rattle.views.proofs.entry.gathered.Statement.{statement}
+use Rattle.views.proofs.entry.gathered.Tie as tie
+
+slice-aggregate-copy : tie.Need-slice-aggregate-copy
+slice-aggregate-copy c = search needs
+
+copy-requires : tie.Need-copy-requires
+copy-requires c κs = search needs
+
+slice-aggregate-copy-2 : tie.Need-slice-aggregate-copy-2
+slice-aggregate-copy-2 c = search needs
+
+copy-requires-2 : tie.Need-copy-requires-2
+copy-requires-2 c κs = search needs
+
+slice-aggregate-copy-3 : tie.Need-slice-aggregate-copy-3
+slice-aggregate-copy-3 c = search needs
+
+copy-requires-3 : tie.Need-copy-requires-3
+copy-requires-3 c κs = search needs
+
+returns : tie.Need-returns
+returns c =
+    let first = c .before .before .before .before .before .before .before in
+    let second = c .before .before .before .before in
+    let third = c .before in
+    let z = c .before .before .before .before .before .before .before .before .before .before .before .before in
+    let a = z .args in
+    rw (first .copy .ensures ∙ over-whole (a .image .now) _ (z .pre .0), second .copy2 .ensures ∙ over-whole (a .packet .now) _ (z .pre .1),
+    third .copy3 .ensures ∙ over-whole (a .coefficients .now) _ (z .pre .2)) refl
+
+pub gathered-spec : {M : Type 1} → statement M
+gathered-spec =
+    tie.close
+    (tie.spec
+    slice-aggregate-copy
+    copy-requires
+    slice-aggregate-copy-2
+    copy-requires-2
+    slice-aggregate-copy-3
+    copy-requires-3
+    returns)

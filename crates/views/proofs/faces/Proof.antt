@@ -1,0 +1,10 @@
+-- `views::faces` meets its contract, which is the theorem. Assumes nothing.
+use Rattle.views.proofs.Shown.{shown}
+use Rattle.views.proofs.faces.Statement.{statement}
+use Rattle.views.proofs.faces.Tie as tie
+
+returns : tie.Need-returns
+returns c = shown
+
+pub faces-spec : {M : Type 1} → statement M
+faces-spec = tie.close (tie.spec returns)
