@@ -107,11 +107,6 @@ infix 80 _gets_
 abbrev pub _gets_ : ℕ → ℕ → Write
 address gets value = record { address = address; value = value }
 
--- the state after a list of writes; one that is refused changes nothing
-abbrev pub after : List Write → Chip → Chip
-after [] s = s
-after (w ∷ ws) s = after ws (writeOf s (w .address) (w .value) .chip)
-
 -- "While it is up the buffer is sent; when down, the registers": the bytes of a group that the chip goes by. (Of the matrix's first byte
 -- only the coefficient bits count: see `enableInUse` and `modeInUse`.)
 unfoldable pub inUse : Buffer → Group → Chip → List ℕ
@@ -138,6 +133,6 @@ Muted s = (bit 6 (gcInUse s) ≡ 1) × (bit 7 (gcInUse s) ≡ 0)
 abbrev pub Open : Chip → Type 0
 Open s = (bit 6 (gcInUse s) ≡ 0) × (bit 7 (gcInUse s) ≡ 1)
 
--- the two bits as one number, set worth 1 and clear 2: 1 is muted, 2 is open (`Shown`)
+-- the two bits as one number, set worth 1 and clear 2: 1 is muted, 2 is open (`Faces` of crate views)
 abbrev pub mute : Chip → ℕ
 mute s = bit 6 (gcInUse s) + 2 * bit 7 (gcInUse s)

@@ -1,5 +1,5 @@
 -- Demand 1, and that each promise settles its outcome. Assumes nothing.
-use mathlib.Core.Path.{_≡_, refl, sym, ap₂, _∙_}
+use mathlib.Core.Path.{_≡_, refl, sym, ap, ap₂, _∙_}
 use mathlib.Core.Logic.{_≢_}
 use mathlib.Core.Bool.{Bool, true, false, cond, not, _||_}
 use mathlib.Core.List.{List}
@@ -18,9 +18,19 @@ use Rattle.request.specs.declared.Sound.{Sound}
 use Rattle.request.specs.declared.Sound.the-variants.{Off, On}
 use Rattle.request.specs.Read.{readOf, nctsOf, pairIn, pairFor}
 use Rattle.request.proofs.Coherent.{rows}
-use Rattle.chip.proofs.Lent.{entered}
-use Rattle.chip.proofs.Seen.{views}
-use Rattle.chip.proofs.Used.{converts}
+use Rattle.chip.specs.declared.Chip.{Chip}
+use Rattle.views.specs.Entry.{enterOf}
+use Rattle.views.specs.View.{viewRefusal, sentPart, noPart, muteOf}
+use Rattle.views.specs.Converter.{matrixCount}
+use Rattle.views.specs.declared.view.Part.{Part}
+use Rattle.views.proofs.Lent as entry
+use Rattle.views.proofs.Seen as view
+use Rattle.views.proofs.Used as converter
+use Rattle.station.specs.declared.CountOut.{CountOut}
+use Rattle.station.specs.declared.PairOut.{PairOut}
+use Rattle.station.specs.declared.PixelOut.{PixelOut}
+use Rattle.station.specs.declared.machine.PartOut.{PartOut}
+use Rattle.station.specs.declared.machine.StateOut.{StateOut}
 use Rattle.plan.proofs.Ordered as planning
 use Rattle.decode.proofs.Answers as decoding
 use Rattle.promises.specs.AnyInput.{Demand1}
@@ -53,6 +63,15 @@ settled = record {
   mute = λ image packet. one _;
   matrix = λ image buffer out. two _ _;
   class = λ address. one _;
+  stationPlan = λ request image writes. two _ _;
+  stationDecode = λ image request. two _ _;
+  stationNcts = λ request. one _;
+  stationPreview = λ matrix a b c. one _;
+  stationWrite = λ s address value. two _ _;
+  stationSent = λ image packet which. one _;
+  stationMute = λ image packet. one _;
+  stationMatrix = λ image coefficients matrix. two _ _;
+  stationClass = λ address. one _;
 }
 
 -- ---- zeros beside a refusal
@@ -99,7 +118,32 @@ any-input = record {
   request = rows;
   pair = ncts-zeroed;
   preview = preview.refusals;
-  write = entered;
-  view = views;
-  matrix = converts;
+  write = entry.refusals;
+  view = view.refusals;
+  matrix = converter.refusals;
+  stationPlan = λ request image writes left out b p h.
+      let r = planning.refusals request b image writes in
+      let n = λ z. h (ap (λ (o : CountOut). o .refusal) (p .0) ∙ z) in
+      (ap (λ (o : CountOut). o .count) (p .0) ∙ r .count n, p .1 ∙ r .kept n);
+  stationDecode = λ image request left out p h.
+      let u = decoding.refusals image request .unchanged (λ z. h (ap (λ (o : CountOut). o .refusal) (p .0) ∙ z)) in
+      (ap (λ (o : CountOut). o .count) (p .0) ∙ u .0, p .1 ∙ u .1);
+  stationNcts = λ request out p h.
+      let u = ncts-zeroed request (λ z. h (ap (λ (o : PairOut). o .refusal) p ∙ z)) in
+      (ap (λ (o : PairOut). o .n) p ∙ u .0, ap (λ (o : PairOut). o .cts) p ∙ u .1);
+  stationPreview = λ matrix a b c out d p h.
+      let u = preview.refusals matrix d a b c .zeros (λ z. h (ap (λ (o : PixelOut). o .refusal) p ∙ z)) in
+      (ap (λ (o : PixelOut). o .a) p ∙ u .0, ap (λ (o : PixelOut). o .b) p ∙ u .1, ap (λ (o : PixelOut). o .c) p ∙ u .2);
+  stationWrite = λ s left address value out p h. p .1 ∙ entry.refusals s address value .kept (λ z. h (p .0 ∙ z));
+  stationSent = λ image packet which out p h.
+      let r = view.refusals image packet in
+      let e : sentPart image packet which ≡ noPart (viewRefusal image packet which) =
+      r .empty which (λ z. h (ap (λ (o : PartOut). o .refusal) p ∙ r .part which ∙ z)) .1 in
+      (ap (λ (o : PartOut). o .held) p ∙ ap (λ (q : Part). q .held) e, ap (λ (o : PartOut). o .start) p ∙ ap (λ (q : Part). q .start) e,
+      ap (λ (o : PartOut). o .len) p ∙ ap (λ (q : Part). q .len) e);
+  stationMute = λ image packet out p h.
+      ap (λ (o : StateOut). o .mute) p ∙ view.refusals image packet .zero (λ z. h (ap (λ (o : StateOut). o .refusal) p ∙ z));
+  stationMatrix = λ image coefficients matrix left out p h.
+      let u = converter.refusals image coefficients matrix .kept (λ z. h (ap (λ (o : CountOut). o .refusal) (p .0) ∙ z)) in
+      (ap (λ (o : CountOut). o .count) (p .0) ∙ u .0, p .1 ∙ u .1);
 }

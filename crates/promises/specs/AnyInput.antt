@@ -8,11 +8,18 @@ use Rattle.matrix.specs.Matrix.{Bytes}
 use Rattle.matrix.specs.Preview.{PreviewRefusals}
 use Rattle.request.specs.Read.{Rows, nctsOf}
 use Rattle.chip.specs.declared.Chip.{Chip}
-use Rattle.chip.specs.View.{Views}
-use Rattle.chip.specs.Entry.{Enters}
-use Rattle.chip.specs.Converter.{Converts}
+use Rattle.views.specs.View.{ViewRefusals}
+use Rattle.views.specs.Entry.{WriteRefusals}
+use Rattle.views.specs.Converter.{MatrixRefusals}
 use Rattle.plan.specs.Plan.{PlanRefusals}
 use Rattle.decode.specs.Theorems.{Refusals}
+use Rattle.station.specs.declared.CountOut.{CountOut}
+use Rattle.station.specs.declared.PairOut.{PairOut}
+use Rattle.station.specs.declared.PixelOut.{PixelOut}
+use Rattle.station.specs.declared.machine.PartOut.{PartOut}
+use Rattle.station.specs.declared.machine.StateOut.{StateOut}
+use Rattle.station.specs.Face.{StationPlan, StationDecode, StationNcts, StationPreview}
+use Rattle.station.specs.Machine.{StationWrite, StationSent, StationMute, StationMatrix}
 
 -- "A bad request gets a numbered refusal from the list in document 01, a count of zero, and every lent buffer unchanged." Each of these says
 -- that the number given is that of the first row that applies (`Given`), and what is left beside it. `Bytes` is true of every slice.
@@ -26,7 +33,21 @@ pub record Demand1 : Type 0 where
   -- the preview, 5 and 12
   pub preview : (matrix : List ℕ) → Bytes matrix → (a b c : ℕ) → PreviewRefusals matrix a b c
   -- a machine write, 7 and 13: a refused one changes nothing
-  pub write : (s : Chip) (address value : ℕ) → Enters s address value
+  pub write : (s : Chip) (address value : ℕ) → WriteRefusals s address value
   -- a view, 5, 7 and 13; the matrix in use, 7 and 10
-  pub view : (image packet : List ℕ) → Views image packet
-  pub matrix : (image buffer out : List ℕ) → Converts image buffer out
+  pub view : (image packet : List ℕ) → ViewRefusals image packet
+  pub matrix : (image buffer out : List ℕ) → MatrixRefusals image buffer out
+  -- the exported calls: beside a refusal that a promise allows stand zeros, and every lent buffer is as it was
+  pub stationPlan : (request image writes left : List ℕ) (out : CountOut) → Bytes request → StationPlan request image writes out left
+      → out .refusal ≢ 0 → (out .count ≡ 0) × (left ≡ writes)
+  pub stationDecode : (image request left : List ℕ) (out : CountOut) → StationDecode image request out left
+      → out .refusal ≢ 0 → (out .count ≡ 0) × (left ≡ request)
+  pub stationNcts : (request : List ℕ) (out : PairOut) → StationNcts request out → out .refusal ≢ 0 → (out .n ≡ 0) × (out .cts ≡ 0)
+  pub stationPreview : (matrix : List ℕ) (a b c : ℕ) (out : PixelOut) → Bytes matrix → StationPreview matrix a b c out
+      → out .refusal ≢ 0 → (out .a ≡ 0) × (out .b ≡ 0) × (out .c ≡ 0)
+  pub stationWrite : (s left : Chip) (address value out : ℕ) → StationWrite s address value out left → out ≢ 0 → left ≡ s
+  pub stationSent : (image packet : List ℕ) (which : ℕ) (out : PartOut) → StationSent image packet which out
+      → out .refusal ≢ 0 → (out .held ≡ 0) × (out .start ≡ 0) × (out .len ≡ 0)
+  pub stationMute : (image packet : List ℕ) (out : StateOut) → StationMute image packet out → out .refusal ≢ 0 → out .mute ≡ 0
+  pub stationMatrix : (image coefficients matrix left : List ℕ) (out : CountOut) → StationMatrix image coefficients matrix out left
+      → out .refusal ≢ 0 → (out .count ≡ 0) × (left ≡ matrix)

@@ -4,7 +4,7 @@ use mathlib.Core.Path.{_≡_}
 use mathlib.Core.List.{List}
 use Prim.Native.Nat.{ℕ}
 use Rattle.registers.specs.declared.Class.{Class}
-use Rattle.registers.specs.Classes.{classAt}
+use Rattle.registers.specs.Classes.{Classifies}
 use Rattle.video.specs.declared.Video.{Video}
 use Rattle.clock.specs.declared.Clock.{Clock}
 use Rattle.clock.specs.declared.Pair.{Pair}
@@ -20,17 +20,25 @@ use Rattle.request.specs.declared.Line.{Line}
 use Rattle.request.specs.Read.{readOf, nctsOf, lineOf}
 use Rattle.chip.specs.declared.Chip.{Chip}
 use Rattle.chip.specs.declared.Wrote.{Wrote}
-use Rattle.chip.specs.declared.view.Part.{Part}
-use Rattle.chip.specs.declared.view.State.{State}
-use Rattle.chip.specs.declared.converter.Count.{Count}
-use Rattle.chip.specs.Machine.{writeOf}
-use Rattle.chip.specs.Entry.{Writes}
-use Rattle.chip.specs.View.{viewRefusal, sentOf, partOf, startOf, muteOf}
-use Rattle.chip.specs.Converter.{Shows}
+use Rattle.chip.specs.Step.{Hands}
+use Rattle.views.specs.declared.view.Part.{Part}
+use Rattle.views.specs.declared.view.Mute.{Mute}
+use Rattle.views.specs.declared.converter.Count.{Count}
+use Rattle.views.specs.Entry.{Writes}
+use Rattle.views.specs.View.{Sends, Places, Refuses, Mutes}
+use Rattle.views.specs.Converter.{ShowsMatrix}
 use Rattle.plan.specs.declared.Planned.{Planned}
 use Rattle.plan.specs.Plan.{Plans}
 use Rattle.decode.specs.declared.Decoded.{Decoded}
 use Rattle.decode.specs.Decode.{Decodes}
+use Rattle.station.specs.declared.CountOut.{CountOut}
+use Rattle.station.specs.declared.PairOut.{PairOut}
+use Rattle.station.specs.declared.PixelOut.{PixelOut}
+use Rattle.station.specs.declared.machine.PartOut.{PartOut}
+use Rattle.station.specs.declared.machine.StateOut.{StateOut}
+use Rattle.station.specs.declared.machine.ClassOut.{ClassOut}
+use Rattle.station.specs.Face.{StationPlan, StationDecode, StationNcts, StationPreview}
+use Rattle.station.specs.Machine.{StationWrite, StationSent, StationMute, StationMatrix, StationClass}
 
 -- any two outcomes that a promise allows are equal
 abbrev pub Settles : {A : Type 0} → (A → Type 0) → Type 0
@@ -53,14 +61,25 @@ pub record Settled : Type 0 where
   pub pair : (video : Video) (rate coherent : ℕ) → Settles {A = Pair} (Is (pairOf video rate coherent))
   pub avi : (video : Video) → Settles {A = Avi} (Is (aviOf video))
   pub audio : (channels : ℕ) → Settles {A = Audio} (Is (audioOf channels))
-  pub write : (s : Chip) (address value : ℕ) → Settles {A = Wrote} (Is (writeOf s address value))
+  pub write : (s : Chip) (address value : ℕ) → Settles {A = Wrote} (Hands s address value)
   -- over slices: the number, and the three slices as a state
   pub enter : (s : Chip) (address value : ℕ) → Settles {A = ℕ × Chip} (λ o. Writes s address value (o .0) (o .1))
   -- the part: its bytes, and where it starts, by where the two slices start; and the same in numbers
   pub sent : (image packet : List ℕ) (which : ℕ) (i p : ℕ × ℕ)
-      → Settles {A = List ℕ × (ℕ × ℕ)} (λ o. (o .0 ≡ sentOf image packet which) × (o .1 ≡ startOf (partOf image packet which) i p))
-  pub part : (image packet : List ℕ) (which : ℕ) → Settles {A = Part} (Is (partOf image packet which))
-  pub refusal : (image packet : List ℕ) (which : ℕ) → Settles {A = ℕ} (Is (viewRefusal image packet which))
-  pub mute : (image packet : List ℕ) → Settles {A = State} (Is (muteOf image packet))
-  pub matrix : (image buffer out : List ℕ) → Settles {A = Count × List ℕ} (λ o. Shows image buffer out (o .0) (o .1))
-  pub class : (address : ℕ) → Settles {A = Class} (Is (classAt address))
+      → Settles {A = List ℕ × (ℕ × ℕ)} (λ o. Sends image packet which i p (o .0) (o .1))
+  pub part : (image packet : List ℕ) (which : ℕ) → Settles {A = Part} (Places image packet which)
+  pub refusal : (image packet : List ℕ) (which : ℕ) → Settles {A = ℕ} (Refuses image packet which)
+  pub mute : (image packet : List ℕ) → Settles {A = Mute} (Mutes image packet)
+  pub matrix : (image buffer out : List ℕ) → Settles {A = Count × List ℕ} (λ o. ShowsMatrix image buffer out (o .0) (o .1))
+  pub class : (address : ℕ) → Settles {A = Class} (Classifies address)
+  -- the nine exported calls
+  pub stationPlan : (request image writes : List ℕ) → Settles {A = CountOut × List ℕ} (λ o. StationPlan request image writes (o .0) (o .1))
+  pub stationDecode : (image request : List ℕ) → Settles {A = CountOut × List ℕ} (λ o. StationDecode image request (o .0) (o .1))
+  pub stationNcts : (request : List ℕ) → Settles {A = PairOut} (StationNcts request)
+  pub stationPreview : (matrix : List ℕ) (a b c : ℕ) → Settles {A = PixelOut} (StationPreview matrix a b c)
+  pub stationWrite : (s : Chip) (address value : ℕ) → Settles {A = ℕ × Chip} (λ o. StationWrite s address value (o .0) (o .1))
+  pub stationSent : (image packet : List ℕ) (which : ℕ) → Settles {A = PartOut} (StationSent image packet which)
+  pub stationMute : (image packet : List ℕ) → Settles {A = StateOut} (StationMute image packet)
+  pub stationMatrix : (image coefficients matrix : List ℕ)
+      → Settles {A = CountOut × List ℕ} (λ o. StationMatrix image coefficients matrix (o .0) (o .1))
+  pub stationClass : (address : ℕ) → Settles {A = ClassOut} (StationClass address)

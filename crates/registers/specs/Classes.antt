@@ -24,6 +24,10 @@ classes = each byPrecedence 0 256
 unfoldable pub classAt : ℕ → Class
 classAt a = getD classes a (class 0 0 0 0 0)
 
+-- what the class of an address promises; `rule` and `precedence` tie the table to document 01
+abbrev pub Classifies : ℕ → Class → Type 0
+Classifies a c = c ≡ classAt a
+
 abbrev pub readOnly : ℕ → ℕ
 readOnly a = classAt a .«read_only»
 

@@ -3,7 +3,7 @@ ghost use mathlib.Core.Path.{_≡_};
 ghost use mathlib.Core.Bool.{_&&_, not};
 ghost use Prim.Native.Nat.{ℕ, _<_};
 ghost use Rattle.lists.specs.Among.{among};
-ghost use Rattle.registers.specs.Classes.{classAt, readOnly, named, Rule};
+ghost use Rattle.registers.specs.Classes.{classAt, Classifies, readOnly, named, Rule};
 ghost use Rattle.registers.specs.Classes.{readOnlyMasks, namedMasks, freeMasks, mandatedBits};
 ghost use Rattle.registers.specs.Steps.{others, hasNamed, elsewhere};
 ghost use Rattle.registers.specs.Fields.{namedFields, maskIn};
@@ -27,7 +27,7 @@ pub fn read_only(a: u8) -> u8
 }
 
 pub fn class_at(a: u8) -> Class
-    ensures { λ r. ⌜ r ≡ classAt a ⌝ }
+    ensures { λ r. ⌜ Classifies a r ⌝ }
 {
     Class {
         read_only: table::READ_ONLY[a as usize],

@@ -1,8 +1,15 @@
--- The answers of the C face: the library's, field by field.
+-- The C face: what each exported call promises is the library's own answer, field by field, and what it leaves in the lent bytes.
+use mathlib.Core.Path.{_≡_}
+use mathlib.Core.List.{List}
+use Prim.Native.Nat.{ℕ}
 use Rattle.clock.specs.declared.Pair.{Pair}
 use Rattle.matrix.specs.declared.Pixel.{Pixel}
 use Rattle.plan.specs.declared.Planned.{Planned}
 use Rattle.decode.specs.declared.Decoded.{Decoded}
+use Rattle.request.specs.Read.{nctsOf}
+use Rattle.matrix.specs.Preview.{previewOf}
+use Rattle.plan.specs.Plan.{planOf, bufferOf}
+use Rattle.decode.specs.Decode as decoding
 use Rattle.station.specs.declared.CountOut.{CountOut}
 use Rattle.station.specs.declared.PairOut.{PairOut}
 use Rattle.station.specs.declared.PixelOut.{PixelOut}
@@ -18,3 +25,15 @@ pairOut p = record { refusal = p .refusal; n = p .n; cts = p .cts }
 
 abbrev pub pixelOut : Pixel → PixelOut
 pixelOut p = record { refusal = p .refusal; a = p .a; b = p .b; c = p .c }
+
+abbrev pub StationPlan : List ℕ → List ℕ → List ℕ → CountOut → List ℕ → Type 0
+StationPlan request image writes out left = (out ≡ countOut (planOf request image writes)) × (left ≡ bufferOf request image writes)
+
+abbrev pub StationDecode : List ℕ → List ℕ → CountOut → List ℕ → Type 0
+StationDecode image request out left = (out ≡ requestOut (decoding.decodeOf image request)) × (left ≡ decoding.bufferOf image request)
+
+abbrev pub StationNcts : List ℕ → PairOut → Type 0
+StationNcts request out = out ≡ pairOut (nctsOf request)
+
+abbrev pub StationPreview : List ℕ → ℕ → ℕ → ℕ → PixelOut → Type 0
+StationPreview matrix a b c out = out ≡ pixelOut (previewOf matrix a b c)

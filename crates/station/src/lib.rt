@@ -1,10 +1,5 @@
 // The C face: each call is a call of the library, taken apart. No logic. The C declarations are in include/station.h.
-ghost use mathlib.Core.Path.{_≡_};
-ghost use Rattle.station.specs.Face.{countOut, requestOut, pairOut, pixelOut};
-ghost use Rattle.plan.specs.Plan.{planOf, bufferOf};
-ghost use Rattle.decode.specs.Decode as decoding;
-ghost use Rattle.request.specs.Read.{nctsOf};
-ghost use Rattle.matrix.specs.Preview.{previewOf};
+ghost use Rattle.station.specs.Face.{StationPlan, StationDecode, StationNcts, StationPreview};
 
 mod machine;
 
@@ -35,8 +30,7 @@ pub struct PixelOut {
 // The write list of a request on an image, as pairs of address and value: refusals 1 to 10.
 #[no_mangle]
 pub extern "C" fn station_plan(request: &[u8], image: &[u8], writes: &mut [u8]) -> CountOut
-    ensures { λ r. ⌜ r ≡ countOut (planOf (now (request .entry)) (now (image .entry)) (now (writes .entry))) ⌝ }
-    ensures { λ _. ⌜ now (writes .exit) ≡ bufferOf (now (request .entry)) (now (image .entry)) (now (writes .entry)) ⌝ }
+    ensures { λ r. ⌜ StationPlan (now (request .entry)) (now (image .entry)) (now (writes .entry)) r (now (writes .exit)) ⌝ }
 {
     let planned = plan::plan(request, image, writes);
     CountOut {
@@ -48,8 +42,7 @@ pub extern "C" fn station_plan(request: &[u8], image: &[u8], writes: &mut [u8]) 
 // The request that ends in an image, family 0: refusals 7, 10 and 11. The count is that of its bytes.
 #[no_mangle]
 pub extern "C" fn station_decode(image: &[u8], request: &mut [u8]) -> CountOut
-    ensures { λ r. ⌜ r ≡ requestOut (decoding.decodeOf (now (image .entry)) (now (request .entry))) ⌝ }
-    ensures { λ _. ⌜ now (request .exit) ≡ decoding.bufferOf (now (image .entry)) (now (request .entry)) ⌝ }
+    ensures { λ r. ⌜ StationDecode (now (image .entry)) (now (request .entry)) r (now (request .exit)) ⌝ }
 {
     let decoded = decode::decode(image, request);
     CountOut {
@@ -61,7 +54,7 @@ pub extern "C" fn station_decode(image: &[u8], request: &mut [u8]) -> CountOut
 // N and CTS over a request: refusals 1 to 6 and 9.
 #[no_mangle]
 pub extern "C" fn station_ncts(request: &[u8]) -> PairOut
-    ensures { λ r. ⌜ r ≡ pairOut (nctsOf (now (request .entry))) ⌝ }
+    ensures { λ r. ⌜ StationNcts (now (request .entry)) r ⌝ }
 {
     let pair = request::ncts(request);
     PairOut {
@@ -74,7 +67,7 @@ pub extern "C" fn station_ncts(request: &[u8]) -> PairOut
 // Three codes through a matrix, 25 bytes as the request has them: refusals 5 and 12.
 #[no_mangle]
 pub extern "C" fn station_preview(matrix: &[u8], a: u32, b: u32, c: u32) -> PixelOut
-    ensures { λ r. ⌜ r ≡ pixelOut (previewOf (now (matrix .entry)) a b c) ⌝ }
+    ensures { λ r. ⌜ StationPreview (now (matrix .entry)) a b c r ⌝ }
 {
     let pixel = matrix::preview(matrix, a, b, c);
     PixelOut {

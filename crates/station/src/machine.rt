@@ -1,10 +1,6 @@
 // The C face of the chip machine and of the class table: each call is a call of the library, taken apart.
-ghost use mathlib.Core.Path.{_≡_};
-ghost use Rattle.registers.specs.Classes.{classAt};
-ghost use Rattle.chip.specs.Entry.{lentAs, Writes};
-ghost use Rattle.chip.specs.View.{partOf, muteOf};
-ghost use Rattle.chip.specs.Converter.{matrixCount, matrixOut};
-ghost use Rattle.station.specs.Machine.{partOut, stateOut, bytesOut, classOut};
+ghost use Rattle.views.specs.Entry.{lentAs};
+ghost use Rattle.station.specs.Machine.{StationWrite, StationSent, StationMute, StationMatrix, StationClass};
 use crate::CountOut;
 
 // struct station_part
@@ -42,18 +38,18 @@ pub extern "C" fn station_write(
     address: u8,
     value: u8,
 ) -> u32
-    ensures { λ r. ⌜ Writes (lentAs (now (image .entry)) (now (packet .entry)) (now (coefficients .entry))) address value r
+    ensures { λ r. ⌜ StationWrite (lentAs (now (image .entry)) (now (packet .entry)) (now (coefficients .entry))) address value r
         (lentAs (now (image .exit)) (now (packet .exit)) (now (coefficients .exit))) ⌝ }
 {
-    chip::write_into(image, packet, coefficients, address, value) as u32
+    views::write_into(image, packet, coefficients, address, value) as u32
 }
 
 // Where the packet that is sent stands: refusals 5, 7 and 13.
 #[no_mangle]
 pub extern "C" fn station_sent(image: &[u8], packet: &[u8], which: u32) -> PartOut
-    ensures { λ r. ⌜ r ≡ partOut (partOf (now (image .entry)) (now (packet .entry)) which) ⌝ }
+    ensures { λ r. ⌜ StationSent (now (image .entry)) (now (packet .entry)) which r ⌝ }
 {
-    let part = chip::sent_part(image, packet, which);
+    let part = views::sent_part(image, packet, which);
     PartOut {
         refusal: part.refusal as u32,
         held: part.held as u32,
@@ -65,22 +61,21 @@ pub extern "C" fn station_sent(image: &[u8], packet: &[u8], which: u32) -> PartO
 // The mute bits: refusals 7 and 13.
 #[no_mangle]
 pub extern "C" fn station_mute(image: &[u8], packet: &[u8]) -> StateOut
-    ensures { λ r. ⌜ r ≡ stateOut (muteOf (now (image .entry)) (now (packet .entry))) ⌝ }
+    ensures { λ r. ⌜ StationMute (now (image .entry)) (now (packet .entry)) r ⌝ }
 {
-    let state = chip::mute_of(image, packet);
+    let bits = views::mute_of(image, packet);
     StateOut {
-        refusal: state.refusal as u32,
-        mute: state.mute as u32,
+        refusal: bits.refusal as u32,
+        mute: bits.mute as u32,
     }
 }
 
 // The mode and the twelve coefficients in use, as a request has them: refusals 7 and 10.
 #[no_mangle]
 pub extern "C" fn station_matrix(image: &[u8], coefficients: &[u8], matrix: &mut [u8]) -> CountOut
-    ensures { λ r. ⌜ r ≡ bytesOut (matrixCount (now (image .entry)) (now (coefficients .entry)) (now (matrix .entry))) ⌝ }
-    ensures { λ _. ⌜ now (matrix .exit) ≡ matrixOut (now (image .entry)) (now (coefficients .entry)) (now (matrix .entry)) ⌝ }
+    ensures { λ r. ⌜ StationMatrix (now (image .entry)) (now (coefficients .entry)) (now (matrix .entry)) r (now (matrix .exit)) ⌝ }
 {
-    let count = chip::matrix_in_use(image, coefficients, matrix);
+    let count = views::matrix_in_use(image, coefficients, matrix);
     CountOut {
         refusal: count.refusal as u32,
         count: count.count,
@@ -90,7 +85,7 @@ pub extern "C" fn station_matrix(image: &[u8], coefficients: &[u8], matrix: &mut
 // The class of a register's bits: four masks, and the mandated bits.
 #[no_mangle]
 pub extern "C" fn station_class(address: u8) -> ClassOut
-    ensures { λ r. ⌜ r ≡ classOut (classAt address) ⌝ }
+    ensures { λ r. ⌜ StationClass address r ⌝ }
 {
     let class = registers::class_at(address);
     ClassOut {

@@ -5,7 +5,7 @@ use Prim.Native.Nat.{_≤_, _<_, _-_}
 use native.Mathlib.Omega.{arith}
 use lib.ListN.{length, take, drop, length-set}
 use borrow.Author.Needs.{needs}
-use Rattle.lists.proofs.Copy.{front-more}
+use Rattle.lists.proofs.Copied.{copy-more}
 use Rattle.decode.proofs.put.Statement.{statement}
 use Rattle.decode.proofs.put.Tie as tie
 
@@ -37,7 +37,7 @@ loop-again c =
     let long : length (a .t1) ≡ 35 = search needs in
     let h : l .i < length (a .buffer .now) = search needs in
     let k : l .i < length (a .t1) = search needs in
-    (search needs, simp length-set (l .inv .1), rw (l .inv .2) (front-more (a .t1) (a .buffer .now) (l .i) h k))
+    (search needs, simp length-set (l .inv .1), rw (l .inv .2) (copy-more (a .t1) (a .buffer .now) (l .i) h k))
 
 same-length : tie.Need-same-length Inv-loop μ-loop
 same-length c = search needs

@@ -1,6 +1,6 @@
 -- `station::machine::station_mute` meets its contract: the library's answer, field by field. Assumes nothing.
 use mathlib.Core.Path.{ap}
-use Rattle.station.specs.Machine.{stateOut}
+use Rattle.station.specs.Machine.{muteOut}
 use borrow.Author.Needs.{needs}
 use Rattle.station.proofs.machine.station_mute.Statement.{statement}
 use Rattle.station.proofs.machine.station_mute.Tie as tie
@@ -15,7 +15,7 @@ cast-t5 : tie.Need-cast-t5
 cast-t5 c = search needs
 
 returns : tie.Need-returns
-returns c = ap stateOut (c .before .before .mute-of .ensures)
+returns c = ap muteOut (c .before .before .mute-of .ensures)
 
 pub station-mute-spec : {M : Type 1} → statement M
 station-mute-spec = tie.close (tie.spec mute-of-requires cast-t4 cast-t5 returns)
