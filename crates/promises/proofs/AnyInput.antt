@@ -31,6 +31,7 @@ use Rattle.station.specs.declared.PairOut.{PairOut}
 use Rattle.station.specs.declared.PixelOut.{PixelOut}
 use Rattle.station.specs.declared.machine.PartOut.{PartOut}
 use Rattle.station.specs.declared.machine.StateOut.{StateOut}
+use Rattle.plan.specs.Plan.{planOf}
 use Rattle.plan.proofs.Ordered as planning
 use Rattle.decode.proofs.Answers as decoding
 use Rattle.promises.specs.AnyInput.{Demand1}
@@ -123,7 +124,7 @@ any-input = record {
   matrix = converter.refusals;
   stationPlan = λ request image writes left out b p h.
       let r = planning.refusals request b image writes in
-      let n = λ z. h (ap (λ (o : CountOut). o .refusal) (p .0) ∙ z) in
+      let n : planOf request image writes .refusal ≢ 0 = λ z. h (ap (λ (o : CountOut). o .refusal) (p .0) ∙ z) in
       (ap (λ (o : CountOut). o .count) (p .0) ∙ r .count n, p .1 ∙ r .kept n);
   stationDecode = λ image request left out p h.
       let u = decoding.refusals image request .unchanged (λ z. h (ap (λ (o : CountOut). o .refusal) (p .0) ∙ z)) in
@@ -138,9 +139,11 @@ any-input = record {
   stationSent = λ image packet which out p h.
       let r = view.refusals image packet in
       let e : sentPart image packet which ≡ noPart (viewRefusal image packet which) =
-      r .empty which (λ z. h (ap (λ (o : PartOut). o .refusal) p ∙ r .part which ∙ z)) .1 in
-      (ap (λ (o : PartOut). o .held) p ∙ ap (λ (q : Part). q .held) e, ap (λ (o : PartOut). o .start) p ∙ ap (λ (q : Part). q .start) e,
-      ap (λ (o : PartOut). o .len) p ∙ ap (λ (q : Part). q .len) e);
+      r .empty which (λ z. h (ap (λ (o : PartOut). o .refusal) p ∙ r .part which ∙ z)) .1 in (
+        ap (λ (o : PartOut). o .held) p ∙ ap (λ (q : Part). q .held) e,
+        ap (λ (o : PartOut). o .start) p ∙ ap (λ (q : Part). q .start) e,
+        ap (λ (o : PartOut). o .len) p ∙ ap (λ (q : Part). q .len) e,
+      );
   stationMute = λ image packet out p h.
       ap (λ (o : StateOut). o .mute) p ∙ view.refusals image packet .zero (λ z. h (ap (λ (o : StateOut). o .refusal) p ∙ z));
   stationMatrix = λ image coefficients matrix left out p h.

@@ -30,8 +30,11 @@ returns c =
     let third = c .before in
     let z = c .before .before .before .before .before .before .before .before .before .before .before .before in
     let a = z .args in
-    rw (first .copy .ensures ∙ over-whole (a .image .now) _ (z .pre .0), second .copy2 .ensures ∙ over-whole (a .packet .now) _ (z .pre .1),
-    third .copy3 .ensures ∙ over-whole (a .coefficients .now) _ (z .pre .2)) refl
+    rw (
+      first .copy .ensures ∙ over-whole (a .image .now) _ (z .pre .0),
+      second .copy2 .ensures ∙ over-whole (a .packet .now) _ (z .pre .1),
+      third .copy3 .ensures ∙ over-whole (a .coefficients .now) _ (z .pre .2),
+    ) refl
 
 pub gathered-spec : {M : Type 1} → statement M
 gathered-spec =

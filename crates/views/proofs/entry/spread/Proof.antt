@@ -49,8 +49,11 @@ returns c =
     let second = third .before .before .before .before .before in
     let first = second .before .before .before .before .before in
     let z = first .before .before .before .before .before .before .before .before .before in
-    rw (first .copy .ensures ∙ over-whole (z .args .s .image) (z .args .image .now) (image-long first ∙ sym (z .pre .0)), second .copy2 .ensures ∙ over-whole (z .args .s .packet) (z .args .packet .now) (packet-long second ∙ sym (z .pre .1)),
-    third .copy3 .ensures ∙ over-whole (z .args .s .coefficients) (z .args .coefficients .now) (coefficients-long third ∙ sym (z .pre .2))) refl
+    rw (
+      first .copy .ensures ∙ over-whole (z .args .s .image) (z .args .image .now) (image-long first ∙ sym (z .pre .0)),
+      second .copy2 .ensures ∙ over-whole (z .args .s .packet) (z .args .packet .now) (packet-long second ∙ sym (z .pre .1)),
+      third .copy3 .ensures ∙ over-whole (z .args .s .coefficients) (z .args .coefficients .now) (coefficients-long third ∙ sym (z .pre .2)),
+    ) refl
 
 pub spread-spec : {M : Type 1} → statement M
 spread-spec =
