@@ -1,5 +1,5 @@
--- Runs of the chip machine over a list of events, whoever made the list: what a careful one does at every cut. "Old" is what is in use at the
--- start, "new" what is in use at the end.
+-- Runs of the chip machine over a list of events, whoever made the list: what a careful one does at every cut. "Old" is what is in use at
+-- the start, "new" what is in use at the end.
 use mathlib.Core.Path.{_≡_}
 use mathlib.Core.Logic.{_⊎_, _≢_}
 use mathlib.Core.Bool.{true, false}
@@ -59,7 +59,7 @@ pub record Between (old new : InUse) (t : Chip) : Type 0 where
 
 -- ---- a careful list
 
--- a write to a register with a named bit, of one of the two packets or of Table 14, that "carries its mandated bits, the image's free .. bits"
+-- a write to a register with a named bit, of one of the two packets or of Table 14, that "carries its mandated bits, the image's free .."
 pub record Fair (image : List ℕ) (w : Write) : Type 0 where
   pub itsRegister : isWritten (w .address) ≡ true
   pub itsMandated : under (mandated (w .address)) (w .value) ≡ under (mandated (w .address)) (bits (w .address))
@@ -89,8 +89,8 @@ pub record Covered (es : List Event) (s : Chip) : Type 0 where
   pub vic : (k : ℕ) → getD (cut es s k .image) reg.vicManual 0 ≢ getD (s .image) reg.vicManual 0
       → (mute (cut es s k) ≡ 1) ⊎ (length es ≤ k)
 
--- "HDCP and CEC are never built, and their bits (0xAF[7], 0xAF[4] among them) stay as the image has them": no cut has moved these two, nor any
--- free or read-only bit, nor any register that no list writes
+-- "HDCP and CEC are never built, and their bits (0xAF[7], 0xAF[4] among them) stay as the image has them": no cut has moved these two, nor
+-- any free or read-only bit, nor any register that no list writes
 pub record Untouched (es : List Event) (s : Chip) : Type 0 where
   pub protection : (k : ℕ) → Stays reg.hdcpHdmiCfg 7 s (cut es s k) × Stays reg.hdcpHdmiCfg 4 s (cut es s k)
   pub bits : (a j k : ℕ) → j < 8 → (bit j (free a) ≡ 1) ⊎ (bit j (readOnly a) ≡ 1) → Stays a j s (cut es s k)

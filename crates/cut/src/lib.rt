@@ -11,7 +11,8 @@ ghost use Rattle.cut.specs.Demand.{sent, Demand3};
 
 // "a chip in a state from which it was accepted, and a cut after any write": whatever is wanted and whatever the two buffers hold.
 pub fn any_cut()
-    ensures { λ _. ⌜ ((want : ℕ → ℕ) (s : Chip) → length (s .image) ≡ 256 → ready (s .image) ≡ true → Demand3 (λ image. sent (writeList want image)) want s) ⌝ }
+    ensures { λ _. ⌜ ((want : ℕ → ℕ) (s : Chip) → length (s .image) ≡ 256 → ready (s .image) ≡ true
+        → Demand3 (λ image. sent (writeList want image)) want s) ⌝ }
 {}
 
 // A bus that retries: of any list, from any state, as long as none of its events is refused.

@@ -18,7 +18,7 @@ use Rattle.promises.specs.Rules.{asked, Listed}
 abbrev pub listOf : List ℕ → List ℕ → List Event
 listOf input image = sent (writeList (asked input) image)
 
--- "planned again on the registers as the cut left them", with any buffer: the request is accepted, and its list on that image is the one planned
+-- "planned again on the registers as the cut left them", with any buffer: the request is accepted, and its list on that image is planned
 pub record Again (input image buffer : List ℕ) : Type 0 where
   pub accepted : planOf input image buffer .refusal ≡ 0
   pub listed : Listed input image buffer
