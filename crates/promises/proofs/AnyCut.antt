@@ -1,5 +1,5 @@
 -- Demands 2 and 3, tied to the planning entry. Assumes nothing.
-use mathlib.Core.Path.{_≡_, refl, sym, ap, ap₂, _∙_}
+use mathlib.Core.Path.{_≡_, refl, sym, ap, ap₂, subst, _∙_}
 use mathlib.Core.Bool.{Bool, true, false, false≢true, cond, not}
 use mathlib.Core.List.{List}
 use Prim.Native.Nat.{ℕ}
@@ -9,6 +9,7 @@ use lib.ListN.{length, getD, drop, replicate}
 use borrow.Author.Tests.{eqb-true, eq-eqb, le-ltb}
 use Rattle.matrix.specs.Matrix.{Bytes}
 use Rattle.chip.specs.declared.Chip.{Chip}
+use Rattle.chip.specs.Machine.{Write}
 use Rattle.request.specs.declared.Request.{Request}
 use Rattle.request.specs.declared.Checked.{Checked}
 use Rattle.request.specs.Read.{readOf, pairFor}
@@ -30,6 +31,8 @@ use Rattle.decode.proofs.Answers.{finished-again, read-back}
 use Rattle.promises.specs.Rules.{asked, Listed, Demand2, Accepted, OnSomeImage}
 use Rattle.promises.proofs.Ended.{avi-head, audio-head, enable-in, mode-in}
 use Rattle.promises.proofs.Filled.{filled, paired, never-three}
+use Rattle.promises.specs.LentBytes.{Followed}
+use Rattle.promises.proofs.LentBytes.{left, followed}
 use Rattle.promises.specs.AnyCut.{listOf, Again, AnyCut}
 
 -- an answer without a refusal comes from no refusal
@@ -92,16 +95,22 @@ any-cut input buffer s z =
     let stands : Stands q (e .image) =
     λ a h. finished-again (wanted q) (s .image) (e .image) a (ap (λ (l : List ℕ). getD l a 0) (d .registers) ∙ image-at (wanted q) (s .image) a h) in
     let g : Ranged q = read-ranged input (f .read) in
+    let l : Listed input (s .image) buffer = listed input (s .image) buffer r in
+    let newAvi = ap (drop 2) (d .ended .avi) ∙ avi-in q (e .image) sized g stands in
+    let newAudio = ap (drop 2) (d .ended .audio) ∙ audio-in q (e .image) sized g stands in
+    let newMatrix = d .ended .matrix ∙ matrix-in q (e .image) sized g stands in
+    let newMode = mode-in q (e .image) g stands in
     record {
-      listed = listed input (s .image) buffer r;
+      listed = l;
       demand = d;
-      newAvi = ap (drop 2) (d .ended .avi) ∙ avi-in q (e .image) sized g stands;
-      newAudio = ap (drop 2) (d .ended .audio) ∙ audio-in q (e .image) sized g stands;
-      newMatrix = d .ended .matrix ∙ matrix-in q (e .image) sized g stands;
+      newAvi = newAvi;
+      newAudio = newAudio;
+      newMatrix = newMatrix;
       headAvi = rw (d .ended .avi) (avi-head q (e .image) g stands);
       headAudio = rw (d .ended .audio) (audio-head q (e .image) g stands);
       newEnable = enable-in q (e .image) g stands;
-      newMode = mode-in q (e .image) g stands;
+      newMode = newMode;
+      bytes = λ z. subst (λ (ws : List Write). Followed q ws s) (sym (left input (s .image) buffer l)) (followed input s z d newAvi newAudio newMatrix newMode);
       again = λ ks room long.
           let image : List ℕ = cuts (listOf input) ks s .image in
           let y : refusalOf input image room ≡ 0 = accepted input image room

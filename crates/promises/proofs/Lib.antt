@@ -1,5 +1,6 @@
 pub mod Cases
 pub mod Ended
+pub mod LentBytes
 pub mod AnyCut
 pub mod AnyInput
 pub mod Example

@@ -12,7 +12,9 @@ use Rattle.writes.specs.List.{writeList}
 use Rattle.plan.specs.Plan.{planOf}
 use Rattle.cut.specs.Run.{Event}
 use Rattle.cut.specs.Demand.{sent, toItsEnd, cuts, Demand3}
+use Rattle.views.specs.Faces.{Sized}
 use Rattle.promises.specs.Rules.{asked, Listed}
+use Rattle.promises.specs.LentBytes.{pairsLeft, Followed}
 
 -- the list of a request on an image, sent write by write
 abbrev pub listOf : List ℕ → List ℕ → List Event
@@ -43,3 +45,5 @@ pub record AnyCut (input buffer : List ℕ) (s : Chip) : Type 0 where
   -- "Enable and mode in 0x18[7:5] act at once." "With a matrix: converter on. No matrix: converter off, mode 1"
   pub newEnable : enableInUse (toItsEnd (listOf input) s) ≡ readOf input .request .matrix .on
   pub newMode : modeInUse (toItsEnd (listOf input) s) ≡ readOf input .request .matrix .mode
+  -- the bytes in the lent buffer, written over slices of the machine's lengths: the calls' answers at every cut
+  pub bytes : Sized s → Followed (readOf input .request) (pairsLeft input (s .image) buffer) s

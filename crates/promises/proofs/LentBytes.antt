@@ -1,0 +1,116 @@
+-- The bytes that planning leaves, written into the lent slices: the run of the list, and what the calls answer along it. Assumes nothing.
+use mathlib.Core.Path.{_≡_, refl, sym, ap, subst, _∙_}
+use mathlib.Core.Logic.{⊎-map}
+use mathlib.Core.Bool.{true, false}
+use mathlib.Core.List.{List, [], _∷_, _++_}
+use Prim.Native.Nat.{ℕ, zero, suc, _*_, _<_, _≤_}
+use lib.ListN.{length, getD, take, drop, length-map, List·getD-map}
+use lib.Seq.{take-at, take-length}
+use Rattle.matrix.specs.Coefficient.{coefficientBytes}
+use Rattle.frames.specs.Frames.{aviFrame}
+use Rattle.request.specs.declared.Request.{Request}
+use Rattle.request.specs.Read.{readOf}
+use Rattle.chip.specs.declared.Chip.{Chip}
+use Rattle.chip.specs.declared.Wrote.{Wrote}
+use Rattle.chip.specs.Machine.{Write, _gets_, avi, audio, packets, holdsOf, two, inUse, coefficients, modeInUse, mute}
+use Rattle.views.specs.declared.view.Mute.{Mute}
+use Rattle.views.specs.Entry.{enterOf}
+use Rattle.views.specs.Faces.{Sized, Faces, Entered}
+use Rattle.views.proofs.Shown as views
+use Rattle.writes.specs.List.{flat, writeList}
+use Rattle.plan.specs.Wanted.{audioBytes}
+use Rattle.plan.specs.Plan.{planOf, bufferOf}
+use Rattle.plan.proofs.Pairs.{length-flat}
+use Rattle.cut.specs.Run.{Event, write, run, cut, event, happens}
+use Rattle.cut.specs.Demand.{sent, toItsEnd, Demand3}
+use Rattle.cut.proofs.Taken.{neat-two}
+use Rattle.promises.specs.Rules.{asked, Listed}
+use Rattle.promises.specs.AnyCut.{listOf}
+use Rattle.promises.specs.LentBytes.{pairsOf, pairsLeft, entered, matrixSaid, Followed}
+
+-- the pairs of a list's bytes are the list
+pairs-flat : (ws : List Write) → pairsOf (flat ws) ≡ ws
+unfolding flat
+pairs-flat [] = refl
+pairs-flat (w ∷ ws) = ap (λ (l : List Write). w ∷ l) (pairs-flat ws)
+
+pub left : (input image buffer : List ℕ) → Listed input image buffer → pairsLeft input image buffer ≡ writeList (asked input) image
+left input image buffer l =
+    let ws : List Write = writeList (asked input) image in
+    rw (l .count, l .list) (ap pairsOf (take-at (flat ws) _ (2 * length ws) (length-flat ws)) ∙ pairs-flat ws)
+
+-- over slices of the machine's lengths the entry is the machine's own write
+sized-entered : (ws : List Write) (s : Chip) → Sized s → Sized (entered ws s)
+sized-entered [] s z = z
+sized-entered (w ∷ ws) s z = sized-entered ws (enterOf s (w .address) (w .value) .chip) (views.entered s z (w .address) (w .value) .sized)
+
+entered-cut : (ws : List Write) (s : Chip) (k : ℕ) → Sized s → entered (take k ws) s ≡ cut (sent ws) s k
+entered-cut ws s zero z = refl
+entered-cut [] s (suc k) z = refl
+entered-cut (w ∷ ws) s (suc k) z =
+    let e : Entered s (w .address) (w .value) = views.entered s z (w .address) (w .value) in
+    entered-cut ws (enterOf s (w .address) (w .value) .chip) k (e .sized) ∙ ap (λ (x : Wrote). cut (sent ws) (x .chip) k) (e .same)
+
+entered-run : (ws : List Write) (s : Chip) → Sized s → entered ws s ≡ run (sent ws) s
+entered-run [] s z = refl
+entered-run (w ∷ ws) s z =
+    let e : Entered s (w .address) (w .value) = views.entered s z (w .address) (w .value) in
+    entered-run ws (enterOf s (w .address) (w .value) .chip) (e .sized) ∙ ap (λ (x : Wrote). run (sent ws) (x .chip)) (e .same)
+
+module _ (input : List ℕ) (s : Chip) (z : Sized s) (d : Demand3 (listOf input) (asked input) s) where
+  abbrev r : Request
+  r = readOf input .request
+
+  abbrev ws : List Write
+  ws = writeList (asked input) (s .image)
+
+  abbrev end : Chip
+  end = toItsEnd (listOf input) s
+
+  at-end : cut (sent ws) s (length (sent ws)) ≡ end
+  at-end = ap (λ (es : List Event). run es s) (take-length (sent ws))
+
+  -- what the calls answer at a cut, and at the end
+  sized-cut : (k : ℕ) → Sized (cut (sent ws) s k)
+  sized-cut k = subst Sized (entered-cut ws s k z) (sized-entered (take k ws) s z)
+
+  faces : (k : ℕ) → Faces (cut (sent ws) s k)
+  faces k = views.shown (cut (sent ws) s k) (sized-cut k) (neat-two (holdsOf packets (cut (sent ws) s k .image)) (d .ready (k ∷ [])))
+
+  faces-end : Faces end
+  faces-end = subst Faces at-end (faces (length (sent ws)))
+
+  -- the coefficients that the matrix call answers are those in use
+  twelve : (t : Chip) → Faces t → (out : List ℕ) → 25 ≤ length out → drop 1 (matrixSaid out t) ≡ coefficientBytes (coefficients t) ++ drop 25 out
+  twelve t f out h = ap (drop 1) (f .matrix out h)
+
+  module _ (newAvi : drop 2 (inUse packets avi end) ≡ drop 3 (aviFrame (r .video)))
+      (newAudio : drop 2 (inUse packets audio end) ≡ drop 3 (audioBytes (r .sound)))
+      (newMatrix : coefficients end ≡ r .matrix .coefficients) (newMode : modeInUse end ≡ r .matrix .mode) where
+    pub followed : Followed r ws s
+    followed = record {
+      taken = λ k h.
+          let w : Write = getD ws k (0 gets 0) in
+          let at : event (sent ws) k ≡ write w = List·getD-map write ws k (0 gets 0) in
+          let t : happens (event (sent ws) k) (cut (sent ws) s k) .refusal ≡ 0 = d .careful .taken k (rw (length-map ws write) h) in
+          rw (entered-cut ws s k z) (ap (λ (x : Wrote). x .refusal) (views.entered (cut (sent ws) s k) (sized-cut k) (w .address) (w .value) .same)
+          ∙ ap (λ (e : Event). happens e (cut (sent ws) s k) .refusal) (sym at) ∙ t);
+      sized = λ k. sized-entered (take k ws) s z;
+      start = refl;
+      between = λ k lo hi.
+          let b = d .careful .between k lo (rw (length-map ws write) hi) in
+          let f : Faces (cut (sent ws) s k) = faces k in
+          rw (entered-cut ws s k z, entered-run ws s z) (record {
+            muted = f .mute ∙ ap (λ (m : ℕ). record { refusal = 0; mute = m }) (b .muted);
+            avi = rw (f .avi, faces 0 .avi, faces-end .avi) (b .avi);
+            audio = rw (f .audio, faces 0 .audio, faces-end .audio) (b .audio);
+            matrix = λ out h. rw (twelve (cut (sent ws) s k) f out h, twelve s (faces 0) out h, twelve end faces-end out h)
+                (⊎-map (ap (λ (c : List ℕ). coefficientBytes c ++ drop 25 out)) (ap (λ (c : List ℕ). coefficientBytes c ++ drop 25 out)) (b .matrix));
+          });
+      ended = rw (entered-run ws s z) (record {
+        opened = faces-end .mute ∙ ap (λ (m : ℕ). record { refusal = 0; mute = m }) (d .ended .opened);
+        avi = ap (drop 2) (faces-end .avi) ∙ newAvi;
+        audio = ap (drop 2) (faces-end .audio) ∙ newAudio;
+        matrix = λ out h. faces-end .matrix out h ∙ rw (newMatrix, newMode);
+      });
+    }
