@@ -1,7 +1,7 @@
 // The video section of a request and the listed modes: document 01, "The request" and "Modes and clocks".
 ghost use mathlib.Core.Path.{_≡_};
 ghost use lib.ListN.{getD};
-ghost use Rattle.video.specs.Modes.{modeOf};
+ghost use Rattle.video.specs.Modes.{mode, modeOf};
 ghost use Rattle.video.specs.Video.{videoIn, videoBody, noVideo, Body};
 
 // What the video section asks for.
@@ -21,133 +21,39 @@ pub struct Mode {
     pub colorimetry: u8,
 }
 
-// "Modes and clocks", row by row as the definition has them.
-const MODES: [Mode; 15] = [
+fn row(vic: u8, hertz: u32, families: u8, aspect: u8, colorimetry: u8) -> Mode
+    ensures { λ r. ⌜ r ≡ mode vic hertz families aspect colorimetry ⌝ }
+{
     Mode {
-        vic: 1,
-        hertz: 25200000,
-        families: 2,
-        aspect: 1,
-        colorimetry: 1,
-    },
-    Mode {
-        vic: 2,
-        hertz: 27027000,
-        families: 2,
-        aspect: 1,
-        colorimetry: 1,
-    },
-    Mode {
-        vic: 3,
-        hertz: 27027000,
-        families: 2,
-        aspect: 2,
-        colorimetry: 1,
-    },
-    Mode {
-        vic: 4,
-        hertz: 74250000,
-        families: 2,
-        aspect: 2,
-        colorimetry: 2,
-    },
-    Mode {
-        vic: 5,
-        hertz: 74250000,
-        families: 2,
-        aspect: 2,
-        colorimetry: 2,
-    },
-    Mode {
-        vic: 16,
-        hertz: 148500000,
-        families: 2,
-        aspect: 2,
-        colorimetry: 2,
-    },
-    Mode {
-        vic: 17,
-        hertz: 27000000,
-        families: 1,
-        aspect: 1,
-        colorimetry: 1,
-    },
-    Mode {
-        vic: 18,
-        hertz: 27000000,
-        families: 1,
-        aspect: 2,
-        colorimetry: 1,
-    },
-    Mode {
-        vic: 19,
-        hertz: 74250000,
-        families: 1,
-        aspect: 2,
-        colorimetry: 2,
-    },
-    Mode {
-        vic: 20,
-        hertz: 74250000,
-        families: 1,
-        aspect: 2,
-        colorimetry: 2,
-    },
-    Mode {
-        vic: 31,
-        hertz: 148500000,
-        families: 1,
-        aspect: 2,
-        colorimetry: 2,
-    },
-    Mode {
-        vic: 32,
-        hertz: 74250000,
-        families: 2,
-        aspect: 2,
-        colorimetry: 2,
-    },
-    Mode {
-        vic: 34,
-        hertz: 74250000,
-        families: 2,
-        aspect: 2,
-        colorimetry: 2,
-    },
-    Mode {
-        vic: 60,
-        hertz: 59400000,
-        families: 2,
-        aspect: 2,
-        colorimetry: 2,
-    },
-    Mode {
-        vic: 62,
-        hertz: 74250000,
-        families: 2,
-        aspect: 2,
-        colorimetry: 2,
-    },
-];
+        vic: vic,
+        hertz: hertz,
+        families: families,
+        aspect: aspect,
+        colorimetry: colorimetry,
+    }
+}
 
-// The mode of a VIC.
+// The mode of a VIC: "Modes and clocks", row by row as the definition has them. A `match` and no array, since a call builds its arrays anew.
 pub fn mode_of(vic: u8) -> Mode
     ensures { λ r. ⌜ r ≡ modeOf vic ⌝ }
 {
-    let mut i: usize = 0;
-    while i < 15 {
-        let row = MODES[i];
-        if row.vic == vic {
-            return row;
-        }
-        i = i + 1;
-    }
-    Mode {
-        vic: 0,
-        hertz: 0,
-        families: 0,
-        aspect: 0,
-        colorimetry: 0,
+    match vic {
+        1 => row(1, 25200000, 2, 1, 1),
+        2 => row(2, 27027000, 2, 1, 1),
+        3 => row(3, 27027000, 2, 2, 1),
+        4 => row(4, 74250000, 2, 2, 2),
+        5 => row(5, 74250000, 2, 2, 2),
+        16 => row(16, 148500000, 2, 2, 2),
+        17 => row(17, 27000000, 1, 1, 1),
+        18 => row(18, 27000000, 1, 2, 1),
+        19 => row(19, 74250000, 1, 2, 2),
+        20 => row(20, 74250000, 1, 2, 2),
+        31 => row(31, 148500000, 1, 2, 2),
+        32 => row(32, 74250000, 2, 2, 2),
+        34 => row(34, 74250000, 2, 2, 2),
+        60 => row(60, 59400000, 2, 2, 2),
+        62 => row(62, 74250000, 2, 2, 2),
+        _ => row(0, 0, 0, 0, 0),
     }
 }
 
