@@ -73,8 +73,8 @@ quiet g n n′ a = cond (up g n′) (eqb n′ (2 ^ g .hold)) (not (up g n) && (l
 abbrev pub view : Buffer → Group → View Write
 view B g = record { next = next B; quiet = λ n w. quiet g n (next B n w) (w .address) }
 
-abbrev pub Sized : Chip → Type 0
-Sized s = length (s .image) ≡ 256
+abbrev pub Whole : Chip → Type 0
+Whole s = length (s .image) ≡ 256
 
 -- a write outside a part of a list leaves the part
 outside : (l : List ℕ) (b n a v : ℕ) → (ltb a b || leb (b + n) a) ≡ true → take n (drop b (set l a v)) ≡ take n (drop b l)
@@ -92,7 +92,7 @@ pub image-store : (w : Write) (s : Chip) → store w s .image ≡ set (s .image)
 unfolding put
 image-store w s = refl
 
-pub size-store : (w : Write) (s : Chip) → Sized s → Sized (store w s)
+pub size-store : (w : Write) (s : Chip) → Whole s → Whole (store w s)
 size-store w s e = ap (λ (l : List ℕ). length l) (image-store w s) ∙ length-set (s .image) (w .address) (w .value) ∙ e
 
 pub outside-part : (g : Group) (w : Write) (s : Chip) → (ltb (w .address) (g .first) || leb (g .first + g .count) (w .address)) ≡ true
@@ -118,7 +118,7 @@ record Sound (B : Buffer) (g : Group) : Type 0 where
 
 module _ (B : Buffer) (g : Group) (alike : (n : ℕ) → Alike (B .groups) (only (B .groups) n) n) (same : (n : ℕ) → up g (only (B .groups) n) ≡ up g n)
     (ok : Sound B g) where
-  status-store : (w : Write) (s : Chip) → Sized s → status B (store w s .image) ≡ next B (status B (s .image)) w
+  status-store : (w : Write) (s : Chip) → Whole s → status B (store w s .image) ≡ next B (status B (s .image)) w
   unfolding put
   status-store w s e = go (eqb (w .address) (B .register)) refl
     where
@@ -142,7 +142,7 @@ module _ (B : Buffer) (g : Group) (alike : (n : ℕ) → Alike (B .groups) (only
           ∙ rw p (ok .alone (holdsOf B (s .image)) (s .image) (B .bytes s))
       go false p q = rw (sym (same (holdsOf B (s .image))) ∙ q)
 
-  quiet-keeps : (w : Write) (s : Chip) → Sized s → quiet g (status B (s .image)) (next B (status B (s .image)) w) (w .address) ≡ true
+  quiet-keeps : (w : Write) (s : Chip) → Whole s → quiet g (status B (s .image)) (next B (status B (s .image)) w) (w .address) ≡ true
       → inUse B g (store w s) ≡ inUse B g s
   unfolding inUse
   quiet-keeps w s e q = rw (← same (holdsOf B (store w s .image)), status-store w s e) (go (up g (next B (status B (s .image)) w)) refl q)
@@ -164,12 +164,12 @@ module _ (B : Buffer) (g : Group) (alike : (n : ℕ) → Alike (B .groups) (only
       go true p t = ap (λ (l : List ℕ). take (g .count) l) (buffer-store w s (eqb-true _ _ t) p) ∙ after (up g (holdsOf B (s .image)))
       go false p t = down (up g (holdsOf B (s .image))) (rw same at t)
 
-  faithful : Faithful store (view B g) Sized (λ s. status B (s .image)) (inUse B g)
+  faithful : Faithful store (view B g) Whole (λ s. status B (s .image)) (inUse B g)
   faithful = record { lasts = size-store; tracks = status-store; keeps = quiet-keeps }
 
 -- a group of the chip, shown truly by its view
 abbrev pub Shown : Buffer → Group → Type 0
-Shown B g = Faithful store (view B g) Sized (λ s. status B (s .image)) (inUse B g)
+Shown B g = Faithful store (view B g) Whole (λ s. status B (s .image)) (inUse B g)
 
 pub avi-shown : Shown packets avi
 unfolding put

@@ -50,7 +50,7 @@ unfolding byte
 byte-stored a {x} {y} w k = merge-right 8 (readOnly a) x y _ ∙ merge-swap (readOnly a) x y _ (k .reads)
 
 -- what stands at b after a store at a: the stored byte, or what stood there
-at-set : (P : ℕ → Type 0) (l : List ℕ) (a b v : ℕ) → (b ≡ a → P v) → P (getD l b 0) → P (getD (set l a v) b 0)
+pub at-set : (P : ℕ → Type 0) (l : List ℕ) (a b v : ℕ) → (b ≡ a → P v) → P (getD l b 0) → P (getD (set l a v) b 0)
 at-set P [] a b v f p = p
 at-set P (x ∷ xs) zero zero v f p = f refl
 at-set P (x ∷ xs) zero (suc b) v f p = p
@@ -148,15 +148,6 @@ agree-self image a = kept-self
 pub agree-trans : (x y z : List ℕ) → Agree x y → Agree y z → Agree x z
 unfolding Agree
 agree-trans x y z p q a = record { reads = p a .reads ∙ q a .reads; frees = p a .frees ∙ q a .frees }
-
--- so each read-only and each free bit of the two
-pub agree-bit : (x y : List ℕ) → Agree x y → (a j : ℕ) → j < 8 → (bit j (free a) ≡ 1) ⊎ (bit j (readOnly a) ≡ 1)
-    → bit j (getD x a 0) ≡ bit j (getD y a 0)
-unfolding Agree
-agree-bit x y k a j h = ⊎-elim (λ t. same (free a) t (k a .frees)) (λ t. same (readOnly a) t (k a .reads))
-  where
-    same : (m : ℕ) → bit j m ≡ 1 → merge 8 m (getD x a 0) 0 ≡ merge 8 m (getD y a 0) 0 → bit j (getD x a 0) ≡ bit j (getD y a 0)
-    same m t e = sym (masked m j (getD x a 0) h t) ∙ ap (λ (n : ℕ). bit j n) e ∙ masked m j (getD y a 0) h t
 
 pub agree-free : (x y : List ℕ) → Agree x y → (a : ℕ) → merge 8 (free a) (getD x a 0) 0 ≡ merge 8 (free a) (getD y a 0) 0
 unfolding Agree

@@ -14,20 +14,20 @@ use borrow.Author.Tests.{eqb-true, eqb-false, ltb-true, ltb-false}
 use Rattle.map.specs.Map as reg
 use Rattle.bits.specs.Merge.{bit}
 use Rattle.bits.proofs.Below.{at-below}
-use Rattle.registers.specs.Classes.{classAt, readOnly, free}
 use Rattle.matrix.specs.Matrix.{fields}
 use Rattle.chip.specs.declared.Chip.{Chip}
-use Rattle.chip.specs.Machine.{Write, _gets_, Group, Buffer, avi, audio, gc, matrix, packets, converter, up, registersOf, holdsOf, inUse, writeOf, gcInUse, mute, coefficients}
+use Rattle.chip.specs.Machine.{Write, _gets_, Group, Buffer, avi, audio, gc, matrix, packets, converter, up, registersOf, holdsOf, inUse, writeOf, gcInUse, Muted, Open, mute, coefficients}
 use Rattle.writes.specs.Steps.{Step, _raising_, steps}
 use Rattle.writes.specs.List.{decided, written, listWith, isWritten, leftUp, finished, ready}
-use Rattle.cut.specs.Run.{Event, write, Fair, Stays, Careful, Covered, Untouched}
+use Rattle.cut.specs.Run.{Event, write, Fair, Careful, Covered}
 use Rattle.cut.specs.Demand.{sent, After, Same, Demand3, cuts}
-use Rattle.cut.proofs.Planned.{Plan, cut, done, Either}
+use Rattle.cut.proofs.Planned.{Planner, cutOf, endOf, OldOrNew}
 use Rattle.cut.proofs.Retry.{retries}
+use Rattle.cut.proofs.FairRun.{untouched}
 use Rattle.cut.proofs.Latch.{nexts, walk, acts, status-acts, calm, once}
-use Rattle.cut.proofs.Bank.{store, only, status, avi-same, audio-same, gc-same, matrix-same, view, Sized, Shown, image-store, size-store, down-part, avi-shown, audio-shown, gc-shown, matrix-shown}
+use Rattle.cut.proofs.Bank.{store, only, status, avi-same, audio-same, gc-same, matrix-same, view, Whole, Shown, image-store, size-store, down-part, avi-shown, audio-shown, gc-shown, matrix-shown}
 use Rattle.cut.proofs.Bytes.{clean, place, mute-byte, Seen, packets-seen, converter-seen, walk-seen, nexts-seen}
-use Rattle.cut.proofs.Bytes.{Agree, agree-self, agree-trans, agree-bit, agree-free, written-agree, agree-acts}
+use Rattle.cut.proofs.Bytes.{Agree, agree-self, agree-trans, agree-free, written-agree, agree-acts}
 use Rattle.cut.proofs.Taken.{neat, neat-only, tidy, neat-at, tidy-seen, Fit, run-acts, run-all, taken-at}
 use Rattle.writes.proofs.Last.{last, read, last-none}
 use Rattle.writes.proofs.Image.{is-image}
@@ -80,7 +80,7 @@ take-map f zero l = refl
 take-map f (suc k) [] = refl
 take-map f (suc k) (x ∷ xs) = ap (λ (r : List Write). f x ∷ r) (take-map f k xs)
 
-sized-acts : (ws : List Write) (s : Chip) → Sized s → Sized (acts store ws s)
+sized-acts : (ws : List Write) (s : Chip) → Whole s → Whole (acts store ws s)
 sized-acts [] s e = e
 sized-acts (w ∷ ws) s e = sized-acts ws (store w s) (size-store w s e)
 
@@ -108,6 +108,13 @@ gc-bit x h =
     let y : (bit 4 x ≡ 1) → ⊥ = eqb-false (bit 4 x) 1 z in
     omega arith
 
+-- the two mute bits, from their number
+is-muted : (u : Chip) → mute u ≡ 1 → Muted u
+is-muted u e = (omega arith, omega arith)
+
+is-open : (u : Chip) → mute u ≡ 2 → Open u
+is-open u e = (omega arith, omega arith)
+
 -- a state that cut runs may lead to: the read-only and free bits, and the registers that no list writes, are as they were
 pub record Near (s u : Chip) : Type 0 where
   pub ready : Ready (u .image)
@@ -129,18 +136,13 @@ finished-near want s u near a h = go (isWritten a) refl
     go true t = ap (λ (w : Write). w .value) (written-agree want (u .image) (s .image) end (near .kept))
     go false t = near .rest a h t
 
--- HDCP's bits 0xAF[7] and 0xAF[4] are free
-protected : (bit 7 (free reg.hdcpHdmiCfg) ≡ 1) × (bit 4 (free reg.hdcpHdmiCfg) ≡ 1)
-unfolding classAt
-protected = (refl, refl)
-
 -- a value that is old or new at every cut of every run, and that ends as the registers do
-pub record Latched (P : Plan) (shown : Chip → List ℕ) : Type 0 where
-  pub either : (want : ℕ → ℕ) (s : Chip) → Ready (s .image) → (k : ℕ) → Either shown s (done P want s) (cut P want s k)
-  pub ending : (want : ℕ → ℕ) (s u : Chip) → Ready (s .image) → Near s u → shown (done P want u) ≡ shown (done P want s)
+pub record Latched (P : Planner) (shown : Chip → List ℕ) : Type 0 where
+  pub either : (want : ℕ → ℕ) (s : Chip) → Ready (s .image) → (k : ℕ) → OldOrNew shown s (endOf P want s) (cutOf P want s k)
+  pub ending : (want : ℕ → ℕ) (s u : Chip) → Ready (s .image) → Near s u → shown (endOf P want u) ≡ shown (endOf P want s)
 
 module _ (mid : (ℕ → ℕ) → List ℕ → List Step) (good : (want : ℕ → ℕ) (image : List ℕ) → Ready image → Good want image (mid want image)) where
-  abbrev P : Plan
+  abbrev P : Planner
   P = listWith mid
 
   module _ (want : ℕ → ℕ) (s : Chip) (r : Ready (s .image)) where
@@ -172,37 +174,37 @@ module _ (mid : (ℕ → ℕ) → List ℕ → List Step) (good : (want : ℕ �
       walks = tidy-seen want (s .image) seen-p (status packets (s .image)) is ∙ facts .tidies;
     }
 
-    cut-acts : (k : ℕ) → cut P want s k ≡ acts store (take k (map f is)) s
+    cut-acts : (k : ℕ) → cutOf P want s k ≡ acts store (take k (map f is)) s
     cut-acts k = run-acts want (s .image) is s k fit
 
-    done-acts : done P want s ≡ acts store (map f is) s
+    done-acts : endOf P want s ≡ acts store (map f is) s
     done-acts = run-all want (s .image) is s fit
 
-    taken : (k : ℕ) → k < length (map f is) → let w : Write = getD (map f is) k (0 gets 0) in writeOf (cut P want s k) (w .address) (w .value) .refusal ≡ 0
+    taken : (k : ℕ) → k < length (map f is) → let w : Write = getD (map f is) k (0 gets 0) in writeOf (cutOf P want s k) (w .address) (w .value) .refusal ≡ 0
     taken k h = rw (cut-acts k) (taken-at want (s .image) is s k fit h)
 
     -- one group: old or new at every cut, and at the end as it stands in the registers
     module _ (B : Buffer) (g : Group) (F : Shown B g) (see : Seen want (s .image) B) where
-      holds-acts : (vs : List Step) (u : Chip) → Sized u → status B (acts store (map f vs) u .image) ≡ nexts (view B g) (status B (u .image)) (map clean vs)
+      holds-acts : (vs : List Step) (u : Chip) → Whole u → status B (acts store (map f vs) u .image) ≡ nexts (view B g) (status B (u .image)) (map clean vs)
       holds-acts vs u e = status-acts store F (map f vs) u e ∙ nexts-seen want (s .image) B g see (status B (u .image)) vs
 
-      group-cut : walk (view B g) true (status B (s .image)) (map clean is) ≡ true → (k : ℕ) → Either (inUse B g) s (done P want s) (cut P want s k)
+      group-cut : walk (view B g) true (status B (s .image)) (map clean is) ≡ true → (k : ℕ) → OldOrNew (inUse B g) s (endOf P want s) (cutOf P want s k)
       group-cut t k = rw (cut-acts k, done-acts) (once store F (map f is) s k (r .whole) (walk-seen want (s .image) B g see true (status B (s .image)) is ∙ t))
 
       group-done : nexts (view B g) (status B (s .image)) (map clean is) ≡ 0 → up g 0 ≡ false → ((n : ℕ) → up g (only (B .groups) n) ≡ up g n)
-          → inUse B g (done P want s) ≡ registersOf g (done P want s .image)
+          → inUse B g (endOf P want s) ≡ registersOf g (endOf P want s .image)
       group-done t z same =
-          down-part B g (done P want s) (sym (same (holdsOf B (done P want s .image))) ∙ ap (λ (n : ℕ). up g n) (rw done-acts (holds-acts is s (r .whole)) ∙ t) ∙ z)
+          down-part B g (endOf P want s) (sym (same (holdsOf B (endOf P want s .image))) ∙ ap (λ (n : ℕ). up g n) (rw done-acts (holds-acts is s (r .whole)) ∙ t) ∙ z)
 
-    ready-cut : (k : ℕ) → Ready (cut P want s k .image)
+    ready-cut : (k : ℕ) → Ready (cutOf P want s k .image)
     ready-cut k = record {
       whole = rw (cut-acts k) (sized-acts (take k (map f is)) s (r .whole));
-      holds = sym (neat-only (holdsOf packets (cut P want s k .image))) ∙ rw (cut-acts k, take-map f k is, holds-acts packets gc gc-shown seen-p (take k is) s (r .whole), ← take-map clean k is)
+      holds = sym (neat-only (holdsOf packets (cutOf P want s k .image))) ∙ rw (cut-acts k, take-map f k is, holds-acts packets gc gc-shown seen-p (take k is) s (r .whole), ← take-map clean k is)
           (neat-at _ (map clean is) k neat-start (facts .tidies));
     }
 
     -- the mute bits after a write to their register
-    mute-store : (x : ℕ) (u : Chip) → Sized u → up gc (status packets (u .image)) ≡ false → mute (store (f (reg.gc raising x)) u) ≡ bit 6 x + 2 * bit 7 x
+    mute-store : (x : ℕ) (u : Chip) → Whole u → up gc (status packets (u .image)) ≡ false → mute (store (f (reg.gc raising x)) u) ≡ bit 6 x + 2 * bit 7 x
     unfolding gcInUse written decided
     mute-store x u e h =
         let d : inUse packets gc (store (f (reg.gc raising x)) u) ≡ registersOf gc (store (f (reg.gc raising x)) u .image) =
@@ -215,7 +217,7 @@ module _ (mid : (ℕ → ℕ) → List ℕ → List Step) (good : (want : ℕ �
     dark : Chip
     dark = store (f (reg.gc raising reg.setAvMuteMask)) s
 
-    dark-sized : Sized dark
+    dark-sized : Whole dark
     unfolding dark
     dark-sized = size-store (f (reg.gc raising reg.setAvMuteMask)) s (r .whole)
 
@@ -236,31 +238,32 @@ module _ (mid : (ℕ → ℕ) → List ℕ → List Step) (good : (want : ℕ �
     count : length (P want (s .image)) ≡ suc (suc (length ws))
     count = ap (λ (l : List Write). suc (length l)) shape ∙ rw (length-append ws (opening ∷ [])) (omega arith)
 
-    cut-dark : (j : ℕ) → cut P want s (suc j) ≡ acts store (take j (ws ++ opening ∷ [])) dark
+    cut-dark : (j : ℕ) → cutOf P want s (suc j) ≡ acts store (take j (ws ++ opening ∷ [])) dark
     unfolding dark
     cut-dark j = cut-acts (suc j) ∙ ap (λ (l : List Write). acts store (take j l) dark) shape
 
-    opens : mute (done P want s) ≡ 2
+    opens : Open (endOf P want s)
     unfolding dark
     opens =
         let u : Chip = acts store ws dark in
-        let e : done P want s ≡ store opening u = done-acts ∙ rw (map-append, acts-append) in
+        let e : endOf P want s ≡ store opening u = done-acts ∙ rw (map-append, acts-append) in
         let h : status packets (u .image) ≡ 0 =
         holds-acts packets gc gc-shown seen-p ms dark dark-sized ∙ ap (λ (n : ℕ). nexts (view packets gc) n (map clean ms)) dark-holds ∙ facts .closes in
-        rw e (mute-store reg.clearAvMuteMask u (sized-acts ws dark dark-sized) (ap (λ (n : ℕ). up gc n) h))
+        is-open (endOf P want s) (rw e (mute-store reg.clearAvMuteMask u (sized-acts ws dark dark-sized) (ap (λ (n : ℕ). up gc n) h)))
 
-    mutes : (j : ℕ) → suc j < length (P want (s .image)) → mute (cut P want s (suc j)) ≡ 1
+    mutes : (j : ℕ) → suc j < length (P want (s .image)) → Muted (cutOf P want s (suc j))
     unfolding gcInUse dark
     mutes j h =
         let le : j ≤ length ws = omega (arith, count) in
-        let e : cut P want s (suc j) ≡ acts store (take j ws) dark =
+        let e : cutOf P want s (suc j) ≡ acts store (take j ws) dark =
         cut-dark j ∙ ap (λ (l : List Write). acts store l dark) (take-append-le j ws (opening ∷ []) le) in
         let c : inUse packets gc (acts store (take j ws) dark) ≡ inUse packets gc dark =
         calm store gc-shown ws dark j dark-sized
         (rw dark-holds (walk-seen want (s .image) packets gc seen-p false (status packets (s .image)) ms ∙ facts .gc-calm)) in
-        rw (e, c) (mute-store reg.setAvMuteMask s (r .whole) (neat-elim (λ (n : ℕ). up gc n ≡ false) refl refl refl (holdsOf packets (s .image)) neat-start))
+        is-muted (cutOf P want s (suc j)) (rw (e, c) (mute-store reg.setAvMuteMask s (r .whole)
+        (neat-elim (λ (n : ℕ). up gc n ≡ false) refl refl refl (holdsOf packets (s .image)) neat-start)))
 
-    ended : After (done P want s)
+    ended : After (endOf P want s)
     unfolding coefficients
     ended = record {
       opened = opens;
@@ -273,23 +276,23 @@ module _ (mid : (ℕ → ℕ) → List ℕ → List Step) (good : (want : ℕ �
     stand : (vs : List Step) (a : ℕ) → a < 256 → getD (acts store (map f vs) s .image) a 0 ≡ read f a (last a vs 0) (getD (s .image) a 0)
     stand vs a h = stored-last f (place want (s .image)) a (getD (s .image) a 0) h vs s 0 (r .whole) refl
 
-    registers : (a : ℕ) → a < 256 → getD (done P want s .image) a 0 ≡ finished want (s .image) a
+    registers : (a : ℕ) → a < 256 → getD (endOf P want s .image) a 0 ≡ finished want (s .image) a
     registers a h = rw done-acts (stand is a h) ∙ good want (s .image) r .finishes a h
 
-    others-stay : (k a : ℕ) → a < 256 → isWritten a ≡ false → getD (cut P want s k .image) a 0 ≡ getD (s .image) a 0
+    others-stay : (k a : ℕ) → a < 256 → isWritten a ≡ false → getD (cutOf P want s k .image) a 0 ≡ getD (s .image) a 0
     others-stay k a h t = rw (cut-acts k, take-map f k is, stand (take k is) a h, last-none a is 0 k (good want (s .image) r .rests a h t))
 
     -- a register that a write moves is the mute's, or the picture is muted before and after
-    covered : (a k : ℕ) → a ≢ reg.gc → getD (cut P want s (suc k) .image) a 0 ≢ getD (cut P want s k .image) a 0
-        → (mute (cut P want s k) ≡ 1) × (mute (cut P want s (suc k)) ≡ 1)
+    covered : (a k : ℕ) → a ≢ reg.gc → getD (cutOf P want s (suc k) .image) a 0 ≢ getD (cutOf P want s k .image) a 0
+        → Muted (cutOf P want s k) × Muted (cutOf P want s (suc k))
     unfolding dark written
     covered a zero h m = absurd (m (ap (λ (t : Chip). getD (t .image) a 0) (cut-dark 0) ∙ elsewhere (f (reg.gc raising reg.setAvMuteMask)) s a h))
     covered a (suc j) h m = go (ltb (suc (suc j)) (length (P want (s .image)))) refl
       where
-        late : (i : ℕ) → length ws ≤ i → getD (cut P want s (suc i) .image) a 0 ≡ getD (acts store ws dark .image) a 0
+        late : (i : ℕ) → length ws ≤ i → getD (cutOf P want s (suc i) .image) a 0 ≡ getD (acts store ws dark .image) a 0
         late i l = ap (λ (t : Chip). getD (t .image) a 0) (cut-dark i) ∙ tail-stays ws opening dark a i h l
 
-        go : (t : Bool) → ltb (suc (suc j)) (length (P want (s .image))) ≡ t → (mute (cut P want s (suc j)) ≡ 1) × (mute (cut P want s (suc (suc j))) ≡ 1)
+        go : (t : Bool) → ltb (suc (suc j)) (length (P want (s .image))) ≡ t → Muted (cutOf P want s (suc j)) × Muted (cutOf P want s (suc (suc j)))
         go true e =
             let l : suc (suc j) < length (P want (s .image)) = ltb-true (suc (suc j)) (length (P want (s .image))) e in
             (mutes j (omega (arith, l)), mutes (suc j) l)
@@ -297,16 +300,16 @@ module _ (mid : (ℕ → ℕ) → List ℕ → List Step) (good : (want : ℕ �
             let l : length ws ≤ j = omega (arith, count, ltb-false (suc (suc j)) (length (P want (s .image))) e) in
             absurd (m (late (suc j) (omega (arith, l)) ∙ sym (late j l)))
 
-    vic : (k : ℕ) → getD (cut P want s k .image) reg.vicManual 0 ≢ getD (s .image) reg.vicManual 0
-        → (mute (cut P want s k) ≡ 1) ⊎ (length (P want (s .image)) ≤ k)
+    vic : (k : ℕ) → getD (cutOf P want s k .image) reg.vicManual 0 ≢ getD (s .image) reg.vicManual 0
+        → Muted (cutOf P want s k) ⊎ (length (P want (s .image)) ≤ k)
     vic zero m = absurd (m refl)
     vic (suc j) m = go (ltb (suc j) (length (P want (s .image)))) refl
       where
-        go : (t : Bool) → ltb (suc j) (length (P want (s .image))) ≡ t → (mute (cut P want s (suc j)) ≡ 1) ⊎ (length (P want (s .image)) ≤ suc j)
+        go : (t : Bool) → ltb (suc j) (length (P want (s .image))) ≡ t → Muted (cutOf P want s (suc j)) ⊎ (length (P want (s .image)) ≤ suc j)
         go true e = inl (mutes j (ltb-true (suc j) (length (P want (s .image))) e))
         go false e = inr (ltb-false (suc j) (length (P want (s .image))) e)
 
-  pub near-cut : (want : ℕ → ℕ) (s u : Chip) (k : ℕ) → Near s u → Near s (cut P want u k)
+  pub near-cut : (want : ℕ → ℕ) (s u : Chip) (k : ℕ) → Near s u → Near s (cutOf P want u k)
   near-cut want s u k near =
       let vs : List Step = take k (is want u (near .ready)) in
       record {
@@ -317,18 +320,18 @@ module _ (mid : (ℕ → ℕ) → List ℕ → List Step) (good : (want : ℕ �
       }
 
   -- a run from a near state ends in the same registers
-  pub ends-alike : (want : ℕ → ℕ) (s u : Chip) → Ready (s .image) → Near s u → done P want u .image ≡ done P want s .image
+  pub ends-alike : (want : ℕ → ℕ) (s u : Chip) → Ready (s .image) → Near s u → endOf P want u .image ≡ endOf P want s .image
   ends-alike want s u r near = ext-getD 0 _ _ (size u (near .ready) ∙ sym (size s r)) (λ a h. at-each a (rw (size u (near .ready)) at h))
     where
-      size : (t : Chip) → Ready (t .image) → length (done P want t .image) ≡ 256
+      size : (t : Chip) → Ready (t .image) → length (endOf P want t .image) ≡ 256
       size t q = rw (done-acts want t q) (sized-acts (P want (t .image)) t (q .whole))
 
-      at-each : (a : ℕ) → a < 256 → getD (done P want u .image) a 0 ≡ getD (done P want s .image) a 0
+      at-each : (a : ℕ) → a < 256 → getD (endOf P want u .image) a 0 ≡ getD (endOf P want s .image) a 0
       at-each a h = registers want u (near .ready) a h ∙ finished-near want s u near a h ∙ sym (registers want s r a h)
 
   ending-part : (g : Group) (shown : Chip → List ℕ) (of : List ℕ → List ℕ)
-      → ((want : ℕ → ℕ) (t : Chip) → Ready (t .image) → shown (done P want t) ≡ of (registersOf g (done P want t .image)))
-      → (want : ℕ → ℕ) (s u : Chip) → Ready (s .image) → Near s u → shown (done P want u) ≡ shown (done P want s)
+      → ((want : ℕ → ℕ) (t : Chip) → Ready (t .image) → shown (endOf P want t) ≡ of (registersOf g (endOf P want t .image)))
+      → (want : ℕ → ℕ) (s u : Chip) → Ready (s .image) → Near s u → shown (endOf P want u) ≡ shown (endOf P want s)
   ending-part g shown of h want s u r near = h want u (near .ready) ∙ ap (λ (l : List ℕ). of (registersOf g l)) (ends-alike want s u r near) ∙ sym (h want s r)
 
   pub avi-latched : Latched P (inUse packets avi)
@@ -357,9 +360,9 @@ module _ (mid : (ℕ → ℕ) → List ℕ → List Step) (good : (want : ℕ �
 
   pub near-cuts : (want : ℕ → ℕ) (s u : Chip) (ks : List ℕ) → Near s u → Near s (cuts (planned want) ks u)
   near-cuts want s u [] near = near
-  near-cuts want s u (k ∷ ks) near = near-cuts want s (cut P want u k) ks (near-cut want s u k near)
+  near-cuts want s u (k ∷ ks) near = near-cuts want s (cutOf P want u k) ks (near-cut want s u k near)
 
-  same-end : (want : ℕ → ℕ) (s u : Chip) → Ready (s .image) → Near s u → Same (done P want s) (done P want u)
+  same-end : (want : ℕ → ℕ) (s u : Chip) → Ready (s .image) → Near s u → Same (endOf P want s) (endOf P want u)
   same-end want s u r near = record {
     registers = ends-alike want s u r near;
     avi = avi-latched .ending want s u r near;
@@ -376,11 +379,11 @@ module _ (mid : (ℕ → ℕ) → List ℕ → List Step) (good : (want : ℕ �
     as-long = length-map list write
 
     -- fair on the image of the start is fair on that of a cut, which has the same free bits
-    still-fair : (k : ℕ) (w : Write) → Fair (s .image) w → Fair (cut P want s k .image) w
+    still-fair : (k : ℕ) (w : Write) → Fair (s .image) w → Fair (cutOf P want s k .image) w
     still-fair k w f = record {
       itsRegister = f .itsRegister;
       itsMandated = f .itsMandated;
-      itsFree = f .itsFree ∙ sym (agree-free (cut P want s k .image) (s .image) (near-cut want s s k (near-self s r) .kept) (w .address));
+      itsFree = f .itsFree ∙ sym (agree-free (cutOf P want s k .image) (s .image) (near-cut want s s k (near-self s r) .kept) (w .address));
     }
 
     careful : Careful (sent list) s
@@ -395,33 +398,23 @@ module _ (mid : (ℕ → ℕ) → List ℕ → List Step) (good : (want : ℕ �
       };
     }
       where
-        muted : (k : ℕ) → 0 < k → k < length (P want (s .image)) → mute (cut P want s k) ≡ 1
+        muted : (k : ℕ) → 0 < k → k < length (P want (s .image)) → Muted (cutOf P want s k)
         muted zero lo hi = absurd (not-suc-le-zero lo)
         muted (suc j) lo hi = mutes want s r j hi
 
     covers : Covered (sent list) s
     covers = record { moves = covered want s r; vic = λ k m. rw as-long (vic want s r k m) }
 
-    kept : (a j k : ℕ) → j < 8 → (bit j (free a) ≡ 1) ⊎ (bit j (readOnly a) ≡ 1) → Stays a j s (cut P want s k)
-    kept a j k h = agree-bit (cut P want s k .image) (s .image) (near-cut want s s k (near-self s r) .kept) a j h
-
-    untouched : Untouched (sent list) s
-    untouched = record {
-      protection = λ k. (kept reg.hdcpHdmiCfg 7 k (lit< tt) (inl (protected .0)), kept reg.hdcpHdmiCfg 4 k (lit< tt) (inl (protected .1)));
-      bits = kept;
-      unwritten = λ a k. others-stay want s r k a;
-    }
-
-    whole-end : length (done P want s .image) ≡ 256
+    whole-end : length (endOf P want s .image) ≡ 256
     whole-end = rw (done-acts want s r) (sized-acts list s (r .whole))
 
     pub demand3 : Demand3 (planned want) want s
     demand3 = record {
       careful = careful;
       covered = covers;
-      untouched = untouched;
+      untouched = untouched (sent list) s (careful .fair);
       ended = ended want s r;
-      registers = is-image want (s .image) (done P want s .image) whole-end (registers want s r);
+      registers = is-image want (s .image) (endOf P want s .image) whole-end (registers want s r);
       whole = λ ks. near-cuts want s s ks (near-self s r) .ready .whole;
       ready = λ ks. near-cuts want s s ks (near-self s r) .ready .holds;
       again = λ ks. same-end want s (cuts (planned want) ks s) r (near-cuts want s s ks (near-self s r));

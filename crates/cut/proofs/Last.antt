@@ -12,10 +12,10 @@ use Rattle.chip.specs.Machine.{Write}
 use Rattle.writes.specs.Steps.{Step, _raising_}
 use Rattle.writes.proofs.Last.{last, read}
 use Rattle.cut.proofs.Latch.{acts}
-use Rattle.cut.proofs.Bank.{store, Sized, image-store, size-store}
+use Rattle.cut.proofs.Bank.{store, Whole, image-store, size-store}
 
 pub stored-last : (f : Step → Write) → ((i : Step) → f i .address ≡ i .register) → (a d : ℕ) → a < 256
-    → (is : List Step) (s : Chip) (o : ℕ) → Sized s → getD (s .image) a 0 ≡ read f a o d → getD (acts store (map f is) s .image) a 0 ≡ read f a (last a is o) d
+    → (is : List Step) (s : Chip) (o : ℕ) → Whole s → getD (s .image) a 0 ≡ read f a o d → getD (acts store (map f is) s .image) a 0 ≡ read f a (last a is o) d
 stored-last f p a d h [] s o z e = e
 stored-last f p a d h (i ∷ is) s o z e =
     stored-last f p a d h is (store (f i) s) _ (size-store (f i) s z) (ap (λ (l : List ℕ). getD l a 0) (image-store (f i) s) ∙ go (eqb a (i .register)) refl)

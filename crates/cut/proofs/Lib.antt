@@ -2,6 +2,7 @@ pub mod Retry
 pub mod Latch
 pub mod Bank
 pub mod Bytes
+pub mod FairRun
 pub mod Taken
 pub mod Last
 pub mod Planned

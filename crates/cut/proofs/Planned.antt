@@ -10,16 +10,16 @@ use Rattle.cut.specs.Run.{run}
 use Rattle.cut.specs.Demand.{sent}
 
 -- how wanted bytes and an image give a list
-abbrev pub Plan : Type 0
-Plan = (ℕ → ℕ) → List ℕ → List Write
+abbrev pub Planner : Type 0
+Planner = (ℕ → ℕ) → List ℕ → List Write
 
 -- the state that a cut after k writes leaves, and the one at the end
-abbrev pub cut : Plan → (ℕ → ℕ) → Chip → ℕ → Chip
-cut P want s k = run (take k (sent (P want (s .image)))) s
+abbrev pub cutOf : Planner → (ℕ → ℕ) → Chip → ℕ → Chip
+cutOf P want s k = run (take k (sent (P want (s .image)))) s
 
-abbrev pub done : Plan → (ℕ → ℕ) → Chip → Chip
-done P want s = run (sent (P want (s .image))) s
+abbrev pub endOf : Planner → (ℕ → ℕ) → Chip → Chip
+endOf P want s = run (sent (P want (s .image))) s
 
 -- what f says of t is what it says of s, or what it says of r
-abbrev pub Either : (Chip → List ℕ) → Chip → Chip → Chip → Type 0
-Either f s r t = (f t ≡ f s) ⊎ (f t ≡ f r)
+abbrev pub OldOrNew : (Chip → List ℕ) → Chip → Chip → Chip → Type 0
+OldOrNew f s r t = (f t ≡ f s) ⊎ (f t ≡ f r)

@@ -95,17 +95,17 @@ module _ (s : Chip) (a v : ℕ) (z : length (s .image) ≡ 256) (taken : writeOf
 
 -- ---- a list of events
 
-abbrev Sized : Chip → Type 0
-Sized s = length (s .image) ≡ 256
+abbrev Whole : Chip → Type 0
+Whole s = length (s .image) ≡ 256
 
 -- none is refused where it happens
 abbrev Taken : List Event → Chip → Type 0
 Taken es s = (k : ℕ) → k < length es → happens (event es k) (cut es s k) .refusal ≡ 0
 
-sized-happens : (e : Event) (s : Chip) → Sized s → Sized (happens e s .chip)
+sized-happens : (e : Event) (s : Chip) → Whole s → Whole (happens e s .chip)
 sized-happens (write w) s z = sized-after s (w .address) (w .value) z
 
-again : (e : Event) (s : Chip) → Sized s → happens e s .refusal ≡ 0 → happens e (happens e s .chip) ≡ record { refusal = 0; chip = happens e s .chip }
+again : (e : Event) (s : Chip) → Whole s → happens e s .refusal ≡ 0 → happens e (happens e s .chip) ≡ record { refusal = 0; chip = happens e s .chip }
 again (write w) s z h = sent-again s (w .address) (w .value) z h
 
 -- an event that changes nothing, any number of times before the others
@@ -128,7 +128,7 @@ module _ (e : Event) (t : Chip) (idle : happens e t ≡ record { refusal = 0; ch
       ap (λ (w : Wrote). happens (event (replicate m e ++ es) k) (cut (replicate m e ++ es) (w .chip) k) .refusal) idle
       ∙ idle-taken m es h k (le-of-suc-le-suc l)
 
-pub retries : (es : List Event) (s : Chip) → Sized s → Taken es s → (n : ℕ → ℕ) → Retried n es s
+pub retries : (es : List Event) (s : Chip) → Whole s → Taken es s → (n : ℕ → ℕ) → Retried n es s
 retries [] s z h n = record { cuts = λ k. ap (λ (es : List Event). run es s) (take-nil k); taken = λ k l. absurd (not-suc-le-zero l); ends = refl }
 retries (e ∷ es) s z h n =
     let more : ℕ → ℕ = λ k. n (suc k) in

@@ -14,7 +14,7 @@ use Rattle.writes.specs.List.{written}
 use Rattle.cut.specs.Run.{run}
 use Rattle.cut.specs.Demand.{sent}
 use Rattle.cut.proofs.Latch.{View, first, nexts, walk, walk-map, acts}
-use Rattle.cut.proofs.Bank.{store, only, status, next, avi-same, audio-same, gc-same, Sized, size-store, gc-shown}
+use Rattle.cut.proofs.Bank.{store, only, status, next, avi-same, audio-same, gc-same, Whole, size-store, gc-shown}
 use Rattle.cut.proofs.Bytes.{clean, Seen, Agree, written-stored, agree-store}
 
 -- holds on which planning is not refused, as `ready` has them
@@ -49,7 +49,7 @@ unfolding Seen
 tidy-seen want image see n is = walk-map tidy (written want image) clean see (λ n i. ap neat (see n i)) false n is
 
 -- a write that the machine stores as it is, and that leaves the holds so
-module _ (w : Write) (s : Chip) (z : Sized s) (e : stored (w .address) (w .value) (s .image) ≡ w .value) where
+module _ (w : Write) (s : Chip) (z : Whole s) (e : stored (w .address) (w .value) (s .image) ≡ w .value) where
   later : status packets (imageAfter s (w .address) (w .value)) ≡ next packets (status packets (s .image)) w
   unfolding put
   later = ap (λ (b : ℕ). status packets (set (s .image) (w .address) b)) e ∙ gc-shown .tracks w s z
@@ -74,7 +74,7 @@ module _ (want : ℕ → ℕ) (image₀ : List ℕ) where
   -- a state from which the steps' writes are all taken
   pub record Fit (s : Chip) (is : List Step) : Type 0 where
     pub agree : Agree (s .image) image₀
-    pub sized : Sized s
+    pub sized : Whole s
     pub holds : neat (status packets (s .image)) ≡ true
     pub walks : walk tidy false (status packets (s .image)) (map f is) ≡ true
 

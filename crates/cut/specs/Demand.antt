@@ -7,7 +7,7 @@ use Prim.Native.Nat.{ℕ}
 use lib.ListN.{length}
 use Rattle.matrix.specs.Matrix.{fields}
 use Rattle.chip.specs.declared.Chip.{Chip}
-use Rattle.chip.specs.Machine.{Write, avi, audio, matrix, packets, registersOf, inUse, coefficients, mute}
+use Rattle.chip.specs.Machine.{Write, avi, audio, matrix, packets, registersOf, inUse, coefficients, Open}
 use Rattle.writes.specs.List.{finishedImage, ready}
 use Rattle.cut.specs.Run.{Event, write, run, cut, Careful, Covered, Untouched, Retried}
 
@@ -26,7 +26,7 @@ cuts planned (k ∷ ks) s = cuts planned ks (cut (planned (s .image)) s k)
 
 -- "all are new and the picture is open": what is in use is what stands in the registers
 pub record After (r : Chip) : Type 0 where
-  pub opened : mute r ≡ 2
+  pub opened : Open r
   pub avi : inUse packets avi r ≡ registersOf avi (r .image)
   pub audio : inUse packets audio r ≡ registersOf audio (r .image)
   pub matrix : coefficients r ≡ fields (registersOf matrix (r .image))

@@ -11,7 +11,7 @@ use Rattle.map.specs.Map as reg
 use Rattle.registers.specs.Classes.{readOnly, mandated, free, bits}
 use Rattle.chip.specs.declared.Chip.{Chip}
 use Rattle.chip.specs.declared.Wrote.{Wrote}
-use Rattle.chip.specs.Machine.{Write, _gets_, avi, audio, packets, writeOf, inUse, coefficients, mute}
+use Rattle.chip.specs.Machine.{Write, _gets_, avi, audio, packets, writeOf, inUse, coefficients, Muted}
 use Rattle.writes.specs.List.{isWritten}
 
 -- what happens to the chip: document 01 knows writes alone
@@ -52,7 +52,7 @@ Either old new x = (x ≡ old) ⊎ (x ≡ new)
 
 -- "the picture is muted, and the AVI InfoFrame, the audio InfoFrame and the twelve matrix coefficients in use are each all old or all new"
 pub record Between (old new : InUse) (t : Chip) : Type 0 where
-  pub muted : mute t ≡ 1
+  pub muted : Muted t
   pub avi : Either (old .avi) (new .avi) (inUse packets avi t)
   pub audio : Either (old .audio) (new .audio) (inUse packets audio t)
   pub matrix : Either (old .matrix) (new .matrix) (coefficients t)
@@ -85,16 +85,16 @@ pub record Covered (es : List Event) (s : Chip) : Type 0 where
   -- "where the chip takes the VIC from 0x3C, that is outside the group and the mute covers it": an event that moves any register but the
   -- mute's own has the picture muted before it and after it
   pub moves : (a k : ℕ) → a ≢ reg.gc → getD (cut es s (suc k) .image) a 0 ≢ getD (cut es s k .image) a 0
-      → (mute (cut es s k) ≡ 1) × (mute (cut es s (suc k)) ≡ 1)
+      → Muted (cut es s k) × Muted (cut es s (suc k))
   pub vic : (k : ℕ) → getD (cut es s k .image) reg.vicManual 0 ≢ getD (s .image) reg.vicManual 0
-      → (mute (cut es s k) ≡ 1) ⊎ (length es ≤ k)
+      → Muted (cut es s k) ⊎ (length es ≤ k)
 
 -- "HDCP and CEC are never built, and their bits (0xAF[7], 0xAF[4] among them) stay as the image has them": no cut has moved these two, nor
 -- any free or read-only bit, nor any register that no list writes
 pub record Untouched (es : List Event) (s : Chip) : Type 0 where
   pub protection : (k : ℕ) → Stays reg.hdcpHdmiCfg 7 s (cut es s k) × Stays reg.hdcpHdmiCfg 4 s (cut es s k)
   pub bits : (a j k : ℕ) → j < 8 → (bit j (free a) ≡ 1) ⊎ (bit j (readOnly a) ≡ 1) → Stays a j s (cut es s k)
-  pub unwritten : (a k : ℕ) → a < 256 → isWritten a ≡ false → getD (cut es s k .image) a 0 ≡ getD (s .image) a 0
+  pub unwritten : (a k : ℕ) → isWritten a ≡ false → getD (cut es s k .image) a 0 ≡ getD (s .image) a 0
 
 -- ---- a bus that retries
 

@@ -6,13 +6,19 @@ ghost use Prim.Native.Nat.{ℕ, _<_};
 ghost use lib.ListN.{length};
 ghost use Rattle.chip.specs.declared.Chip.{Chip};
 ghost use Rattle.writes.specs.List.{writeList, ready};
-ghost use Rattle.cut.specs.Run.{Event, event, happens, cut, Retried};
+ghost use Rattle.cut.specs.Run.{Event, event, happens, cut, IsFair, Untouched, Retried};
 ghost use Rattle.cut.specs.Demand.{sent, Demand3};
 
 // "a chip in a state from which it was accepted, and a cut after any write": whatever is wanted and whatever the two buffers hold.
 pub fn any_cut()
     ensures { λ _. ⌜ ((want : ℕ → ℕ) (s : Chip) → length (s .image) ≡ 256 → ready (s .image) ≡ true
         → Demand3 (λ image. sent (writeList want image)) want s) ⌝ }
+{}
+
+// A list whose events are fair, whoever made it, leaves what is not its own.
+pub fn fair_run()
+    ensures { λ _. ⌜ ((es : List Event) (s : Chip)
+        → ((k : ℕ) → k < length es → IsFair (event es k) (cut es s k)) → Untouched es s) ⌝ }
 {}
 
 // A bus that retries: of any list, from any state, as long as none of its events is refused.

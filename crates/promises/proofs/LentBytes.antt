@@ -4,15 +4,17 @@ use mathlib.Core.Logic.{⊎-map}
 use mathlib.Core.Bool.{true, false}
 use mathlib.Core.List.{List, [], _∷_, _++_}
 use Prim.Native.Nat.{ℕ, zero, suc, _*_, _<_, _≤_}
+use native.Mathlib.Omega.{arith}
 use lib.ListN.{length, getD, take, drop, length-map, List·getD-map}
 use lib.Seq.{take-at, take-length}
+use Rattle.bits.specs.Merge.{bit}
 use Rattle.matrix.specs.Coefficient.{coefficientBytes}
 use Rattle.frames.specs.Frames.{aviFrame}
 use Rattle.request.specs.declared.Request.{Request}
 use Rattle.request.specs.Read.{readOf}
 use Rattle.chip.specs.declared.Chip.{Chip}
 use Rattle.chip.specs.declared.Wrote.{Wrote}
-use Rattle.chip.specs.Machine.{Write, _gets_, avi, audio, packets, holdsOf, two, inUse, coefficients, modeInUse, mute}
+use Rattle.chip.specs.Machine.{Write, _gets_, avi, audio, packets, holdsOf, two, inUse, coefficients, modeInUse, gcInUse, Muted, Open, mute}
 use Rattle.views.specs.declared.view.Mute.{Mute}
 use Rattle.views.specs.Entry.{enterOf}
 use Rattle.views.specs.Faces.{Sized, Faces, Entered}
@@ -38,6 +40,13 @@ pub left : (input image buffer : List ℕ) → Listed input image buffer → pai
 left input image buffer l =
     let ws : List Write = writeList (asked input) image in
     rw (l .count, l .list) (ap pairsOf (take-at (flat ws) _ (2 * length ws) (length-flat ws)) ∙ pairs-flat ws)
+
+-- the numbers of muted and open
+one : (t : Chip) → Muted t → mute t ≡ 1
+one t m = let set : bit 6 (gcInUse t) ≡ 1 = m .0 in let clear : bit 7 (gcInUse t) ≡ 0 = m .1 in omega arith
+
+two-of : (t : Chip) → Open t → mute t ≡ 2
+two-of t m = let set : bit 6 (gcInUse t) ≡ 0 = m .0 in let clear : bit 7 (gcInUse t) ≡ 1 = m .1 in omega arith
 
 -- over slices of the machine's lengths the entry is the machine's own write
 sized-entered : (ws : List Write) (s : Chip) → Sized s → Sized (entered ws s)
@@ -101,14 +110,14 @@ module _ (input : List ℕ) (s : Chip) (z : Sized s) (d : Demand3 (listOf input)
           let b = d .careful .between k lo (rw (length-map ws write) hi) in
           let f : Faces (cut (sent ws) s k) = faces k in
           rw (entered-cut ws s k z, entered-run ws s z) (record {
-            muted = f .mute ∙ ap (λ (m : ℕ). record { refusal = 0; mute = m }) (b .muted);
+            muted = f .mute ∙ ap (λ (m : ℕ). record { refusal = 0; mute = m }) (one (cut (sent ws) s k) (b .muted));
             avi = rw (f .avi, faces 0 .avi, faces-end .avi) (b .avi);
             audio = rw (f .audio, faces 0 .audio, faces-end .audio) (b .audio);
             matrix = λ out h. rw (twelve (cut (sent ws) s k) f out h, twelve s (faces 0) out h, twelve end faces-end out h)
                 (⊎-map (ap (λ (c : List ℕ). coefficientBytes c ++ drop 25 out)) (ap (λ (c : List ℕ). coefficientBytes c ++ drop 25 out)) (b .matrix));
           });
       ended = rw (entered-run ws s z) (record {
-        opened = faces-end .mute ∙ ap (λ (m : ℕ). record { refusal = 0; mute = m }) (d .ended .opened);
+        opened = faces-end .mute ∙ ap (λ (m : ℕ). record { refusal = 0; mute = m }) (two-of end (d .ended .opened));
         avi = ap (drop 2) (faces-end .avi) ∙ newAvi;
         audio = ap (drop 2) (faces-end .audio) ∙ newAudio;
         matrix = λ out h. faces-end .matrix out h ∙ rw (newMatrix, newMode);
