@@ -6,14 +6,15 @@ use Prim.Native.Nat.{ℕ, _*_, _<_}
 use native.Mathlib.Nat.{eq-of-mul-eq-mul-left, mul-pos, le-antisymm}
 use native.Mathlib.Omega.{arith}
 use lib.Dec.{eqb}
-use borrow.Author.Tests.{eqb-true, eqb-false}
-use Rattle.refusals.specs.Rows.{noExactPair}
+use borrow.Author.Tests.{eqb-true, eqb-false, le-ltb}
+use Rattle.video.specs.declared.Video.{Video}
+use Rattle.video.specs.Modes.{offered}
 use Rattle.clock.specs.declared.Clock.{Clock}
 use Rattle.clock.specs.declared.Pair.{Pair}
 use Rattle.clock.specs.Clocks.{clockOf}
-use Rattle.clock.specs.Pairs.{reference, Exact, recommendedOf, Coherent}
-use Rattle.clock.specs.Found.{refused, given, exactly, nearestOf, coherentOf}
-use Rattle.clock.specs.Theorems.{CoherentPairs}
+use Rattle.clock.specs.Pairs.{reference, Exact, recommendedOf, Coherent, thePair, noPair, other}
+use Rattle.clock.specs.Found.{exactly, nearestOf, coherentOf, pairOf}
+use Rattle.clock.specs.Theorems.{PairRule}
 use Rattle.clock.proofs.Rates.{reference-some}
 use Rattle.clock.proofs.Offered.{sized}
 use Rattle.clock.proofs.Exactness.{exact-of, exactly-of, turned, None, Best, nearest-found}
@@ -29,7 +30,7 @@ module _ (clock : Clock) (rate : ℕ) where
   C = recommendedOf clock rate .cts
 
   -- each of the three ways to an answer
-  by-table : Exact clock rate N C → Coherent clock rate (given N C)
+  by-table : Exact clock rate N C → Coherent clock rate (thePair N C)
   by-table x =
       record {
         refused = ((λ e. absurd (zero-not-nine e)), (λ none. absurd (none N C x)));
@@ -39,7 +40,7 @@ module _ (clock : Clock) (rate : ℕ) where
         nearest = λ none. absurd (none x);
       }
 
-  by-none : None clock rate → Coherent clock rate (refused noExactPair)
+  by-none : None clock rate → Coherent clock rate (noPair 9)
   by-none none =
       record {
         refused = ((λ _. none), (λ _. refl));
@@ -49,7 +50,7 @@ module _ (clock : Clock) (rate : ℕ) where
         nearest = λ _ n cts x. absurd (none n cts x);
       }
 
-  by-nearest : (n cts : ℕ) → (Exact clock rate N C → ⊥) → Exact clock rate n cts → Best clock rate n → Coherent clock rate (given n cts)
+  by-nearest : (n cts : ℕ) → (Exact clock rate N C → ⊥) → Exact clock rate n cts → Best clock rate n → Coherent clock rate (thePair n cts)
   by-nearest n cts out x b =
       record {
         refused = ((λ e. absurd (zero-not-nine e)), (λ none. absurd (none n cts x)));
@@ -64,9 +65,9 @@ module _ (clock : Clock) (rate : ℕ) where
   found num den some = go (exactly clock rate N C) refl (nearest-found clock rate num den some)
     where
       go : (t : Bool) → exactly clock rate N C ≡ t
-          → ((nearestOf clock rate ≡ refused noExactPair) × None clock rate)
-          ⊎ ((n : ℕ) × (cts : ℕ) × (nearestOf clock rate ≡ given n cts) × Exact clock rate n cts × Best clock rate n)
-          → Coherent clock rate (cond t (given N C) (nearestOf clock rate))
+          → ((nearestOf clock rate ≡ noPair 9) × None clock rate)
+          ⊎ ((n : ℕ) × (cts : ℕ) × (nearestOf clock rate ≡ thePair n cts) × Exact clock rate n cts × Best clock rate n)
+          → Coherent clock rate (cond t (thePair N C) (nearestOf clock rate))
       go true e w = by-table (exact-of clock rate N C e)
       go false e (inl w) = subst (λ (a : Pair). Coherent clock rate a) (sym (w .0)) (by-none (w .1))
       go false e (inr w) =
@@ -111,12 +112,15 @@ module _ (clock : Clock) (rate : ℕ) where
           let n : a .n ≡ b .n = both (x .1) (y .1) (exactly clock rate N C) refl in
           (x .0 ∙ sym (y .0), n, same-cts den some (b .n) (a .cts) (b .cts) (subst (λ (k : ℕ). Exact clock rate k (a .cts)) n (x .1)) (y .1))
 
-pub coherence : CoherentPairs
-coherence =
+-- of a mode that is offered
+pub in-mode : (video : Video) (rate : ℕ) → offered video ≡ true → rate < 7 → Coherent (clockOf video) rate (coherentOf (clockOf video) rate)
+in-mode video rate o h = let s = sized video o in found (clockOf video) rate (s .some) (s .part) (reference-some rate h)
+
+pub rule : PairRule
+unfolding pairOf
+rule =
     record {
-      clocks = λ clock rate num den h. found clock rate num den (reference-some rate h);
-      modes = λ video rate o h.
-          let s = sized video o in
-          found (clockOf video) rate (s .some) (s .part) (reference-some rate h);
+      coherent = λ video rate o h. rw (o, le-ltb 6 rate (omega arith)) (in-mode video rate o h);
       one = λ clock rate den h. one clock rate den (reference-some rate h);
+      others = λ video rate o h. rw (o, le-ltb 6 rate (omega arith));
     }

@@ -7,11 +7,11 @@ use native.Mathlib.Nat.{mul-assoc, mul-comm, mul-pos}
 use native.Mathlib.Omega.{arith}
 use lib.Dec.{ltb}
 use borrow.Author.Tests.{leb-true, le-leb, eqb-true, eq-eqb, ltb-true, ltb-false}
-use Rattle.refusals.specs.Rows.{noExactPair}
+use Rattle.ratio.specs.Lowest.{topOf, bottomOf}
+use Rattle.ratio.proofs.Multiples.{meets, multiple, u-some, v-some}
 use Rattle.clock.specs.declared.Clock.{Clock}
-use Rattle.clock.specs.Pairs.{reference, Exact, far}
-use Rattle.clock.specs.Found.{refused, given, exactly, nearestK, nearestIn, nearestOf, leastK, mostK}
-use Rattle.clock.proofs.Ratio.{top, bottom, meets, multiple, u-some, v-some}
+use Rattle.clock.specs.Pairs.{reference, Exact, far, thePair, noPair}
+use Rattle.clock.specs.Found.{exactly, nearestK, nearestIn, nearestOf, leastK, mostK}
 use Rattle.clock.proofs.Range.{least-in, most-in, between, best, below-low, below-high, Better}
 
 all-four : (a b c d : Bool) → (a && b && c && d) ≡ true → (a ≡ true) × (b ≡ true) × (c ≡ true) × (d ≡ true)
@@ -54,10 +54,10 @@ module _ (clock : Clock) (rate : ℕ) (num : 0 < clock .num) (den : 0 < clock .d
   over-some = mul-pos den some
 
   abbrev stepCts : ℕ
-  stepCts = top (clock .num) over
+  stepCts = topOf (clock .num) over
 
   abbrev stepN : ℕ
-  stepN = bottom (clock .num) over
+  stepN = bottomOf (clock .num) over
 
   stepN-some : 0 < stepN
   stepN-some = v-some (clock .num) over over-some
@@ -103,15 +103,14 @@ module _ (clock : Clock) (rate : ℕ) (num : 0 < clock .num) (den : 0 < clock .d
   K = nearestK (reference rate) stepN least most below
 
   -- no pair is exact, and 9 is given; or the one given is exact, and none is nearer
-
-  pub nearest-found : ((nearestOf clock rate ≡ refused noExactPair) × None clock rate)
-      ⊎ ((n : ℕ) × (cts : ℕ) × (nearestOf clock rate ≡ given n cts) × Exact clock rate n cts × Best clock rate n)
+  pub nearest-found : ((nearestOf clock rate ≡ noPair 9) × None clock rate)
+      ⊎ ((n : ℕ) × (cts : ℕ) × (nearestOf clock rate ≡ thePair n cts) × Exact clock rate n cts × Best clock rate n)
   unfolding nearestOf nearestIn
   nearest-found = go (ltb most least) refl
     where
       go : (t : Bool) → ltb most least ≡ t
-          → ((cond t (refused noExactPair) (given (K * stepN) (K * stepCts)) ≡ refused noExactPair) × None clock rate)
-          ⊎ ((n : ℕ) × (cts : ℕ) × (cond t (refused noExactPair) (given (K * stepN) (K * stepCts)) ≡ given n cts) × Exact clock rate n cts × Best clock rate n)
+          → ((cond t (noPair 9) (thePair (K * stepN) (K * stepCts)) ≡ noPair 9) × None clock rate)
+          ⊎ ((n : ℕ) × (cts : ℕ) × (cond t (noPair 9) (thePair (K * stepN) (K * stepCts)) ≡ thePair n cts) × Exact clock rate n cts × Best clock rate n)
       go true e = inl (refl, λ n cts x. let w = inside n cts x in absurd (omega (arith, ltb-true most least e)))
       go false e =
           let b = between (reference rate) stepN least most below (ltb-false most least e) in

@@ -1,6 +1,5 @@
-pub mod Divisor
 pub mod Rates
-pub mod Ratio
+pub mod Columns
 pub mod Range
 pub mod Exactness
 pub mod Offered

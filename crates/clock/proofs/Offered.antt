@@ -11,10 +11,11 @@ use Rattle.video.specs.declared.Mode.{Mode}
 use Rattle.video.specs.declared.Video.{Video}
 use Rattle.clock.specs.declared.Clock.{Clock}
 use Rattle.video.specs.Modes.{modes, modeOf, rowOf, unlisted, offered}
-use Rattle.clock.specs.Clocks.{clockIn, clockOf, Sized}
+use Rattle.clock.specs.Clocks.{clockIn, clockOf}
+use Rattle.clock.specs.Bounds.{hertzMost, Sized}
 
 abbrev test : Mode → Bool
-test m = eqb (m .families) 0 || (ltb 0 (m .hertz) && leb (m .hertz) 148500000)
+test m = eqb (m .families) 0 || (ltb 0 (m .hertz) && leb (m .hertz) hertzMost)
 
 either : (n : ℕ) (b : Bool) → (eqb n 0 || b) ≡ true → 0 < n → b ≡ true
 either n b t h = go (eqb n 0) refl t
@@ -23,17 +24,17 @@ either n b t h = go (eqb n 0) refl t
     go true e q = absurd (omega (arith, eqb-true n 0 e))
     go false e q = q
 
-hertz : (video : Video) → offered video ≡ true → (0 < modeOf (video .vic) .hertz) × (modeOf (video .vic) .hertz ≤ 148500000)
+hertz : (video : Video) → offered video ≡ true → (0 < modeOf (video .vic) .hertz) × (modeOf (video .vic) .hertz ≤ hertzMost)
 unfolding modeOf
 hertz video o =
     let m : Mode = rowOf (video .vic) modes in
     let l : video .family < m .families = ltb-true (video .family) (m .families) o in
     let p : Bool = ltb 0 (m .hertz) in
-    let q : Bool = leb (m .hertz) 148500000 in
+    let q : Bool = leb (m .hertz) hertzMost in
     let b : (p && q) ≡ true = either (m .families) (p && q) (found test (λ m. eqb (m .vic) (video .vic)) unlisted modes refl refl) (omega arith) in
-    (ltb-true 0 (m .hertz) (both-left p q b), leb-true (m .hertz) 148500000 (both-right p q b))
+    (ltb-true 0 (m .hertz) (both-left p q b), leb-true (m .hertz) hertzMost (both-right p q b))
 
-sized-in : (h family : ℕ) → 0 < h → h ≤ 148500000 → Sized (clockIn h family)
+sized-in : (h family : ℕ) → 0 < h → h ≤ hertzMost → Sized (clockIn h family)
 sized-in h family p q = go (eqb family 0)
   where
     go : (b : Bool) → Sized (cond b (record { refusal = 0; num = h; den = 1 }) (record { refusal = 0; num = h * 1000; den = 1001 }))

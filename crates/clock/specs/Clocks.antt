@@ -1,4 +1,5 @@
 -- Document 01, "Modes and clocks": the clock of a video, kept exact.
+use mathlib.Core.Path.{_≡_}
 use mathlib.Core.Bool.{cond}
 use Prim.Native.Nat.{ℕ, _*_, _<_, _≤_}
 use lib.Dec.{eqb}
@@ -12,14 +13,11 @@ abbrev pub clockIn : ℕ → ℕ → Clock
 clockIn hertz family =
     cond (eqb family 0) (record { refusal = 0; num = hertz; den = 1 }) (record { refusal = 0; num = hertz * 1000; den = 1001 })
 
--- refusal 4: VIC not listed, or family not offered by it
+-- refusal 4: "VIC not listed below, or family not offered by it"; zeros beside it
 unfoldable pub clockOf : Video → Clock
 clockOf video =
     cond (offered video) (clockIn (modeOf (video .vic) .hertz) (video .family)) (record { refusal = number modeNotOffered; num = 0; den = 0 })
 
--- bounds on the two numbers of a clock that is offered, so that no product overflows
-pub record Sized (clock : Clock) : Type 0 where
-  pub some : 0 < clock .num
-  pub most : clock .num ≤ 148500000000
-  pub part : 0 < clock .den
-  pub parts : clock .den ≤ 1001
+-- what `clock_of` promises
+abbrev pub GivesClock : Video → Clock → Type 0
+GivesClock video r = r ≡ clockOf video

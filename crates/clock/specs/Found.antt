@@ -1,37 +1,18 @@
--- How the code finds the pair that `Pairs` speaks of, and what the calls answer. With u/v the ratio clock / (128·fs) in lowest terms, CTS = N·u/v, so the exact
--- pairs are N = k·v, CTS = k·u.
+-- How the code finds the pair that `Pairs` speaks of, and what the calls answer: tied to document 01's words by `PairRule` and `ClockRefusals`. With
+-- u/v the ratio clock / (128·fs) in lowest terms, CTS = N·u/v, so the exact pairs are N = k·v, CTS = k·u.
+use mathlib.Core.Path.{_≡_}
 use mathlib.Core.Bool.{Bool, cond, _&&_, _||_, not}
-use mathlib.Core.List.{[]}
 use Prim.Native.Nat.{ℕ, _+_, _-_, _*_, _/_, min}
 use lib.Dec.{eqb, leb, ltb}
-use lib.ListN.{getD}
-use Rattle.refusals.specs.Rows.{Row, modeNotOffered, fieldOutOfRange, noExactPair, number}
+use Rattle.refusals.specs.Rows.{modeNotOffered, fieldOutOfRange, noExactPair, number}
+use Rattle.video.specs.declared.Video.{Video}
+use Rattle.video.specs.Modes.{offered}
+use Rattle.ratio.specs.Lowest.{topOf, bottomOf}
 use Rattle.clock.specs.declared.Clock.{Clock}
 use Rattle.clock.specs.declared.NCts.{NCts}
 use Rattle.clock.specs.declared.Pair.{Pair}
-use Rattle.clock.specs.declared.Recommended.{Recommended}
-use Rattle.clock.specs.Gcd.{gcdOf}
-use Rattle.video.specs.declared.Video.{Video}
-use Rattle.video.specs.Modes.{offered}
 use Rattle.clock.specs.Clocks.{clockOf}
-use Rattle.clock.specs.Pairs.{reference, recommended, recommendedOf, other}
-
--- a row of the recommended pairs, by its place
-abbrev pub norow : Recommended
-norow = record { num = 0; den = 0; n = []; cts = [] }
-
-unfoldable pub recommendedAt : ℕ → Recommended
-recommendedAt i = getD recommended i norow
-
--- a refusal has its number, and zeros beside it
-abbrev pub numbered : ℕ → Pair
-numbered n = record { refusal = n; n = 0; cts = 0 }
-
-abbrev pub refused : Row → Pair
-refused row = numbered (number row)
-
-abbrev pub given : ℕ → ℕ → Pair
-given n cts = record { refusal = 0; n = n; cts = cts }
+use Rattle.clock.specs.Pairs.{reference, recommendedOf, thePair, noPair, other}
 
 -- k of the nearest pair among least to most, where `below` is the last k with k·v at most 128·fs/1000
 unfoldable pub nearestK : ℕ → ℕ → ℕ → ℕ → ℕ → ℕ
@@ -50,13 +31,12 @@ mostK f u v = min (f / (300 * v)) (1048575 / u)
 unfoldable pub nearestIn : ℕ → ℕ → ℕ → Pair
 nearestIn f u v =
     let k : ℕ = nearestK f v (leastK f v) (mostK f u v) (f / (1000 * v)) in
-    cond (ltb (mostK f u v) (leastK f v)) (refused noExactPair) (given (k * v) (k * u))
+    cond (ltb (mostK f u v) (leastK f v)) (noPair (number noExactPair)) (thePair (k * v) (k * u))
 
 unfoldable pub nearestOf : Clock → ℕ → Pair
 nearestOf clock rate =
     let f : ℕ = reference rate in
-    let g : ℕ = gcdOf (clock .num) (clock .den * f) in
-    nearestIn f (clock .num / g) (clock .den * f / g)
+    nearestIn f (topOf (clock .num) (clock .den * f)) (bottomOf (clock .num) (clock .den * f))
 
 -- the test of `Exact`
 unfoldable pub exactly : Clock → ℕ → ℕ → ℕ → Bool
@@ -66,11 +46,15 @@ exactly clock rate n cts =
 unfoldable pub coherentOf : Clock → ℕ → Pair
 coherentOf clock rate =
     let r : NCts = recommendedOf clock rate in
-    cond (exactly clock rate (r .n) (r .cts)) (given (r .n) (r .cts)) (nearestOf clock rate)
+    cond (exactly clock rate (r .n) (r .cts)) (thePair (r .n) (r .cts)) (nearestOf clock rate)
 
 -- N/CTS on single fields: refusals 4, 5, 9
 unfoldable pub pairOf : Video → ℕ → ℕ → Pair
 pairOf video rate coherent =
-    cond (not (offered video)) (refused modeNotOffered)
-    (cond (ltb 6 rate || ltb 1 coherent) (refused fieldOutOfRange)
+    cond (not (offered video)) (noPair (number modeNotOffered))
+    (cond (ltb 6 rate || ltb 1 coherent) (noPair (number fieldOutOfRange))
     (cond (eqb coherent 1) (coherentOf (clockOf video) rate) (other rate)))
+
+-- what `pair_of` promises
+abbrev pub GivesPair : Video → ℕ → ℕ → Pair → Type 0
+GivesPair video rate coherent r = r ≡ pairOf video rate coherent

@@ -1,5 +1,6 @@
 pub mod Clocks
-pub mod Gcd
+pub mod Bounds
+pub mod Tables
 pub mod Pairs
 pub mod Found
 pub mod Theorems

@@ -1,11 +1,11 @@
-// The exact clock fraction, Euclid's rule, and N and CTS: document 01, "Modes and clocks" and "N and CTS".
+// The exact clock fraction, and N and CTS: document 01, "Modes and clocks" and "N and CTS".
 ghost use mathlib.Core.Path.{_≡_};
 ghost use Prim.Native.Nat.{_<_, _≤_, _+_, _-_, _*_, min};
-ghost use Rattle.clock.specs.Clocks.{clockOf, Sized};
-ghost use Rattle.clock.specs.Pairs.{reference, recommendedOf, audioOff};
-ghost use Rattle.clock.specs.Gcd.{gcdOf};
-ghost use Rattle.clock.specs.Found.{recommendedAt, numbered, given, nearestK, leastK, mostK, nearestIn, nearestOf, exactly, coherentOf, pairOf};
-ghost use Rattle.clock.specs.Theorems.{EuclidsRule, CoherentPairs, ClockRefusals, PairRefusals};
+ghost use Rattle.clock.specs.Clocks.{GivesClock};
+ghost use Rattle.clock.specs.Bounds.{Sized, numMost, referenceMost, partsMost, stepMost};
+ghost use Rattle.clock.specs.Pairs.{reference, recommendedOf, thePair, noPair, audioOff};
+ghost use Rattle.clock.specs.Found.{nearestK, leastK, mostK, nearestIn, nearestOf, exactly, coherentOf, GivesPair};
+ghost use Rattle.clock.specs.Theorems.{PairRule, ClockRefusals};
 use refusals::Refusal;
 use video::Video;
 
@@ -29,76 +29,41 @@ pub struct NCts {
     pub cts: u32,
 }
 
-// A clock in Hz, and its recommended N and CTS at each rate.
-pub struct Recommended {
-    pub num: u64,
-    pub den: u64,
-    pub n: [u32; 7],
-    pub cts: [u32; 7],
-}
+// Tables 80 to 82 of source document 000, row by row as the definition has them: the clock in Hz as a fraction, and N and CTS at the rates 0 to 6.
+#[rattlefmt::skip]
+const NUMS: [u64; 10] = [
+    25200000000, 25200000, 27000000, 27027000, 54000000, 54054000, 74250000000, 74250000, 148500000000, 148500000,
+];
 
-// The recommended pairs, row by row as the definition has them.
-const RECOMMENDED: [Recommended; 10] = [
-    Recommended {
-        num: 25200000000,
-        den: 1001,
-        n: [4576, 7007, 6864, 14014, 13728, 28028, 27456],
-        cts: [28125, 31250, 28125, 31250, 28125, 31250, 28125],
-    },
-    Recommended {
-        num: 25200000,
-        den: 1,
-        n: [4096, 6272, 6144, 12544, 12288, 25088, 24576],
-        cts: [25200, 28000, 25200, 28000, 25200, 28000, 25200],
-    },
-    Recommended {
-        num: 27000000,
-        den: 1,
-        n: [4096, 6272, 6144, 12544, 12288, 25088, 24576],
-        cts: [27000, 30000, 27000, 30000, 27000, 30000, 27000],
-    },
-    Recommended {
-        num: 27027000,
-        den: 1,
-        n: [4096, 6272, 6144, 12544, 12288, 25088, 24576],
-        cts: [27027, 30030, 27027, 30030, 27027, 30030, 27027],
-    },
-    Recommended {
-        num: 54000000,
-        den: 1,
-        n: [4096, 6272, 6144, 12544, 12288, 25088, 24576],
-        cts: [54000, 60000, 54000, 60000, 54000, 60000, 54000],
-    },
-    Recommended {
-        num: 54054000,
-        den: 1,
-        n: [4096, 6272, 6144, 12544, 12288, 25088, 24576],
-        cts: [54054, 60060, 54054, 60060, 54054, 60060, 54054],
-    },
-    Recommended {
-        num: 74250000000,
-        den: 1001,
-        n: [11648, 17836, 11648, 35672, 23296, 71344, 46592],
-        cts: [210937, 234375, 140625, 234375, 140625, 234375, 140625],
-    },
-    Recommended {
-        num: 74250000,
-        den: 1,
-        n: [4096, 6272, 6144, 12544, 12288, 25088, 24576],
-        cts: [74250, 82500, 74250, 82500, 74250, 82500, 74250],
-    },
-    Recommended {
-        num: 148500000000,
-        den: 1001,
-        n: [11648, 8918, 5824, 17836, 11648, 35672, 23296],
-        cts: [421875, 234375, 140625, 234375, 140625, 234375, 140625],
-    },
-    Recommended {
-        num: 148500000,
-        den: 1,
-        n: [4096, 6272, 6144, 12544, 12288, 25088, 24576],
-        cts: [148500, 165000, 148500, 165000, 148500, 165000, 148500],
-    },
+#[rattlefmt::skip]
+const DENS: [u64; 10] = [1001, 1, 1, 1, 1, 1, 1001, 1, 1001, 1];
+
+#[rattlefmt::skip]
+const NS: [u32; 70] = [
+    4576, 7007, 6864, 14014, 13728, 28028, 27456, // 25.2/1.001 MHz
+    4096, 6272, 6144, 12544, 12288, 25088, 24576, // 25.2
+    4096, 6272, 6144, 12544, 12288, 25088, 24576, // 27
+    4096, 6272, 6144, 12544, 12288, 25088, 24576, // 27·1.001
+    4096, 6272, 6144, 12544, 12288, 25088, 24576, // 54
+    4096, 6272, 6144, 12544, 12288, 25088, 24576, // 54·1.001
+    11648, 17836, 11648, 35672, 23296, 71344, 46592, // 74.25/1.001
+    4096, 6272, 6144, 12544, 12288, 25088, 24576, // 74.25
+    11648, 8918, 5824, 17836, 11648, 35672, 23296, // 148.5/1.001
+    4096, 6272, 6144, 12544, 12288, 25088, 24576, // 148.5
+];
+
+#[rattlefmt::skip]
+const CTSS: [u32; 70] = [
+    28125, 31250, 28125, 31250, 28125, 31250, 28125, // 25.2/1.001 MHz
+    25200, 28000, 25200, 28000, 25200, 28000, 25200, // 25.2
+    27000, 30000, 27000, 30000, 27000, 30000, 27000, // 27
+    27027, 30030, 27027, 30030, 27027, 30030, 27027, // 27·1.001
+    54000, 60000, 54000, 60000, 54000, 60000, 54000, // 54
+    54054, 60060, 54054, 60060, 54054, 60060, 54054, // 54·1.001
+    210937, 234375, 140625, 234375, 140625, 234375, 140625, // 74.25/1.001
+    74250, 82500, 74250, 82500, 74250, 82500, 74250, // 74.25
+    421875, 234375, 140625, 234375, 140625, 234375, 140625, // 148.5/1.001
+    148500, 165000, 148500, 165000, 148500, 165000, 148500, // 148.5
 ];
 
 // The rates 0 to 6 in Hz.
@@ -109,7 +74,7 @@ const OTHERS: [u32; 7] = [4096, 6272, 6144, 12544, 12288, 25088, 24576];
 
 // The clock of a video, or refusal 4.
 pub fn clock_of(video: Video) -> Clock
-    ensures { λ r. ⌜ r ≡ clockOf video ⌝ }
+    ensures { λ r. ⌜ GivesClock video r ⌝ }
 {
     let family = video.family;
     let row = video::mode_of(video.vic);
@@ -134,48 +99,30 @@ pub fn clock_of(video: Video) -> Clock
     }
 }
 
-// The greatest common divisor, by Euclid's rule.
-pub fn gcd(a: u64, b: u64) -> u64
-    ensures { λ r. ⌜ r ≡ gcdOf a b ⌝ }
-{
-    if b == 0 {
-        return a;
-    }
-    gcd(b, a % b)
-}
-
 // 128·fs
 fn reference(rate: u8) -> u64
     requires { ⌜ rate < 7 ⌝ }
     ensures { λ r. ⌜ r ≡ reference rate ⌝ }
-    ensures { λ r. ⌜ (0 < r) × (r ≤ 24576000) ⌝ }
+    ensures { λ r. ⌜ (0 < r) × (r ≤ referenceMost) ⌝ }
 {
     128 * RATES[rate as usize] as u64
 }
 
-// One row of the recommended pairs.
-fn recommended_row(i: usize) -> Recommended
-    requires { ⌜ i < 10 ⌝ }
-    ensures { λ r. ⌜ r ≡ recommendedAt i ⌝ }
-{
-    RECOMMENDED[i]
-}
-
-// The recommended pair for a clock and rate; N 0 where there is none.
+// The recommended pair for a clock and rate; N 0 where there is none. The clocks are named before the loop: a constant is built where it is named.
 fn recommended_pair(clock: Clock, rate: u8) -> NCts
     requires { ⌜ rate < 7 ⌝ }
     requires { ⌜ Sized clock ⌝ }
     ensures { λ r. ⌜ r ≡ recommendedOf clock rate ⌝ }
 {
+    let nums = NUMS;
+    let dens = DENS;
     let mut i: usize = 0;
     while i < 10 {
-        let row = recommended_row(i);
-        if clock.num * row.den == row.num * clock.den {
-            let ns = row.n;
-            let cts = row.cts;
+        if clock.num * dens[i] == nums[i] * clock.den {
+            let place = i * 7 + rate as usize;
             return NCts {
-                n: ns[rate as usize],
-                cts: cts[rate as usize],
+                n: NS[place],
+                cts: CTSS[place],
             };
         }
         i = i + 1;
@@ -214,7 +161,7 @@ fn lesser(a: u64, b: u64) -> u64
 
 // How far below f/1000 the number n lies, in thousandths.
 fn below_by(f: u64, n: u64) -> u64
-    requires { ⌜ (1000 * n ≤ f) × (f ≤ 24576000) ⌝ }
+    requires { ⌜ (1000 * n ≤ f) × (f ≤ referenceMost) ⌝ }
     ensures { λ r. ⌜ r ≡ f - 1000 * n ⌝ }
 {
     f - 1000 * n
@@ -222,7 +169,7 @@ fn below_by(f: u64, n: u64) -> u64
 
 // How far above f/1000 it lies, likewise.
 fn above_by(f: u64, n: u64) -> u64
-    requires { ⌜ (f ≤ 1000 * n) × (n ≤ 24625152000) ⌝ }
+    requires { ⌜ (f ≤ 1000 * n) × (n ≤ stepMost) ⌝ }
     ensures { λ r. ⌜ r ≡ 1000 * n - f ⌝ }
 {
     1000 * n - f
@@ -230,7 +177,7 @@ fn above_by(f: u64, n: u64) -> u64
 
 // k of the nearest pair, where `below` is the last k with k·v at most f/1000.
 fn nearest_k(f: u64, v: u64, least: u64, most: u64, below: u64) -> u64
-    requires { ⌜ (v ≤ 24600576000) × (f ≤ 24576000) ⌝ }
+    requires { ⌜ (v ≤ partsMost) × (f ≤ referenceMost) ⌝ }
     requires { ⌜ (1000 * (below * v) ≤ f) × (f ≤ 1000 * ((below + 1) * v)) ⌝ }
     ensures { λ r. ⌜ r ≡ nearestK f v least most below ⌝ }
 {
@@ -250,8 +197,8 @@ fn nearest_k(f: u64, v: u64, least: u64, most: u64, below: u64) -> u64
 
 // The first k whose N is in range.
 fn least_k(f: u64, v: u64) -> u64
-    requires { ⌜ f ≤ 24576000 ⌝ }
-    requires { ⌜ (0 < v) × (v ≤ 24600576000) ⌝ }
+    requires { ⌜ f ≤ referenceMost ⌝ }
+    requires { ⌜ (0 < v) × (v ≤ partsMost) ⌝ }
     ensures { λ r. ⌜ r ≡ leastK f v ⌝ }
 {
     (f + (1500 * v - 1)) / (1500 * v)
@@ -259,26 +206,26 @@ fn least_k(f: u64, v: u64) -> u64
 
 // The last k whose N is in range and whose CTS is at most 1,048,575.
 fn most_k(f: u64, u: u64, v: u64) -> u64
-    requires { ⌜ (0 < u) × (0 < v) × (v ≤ 24600576000) ⌝ }
+    requires { ⌜ (0 < u) × (0 < v) × (v ≤ partsMost) ⌝ }
     ensures { λ r. ⌜ r ≡ mostK f u v ⌝ }
 {
     lesser(f / (300 * v), 1048575 / u)
 }
 
-// The nearest of the pairs (k·v, k·u), or refusal 9. No f is above 128·192000, no u above a clock's num, no v above 1001·f.
+// The nearest of the pairs (k·v, k·u), or refusal 9.
 fn nearest_in(f: u64, u: u64, v: u64) -> Pair
-    requires { ⌜ f ≤ 24576000 ⌝ }
-    requires { ⌜ (0 < u) × (u ≤ 148500000000) ⌝ }
-    requires { ⌜ (0 < v) × (v ≤ 24600576000) ⌝ }
+    requires { ⌜ f ≤ referenceMost ⌝ }
+    requires { ⌜ (0 < u) × (u ≤ numMost) ⌝ }
+    requires { ⌜ (0 < v) × (v ≤ partsMost) ⌝ }
     ensures { λ r. ⌜ r ≡ nearestIn f u v ⌝ }
 {
     let least = least_k(f, v);
     let most = most_k(f, u, v);
     if most < least {
-        return refused(Refusal::NO_EXACT_PAIR);
+        return no_pair(Refusal::NO_EXACT_PAIR);
     }
     let k = nearest_k(f, v, least, most, f / (1000 * v));
-    given((k * v) as u32, (k * u) as u32)
+    the_pair((k * v) as u32, (k * u) as u32)
 }
 
 // The exact pair whose N is nearest to 128·fs/1000, or refusal 9.
@@ -288,9 +235,8 @@ fn nearest(clock: Clock, rate: u8) -> Pair
     ensures { λ r. ⌜ r ≡ nearestOf clock rate ⌝ }
 {
     let f = reference(rate);
-    let parts = clock.den * f;
-    let g = gcd(clock.num, parts);
-    nearest_in(f, clock.num / g, parts / g)
+    let ratio = ratio::reduced(clock.num, clock.den * f);
+    nearest_in(f, ratio.u, ratio.v)
 }
 
 // N and CTS for coherent audio.
@@ -301,14 +247,14 @@ fn coherent_pair(clock: Clock, rate: u8) -> Pair
 {
     let best = recommended_pair(clock, rate);
     if exactly(clock, rate, best.n, best.cts) {
-        return given(best.n, best.cts);
+        return the_pair(best.n, best.cts);
     }
     nearest(clock, rate)
 }
 
 // A refusal, with zeros beside it.
-fn refused(number: u8) -> Pair
-    ensures { λ r. ⌜ r ≡ numbered number ⌝ }
+fn no_pair(number: u8) -> Pair
+    ensures { λ r. ⌜ r ≡ noPair number ⌝ }
 {
     Pair {
         refusal: number,
@@ -318,8 +264,8 @@ fn refused(number: u8) -> Pair
 }
 
 // A pair, with no refusal.
-fn given(n: u32, cts: u32) -> Pair
-    ensures { λ r. ⌜ r ≡ given n cts ⌝ }
+fn the_pair(n: u32, cts: u32) -> Pair
+    ensures { λ r. ⌜ r ≡ thePair n cts ⌝ }
 {
     Pair {
         refusal: Refusal::NONE,
@@ -330,44 +276,36 @@ fn given(n: u32, cts: u32) -> Pair
 
 // N and CTS on single fields: refusals 4, 5 and 9.
 pub fn pair_of(video: Video, rate: u8, coherent: u8) -> Pair
-    ensures { λ r. ⌜ r ≡ pairOf video rate coherent ⌝ }
+    ensures { λ r. ⌜ GivesPair video rate coherent r ⌝ }
 {
     let clock = clock_of(video);
     if clock.refusal != Refusal::NONE {
-        return refused(clock.refusal);
+        return no_pair(clock.refusal);
     }
     if rate > 6 {
-        return refused(Refusal::FIELD_OUT_OF_RANGE);
+        return no_pair(Refusal::FIELD_OUT_OF_RANGE);
     }
     if coherent > 1 {
-        return refused(Refusal::FIELD_OUT_OF_RANGE);
+        return no_pair(Refusal::FIELD_OUT_OF_RANGE);
     }
     if coherent == 1 {
         return coherent_pair(clock, rate);
     }
-    given(OTHERS[rate as usize], 0)
+    the_pair(OTHERS[rate as usize], 0)
 }
 
 // N and CTS where audio is off.
 pub fn audio_off() -> Pair
     ensures { λ r. ⌜ r ≡ audioOff ⌝ }
 {
-    given(6144, 0)
+    the_pair(6144, 0)
 }
 
-// What is proved of the definitions: Euclid's rule, the pair for coherent audio, and the refusals of the two calls on single fields.
-pub fn euclids_rule()
-    ensures { λ _. ⌜ EuclidsRule ⌝ }
-{}
-
-pub fn coherent_pairs()
-    ensures { λ _. ⌜ CoherentPairs ⌝ }
+// What is proved of the answers: which pair is given, and the refusals of the two calls on single fields.
+pub fn pair_rule()
+    ensures { λ _. ⌜ PairRule ⌝ }
 {}
 
 pub fn clock_refusals()
     ensures { λ _. ⌜ ClockRefusals ⌝ }
-{}
-
-pub fn pair_refusals()
-    ensures { λ _. ⌜ PairRefusals ⌝ }
 {}

@@ -3,7 +3,8 @@ use mathlib.Core.Path.{_≡_}
 use mathlib.Core.List.{List, _∷_, _++_}
 use Prim.Native.Nat.{ℕ, _+_}
 use native.Mathlib.Omega.{arith}
-use Rattle.frames.specs.Frames.{total, checksumOf, Checksum}
+use Rattle.frames.specs.Frames.{total, checksumOf}
+use Rattle.frames.specs.Theorems.{Checksum}
 use Rattle.frames.proofs.Total.{total-append}
 
 sums : (header payload : List ℕ) (c : ℕ) → total (header ++ c ∷ payload) ≡ c + total (header ++ payload)

@@ -1,18 +1,12 @@
--- Document 01, "InfoFrames": the checksum, the AVI and the audio frame, and when a call on their fields is refused.
-use mathlib.Core.Path.{_≡_}
-use mathlib.Core.Logic.{_≢_}
-use mathlib.Core.Bool.{false, cond, not, _&&_}
+-- Document 01, "InfoFrames": the checksum, the AVI and the audio frame.
+use mathlib.Core.Bool.{cond}
 use mathlib.Core.List.{List, [], _∷_, _++_}
-use Prim.Native.Nat.{ℕ, _+_, _-_, _*_, _%_, _<_}
-use lib.Dec.{eqb, ltb}
+use Prim.Native.Nat.{ℕ, _+_, _-_, _*_, _%_}
+use lib.Dec.{eqb}
 use lib.ListN.{replicate}
-use Rattle.lists.specs.Among.{among}
-use Rattle.refusals.specs.Rows.{modeNotOffered, fieldOutOfRange, number, Condition, _when_, Given}
 use Rattle.video.specs.declared.Mode.{Mode}
 use Rattle.video.specs.declared.Video.{Video}
-use Rattle.video.specs.Modes.{listed, modeOf}
-use Rattle.frames.specs.declared.Avi.{Avi}
-use Rattle.frames.specs.declared.Audio.{Audio}
+use Rattle.video.specs.Modes.{modeOf}
 
 -- "the sum of all bytes"
 unfoldable pub total : List ℕ → ℕ
@@ -45,13 +39,6 @@ aviFrame video =
     let mode : Mode = modeOf (video .vic) in
     frame aviHeader (aviPayload (video .encoding) (colorimetry mode (video .encoding)) (mode .aspect) (video .vic))
 
--- the AVI frame on single fields: refusals 4 and 5
-unfoldable pub aviOf : Video → Avi
-aviOf video =
-    cond (eqb (modeOf (video .vic) .families) 0) (record { refusal = number modeNotOffered; bytes = replicate 17 0 })
-    (cond (ltb 2 (video .encoding)) (record { refusal = number fieldOutOfRange; bytes = replicate 17 0 })
-    (record { refusal = 0; bytes = aviFrame video }))
-
 -- "CC is channels less one; CA is 0x00 for 2 and 0x13 for 8; the rest 0." Byte 1 is CT3 to CT0 0 CC2 to CC0, byte 4 is CA.
 abbrev pub audioPayload : ℕ → ℕ → List ℕ
 audioPayload cc ca = cc ∷ 0 ∷ 0 ∷ ca ∷ replicate 6 0
@@ -69,29 +56,3 @@ audioFrame channels = frame audioHeader (audioPayload (channels - 1) (allocation
 -- "Audio off: payload all 0."
 unfoldable pub audioOffFrame : List ℕ
 audioOffFrame = frame audioHeader (replicate 10 0)
-
--- the audio frame on a single field: refusal 5
-unfoldable pub audioOf : ℕ → Audio
-audioOf channels =
-    cond (not (eqb channels 2) && not (eqb channels 8)) (record { refusal = number fieldOutOfRange; bytes = replicate 14 0 })
-    (record { refusal = 0; bytes = audioFrame channels })
-
--- "A call on single fields checks those .. whose fields it takes": row 4, "VIC not listed below", and row 5, "any other field outside its
--- range": the encoding is 0 to 2, and the channels are 2 or 8
-abbrev pub aviRules : Video → List Condition
-aviRules video = modeNotOffered when (among (video .vic) listed ≡ false) ∷ fieldOutOfRange when (2 < video .encoding) ∷ []
-
-abbrev pub audioRules : ℕ → List Condition
-audioRules channels = fieldOutOfRange when ((channels ≢ 2) × (channels ≢ 8)) ∷ []
-
--- the refusals of the two calls
-pub record FrameRefusals : Type 0 where
-  pub avi : (video : Video) → Given (aviRules video) (aviOf video .refusal)
-  pub audio : (channels : ℕ) → Given (audioRules channels) (audioOf channels .refusal)
-
--- The checksum does what document 01 says, whatever the header and the payload; and no other byte does.
-pub record Checksum : Type 0 where
-  pub zero : (header payload : List ℕ) → total (frame header payload) % 256 ≡ 0
-  pub byte : (bytes : List ℕ) → checksumOf bytes < 256
-  pub only : (bytes : List ℕ) (c : ℕ) → c < 256 → (c + total bytes) % 256 ≡ 0 → c ≡ checksumOf bytes
-  pub already : (bytes : List ℕ) → total bytes % 256 ≡ 0 → checksumOf bytes ≡ 0

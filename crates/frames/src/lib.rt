@@ -1,8 +1,9 @@
 // The checksum, and the AVI and audio InfoFrames: document 01, "InfoFrames".
 ghost use mathlib.Core.Path.{_≡_};
 ghost use Prim.Native.Nat.{_%_, _≤_};
-ghost use Rattle.frames.specs.Frames.{total, checksumOf, frame, Checksum};
-ghost use Rattle.frames.specs.Frames.{colorimetry, aviHeader, aviPayload, aviOf, audioHeader, audioPayload, audioOf, audioOffFrame, FrameRefusals};
+ghost use Rattle.frames.specs.Frames.{total, checksumOf, frame, colorimetry, aviHeader, aviPayload, audioHeader, audioPayload, audioOffFrame};
+ghost use Rattle.frames.specs.Answers.{GivesAvi, GivesAudio};
+ghost use Rattle.frames.specs.Theorems.{Checksum, FrameRefusals};
 use refusals::Refusal;
 use video::Mode;
 use video::Video;
@@ -82,7 +83,7 @@ fn avi_frame(y: u8, c: u8, m: u8, vic: u8) -> [u8; 17]
 
 // The AVI InfoFrame of a video: its VIC and its encoding.
 pub fn avi_of(video: Video) -> Avi
-    ensures { λ r. ⌜ r ≡ aviOf video ⌝ }
+    ensures { λ r. ⌜ GivesAvi video r ⌝ }
 {
     let vic = video.vic;
     let encoding = video.encoding;
@@ -133,7 +134,7 @@ fn audio_frame(count: u8, allocation: u8) -> [u8; 14]
 
 // The audio InfoFrame of 2 or 8 channels.
 pub fn audio_of(channels: u8) -> Audio
-    ensures { λ r. ⌜ r ≡ audioOf channels ⌝ }
+    ensures { λ r. ⌜ GivesAudio channels r ⌝ }
 {
     if channels == 2 {
         let bytes = audio_frame(1, 0x00);

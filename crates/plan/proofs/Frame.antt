@@ -8,7 +8,8 @@ use borrow.Author.Tests.{ne-eqb, le-ltb, leb-true}
 use Rattle.bits.proofs.Below.{at-below}
 use Rattle.video.specs.declared.Video.{Video}
 use Rattle.video.specs.Modes.{modeOf}
-use Rattle.frames.specs.Frames.{aviOf, aviFrame, audioOf, audioFrame}
+use Rattle.frames.specs.Frames.{aviFrame, audioFrame}
+use Rattle.frames.specs.Answers.{aviOf, audioOf}
 use Rattle.plan.specs.Wanted.{rateCodes}
 
 pub audio-given : (channels : ℕ) → (channels ≡ 2) ⊎ (channels ≡ 8) → audioOf channels .bytes ≡ audioFrame channels

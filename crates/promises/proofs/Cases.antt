@@ -9,7 +9,8 @@ use Rattle.clock.specs.Clocks.{clockOf}
 use Rattle.clock.specs.Pairs.{reference, recommendedOf}
 use Rattle.clock.specs.Found.{nearestK, nearestIn, nearestOf, exactly, coherentOf, pairOf}
 use Rattle.clock.proofs.Ratio.{divides}
-use Rattle.frames.specs.Frames.{total, aviFrame, aviOf, audioFrame, audioOf, audioOffFrame}
+use Rattle.frames.specs.Frames.{total, aviFrame, audioFrame, audioOffFrame}
+use Rattle.frames.specs.Answers.{aviOf, audioOf}
 use Rattle.matrix.specs.Matrix.{fields, inRange, isAllowed}
 use Rattle.matrix.specs.Preview.{codeOf, previewOf}
 use Rattle.request.specs.Sections.{walk, walked}

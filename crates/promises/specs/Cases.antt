@@ -8,7 +8,8 @@ use Rattle.video.specs.declared.Video.{Video}
 use Rattle.clock.specs.Clocks.{clockOf}
 use Rattle.clock.specs.Pairs.{reference}
 use Rattle.clock.specs.Found.{given, pairOf}
-use Rattle.frames.specs.Frames.{aviOf, audioOf, audioOffFrame}
+use Rattle.frames.specs.Frames.{audioOffFrame}
+use Rattle.frames.specs.Answers.{aviOf, audioOf}
 use Rattle.matrix.specs.Coefficient.{word, field, valueOf}
 use Rattle.matrix.specs.Preview.{previewOf}
 use Rattle.request.specs.Read.{readOf, lineOf}

@@ -12,7 +12,7 @@ use Rattle.clock.specs.Clocks.{clockOf}
 use Rattle.clock.specs.Found.{pairOf}
 use Rattle.frames.specs.declared.Avi.{Avi}
 use Rattle.frames.specs.declared.Audio.{Audio}
-use Rattle.frames.specs.Frames.{aviOf, audioOf}
+use Rattle.frames.specs.Answers.{aviOf, audioOf}
 use Rattle.matrix.specs.declared.Pixel.{Pixel}
 use Rattle.matrix.specs.Preview.{Previews}
 use Rattle.request.specs.declared.Checked.{Checked}

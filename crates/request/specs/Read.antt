@@ -20,7 +20,8 @@ use Rattle.request.specs.Sections.{longest, Walk, ends, notAllowed, whol
 use Rattle.request.specs.Request.{present, encoding, link, rate, channels, coherent, requestIn, readRules, nctsRules}
 use Rattle.request.specs.declared.Line.{Line}
 use Rattle.refusals.specs.Rows.{Row, inputEnds, countNotAllowed, bytesAfter, modeNotOffered, fieldOutOfRange, combination, number, Given}
-use Rattle.frames.specs.Frames.{aviOf, audioOf, audioOffFrame}
+use Rattle.frames.specs.Frames.{audioOffFrame}
+use Rattle.frames.specs.Answers.{aviOf, audioOf}
 
 -- a refusal stands beside an empty request: fields 0, audio off, no matrix
 abbrev pub emptied : ℕ → Checked

@@ -10,14 +10,14 @@ recommended-pair-requires c κs = search needs
 exactly-requires : tie.Need-exactly-requires
 exactly-requires c κs = search needs
 
-given-requires : tie.Need-given-requires
-given-requires c κs = search needs
+the-pair-requires : tie.Need-the-pair-requires
+the-pair-requires c κs = search needs
 
 returns : tie.Need-returns
 unfolding coherentOf
 returns c =
     let p = c .before .before in
-    rw (c .given .ensures, ← p .before .recommended-pair .ensures, ← p .exactly .ensures, c .before .if1 .taken)
+    rw (c .the-pair .ensures, ← p .before .recommended-pair .ensures, ← p .exactly .ensures, c .before .if1 .taken)
 
 nearest-requires : tie.Need-nearest-requires
 nearest-requires c κs = search needs
@@ -34,7 +34,7 @@ coherent-pair-spec =
     (tie.spec
     recommended-pair-requires
     exactly-requires
-    given-requires
+    the-pair-requires
     returns
     nearest-requires
     returns-2)

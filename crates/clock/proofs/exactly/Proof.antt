@@ -4,6 +4,7 @@ use native.Mathlib.Nat.{mul-le-mul}
 use native.Mathlib.Omega.{arith}
 use borrow.Author.Needs.{needs}
 use borrow.Author.Tests.{le-leb, lt-leb}
+use Rattle.clock.specs.Bounds.{nMost}
 use Rattle.clock.specs.Found.{exactly}
 use Rattle.clock.proofs.exactly.Statement.{statement}
 use Rattle.clock.proofs.exactly.Tie as tie
@@ -42,7 +43,7 @@ mul-result-2 c =
 mul-result-3 : tie.Need-mul-result-3
 mul-result-3 c =
     let p = c .before .before .before .before .before in
-    let n : p .before .args .n ≤ 81920 = omega arith in
+    let n : p .before .args .n ≤ nMost = omega arith in
     omega (arith, mul-le-mul (p .before .pre .1 .most) n)
 
 returns-4 : tie.Need-returns-4

@@ -15,14 +15,14 @@ least-k-requires c κs = search needs
 most-k-requires : tie.Need-most-k-requires
 most-k-requires c κs = search needs
 
-refused-requires : tie.Need-refused-requires
-refused-requires c κs = search needs
+no-pair-requires : tie.Need-no-pair-requires
+no-pair-requires c κs = search needs
 
 returns : tie.Need-returns
 unfolding nearestIn
 returns c =
     let p = c .before .before in
-    rw (c .refused .ensures, ← p .before .least-k .ensures, ← p .most-k .ensures, lt-ltb _ _ (c .before .if1 .taken))
+    rw (c .no-pair .ensures, ← p .before .least-k .ensures, ← p .most-k .ensures, lt-ltb _ _ (c .before .if1 .taken))
 
 mul-nearest-k : tie.Need-mul-nearest-k
 mul-nearest-k c = search needs
@@ -45,26 +45,26 @@ small c =
     most-in (a .f) (a .u) (a .v) (c .nearest-k .result) (q .1 .0 .0) (q .1 .1 .0) .0
     (subst (λ (m : ℕ). c .nearest-k .result ≤ m) (c .before .before .most-k .ensures) (rw (← c .nearest-k .ensures) at b))
 
-mul-given : tie.Need-mul-given
-mul-given c = let s = small c in omega arith
+mul-the-pair : tie.Need-mul-the-pair
+mul-the-pair c = let s = small c in omega arith
 
-cast-given : tie.Need-cast-given
-cast-given c = let s = small c in omega arith
+cast-the-pair : tie.Need-cast-the-pair
+cast-the-pair c = let s = small c in omega arith
 
-mul-given-2 : tie.Need-mul-given-2
-mul-given-2 c = let s = small c in omega arith
+mul-the-pair-2 : tie.Need-mul-the-pair-2
+mul-the-pair-2 c = let s = small c in omega arith
 
-cast-given-2 : tie.Need-cast-given-2
-cast-given-2 c = let s = small c in omega arith
+cast-the-pair-2 : tie.Need-cast-the-pair-2
+cast-the-pair-2 c = let s = small c in omega arith
 
-given-requires : tie.Need-given-requires
-given-requires c κs = search needs
+the-pair-requires : tie.Need-the-pair-requires
+the-pair-requires c κs = search needs
 
 returns-2 : tie.Need-returns-2
 unfolding nearestIn
 returns-2 c =
     let p = c .before .before in
-    rw (c .given .ensures, c .before .nearest-k .ensures, ← p .before .before .least-k .ensures, ← p .before .most-k .ensures, le-ltb _ _ (p .if1 .left))
+    rw (c .the-pair .ensures, c .before .nearest-k .ensures, ← p .before .before .least-k .ensures, ← p .before .most-k .ensures, le-ltb _ _ (p .if1 .left))
 
 pub nearest-in-spec : {M : Type 1} → statement M
 nearest-in-spec =
@@ -72,14 +72,14 @@ nearest-in-spec =
     (tie.spec
     least-k-requires
     most-k-requires
-    refused-requires
+    no-pair-requires
     returns
     mul-nearest-k
     div-nearest-k
     nearest-k-requires
-    mul-given
-    cast-given
-    mul-given-2
-    cast-given-2
-    given-requires
+    mul-the-pair
+    cast-the-pair
+    mul-the-pair-2
+    cast-the-pair-2
+    the-pair-requires
     returns-2)

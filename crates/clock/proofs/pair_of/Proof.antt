@@ -5,7 +5,7 @@ use borrow.Author.Needs.{needs}
 use borrow.Author.Tests.{lt-ltb, le-ltb, eq-eqb, ne-eqb}
 use Rattle.clock.specs.declared.Clock.{Clock}
 use Rattle.video.specs.Modes.{offered}
-use Rattle.clock.specs.Clocks.{Sized}
+use Rattle.clock.specs.Bounds.{Sized}
 use Rattle.clock.specs.Found.{pairOf}
 use Rattle.clock.proofs.Offered.{sized, accepted, declined}
 use Rattle.clock.proofs.pair_of.Statement.{statement}
@@ -20,8 +20,8 @@ taken-up c =
 clock-of-requires : tie.Need-clock-of-requires
 clock-of-requires c κs = search needs
 
-refused-requires : tie.Need-refused-requires
-refused-requires c κs = search needs
+no-pair-requires : tie.Need-no-pair-requires
+no-pair-requires c κs = search needs
 
 returns : tie.Need-returns
 unfolding pairOf
@@ -29,23 +29,23 @@ returns c =
     let p = c .before .before .before in
     let e = ap (λ (k : Clock). k .refusal) (p .clock-of .ensures) in
     let d = declined (p .before .args .video) (λ z. c .before .if1 .taken (e ∙ z)) in
-    rw (c .refused .ensures, e ∙ d .1, d .0)
+    rw (c .no-pair .ensures, e ∙ d .1, d .0)
 
-refused-requires-2 : tie.Need-refused-requires-2
-refused-requires-2 c κs = search needs
+no-pair-requires-2 : tie.Need-no-pair-requires-2
+no-pair-requires-2 c κs = search needs
 
 returns-2 : tie.Need-returns-2
 unfolding pairOf
-returns-2 c = rw (c .refused2 .ensures, taken-up (c .before .before), lt-ltb _ _ (c .before .if2 .taken))
+returns-2 c = rw (c .no-pair2 .ensures, taken-up (c .before .before), lt-ltb _ _ (c .before .if2 .taken))
 
-refused-requires-3 : tie.Need-refused-requires-3
-refused-requires-3 c κs = search needs
+no-pair-requires-3 : tie.Need-no-pair-requires-3
+no-pair-requires-3 c κs = search needs
 
 returns-3 : tie.Need-returns-3
 unfolding pairOf
 returns-3 c =
     let p = c .before .before in
-    rw (c .refused3 .ensures, taken-up (p .before), le-ltb _ _ (p .if2 .left), lt-ltb _ _ (c .before .if3 .taken))
+    rw (c .no-pair3 .ensures, taken-up (p .before), le-ltb _ _ (p .if2 .left), lt-ltb _ _ (c .before .if3 .taken))
 
 coherent-pair-requires : tie.Need-coherent-pair-requires
 coherent-pair-requires c κs =
@@ -66,35 +66,35 @@ returns-4 c =
       p .before .before .before .clock-of .ensures,
     )
 
-mul-given : tie.Need-mul-given
-mul-given c = search needs
+mul-the-pair : tie.Need-mul-the-pair
+mul-the-pair c = search needs
 
-array-read-given : tie.Need-array-read-given
-array-read-given c = search needs
+array-read-the-pair : tie.Need-array-read-the-pair
+array-read-the-pair c = search needs
 
-given-requires : tie.Need-given-requires
-given-requires c κs = search needs
+the-pair-requires : tie.Need-the-pair-requires
+the-pair-requires c κs = search needs
 
 returns-5 : tie.Need-returns-5
 unfolding pairOf
 returns-5 c =
     let p = c .before .before .before in
-    rw (c .given .ensures, taken-up (p .before), le-ltb _ _ (p .if2 .left), le-ltb _ _ (c .before .before .if3 .left), ne-eqb _ _ (c .before .if4 .left))
+    rw (c .the-pair .ensures, taken-up (p .before), le-ltb _ _ (p .if2 .left), le-ltb _ _ (c .before .before .if3 .left), ne-eqb _ _ (c .before .if4 .left))
 
 pub pair-of-spec : {M : Type 1} → statement M
 pair-of-spec =
     tie.close
     (tie.spec
     clock-of-requires
-    refused-requires
+    no-pair-requires
     returns
-    refused-requires-2
+    no-pair-requires-2
     returns-2
-    refused-requires-3
+    no-pair-requires-3
     returns-3
     coherent-pair-requires
     returns-4
-    mul-given
-    array-read-given
-    given-requires
+    mul-the-pair
+    array-read-the-pair
+    the-pair-requires
     returns-5)

@@ -1,6 +1,7 @@
 -- `frames::audio_of` meets its contract. Assumes nothing.
 use borrow.Author.Tests.{ne-eqb}
-use Rattle.frames.specs.Frames.{audioOf, audioFrame}
+use Rattle.frames.specs.Frames.{audioFrame}
+use Rattle.frames.specs.Answers.{audioOf}
 use borrow.Author.Needs.{needs}
 use Rattle.frames.proofs.audio_of.Statement.{statement}
 use Rattle.frames.proofs.audio_of.Tie as tie

@@ -1,7 +1,8 @@
 -- `frames::avi_of` meets its contract. Assumes nothing.
 use native.Mathlib.Omega.{arith}
 use borrow.Author.Tests.{eq-eqb, ne-eqb, lt-ltb, le-ltb}
-use Rattle.frames.specs.Frames.{aviOf, aviFrame}
+use Rattle.frames.specs.Frames.{aviFrame}
+use Rattle.frames.specs.Answers.{aviOf}
 use Rattle.frames.proofs.Small.{Small, mode-small, colour-small}
 use borrow.Author.Needs.{needs}
 use Rattle.frames.proofs.avi_of.Statement.{statement}

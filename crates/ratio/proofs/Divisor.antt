@@ -1,12 +1,10 @@
--- The laws of the divisor that Euclid's rule finds.
--- Assumes nothing.
+-- The laws of the divisor that Euclid's rule finds: it is the greatest, and by it a fraction is brought to lowest terms. Assumes nothing.
 use mathlib.Core.Path.{_≡_, refl, sym, ap, _∙_, subst}
 use Prim.Native.Nat.{ℕ, zero, suc, _+_, _*_, _/_, _%_, _<_, _≤_, _∣_}
 use native.Mathlib.Nat.{dvd-refl, dvd-zero, dvd-mod-iff, dvd-add-iff-right, dvd-mul-right-of-dvd, dvd-of-mul-dvd-mul-left, eq-one-of-dvd-one, mul-dvd-mul-left, pos-of-dvd-of-pos}
 use native.Mathlib.Nat.{mod-lt, div-add-mod, mul-div-cancel', mul-add, mul-assoc, mul-left-comm, mul-one, zero-lt-suc, not-suc-le-zero, le-refl}
 use native.Mathlib.Omega.{arith}
-use Rattle.clock.specs.Gcd.{steps, gcdOf, Greatest, Lowest}
-use Rattle.clock.specs.Theorems.{EuclidsRule}
+use Rattle.ratio.specs.Lowest.{steps, divisorOf, Lowest}
 
 -- more steps than b change nothing
 enough : (n m a b : ℕ) → b ≤ n → b ≤ m → steps n a b ≡ steps m a b
@@ -21,18 +19,23 @@ enough (suc n) (suc m) a (suc b) h k =
     let l : a % suc b < suc b = mod-lt a (zero-lt-suc b) in
     enough n m (suc b) (a % suc b) (omega arith) (omega arith)
 
-pub gcd-zero : (a : ℕ) → gcdOf a 0 ≡ a
-unfolding gcdOf steps
+pub gcd-zero : (a : ℕ) → divisorOf a 0 ≡ a
+unfolding divisorOf steps
 gcd-zero a = refl
 
-pub gcd-step : (a b : ℕ) → 0 < b → gcdOf a b ≡ gcdOf b (a % b)
-unfolding gcdOf steps
+pub gcd-step : (a b : ℕ) → 0 < b → divisorOf a b ≡ divisorOf b (a % b)
+unfolding divisorOf steps
 gcd-step a zero h = absurd (not-suc-le-zero h)
 gcd-step a (suc b) h =
     let l : a % suc b < suc b = mod-lt a (zero-lt-suc b) in
     enough b (a % suc b) (suc b) (a % suc b) (omega arith) (omega arith)
 
 -- it divides both, and every common divisor divides it
+pub record Greatest (g a b : ℕ) : Type 0 where
+  pub left : g ∣ a
+  pub right : g ∣ b
+  pub most : (d : ℕ) → d ∣ a → d ∣ b → d ∣ g
+
 great : (n a b : ℕ) → b ≤ n → Greatest (steps n a b) a b
 unfolding steps
 great zero a zero h = record { left = dvd-refl a; right = dvd-zero a; most = λ d p q. p }
@@ -47,11 +50,11 @@ great (suc n) a (suc b) h =
       most = λ d p q. r .most d q (dvd-mod-iff d q .1 p);
     }
 
-pub greatest : (a b : ℕ) → Greatest (gcdOf a b) a b
-unfolding gcdOf
+pub greatest : (a b : ℕ) → Greatest (divisorOf a b) a b
+unfolding divisorOf
 greatest a b = great b a b (le-refl b)
 
-pub some : (a b : ℕ) → 0 < b → 0 < gcdOf a b
+pub some : (a b : ℕ) → 0 < b → 0 < divisorOf a b
 some a b h = pos-of-dvd-of-pos (greatest a b .right) h
 
 -- what divides m times both divides m times the divisor
@@ -68,14 +71,14 @@ scaled (suc n) d m a (suc b) h p q =
     let s : d ∣ m * suc b * (a / suc b) + m * (a % suc b) = subst (λ (x : ℕ). d ∣ x) e p in
     scaled n d m (suc b) (a % suc b) (omega arith) q (dvd-add-iff-right d (dvd-mul-right-of-dvd d q (a / suc b)) .1 s)
 
-pub divides-scaled : (d m a b : ℕ) → d ∣ m * a → d ∣ m * b → d ∣ m * gcdOf a b
-unfolding gcdOf
+pub divides-scaled : (d m a b : ℕ) → d ∣ m * a → d ∣ m * b → d ∣ m * divisorOf a b
+unfolding divisorOf
 divides-scaled d m a b = scaled b d m a b (le-refl b)
 
 -- the fraction is brought to lowest terms
-pub in-lowest : (num den : ℕ) → 0 < den → Lowest num den (num / gcdOf num den) (den / gcdOf num den)
+pub in-lowest : (num den : ℕ) → 0 < den → Lowest num den (num / divisorOf num den) (den / divisorOf num den)
 in-lowest num den h =
-    let g : ℕ = gcdOf num den in
+    let g : ℕ = divisorOf num den in
     let u : ℕ = num / g in
     let v : ℕ = den / g in
     let pos : 0 < g = some num den h in
@@ -88,6 +91,3 @@ in-lowest num den h =
           (subst (λ (x : ℕ). g * d ∣ x) (sym (mul-one g))
           (greatest num den .most (g * d) (subst (λ (x : ℕ). g * d ∣ x) nu (mul-dvd-mul-left d g p)) (subst (λ (x : ℕ). g * d ∣ x) nv (mul-dvd-mul-left d g q)))));
     }
-
-pub euclid : EuclidsRule
-euclid = record { greatest = greatest; lowest = in-lowest }

@@ -3,41 +3,34 @@ use mathlib.Core.Path.{_≡_, sym, ap, _∙_, subst}
 use Prim.Native.Nat.{ℕ, _*_, _/_, _<_, _∣_}
 use native.Mathlib.Nat.{dvd-mul-left, dvd-mul-right, dvd-of-mul-dvd-mul-left, mul-div-cancel', div-mul-cancel, eq-of-mul-eq-mul-left}
 use native.Mathlib.Nat.{mul-assoc, mul-comm, mul-left-comm, one-mul, le-of-dvd, le-div-iff-mul-le}
-use Rattle.clock.specs.Gcd.{gcdOf}
-use Rattle.clock.proofs.Divisor.{greatest, some, divides-scaled}
+use Rattle.ratio.specs.Lowest.{divisorOf, topOf, bottomOf}
+use Rattle.ratio.proofs.Divisor.{greatest, some, divides-scaled}
 
 -- (g·u)·(k·v) is (g·v)·(k·u)
 swapped : (g u k v : ℕ) → g * u * (k * v) ≡ g * v * (k * u)
 swapped g u k v = simp (mul-assoc, mul-comm, mul-left-comm)
 
--- the ratio num / den is top / bottom in lowest terms
-abbrev pub top : ℕ → ℕ → ℕ
-top num den = num / gcdOf num den
-
-abbrev pub bottom : ℕ → ℕ → ℕ
-bottom num den = den / gcdOf num den
-
 module _ (num den : ℕ) (h : 0 < den) where
   abbrev u : ℕ
-  u = top num den
+  u = topOf num den
 
   abbrev v : ℕ
-  v = bottom num den
+  v = bottomOf num den
 
-  whole-u : gcdOf num den * u ≡ num
-  whole-u = mul-div-cancel' (gcdOf num den) (greatest num den .left)
+  whole-u : divisorOf num den * u ≡ num
+  whole-u = mul-div-cancel' (divisorOf num den) (greatest num den .left)
 
-  whole-v : gcdOf num den * v ≡ den
-  whole-v = mul-div-cancel' (gcdOf num den) (greatest num den .right)
+  whole-v : divisorOf num den * v ≡ den
+  whole-v = mul-div-cancel' (divisorOf num den) (greatest num den .right)
 
   pub meets : (k : ℕ) → den * (k * u) ≡ num * (k * v)
   meets k =
-      ap (λ (x : ℕ). x * (k * u)) (sym whole-v) ∙ sym (swapped (gcdOf num den) u k v) ∙ ap (λ (x : ℕ). x * (k * v)) whole-u
+      ap (λ (x : ℕ). x * (k * u)) (sym whole-v) ∙ sym (swapped (divisorOf num den) u k v) ∙ ap (λ (x : ℕ). x * (k * v)) whole-u
 
   -- if v divides N·u then v divides N
   pub divides : (n cts : ℕ) → den * cts ≡ num * n → v ∣ n
   divides n cts e =
-      let g : ℕ = gcdOf num den in
+      let g : ℕ = divisorOf num den in
       let p : den ∣ n * num = subst (λ (x : ℕ). den ∣ x) (e ∙ mul-comm num n) (dvd-mul-right den cts) in
       let q : den ∣ n * g = divides-scaled den n num den p (dvd-mul-left den n) in
       let r : g * v ∣ g * n = subst (λ (x : ℕ). x ∣ g * n) (sym whole-v) (subst (λ (x : ℕ). den ∣ x) (mul-comm n g) q) in

@@ -1,0 +1,37 @@
+-- Bounds, so that no product overflows: the one place where the largest numbers stand. Nothing is promised by them.
+use Prim.Native.Nat.{ℕ, _+_, _*_, _/_, _<_, _≤_}
+use Rattle.clock.specs.declared.Clock.{Clock}
+
+-- the clock in Hz of a mode at family 0; a clock's two numbers
+abbrev pub hertzMost : ℕ
+hertzMost = 148500000
+
+abbrev pub numMost : ℕ
+numMost = hertzMost * 1000
+
+abbrev pub denMost : ℕ
+denMost = 1001
+
+-- the rate in Hz; 128·fs; N, which is at most 128·fs/300
+abbrev pub rateMost : ℕ
+rateMost = 192000
+
+abbrev pub referenceMost : ℕ
+referenceMost = 128 * rateMost
+
+abbrev pub nMost : ℕ
+nMost = referenceMost / 300
+
+-- what divides clock / (128·fs); one step of N beyond 128·fs/1000
+abbrev pub partsMost : ℕ
+partsMost = denMost * referenceMost
+
+abbrev pub stepMost : ℕ
+stepMost = referenceMost + partsMost
+
+-- a clock that is offered
+pub record Sized (clock : Clock) : Type 0 where
+  pub some : 0 < clock .num
+  pub most : clock .num ≤ numMost
+  pub part : 0 < clock .den
+  pub parts : clock .den ≤ denMost

@@ -1,0 +1,35 @@
+-- Document 01, "N and CTS": "Each clock ratio is brought to lowest terms by Euclid's rule, each call on a smaller remainder."
+use mathlib.Core.Path.{_≡_}
+use Prim.Native.Nat.{ℕ, zero, suc, _*_, _/_, _%_, _<_, _∣_}
+use Rattle.ratio.specs.declared.Ratio.{Ratio}
+
+-- the fraction num / den in lowest terms is u / v
+pub record Lowest (num den u v : ℕ) : Type 0 where
+  pub same : num * v ≡ u * den
+  pub lowest : (d : ℕ) → d ∣ u → d ∣ v → d ≡ 1
+
+-- what is answered: zeros where den is 0, for num / 0 is no fraction
+pub record Reduces (num den : ℕ) (r : Ratio) : Type 0 where
+  pub some : 0 < den → Lowest num den (r .u) (r .v)
+  pub none : den ≡ 0 → (r .u ≡ 0) × (r .v ≡ 0)
+
+-- Euclid's rule, by which definitions compute: the divisor of (a, 0) is a, and that of (a, b) is that of (b, a % b). At most b steps are taken.
+-- `LowestTerms` says that this is what any other way finds.
+unfoldable pub steps : ℕ → ℕ → ℕ → ℕ
+steps zero a b = a
+steps (suc n) a zero = a
+steps (suc n) a (suc b) = steps n (suc b) (a % suc b)
+
+unfoldable pub divisorOf : ℕ → ℕ → ℕ
+divisorOf a b = steps b a b
+
+abbrev pub topOf : ℕ → ℕ → ℕ
+topOf num den = num / divisorOf num den
+
+abbrev pub bottomOf : ℕ → ℕ → ℕ
+bottomOf num den = den / divisorOf num den
+
+-- a fraction has lowest terms, and only these
+pub record LowestTerms : Type 0 where
+  pub reached : (num den : ℕ) → 0 < den → Lowest num den (topOf num den) (bottomOf num den)
+  pub only : (num den u v : ℕ) → 0 < den → Lowest num den u v → (u ≡ topOf num den) × (v ≡ bottomOf num den)
