@@ -10,9 +10,8 @@ use Rattle.clock.specs.declared.Clock.{Clock}
 use Rattle.clock.specs.declared.NCts.{NCts}
 use Rattle.video.specs.declared.Video.{Video}
 use Rattle.video.specs.Modes.{offered}
-use Rattle.clock.specs.Clocks.{clockOf}
-use Rattle.clock.specs.Pairs.{recommendedOf}
-use Rattle.clock.specs.Found.{numbered, leastK, mostK, nearestIn, nearestOf, exactly, coherentOf, pairOf}
+use Rattle.clock.specs.Pairs.{noPair}
+use Rattle.clock.proofs.Rows as clocks
 use Rattle.matrix.proofs.Codes as preview
 use Rattle.request.specs.declared.Sound.{Sound}
 use Rattle.request.specs.declared.Sound.the-variants.{Off, On}
@@ -84,25 +83,8 @@ one-of : (b : Bool) {p q : Pair} → Zeroed p → Zeroed q → Zeroed (cond b p 
 one-of true y z = y
 one-of false y z = z
 
-refusal-zeroed : (n : ℕ) → Zeroed (numbered n)
+refusal-zeroed : (n : ℕ) → Zeroed (noPair n)
 refusal-zeroed n h = (refl, refl)
-
-nearest-zeroed : (f u v : ℕ) → Zeroed (nearestIn f u v)
-unfolding nearestIn
-nearest-zeroed f u v = one-of (ltb (mostK f u v) (leastK f v)) (refusal-zeroed 9) (λ h. absurd (h refl))
-
-coherent-zeroed : (clock : Clock) (rate : ℕ) → Zeroed (coherentOf clock rate)
-unfolding coherentOf nearestOf
-coherent-zeroed clock rate =
-    let r : NCts = recommendedOf clock rate in
-    one-of (exactly clock rate (r .n) (r .cts)) (λ h. absurd (h refl)) (nearest-zeroed _ _ _)
-
-pair-zeroed : (video : Video) (rate coherent : ℕ) → Zeroed (pairOf video rate coherent)
-unfolding pairOf
-pair-zeroed video rate coherent =
-    one-of (not (offered video)) (refusal-zeroed 4)
-    (one-of (ltb 6 rate || ltb 1 coherent) (refusal-zeroed 5)
-    (one-of (eqb coherent 1) (coherent-zeroed (clockOf video) rate) (λ h. absurd (h refl))))
 
 ncts-zeroed : (request : List ℕ) → Zeroed (nctsOf request)
 unfolding nctsOf pairFor
@@ -110,7 +92,7 @@ ncts-zeroed request = one-of (eqb (readOf request .refusal) 0) (of (readOf reque
   where
     of : (s : Sound) → Zeroed (pairIn (readOf request .request) s)
     of Off = λ h. absurd (h refl)
-    of (On rate channels coherent) = pair-zeroed _ rate coherent
+    of (On rate channels coherent) = clocks.refusals .noPair _ rate coherent
 
 pub any-input : Demand1
 any-input = record {

@@ -3,12 +3,12 @@ use mathlib.Core.Path.{_≡_, refl}
 use Prim.Native.Nat.{ℕ, _*_, _∣_}
 use native.Mathlib.Omega.{arith}
 use lib.Dec.{lit<}
-use Rattle.clock.specs.Gcd.{steps, gcdOf}
+use Rattle.ratio.specs.Lowest.{steps, divisorOf}
 use Rattle.video.specs.Modes.{modeOf}
 use Rattle.clock.specs.Clocks.{clockOf}
 use Rattle.clock.specs.Pairs.{reference, recommendedOf}
 use Rattle.clock.specs.Found.{nearestK, nearestIn, nearestOf, exactly, coherentOf, pairOf}
-use Rattle.clock.proofs.Ratio.{divides}
+use Rattle.ratio.proofs.Multiples.{divides}
 use Rattle.frames.specs.Frames.{total, aviFrame, audioFrame, audioOffFrame}
 use Rattle.frames.specs.Answers.{aviOf, audioOf}
 use Rattle.matrix.specs.Matrix.{fields, inRange, isAllowed}
@@ -18,11 +18,11 @@ use Rattle.request.specs.Read.{outside, combined, judged, readOf, pairFor, ncts
 use Rattle.promises.specs.Cases.{mode, MarkedCases}
 
 multiple : (n cts : ℕ) → reference 0 * cts * clockOf (mode 4 1) .den ≡ clockOf (mode 4 1) .num * n → 23296 ∣ n
-unfolding reference clockOf modeOf gcdOf steps
+unfolding reference clockOf modeOf divisorOf steps
 multiple n cts e = divides 74250000000 4100096000 (lit< tt) n cts (omega arith)
 
 pub cases : MarkedCases
-unfolding steps gcdOf modeOf clockOf reference recommendedOf nearestK nearestIn nearestOf exactly coherentOf pairOf total aviFrame aviOf audioFrame audioOf audioOffFrame fields inRange isAllowed codeOf previewOf walk walked outside combined judged readOf pairFor nctsOf lineOf
+unfolding steps divisorOf modeOf clockOf reference recommendedOf nearestK nearestIn nearestOf exactly coherentOf pairOf total aviFrame aviOf audioFrame audioOf audioOffFrame fields inRange isAllowed codeOf previewOf walk walked outside combined judged readOf pairFor nctsOf lineOf
 cases =
     record {
       example = refl;

@@ -5,7 +5,7 @@ use mathlib.Core.List.{List}
 use Prim.Native.Nat.{ℕ}
 use lib.Dec.{eqb}
 use lib.ListN.{length}
-use Rattle.clock.specs.Gcd.{steps, gcdOf}
+use Rattle.ratio.specs.Lowest.{steps, divisorOf}
 use Rattle.video.specs.Modes.{modeOf}
 use Rattle.clock.specs.Clocks.{clockOf}
 use Rattle.clock.specs.Pairs.{reference, recommendedOf}
@@ -21,7 +21,7 @@ unfolding walk walked outside combined judged readOf modeOf clockOf
 read = refl
 
 paired : eqb (pairFor (readOf example .request) .refusal) 0 ≡ true
-unfolding steps gcdOf modeOf clockOf reference recommendedOf nearestK nearestIn nearestOf exactly coherentOf pairOf walk walked outside combined judged readOf pairFor
+unfolding steps divisorOf modeOf clockOf reference recommendedOf nearestK nearestIn nearestOf exactly coherentOf pairOf walk walked outside combined judged readOf pairFor
 paired = refl
 
 on : (image : List ℕ) → length image ≡ 256 → ready image ≡ true → IsAccepted image

@@ -14,10 +14,11 @@ use Rattle.video.specs.declared.Video.{Video}
 use Rattle.video.specs.Modes.{modeOf, offered}
 use Rattle.clock.specs.declared.Pair.{Pair}
 use Rattle.clock.specs.Clocks.{clockOf}
-use Rattle.clock.specs.Pairs.{Coherent, otherRow, other}
+use Rattle.clock.specs.Tables.{otherRow}
+use Rattle.clock.specs.Pairs.{Coherent, other}
 use Rattle.clock.specs.Found.{coherentOf, pairOf}
 use Rattle.clock.proofs.Rates.{reference-most}
-use Rattle.clock.proofs.Coherence.{coherence}
+use Rattle.clock.proofs.Coherence.{in-mode}
 use Rattle.request.specs.declared.Sound.{Sound}
 use Rattle.request.specs.declared.Sound.the-variants.{Off, On}
 use Rattle.request.specs.declared.Request.{Request}
@@ -53,7 +54,7 @@ paired-in r (On rate channels coherent) o h =
     let e = in-range (r .video) rate coherent o (h .0) (h .2) in (
       λ c. subst (λ (p : Pair). Coherent (clockOf (r .video)) rate p)
           (sym (e ∙ ap (λ (b : Bool). cond b (coherentOf (clockOf (r .video)) rate) (other rate)) (eq-eqb coherent 1 c)))
-          (coherence .modes (r .video) rate o (omega (arith, h .0))),
+          (in-mode (r .video) rate o (omega (arith, h .0))),
       λ c. let f = e ∙ ap (λ (b : Bool). cond b (coherentOf (clockOf (r .video)) rate) (other rate)) (ne-eqb coherent 1 c) in
           (ap (λ (p : Pair). p .refusal) f, ap (λ (p : Pair). p .n) f, ap (λ (p : Pair). p .cts) f),
     )

@@ -6,8 +6,8 @@ use lib.IntN.{negsuc}
 use lib.ListN.{getD}
 use Rattle.video.specs.declared.Video.{Video}
 use Rattle.clock.specs.Clocks.{clockOf}
-use Rattle.clock.specs.Pairs.{reference}
-use Rattle.clock.specs.Found.{given, pairOf}
+use Rattle.clock.specs.Pairs.{reference, thePair}
+use Rattle.clock.specs.Found.{pairOf}
 use Rattle.frames.specs.Frames.{audioOffFrame}
 use Rattle.frames.specs.Answers.{aviOf, audioOf}
 use Rattle.matrix.specs.Coefficient.{word, field, valueOf}
@@ -41,11 +41,11 @@ pub record MarkedCases : Type 0 where
   -- 5. `04 10 00 01 01 00 00`: refused 6
   pub case5 : readOf (0x04 ∷ 0x10 ∷ 0x00 ∷ 0x01 ∷ 0x01 ∷ 0x00 ∷ 0x00 ∷ []) .refusal ≡ 6
   -- 6. VIC 16, family 0, 48 kHz, coherent (so are 7 and 8): 6144, 148500. (Rates 0, 1, 2 are 32, 44.1 and 48 kHz.)
-  pub case6 : pairOf (mode 16 0) 2 1 ≡ given 6144 148500
+  pub case6 : pairOf (mode 16 0) 2 1 ≡ thePair 6144 148500
   -- 7. VIC 60, family 0, 44.1 kHz: 5488, 57750
-  pub case7 : pairOf (mode 60 0) 1 1 ≡ given 5488 57750
+  pub case7 : pairOf (mode 60 0) 1 1 ≡ thePair 5488 57750
   -- 8. VIC 60, family 1, 32 kHz: 5824, 84375
-  pub case8 : pairOf (mode 60 1) 0 1 ≡ given 5824 84375
+  pub case8 : pairOf (mode 60 1) 0 1 ≡ thePair 5824 84375
   -- 9. VIC 4, family 1, 32 kHz, coherent: refused 9, for N would have to be a multiple of 23296
   pub case9 : pairOf (mode 4 1) 0 1 .refusal ≡ 9
   pub case9For : (n cts : ℕ) → reference 0 * cts * clockOf (mode 4 1) .den ≡ clockOf (mode 4 1) .num * n → 23296 ∣ n

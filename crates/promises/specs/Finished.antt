@@ -12,7 +12,8 @@ use Rattle.registers.specs.Classes.{named}
 use Rattle.video.specs.declared.Video.{Video}
 use Rattle.clock.specs.declared.Pair.{Pair}
 use Rattle.clock.specs.Clocks.{clockOf}
-use Rattle.clock.specs.Pairs.{Coherent, otherRow}
+use Rattle.clock.specs.Tables.{otherRow}
+use Rattle.clock.specs.Pairs.{Coherent}
 use Rattle.frames.specs.Frames.{aviFrame, audioFrame, audioOffFrame}
 use Rattle.chip.specs.Machine.{Write, _gets_}
 use Rattle.request.specs.declared.Sound.{Sound}

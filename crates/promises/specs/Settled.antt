@@ -8,11 +8,11 @@ use Rattle.registers.specs.Classes.{Classifies}
 use Rattle.video.specs.declared.Video.{Video}
 use Rattle.clock.specs.declared.Clock.{Clock}
 use Rattle.clock.specs.declared.Pair.{Pair}
-use Rattle.clock.specs.Clocks.{clockOf}
-use Rattle.clock.specs.Found.{pairOf}
+use Rattle.clock.specs.Clocks.{GivesClock}
+use Rattle.clock.specs.Found.{GivesPair}
 use Rattle.frames.specs.declared.Avi.{Avi}
 use Rattle.frames.specs.declared.Audio.{Audio}
-use Rattle.frames.specs.Answers.{aviOf, audioOf}
+use Rattle.frames.specs.Answers.{GivesAvi, GivesAudio}
 use Rattle.matrix.specs.declared.Pixel.{Pixel}
 use Rattle.matrix.specs.Preview.{Previews}
 use Rattle.request.specs.declared.Checked.{Checked}
@@ -57,10 +57,10 @@ pub record Settled : Type 0 where
   pub ncts : (request : List ℕ) → Settles {A = Pair} (Is (nctsOf request))
   pub line : (request : List ℕ) → Settles {A = Line} (Is (lineOf request))
   pub preview : (matrix : List ℕ) (a b c : ℕ) → Settles {A = Pixel} (Previews matrix a b c)
-  pub clock : (video : Video) → Settles {A = Clock} (Is (clockOf video))
-  pub pair : (video : Video) (rate coherent : ℕ) → Settles {A = Pair} (Is (pairOf video rate coherent))
-  pub avi : (video : Video) → Settles {A = Avi} (Is (aviOf video))
-  pub audio : (channels : ℕ) → Settles {A = Audio} (Is (audioOf channels))
+  pub clock : (video : Video) → Settles {A = Clock} (GivesClock video)
+  pub pair : (video : Video) (rate coherent : ℕ) → Settles {A = Pair} (GivesPair video rate coherent)
+  pub avi : (video : Video) → Settles {A = Avi} (GivesAvi video)
+  pub audio : (channels : ℕ) → Settles {A = Audio} (GivesAudio channels)
   pub write : (s : Chip) (address value : ℕ) → Settles {A = Wrote} (Hands s address value)
   -- over slices: the number, and the three slices as a state
   pub enter : (s : Chip) (address value : ℕ) → Settles {A = ℕ × Chip} (λ o. Writes s address value (o .0) (o .1))

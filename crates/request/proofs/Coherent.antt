@@ -14,7 +14,7 @@ use Rattle.refusals.proofs.First.{Tried, then, tried}
 use Rattle.clock.specs.declared.Pair.{Pair}
 use Rattle.video.specs.Video.{videoIn}
 use Rattle.video.specs.Modes.{offered}
-use Rattle.clock.specs.Found.{numbered}
+use Rattle.clock.specs.Pairs.{noPair}
 use Rattle.clock.specs.Theorems.{pairRules}
 use Rattle.clock.proofs.Rows.{in-turn}
 use Rattle.request.specs.declared.Sound.the-variants.{Off, On}
@@ -94,9 +94,9 @@ parts (c ∷ cs) (n ∷ s) b k = go (among n c) (leb n (length s)) (joined (take
     go false u h = none-there
 
 both-calls : (w : Walk) → Bytes (bodyOf 2 w)
-    → Tried (nctsRules w) (cond (eqb (checked w .refusal) 0) (pairFor (checked w .request)) (numbered (checked w .refusal)) .refusal)
+    → Tried (nctsRules w) (cond (eqb (checked w .refusal) 0) (pairFor (checked w .request)) (noPair (checked w .refusal)) .refusal)
 both-calls w bytes =
-    then numberOf (readRules w) (noExactPair when NoPair w ∷ []) (checked w .refusal) (pairFor (checked w .request)) (numbered (checked w .refusal))
+    then numberOf (readRules w) (noExactPair when NoPair w ∷ []) (checked w .refusal) (pairFor (checked w .request)) (noPair (checked w .refusal))
     (tried-read w bytes) (λ _. refl) (λ z. let j = passed w z in rw (j .request) (sounds w bytes j))
 
 -- what the small program prints is refused as N and CTS are

@@ -9,8 +9,8 @@ use Rattle.lists.specs.Among.{among}
 use Rattle.clock.specs.declared.Pair.{Pair}
 use Rattle.video.specs.Video.{videoIn, noVideo}
 use Rattle.video.specs.Modes.{offered}
-use Rattle.clock.specs.Pairs.{audioOff}
-use Rattle.clock.specs.Found.{pairOf, numbered}
+use Rattle.clock.specs.Pairs.{noPair, audioOff}
+use Rattle.clock.specs.Found.{pairOf}
 use Rattle.matrix.specs.Matrix.{isAllowed, noMatrix, Bytes}
 use Rattle.request.specs.declared.Sound.{Sound}
 use Rattle.request.specs.declared.Sound.the-variants.{Off, On}
@@ -71,7 +71,7 @@ pairFor r = pairIn r (r .sound)
 
 -- N and CTS over a request slice: refusals 1 to 6 and 9
 unfoldable pub nctsOf : List ℕ → Pair
-nctsOf input = cond (eqb (readOf input .refusal) 0) (pairFor (readOf input .request)) (numbered (readOf input .refusal))
+nctsOf input = cond (eqb (readOf input .refusal) 0) (pairFor (readOf input .request)) (noPair (readOf input .refusal))
 
 -- the checksums that the small program prints: byte 3 of each frame
 abbrev pub audioChecksum : Sound → ℕ
