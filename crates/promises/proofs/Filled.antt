@@ -37,7 +37,7 @@ use Rattle.plan.proofs.Accepted.{fits}
 use Rattle.decode.proofs.Ranged.{read-ranged}
 use Rattle.promises.specs.Finished.{Place, place, bitsOf, NeverThree, inM, inC, places, Shows, Each, Finished, Paired}
 use Rattle.promises.proofs.Bits.{same-bits}
-use Rattle.promises.proofs.Named.{field}
+use Rattle.promises.proofs.Named.{field, ordered}
 use Rattle.promises.proofs.Places.{Ranges, stand}
 
 -- ---- N and CTS
@@ -154,6 +154,7 @@ filled input image z y after ends =
       n = twenty _ _ _ (p .n) (at 0 (lit< tt)) (at 1 (lit< tt)) (at 2 (lit< tt));
       cts = twenty _ _ _ (p .cts) (at 3 (lit< tt)) (at 4 (lit< tt)) (at 5 (lit< tt));
       mode = omega (arith, at 18 (lit< tt), fits input z .matrix .mode);
+      ordered = λ a h w. rw (ends a h) (ordered (wanted r) image a h w);
     })
 
 -- ---- the mode in each write of 0x18

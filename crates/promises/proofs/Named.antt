@@ -13,7 +13,7 @@ use Rattle.lists.proofs.Both.{both-left, both-right}
 use Rattle.bits.specs.Merge.{merge, bit, under}
 use Rattle.bits.proofs.Laws.{merge-bit}
 use Rattle.bits.proofs.Truth.{zeros, var, by}
-use Rattle.registers.specs.Classes.{named}
+use Rattle.registers.specs.Classes.{mandated, named, bits}
 use Rattle.registers.proofs.Apart.{by-rule}
 use Rattle.writes.specs.Steps.{_raising_}
 use Rattle.writes.specs.List.{decided, byte, written, isWritten, leftUp, finished}
@@ -60,6 +60,12 @@ module _ (want : ℕ → ℕ) (image : List ℕ) (a : ℕ) where
       let e : bit j (byte a (getD image a 0) last) ≡ bit j last
       = sym (masked (named a) j _ l n) ∙ ap (λ (x : ℕ). bit j x) c ∙ masked (named a) j _ l n in
       rw w e
+
+  pub ordered : a < 256 → isWritten a ≡ true → under (mandated a) (finished want image a) ≡ under (mandated a) (bits a)
+  unfolding finished written byte
+  ordered h w =
+      rw w (by-rule (by (var 1) (by (var 0) (var 5) (by (var 3) (var 5) (by (var 2) (var 6) (var 4)))) zeros) (by (var 1) (var 4) zeros) a
+      (getD image a 0 ∷ last ∷ []) refl h)
 
   -- bit j of the merge, by whether steps decide it
   chosen : (stepped : Bool) (j : ℕ) → j < 8 → bit j (decided a) ≡ cond stepped 1 0 → bit j last ≡ bit j (cond stepped (leftUp a) (want a))

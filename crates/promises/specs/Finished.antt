@@ -2,13 +2,14 @@
 -- its sentence "Named: N, CTS, ..". Nothing here speaks of writes, of steps or of wanted bytes.
 use mathlib.Core.Path.{_≡_}
 use mathlib.Core.Logic.{_≢_}
-use mathlib.Core.Bool.{cond}
+use mathlib.Core.Bool.{true, cond}
 use mathlib.Core.List.{List, [], _∷_, _++_}
 use Prim.Native.Nat.{ℕ, zero, suc, _+_, _-_, _*_, _/_, _%_, _^_, _<_}
 use lib.Dec.{eqb}
 use lib.ListN.{length, getD}
 use Rattle.lists.specs.Among.{among}
-use Rattle.registers.specs.Classes.{named}
+use Rattle.bits.specs.Merge.{under}
+use Rattle.registers.specs.Classes.{mandated, named, bits}
 use Rattle.video.specs.declared.Video.{Video}
 use Rattle.clock.specs.declared.Pair.{Pair}
 use Rattle.clock.specs.Clocks.{clockOf}
@@ -16,6 +17,7 @@ use Rattle.clock.specs.Tables.{otherRow}
 use Rattle.clock.specs.Pairs.{Coherent}
 use Rattle.frames.specs.Frames.{aviFrame, audioFrame, audioOffFrame}
 use Rattle.chip.specs.Machine.{Write, _gets_}
+use Rattle.writes.specs.List.{isWritten}
 use Rattle.request.specs.declared.Sound.{Sound}
 use Rattle.request.specs.declared.Sound.the-variants.{Off, On}
 use Rattle.request.specs.declared.Request.{Request}
@@ -139,6 +141,8 @@ pub record Finished (r : Request) (p : Pair) (image : List ℕ) : Type 0 where
   pub n : twentyAt 0x01 image ≡ p .n
   pub cts : twentyAt 0x07 image ≡ p .cts
   pub mode : bitsOf 6 5 (getD image 0x18 0) < 3
+  -- the mandated bits of each register that is written are those of the class table
+  pub ordered : (a : ℕ) → a < 256 → isWritten a ≡ true → under (mandated a) (getD image a 0) ≡ under (mandated a) (bits a)
 
 -- "Mode 3 is never written"
 abbrev pub NeverThree : List Write → Type 0
