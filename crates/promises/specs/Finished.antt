@@ -9,6 +9,7 @@ use lib.Dec.{eqb}
 use lib.ListN.{length, getD}
 use Rattle.lists.specs.Among.{among}
 use Rattle.bits.specs.Merge.{under}
+use Rattle.map.specs.Map.{audioSelectDefault, audioModeDefault, i2sFormatDefault, inputIdDefault}
 use Rattle.registers.specs.Classes.{mandated, named, bits}
 use Rattle.video.specs.declared.Video.{Video}
 use Rattle.clock.specs.declared.Pair.{Pair}
@@ -54,8 +55,8 @@ abbrev pub codeOf : Sound → ℕ
 codeOf Off = 0b0010
 codeOf (On rate channels coherent) = getD (0b0011 ∷ 0b0000 ∷ 0b0010 ∷ 0b1000 ∷ 0b1010 ∷ 0b1100 ∷ 0b1110 ∷ []) rate 0
 
--- "C is 0 for RGB, else 1 for VIC 1, 2, 3, 17, 18 and 2 for the rest"; "M from the aspect", which is 4:3, M 1, for VIC 1, 2, 17 and 16:9, M 2,
--- for the others
+-- "C is 0 for RGB, else 1 for VIC 1, 2, 3, 17, 18 and 2 for the rest"; "M from the aspect", which is 4:3, M 1, for VIC 1, 2, 17 and
+-- 16:9, M 2, for the others
 abbrev pub inC : ℕ → ℕ → ℕ
 inC vic encoding = cond (eqb encoding 0) 0 (cond (among vic (1 ∷ 2 ∷ 3 ∷ 17 ∷ 18 ∷ [])) 1 2)
 
@@ -92,13 +93,15 @@ places r p =
     -- "N, CTS"
     place 0x01 3 0 (p .n / 65536) ∷ place 0x02 7 0 (p .n / 256 % 256) ∷ place 0x03 7 0 (p .n % 256) ∷
     place 0x07 3 0 (p .cts / 65536) ∷ place 0x08 7 0 (p .cts / 256 % 256) ∷ place 0x09 7 0 (p .cts % 256) ∷
-    -- "CTS select": "Coherent audio sets 0x0A[7] to 1"; "audio select and mode": I2S, and the map's default
-    place 0x0A 7 7 (manualCts (r .sound)) ∷ place 0x0A 6 4 0b000 ∷ place 0x0A 3 2 0b00 ∷
-    -- "I2S enables": "one I2S input is enabled for 2 channels, all four for 8, none when off"; "format": standard I2S
+    -- "CTS select": "Coherent audio sets 0x0A[7] to 1"; "audio select and mode". "A named field for which this document gives no value
+    -- holds the map's default": these two, and below the I2S format and the input format; "standard I2S" and "input ID 0" say the same
+    place 0x0A 7 7 (manualCts (r .sound)) ∷ place 0x0A 6 4 (bitsOf 6 4 audioSelectDefault) ∷ place 0x0A 3 2 (bitsOf 3 2 audioModeDefault) ∷
+    -- "I2S enables": "one I2S input is enabled for 2 channels, all four for 8, none when off"; "and format"
     place 0x0C 5 5 (eightChannels (r .sound)) ∷ place 0x0C 4 4 (eightChannels (r .sound)) ∷ place 0x0C 3 3 (eightChannels (r .sound)) ∷
-    place 0x0C 2 2 (withSound (r .sound)) ∷ place 0x0C 1 0 0b00 ∷
-    -- "rate, input format, output format": input ID 0; 1 for 4:2:2
-    place 0x15 7 4 (codeOf (r .sound)) ∷ place 0x15 3 0 0 ∷ place 0x16 7 7 (cond (eqb (r .video .encoding) 1) 1 0) ∷
+    place 0x0C 2 2 (withSound (r .sound)) ∷ place 0x0C 1 0 (bitsOf 1 0 i2sFormatDefault) ∷
+    -- "rate, input format, output format", which is 1 for 4:2:2
+    place 0x15 7 4 (codeOf (r .sound)) ∷ place 0x15 3 0 (bitsOf 3 0 inputIdDefault) ∷
+    place 0x16 7 7 (cond (eqb (r .video .encoding) 1) 1 0) ∷
     -- "CSC with its hold"
     place 0x18 7 7 (r .matrix .on) ∷ place 0x18 6 5 (r .matrix .mode) ∷ place 0x1A 5 5 0 ∷ [] ++
     coefficientPlaces 0x18 (r .matrix .coefficients) 0 12 ++
