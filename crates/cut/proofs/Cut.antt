@@ -19,10 +19,10 @@ use Rattle.chip.specs.declared.Chip.{Chip}
 use Rattle.chip.specs.Machine.{Write, _gets_, Group, Buffer, avi, audio, gc, matrix, packets, converter, up, registersOf, holdsOf, inUse, writeOf, gcInUse, Muted, Open, mute, coefficients}
 use Rattle.writes.specs.Steps.{Step, _raising_, steps}
 use Rattle.writes.specs.List.{decided, written, listWith, isWritten, leftUp, finished, ready}
-use Rattle.cut.specs.Run.{Event, write, Fair, Careful, Covered}
+use Rattle.cut.specs.Run.{Event, write, Fair, Careful, Covered, begun, Retried}
 use Rattle.cut.specs.Demand.{sent, After, Same, Demand3, cuts}
 use Rattle.cut.proofs.Planned.{Planner, cutOf, endOf, OldOrNew}
-use Rattle.cut.proofs.Retry.{retries}
+use Rattle.cut.proofs.Retry.{some-begun, retries}
 use Rattle.cut.proofs.FairRun.{untouched}
 use Rattle.cut.proofs.Latch.{nexts, walk, acts, status-acts, calm, once}
 use Rattle.cut.proofs.Bank.{store, only, status, avi-same, audio-same, gc-same, matrix-same, view, Whole, Shown, image-store, size-store, down-part, avi-shown, audio-shown, gc-shown, matrix-shown}
@@ -408,6 +408,9 @@ module _ (mid : (ℕ → ℕ) → List ℕ → List Step) (good : (want : ℕ �
     whole-end : length (endOf P want s .image) ≡ 256
     whole-end = rw (done-acts want s r) (sized-acts list s (r .whole))
 
+    again : (n : ℕ → ℕ) → Retried n (sent list) s
+    again = retries (sent list) s (r .whole) (careful .taken)
+
     pub demand3 : Demand3 (planned want) want s
     demand3 = record {
       careful = careful;
@@ -418,5 +421,6 @@ module _ (mid : (ℕ → ℕ) → List ℕ → List Step) (good : (want : ℕ �
       whole = λ ks. near-cuts want s s ks (near-self s r) .ready .whole;
       ready = λ ks. near-cuts want s s ks (near-self s r) .ready .holds;
       again = λ ks. same-end want s (cuts (planned want) ks s) r (near-cuts want s s ks (near-self s r));
-      retried = retries (sent list) s (r .whole) (careful .taken);
+      retries = again;
+      retriesBetween = λ n k lo hi. rw (again n .cuts k, again n .ends) (careful .between (begun n (sent list) k) (some-begun n (sent list) k lo hi) hi);
     }

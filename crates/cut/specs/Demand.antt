@@ -3,13 +3,13 @@
 use mathlib.Core.Path.{_≡_}
 use mathlib.Core.Bool.{true}
 use mathlib.Core.List.{List, [], _∷_, map}
-use Prim.Native.Nat.{ℕ}
+use Prim.Native.Nat.{ℕ, _<_}
 use lib.ListN.{length}
 use Rattle.matrix.specs.Matrix.{fields}
 use Rattle.chip.specs.declared.Chip.{Chip}
 use Rattle.chip.specs.Machine.{Write, avi, audio, matrix, packets, registersOf, inUse, coefficients, Open}
 use Rattle.writes.specs.List.{finishedImage, ready}
-use Rattle.cut.specs.Run.{Event, write, run, cut, Careful, Covered, Untouched, Retried}
+use Rattle.cut.specs.Run.{Event, write, run, cut, allInUse, Between, Careful, Covered, Untouched, retried, begun, Retried}
 
 -- a list of writes, sent one after the other
 abbrev pub sent : List Write → List Event
@@ -53,5 +53,8 @@ pub record Demand3 (planned : List ℕ → List Event) (want : ℕ → ℕ) (s :
   -- "If the same request is planned again on the registers as the cut left them, and run to its end, the registers and all three groups in
   -- use are those of the run without a cut."
   pub again : (ks : List ℕ) → Same (toItsEnd planned s) (toItsEnd planned (cuts planned ks s))
-  -- each write sent again any number of times, as a bus that retries does
-  pub retried : (n : ℕ → ℕ) → Retried n (planned (s .image)) s
+  -- each write sent again any number of times, as a bus that retries does: the same states in the same order; and so muted, each group old
+  -- or new, until the last write of the list is sent
+  pub retries : (n : ℕ → ℕ) → Retried n (planned (s .image)) s
+  pub retriesBetween : (n : ℕ → ℕ) (k : ℕ) → let es : List Event = planned (s .image) in 0 < k → begun n es k < length es
+      → Between (allInUse s) (allInUse (run (retried n es) s)) (cut (retried n es) s k)
