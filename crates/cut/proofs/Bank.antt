@@ -11,7 +11,8 @@ use borrow.Author.Tests.{eqb-true, eqb-false, leb-true, ltb-true}
 use Rattle.bits.specs.Merge.{bit}
 use Rattle.bits.proofs.Laws.{bit-code}
 use Rattle.chip.specs.declared.Chip.{Chip}
-use Rattle.chip.specs.Machine.{Write, Group, Buffer, packets, converter, avi, audio, gc, matrix, up, registersOf, filled, holdsOf, bufferAfter, put, inUse}
+use Rattle.chip.specs.Machine.{Write, Group, Buffer, packets, converter, avi, audio, gc, matrix, up, registersOf, filled, holdsOf}
+use Rattle.chip.specs.Machine.{bufferAfter, put, inUse}
 use Rattle.cut.proofs.Latch.{View, Faithful}
 
 -- a write whose byte is stored as it is
@@ -35,11 +36,13 @@ abbrev Alike : List Group → ℕ → ℕ → Type 0
 Alike [] m n = Unit {0}
 Alike (g ∷ gs) m n = (up g m ≡ up g n) × Alike gs m n
 
-filled-alike : (gs : List Group) (old m n : ℕ) (image bytes : List ℕ) → Alike gs m n → filled gs old m image bytes ≡ filled gs old n image bytes
+filled-alike : (gs : List Group) (old m n : ℕ) (image bytes : List ℕ) → Alike gs m n
+    → filled gs old m image bytes ≡ filled gs old n image bytes
 filled-alike [] old m n image bytes a = refl
 filled-alike (g ∷ gs) old m n image bytes a = rw (a .0, filled-alike gs old m n image bytes (a .1))
 
-three-holds : (a b c : ℕ) → a < 2 → b < 2 → c < 2 → let n : ℕ = 64 * a + (32 * b + (16 * c + 0)) in (bit 6 n ≡ a) × (bit 5 n ≡ b) × (bit 4 n ≡ c)
+three-holds : (a b c : ℕ) → a < 2 → b < 2 → c < 2
+    → let n : ℕ = 64 * a + (32 * b + (16 * c + 0)) in (bit 6 n ≡ a) × (bit 5 n ≡ b) × (bit 4 n ≡ c)
 three-holds a b c ha hb hc = (bit-code 6 _ ∙ omega arith, bit-code 5 _ ∙ omega arith, bit-code 4 _ ∙ omega arith)
 
 packet-holds : (n : ℕ) → let m : ℕ = only (packets .groups) n in (bit 6 m ≡ bit 6 n) × (bit 5 m ≡ bit 5 n) × (bit 4 m ≡ bit 4 n)
@@ -97,10 +100,12 @@ size-store w s e = ap (λ (l : List ℕ). length l) (image-store w s) ∙ length
 
 pub outside-part : (g : Group) (w : Write) (s : Chip) → (ltb (w .address) (g .first) || leb (g .first + g .count) (w .address)) ≡ true
     → registersOf g (store w s .image) ≡ registersOf g (s .image)
-outside-part g w s t = ap (λ (l : List ℕ). registersOf g l) (image-store w s) ∙ outside (s .image) (g .first) (g .count) (w .address) (w .value) t
+outside-part g w s t = ap (λ (l : List ℕ). registersOf g l) (image-store w s)
+    ∙ outside (s .image) (g .first) (g .count) (w .address) (w .value) t
 
 -- a group's registers at the front of a buffer
-pub part-fills : (g : Group) (image buffer : List ℕ) → length image ≡ 256 → g .first + g .count ≤ 256 → take (g .count) (registersOf g image ++ buffer) ≡ registersOf g image
+pub part-fills : (g : Group) (image buffer : List ℕ) → length image ≡ 256 → g .first + g .count ≤ 256
+    → take (g .count) (registersOf g image ++ buffer) ≡ registersOf g image
 part-fills g image buffer e h = take-at (registersOf g image) buffer (g .count) (simp (length-take, length-drop) (omega arith))
 
 -- a group whose hold is down is sent from the registers
@@ -116,8 +121,8 @@ record Sound (B : Buffer) (g : Group) : Type 0 where
   alone : (n : ℕ) (image buffer : List ℕ)
       → filled (B .groups) n (2 ^ g .hold) image buffer ≡ cond (not (up g n)) (registersOf g image ++ drop (g .count) buffer) buffer
 
-module _ (B : Buffer) (g : Group) (alike : (n : ℕ) → Alike (B .groups) (only (B .groups) n) n) (same : (n : ℕ) → up g (only (B .groups) n) ≡ up g n)
-    (ok : Sound B g) where
+module _ (B : Buffer) (g : Group) (alike : (n : ℕ) → Alike (B .groups) (only (B .groups) n) n)
+    (same : (n : ℕ) → up g (only (B .groups) n) ≡ up g n) (ok : Sound B g) where
   status-store : (w : Write) (s : Chip) → Whole s → status B (store w s .image) ≡ next B (status B (s .image)) w
   unfolding put
   status-store w s e = go (eqb (w .address) (B .register)) refl
@@ -130,7 +135,8 @@ module _ (B : Buffer) (g : Group) (alike : (n : ℕ) → Alike (B .groups) (only
 
   -- the buffer after a write that leaves the group's hold the only one up
   buffer-store : (w : Write) (s : Chip) → next B (status B (s .image)) w ≡ 2 ^ g .hold → up g (next B (status B (s .image)) w) ≡ true
-      → B .bytes (store w s) ≡ cond (not (up g (holdsOf B (s .image)))) (registersOf g (s .image) ++ drop (g .count) (B .bytes s)) (B .bytes s)
+      → B .bytes (store w s)
+      ≡ cond (not (up g (holdsOf B (s .image)))) (registersOf g (s .image) ++ drop (g .count) (B .bytes s)) (B .bytes s)
   buffer-store w s h u = ok .own w s ∙ go (eqb (w .address) (B .register)) h u
     where
       go : (r : Bool) → cond r (only (B .groups) (w .value)) (status B (s .image)) ≡ 2 ^ g .hold
@@ -138,7 +144,8 @@ module _ (B : Buffer) (g : Group) (alike : (n : ℕ) → Alike (B .groups) (only
           → cond r (filled (B .groups) (holdsOf B (s .image)) (w .value) (s .image) (B .bytes s)) (B .bytes s)
           ≡ cond (not (up g (holdsOf B (s .image)))) (registersOf g (s .image) ++ drop (g .count) (B .bytes s)) (B .bytes s)
       go true p q =
-          sym (filled-alike (B .groups) (holdsOf B (s .image)) (only (B .groups) (w .value)) (w .value) (s .image) (B .bytes s) (alike (w .value)))
+          sym (filled-alike (B .groups) (holdsOf B (s .image)) (only (B .groups) (w .value)) (w .value) (s .image) (B .bytes s)
+          (alike (w .value)))
           ∙ rw p (ok .alone (holdsOf B (s .image)) (s .image) (B .bytes s))
       go false p q = rw (sym (same (holdsOf B (s .image))) ∙ q)
 

@@ -39,7 +39,8 @@ merge-through f r a b c =
 
 byte-kept : (a : ℕ) {x y : ℕ} (w : ℕ) → Kept a x y → byte a x w ≡ byte a y w
 unfolding byte
-byte-kept a {x} {y} w k = merge-swap (readOnly a) x y _ (k .reads) ∙ ap (λ (t : ℕ). merge 8 (readOnly a) y t) (merge-swap (free a) x y _ (k .frees))
+byte-kept a {x} {y} w k = merge-swap (readOnly a) x y _ (k .reads)
+    ∙ ap (λ (t : ℕ). merge 8 (readOnly a) y t) (merge-swap (free a) x y _ (k .frees))
 
 kept-byte : (a x w : ℕ) → Kept a (byte a x w) x
 unfolding byte
@@ -61,7 +62,8 @@ at-set P (x ∷ xs) (suc a) (suc b) v f p = at-set P xs a b v (λ e. f (ap suc e
 
 byte-bit : (a j old wanted : ℕ) → j < 8
     → bit j (byte a old wanted)
-    ≡ cond (eqb (bit j (readOnly a)) 1) (bit j old) (cond (eqb (bit j (free a)) 1) (bit j old) (cond (eqb (bit j (named a)) 1) (bit j wanted) (bit j (bits a))))
+    ≡ cond (eqb (bit j (readOnly a)) 1) (bit j old)
+    (cond (eqb (bit j (free a)) 1) (bit j old) (cond (eqb (bit j (named a)) 1) (bit j wanted) (bit j (bits a))))
 unfolding byte
 byte-bit a j old wanted h = rw (merge-bit 8 j (readOnly a) _ _ h, merge-bit 8 j (free a) _ _ h, merge-bit 8 j (named a) _ _ h)
 
@@ -80,7 +82,8 @@ packets-byte old x wanted h =
     clean-holds a b h k = omega arith
 
 converter-byte : (old x wanted : ℕ)
-    → only (converter .groups) (byte reg.coefficientUpdate old (merge 8 0x20 x wanted)) ≡ only (converter .groups) (32 * bit 5 x + 64 * bit 6 x)
+    → only (converter .groups) (byte reg.coefficientUpdate old (merge 8 0x20 x wanted))
+    ≡ only (converter .groups) (32 * bit 5 x + 64 * bit 6 x)
 unfolding classAt
 converter-byte old x wanted =
     let b : ℕ = byte reg.coefficientUpdate old (merge 8 0x20 x wanted) in
@@ -111,12 +114,15 @@ unfoldable pub Seen : (ℕ → ℕ) → List ℕ → Buffer → Type 0
 Seen want image B = (n : ℕ) (i : Step) → next B n (written want image i) ≡ next B n (clean i)
 
 seen : (want : ℕ → ℕ) (image : List ℕ) (B : Buffer)
-    → ((x : ℕ) → only (B .groups) (written want image (B .register raising x) .value) ≡ only (B .groups) (clean (B .register raising x) .value)) → Seen want image B
+    → ((x : ℕ) → only (B .groups) (written want image (B .register raising x) .value)
+    ≡ only (B .groups) (clean (B .register raising x) .value)) → Seen want image B
 unfolding Seen written
 seen want image B h n i = go (eqb (i .register) (B .register)) refl
   where
-    go : (r : Bool) → eqb (i .register) (B .register) ≡ r → cond r (only (B .groups) (written want image i .value)) n ≡ cond r (only (B .groups) (clean i .value)) n
-    go true p = subst⁻¹ (λ (a : ℕ). only (B .groups) (written want image (a raising i .raised) .value) ≡ only (B .groups) (clean i .value)) (eqb-true _ _ p) (h (i .raised))
+    go : (r : Bool) → eqb (i .register) (B .register) ≡ r
+        → cond r (only (B .groups) (written want image i .value)) n ≡ cond r (only (B .groups) (clean i .value)) n
+    go true p = subst⁻¹ (λ (a : ℕ). only (B .groups) (written want image (a raising i .raised) .value) ≡ only (B .groups) (clean i .value))
+        (eqb-true _ _ p) (h (i .raised))
     go false p = refl
 
 pub packets-seen : (want : ℕ → ℕ) (image : List ℕ) → bit 4 (getD image reg.infoframeUpdate 0) ≡ 0 → Seen want image packets
@@ -128,7 +134,8 @@ unfolding written decided
 converter-seen want image = seen want image converter (λ x. converter-byte _ x _)
 
 module _ (want : ℕ → ℕ) (image : List ℕ) (B : Buffer) (g : Group) (see : Seen want image B) where
-  pub walk-seen : (may : Bool) (n : ℕ) (is : List Step) → walk (view B g) may n (map (written want image) is) ≡ walk (view B g) may n (map clean is)
+  pub walk-seen : (may : Bool) (n : ℕ) (is : List Step)
+      → walk (view B g) may n (map (written want image) is) ≡ walk (view B g) may n (map clean is)
   unfolding Seen written
   walk-seen = walk-map (view B g) (written want image) clean see (λ n i. ap (λ (m : ℕ). quiet g n m (i .register)) (see n i))
 
@@ -168,7 +175,8 @@ module _ (want : ℕ → ℕ) (image₀ : List ℕ) where
   unfolding Agree written put
   agree-store i s k a =
       at-set (λ (x : ℕ). Kept a x (getD image₀ a 0)) (s .image) (i .register) a (written want image₀ i .value)
-      (λ e. subst (λ (b : ℕ). Kept b (written want image₀ i .value) (getD image₀ b 0)) (sym e) (kept-byte (i .register) (getD image₀ (i .register) 0) _)) (k a)
+      (λ e. subst (λ (b : ℕ). Kept b (written want image₀ i .value) (getD image₀ b 0)) (sym e)
+      (kept-byte (i .register) (getD image₀ (i .register) 0) _)) (k a)
 
   pub agree-acts : (is : List Step) (s : Chip) → Agree (s .image) image₀ → Agree (acts store (map (written want image₀) is) s .image) image₀
   agree-acts [] s k = k

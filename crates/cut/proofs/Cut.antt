@@ -1,5 +1,5 @@
--- Demand 3 for any list that is `Good`: one that mutes first and opens last, whose walks pass, and that leaves each register as the finished
--- image has it. What the walks show of the groups in use is `Latch`'s. Assumes nothing.
+-- Demand 3 for any list that is `Good`: one that mutes first and opens last, whose walks pass, and that leaves each register as the
+-- finished image has it. What the walks show of the groups in use is `Latch`'s. Assumes nothing.
 use mathlib.Core.Path.{_≡_, refl, sym, ap, subst, _∙_}
 use mathlib.Core.Logic.{_⊎_, inl, inr, ⊎-map, _≢_}
 use mathlib.Core.Bool.{false≢true, Bool, true, false, _||_, cond}
@@ -16,7 +16,8 @@ use Rattle.bits.specs.Merge.{bit}
 use Rattle.bits.proofs.Below.{at-below}
 use Rattle.matrix.specs.Matrix.{fields}
 use Rattle.chip.specs.declared.Chip.{Chip}
-use Rattle.chip.specs.Machine.{Write, _gets_, Group, Buffer, avi, audio, gc, matrix, packets, converter, up, registersOf, holdsOf, inUse, writeOf, gcInUse, Muted, Open, mute, coefficients}
+use Rattle.chip.specs.Machine.{Write, _gets_, Group, Buffer, avi, audio, gc, matrix, packets, converter, up, registersOf, holdsOf, inUse}
+use Rattle.chip.specs.Machine.{writeOf, gcInUse, Muted, Open, mute, coefficients}
 use Rattle.writes.specs.Steps.{Step, _raising_, steps}
 use Rattle.writes.specs.List.{decided, written, listWith, isWritten, leftUp, finished, ready}
 use Rattle.cut.specs.Run.{Event, write, Fair, Careful, Covered, begun, Retried}
@@ -25,7 +26,8 @@ use Rattle.cut.proofs.Planned.{Planner, cutOf, endOf, OldOrNew}
 use Rattle.cut.proofs.Retry.{some-begun, retries}
 use Rattle.cut.proofs.FairRun.{untouched}
 use Rattle.cut.proofs.Latch.{nexts, walk, acts, status-acts, calm, once}
-use Rattle.cut.proofs.Bank.{store, only, status, avi-same, audio-same, gc-same, matrix-same, view, Whole, Shown, image-store, size-store, down-part, avi-shown, audio-shown, gc-shown, matrix-shown}
+use Rattle.cut.proofs.Bank.{store, only, status, avi-same, audio-same, gc-same, matrix-same, view, Whole, Shown, image-store}
+use Rattle.cut.proofs.Bank.{size-store, down-part, avi-shown, audio-shown, gc-shown, matrix-shown}
 use Rattle.cut.proofs.Bytes.{clean, place, mute-byte, Seen, packets-seen, converter-seen, walk-seen, nexts-seen}
 use Rattle.cut.proofs.Bytes.{Agree, agree-self, agree-trans, agree-free, written-agree, agree-acts}
 use Rattle.cut.proofs.Taken.{neat, neat-only, tidy, neat-at, tidy-seen, Fit, run-acts, run-all, taken-at}
@@ -132,7 +134,8 @@ finished-near want s u near a h = go (isWritten a) refl
     end = a raising leftUp a
 
     go : (t : Bool) → isWritten a ≡ t
-        → cond t (written want (u .image) end .value) (getD (u .image) a 0) ≡ cond t (written want (s .image) end .value) (getD (s .image) a 0)
+        → cond t (written want (u .image) end .value) (getD (u .image) a 0)
+        ≡ cond t (written want (s .image) end .value) (getD (s .image) a 0)
     go true t = ap (λ (w : Write). w .value) (written-agree want (u .image) (s .image) end (near .kept))
     go false t = near .rest a h t
 
@@ -141,7 +144,8 @@ pub record Latched (P : Planner) (shown : Chip → List ℕ) : Type 0 where
   pub either : (want : ℕ → ℕ) (s : Chip) → Ready (s .image) → (k : ℕ) → OldOrNew shown s (endOf P want s) (cutOf P want s k)
   pub ending : (want : ℕ → ℕ) (s u : Chip) → Ready (s .image) → Near s u → shown (endOf P want u) ≡ shown (endOf P want s)
 
-module _ (mid : (ℕ → ℕ) → List ℕ → List Step) (good : (want : ℕ → ℕ) (image : List ℕ) → Ready image → Good want image (mid want image)) where
+module _ (mid : (ℕ → ℕ) → List ℕ → List Step)
+    (good : (want : ℕ → ℕ) (image : List ℕ) → Ready image → Good want image (mid want image)) where
   abbrev P : Planner
   P = listWith mid
 
@@ -180,36 +184,45 @@ module _ (mid : (ℕ → ℕ) → List ℕ → List Step) (good : (want : ℕ �
     done-acts : endOf P want s ≡ acts store (map f is) s
     done-acts = run-all want (s .image) is s fit
 
-    taken : (k : ℕ) → k < length (map f is) → let w : Write = getD (map f is) k (0 gets 0) in writeOf (cutOf P want s k) (w .address) (w .value) .refusal ≡ 0
+    taken : (k : ℕ) → k < length (map f is)
+        → let w : Write = getD (map f is) k (0 gets 0) in writeOf (cutOf P want s k) (w .address) (w .value) .refusal ≡ 0
     taken k h = rw (cut-acts k) (taken-at want (s .image) is s k fit h)
 
     -- one group: old or new at every cut, and at the end as it stands in the registers
     module _ (B : Buffer) (g : Group) (F : Shown B g) (see : Seen want (s .image) B) where
-      holds-acts : (vs : List Step) (u : Chip) → Whole u → status B (acts store (map f vs) u .image) ≡ nexts (view B g) (status B (u .image)) (map clean vs)
+      holds-acts : (vs : List Step) (u : Chip) → Whole u
+          → status B (acts store (map f vs) u .image) ≡ nexts (view B g) (status B (u .image)) (map clean vs)
       holds-acts vs u e = status-acts store F (map f vs) u e ∙ nexts-seen want (s .image) B g see (status B (u .image)) vs
 
-      group-cut : walk (view B g) true (status B (s .image)) (map clean is) ≡ true → (k : ℕ) → OldOrNew (inUse B g) s (endOf P want s) (cutOf P want s k)
-      group-cut t k = rw (cut-acts k, done-acts) (once store F (map f is) s k (r .whole) (walk-seen want (s .image) B g see true (status B (s .image)) is ∙ t))
+      group-cut : walk (view B g) true (status B (s .image)) (map clean is) ≡ true → (k : ℕ)
+          → OldOrNew (inUse B g) s (endOf P want s) (cutOf P want s k)
+      group-cut t k = rw (cut-acts k, done-acts)
+          (once store F (map f is) s k (r .whole) (walk-seen want (s .image) B g see true (status B (s .image)) is ∙ t))
 
-      group-done : nexts (view B g) (status B (s .image)) (map clean is) ≡ 0 → up g 0 ≡ false → ((n : ℕ) → up g (only (B .groups) n) ≡ up g n)
+      group-done : nexts (view B g) (status B (s .image)) (map clean is) ≡ 0 → up g 0 ≡ false
+          → ((n : ℕ) → up g (only (B .groups) n) ≡ up g n)
           → inUse B g (endOf P want s) ≡ registersOf g (endOf P want s .image)
       group-done t z same =
-          down-part B g (endOf P want s) (sym (same (holdsOf B (endOf P want s .image))) ∙ ap (λ (n : ℕ). up g n) (rw done-acts (holds-acts is s (r .whole)) ∙ t) ∙ z)
+          down-part B g (endOf P want s)
+          (sym (same (holdsOf B (endOf P want s .image))) ∙ ap (λ (n : ℕ). up g n) (rw done-acts (holds-acts is s (r .whole)) ∙ t) ∙ z)
 
     ready-cut : (k : ℕ) → Ready (cutOf P want s k .image)
     ready-cut k = record {
       whole = rw (cut-acts k) (sized-acts (take k (map f is)) s (r .whole));
-      holds = sym (neat-only (holdsOf packets (cutOf P want s k .image))) ∙ rw (cut-acts k, take-map f k is, holds-acts packets gc gc-shown seen-p (take k is) s (r .whole), ← take-map clean k is)
+      holds = sym (neat-only (holdsOf packets (cutOf P want s k .image)))
+          ∙ rw (cut-acts k, take-map f k is, holds-acts packets gc gc-shown seen-p (take k is) s (r .whole), ← take-map clean k is)
           (neat-at _ (map clean is) k neat-start (facts .tidies));
     }
 
     -- the mute bits after a write to their register
-    mute-store : (x : ℕ) (u : Chip) → Whole u → up gc (status packets (u .image)) ≡ false → mute (store (f (reg.gc raising x)) u) ≡ bit 6 x + 2 * bit 7 x
+    mute-store : (x : ℕ) (u : Chip) → Whole u → up gc (status packets (u .image)) ≡ false
+        → mute (store (f (reg.gc raising x)) u) ≡ bit 6 x + 2 * bit 7 x
     unfolding gcInUse written decided
     mute-store x u e h =
         let d : inUse packets gc (store (f (reg.gc raising x)) u) ≡ registersOf gc (store (f (reg.gc raising x)) u .image) =
         down-part packets gc (store (f (reg.gc raising x)) u)
-        (sym (gc-same (holdsOf packets (store (f (reg.gc raising x)) u .image))) ∙ ap (λ (n : ℕ). up gc n) (gc-shown .tracks (f (reg.gc raising x)) u e) ∙ h) in
+        (sym (gc-same (holdsOf packets (store (f (reg.gc raising x)) u .image)))
+        ∙ ap (λ (n : ℕ). up gc n) (gc-shown .tracks (f (reg.gc raising x)) u e) ∙ h) in
         rw (d, image-store, getD-take {A = ℕ} 1 _ 0 0 (lit< tt), getD-drop, getD-set-same (u .image) reg.gc _ 0 (rw e (lit< tt)))
         (mute-byte (getD (s .image) reg.gc 0) x (want reg.gc))
 
@@ -248,7 +261,8 @@ module _ (mid : (ℕ → ℕ) → List ℕ → List Step) (good : (want : ℕ �
         let u : Chip = acts store ws dark in
         let e : endOf P want s ≡ store opening u = done-acts ∙ rw (map-append, acts-append) in
         let h : status packets (u .image) ≡ 0 =
-        holds-acts packets gc gc-shown seen-p ms dark dark-sized ∙ ap (λ (n : ℕ). nexts (view packets gc) n (map clean ms)) dark-holds ∙ facts .closes in
+        holds-acts packets gc gc-shown seen-p ms dark dark-sized ∙ ap (λ (n : ℕ). nexts (view packets gc) n (map clean ms)) dark-holds
+        ∙ facts .closes in
         is-open (endOf P want s) (rw e (mute-store reg.clearAvMuteMask u (sized-acts ws dark dark-sized) (ap (λ (n : ℕ). up gc n) h)))
 
     mutes : (j : ℕ) → suc j < length (P want (s .image)) → Muted (cutOf P want s (suc j))
@@ -286,13 +300,15 @@ module _ (mid : (ℕ → ℕ) → List ℕ → List Step) (good : (want : ℕ �
     covered : (a k : ℕ) → a ≢ reg.gc → getD (cutOf P want s (suc k) .image) a 0 ≢ getD (cutOf P want s k .image) a 0
         → Muted (cutOf P want s k) × Muted (cutOf P want s (suc k))
     unfolding dark written
-    covered a zero h m = absurd (m (ap (λ (t : Chip). getD (t .image) a 0) (cut-dark 0) ∙ elsewhere (f (reg.gc raising reg.setAvMuteMask)) s a h))
+    covered a zero h m =
+        absurd (m (ap (λ (t : Chip). getD (t .image) a 0) (cut-dark 0) ∙ elsewhere (f (reg.gc raising reg.setAvMuteMask)) s a h))
     covered a (suc j) h m = go (ltb (suc (suc j)) (length (P want (s .image)))) refl
       where
         late : (i : ℕ) → length ws ≤ i → getD (cutOf P want s (suc i) .image) a 0 ≡ getD (acts store ws dark .image) a 0
         late i l = ap (λ (t : Chip). getD (t .image) a 0) (cut-dark i) ∙ tail-stays ws opening dark a i h l
 
-        go : (t : Bool) → ltb (suc (suc j)) (length (P want (s .image))) ≡ t → Muted (cutOf P want s (suc j)) × Muted (cutOf P want s (suc (suc j)))
+        go : (t : Bool) → ltb (suc (suc j)) (length (P want (s .image))) ≡ t
+            → Muted (cutOf P want s (suc j)) × Muted (cutOf P want s (suc (suc j)))
         go true e =
             let l : suc (suc j) < length (P want (s .image)) = ltb-true (suc (suc j)) (length (P want (s .image))) e in
             (mutes j (omega (arith, l)), mutes (suc j) l)
@@ -305,7 +321,8 @@ module _ (mid : (ℕ → ℕ) → List ℕ → List Step) (good : (want : ℕ �
     vic zero m = absurd (m refl)
     vic (suc j) m = go (ltb (suc j) (length (P want (s .image)))) refl
       where
-        go : (t : Bool) → ltb (suc j) (length (P want (s .image))) ≡ t → Muted (cutOf P want s (suc j)) ⊎ (length (P want (s .image)) ≤ suc j)
+        go : (t : Bool) → ltb (suc j) (length (P want (s .image))) ≡ t
+            → Muted (cutOf P want s (suc j)) ⊎ (length (P want (s .image)) ≤ suc j)
         go true e = inl (mutes j (ltb-true (suc j) (length (P want (s .image))) e))
         go false e = inr (ltb-false (suc j) (length (P want (s .image))) e)
 
@@ -315,7 +332,8 @@ module _ (mid : (ℕ → ℕ) → List ℕ → List Step) (good : (want : ℕ �
       record {
         ready = ready-cut want u (near .ready) k;
         kept = agree-trans _ (u .image) _
-            (rw (cut-acts want u (near .ready) k, take-map (written want (u .image)) k) (agree-acts want (u .image) vs u (agree-self (u .image)))) (near .kept);
+            (rw (cut-acts want u (near .ready) k, take-map (written want (u .image)) k)
+            (agree-acts want (u .image) vs u (agree-self (u .image)))) (near .kept);
         rest = λ a h t. others-stay want u (near .ready) k a h t ∙ near .rest a h t;
       }
 
@@ -332,7 +350,8 @@ module _ (mid : (ℕ → ℕ) → List ℕ → List Step) (good : (want : ℕ �
   ending-part : (g : Group) (shown : Chip → List ℕ) (of : List ℕ → List ℕ)
       → ((want : ℕ → ℕ) (t : Chip) → Ready (t .image) → shown (endOf P want t) ≡ of (registersOf g (endOf P want t .image)))
       → (want : ℕ → ℕ) (s u : Chip) → Ready (s .image) → Near s u → shown (endOf P want u) ≡ shown (endOf P want s)
-  ending-part g shown of h want s u r near = h want u (near .ready) ∙ ap (λ (l : List ℕ). of (registersOf g l)) (ends-alike want s u r near) ∙ sym (h want s r)
+  ending-part g shown of h want s u r near = h want u (near .ready)
+      ∙ ap (λ (l : List ℕ). of (registersOf g l)) (ends-alike want s u r near) ∙ sym (h want s r)
 
   pub avi-latched : Latched P (inUse packets avi)
   avi-latched = record {
@@ -383,7 +402,8 @@ module _ (mid : (ℕ → ℕ) → List ℕ → List Step) (good : (want : ℕ �
     still-fair k w f = record {
       itsRegister = f .itsRegister;
       itsMandated = f .itsMandated;
-      itsFree = f .itsFree ∙ sym (agree-free (cutOf P want s k .image) (s .image) (near-cut want s s k (near-self s r) .kept) (w .address));
+      itsFree = f .itsFree
+          ∙ sym (agree-free (cutOf P want s k .image) (s .image) (near-cut want s s k (near-self s r) .kept) (w .address));
     }
 
     careful : Careful (sent list) s
@@ -422,5 +442,6 @@ module _ (mid : (ℕ → ℕ) → List ℕ → List Step) (good : (want : ℕ �
       ready = λ ks. near-cuts want s s ks (near-self s r) .ready .holds;
       again = λ ks. same-end want s (cuts (planned want) ks s) r (near-cuts want s s ks (near-self s r));
       retries = again;
-      retriesBetween = λ n k lo hi. rw (again n .cuts k, again n .ends) (careful .between (begun n (sent list) k) (some-begun n (sent list) k lo hi) hi);
+      retriesBetween = λ n k lo hi. rw (again n .cuts k, again n .ends)
+          (careful .between (begun n (sent list) k) (some-begun n (sent list) k lo hi) hi);
     }

@@ -25,7 +25,9 @@ after-write : (P : List ℕ → Type 0) (s : Chip) (a v : ℕ) → P (s .image) 
 unfolding writeOf put
 after-write P s a v p q = go (refuses s a v)
   where
-    go : (r : Bool) → P (cond {A = Wrote} r (record { refusal = 13; chip = s }) (record { refusal = 0; chip = put a (stored a v (s .image)) s }) .chip .image)
+    go : (r : Bool)
+        → P (cond {A = Wrote} r (record { refusal = 13; chip = s })
+        (record { refusal = 0; chip = put a (stored a v (s .image)) s }) .chip .image)
     go true = p
     go false = q
 
@@ -34,9 +36,11 @@ module _ (w : Write) (s : Chip) (fair : Fair (s .image) w) where
   Kept a j = (bit j (free a) ≡ 1) ⊎ (bit j (readOnly a) ≡ 1)
 
   -- the stored byte has the free and the read-only bits that stood there
-  stored-bit : (j : ℕ) → j < 8 → Kept (w .address) j → bit j (stored (w .address) (w .value) (s .image)) ≡ bit j (getD (s .image) (w .address) 0)
+  stored-bit : (j : ℕ) → j < 8 → Kept (w .address) j
+      → bit j (stored (w .address) (w .value) (s .image)) ≡ bit j (getD (s .image) (w .address) 0)
   unfolding stored
-  stored-bit j h f = merge-bit 8 j (readOnly (w .address)) (getD (s .image) (w .address) 0) (w .value) h ∙ go (eqb (bit j (readOnly (w .address))) 1) refl f
+  stored-bit j h f = merge-bit 8 j (readOnly (w .address)) (getD (s .image) (w .address) 0) (w .value) h
+      ∙ go (eqb (bit j (readOnly (w .address))) 1) refl f
     where
       go : (b : Bool) → eqb (bit j (readOnly (w .address))) 1 ≡ b → Kept (w .address) j
           → cond b (bit j (getD (s .image) (w .address) 0)) (bit j (w .value)) ≡ bit j (getD (s .image) (w .address) 0)
@@ -63,7 +67,8 @@ Fairly es s = (k : ℕ) → k < length es → IsFair (event es k) (cut es s k)
 later : (e : Event) (es : List Event) (s : Chip) → Fairly (e ∷ es) s → Fairly es (happens e s .chip)
 later e es s fair k h = fair (suc k) (suc-le-suc h)
 
-keeps : (es : List Event) (s : Chip) → Fairly es s → (a j k : ℕ) → j < 8 → (bit j (free a) ≡ 1) ⊎ (bit j (readOnly a) ≡ 1) → Stays a j s (cut es s k)
+keeps : (es : List Event) (s : Chip) → Fairly es s → (a j k : ℕ) → j < 8 → (bit j (free a) ≡ 1) ⊎ (bit j (readOnly a) ≡ 1)
+    → Stays a j s (cut es s k)
 keeps es s fair a j zero h f = refl
 keeps [] s fair a j (suc k) h f = refl
 keeps (write w ∷ es) s fair a j (suc k) h f =
@@ -82,7 +87,10 @@ protected = (refl, refl)
 
 pub untouched : (es : List Event) (s : Chip) → Fairly es s → Untouched es s
 untouched es s fair = record {
-  protection = λ k. (keeps es s fair reg.hdcpHdmiCfg 7 k (lit< tt) (inl (protected .0)), keeps es s fair reg.hdcpHdmiCfg 4 k (lit< tt) (inl (protected .1)));
+  protection = λ k. (
+    keeps es s fair reg.hdcpHdmiCfg 7 k (lit< tt) (inl (protected .0)),
+    keeps es s fair reg.hdcpHdmiCfg 4 k (lit< tt) (inl (protected .1)),
+  );
   bits = keeps es s fair;
   unwritten = leaves es s fair;
 }

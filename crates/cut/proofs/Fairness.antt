@@ -31,14 +31,16 @@ every-at test [] k t h = absurd (not-suc-le-zero h)
 every-at test (x ∷ xs) zero t h = both-left (test x) (every test xs) t
 every-at test (x ∷ xs) (suc k) t h = every-at test xs k (both-right (test x) (every test xs) t) (le-of-suc-le-suc h)
 
-pub each-fair : (want : ℕ → ℕ) (image : List ℕ) (k : ℕ) → k < length (writeList want image) → Fair image (getD (writeList want image) k (0 gets 0))
+pub each-fair : (want : ℕ → ℕ) (image : List ℕ) (k : ℕ) → k < length (writeList want image)
+    → Fair image (getD (writeList want image) k (0 gets 0))
 each-fair want image k h =
     let ws : List Write = writeList want image in
     let w : Write = getD ws k (0 gets 0) in
     let o : Order want image = in-order want image in
     let at : getD (addresses ws) k 0 ≡ w .address = List·getD-map (λ (w : Write). w .address) ws k (0 gets 0) in
     let l : k < length (addresses ws) = rw (length-map ws (λ (w : Write). w .address)) h in
-    let small : w .address < 256 = subst (λ (a : ℕ). a < 256) at (ltb-true _ _ (every-at (λ a. ltb a 256) (addresses ws) k (o .inside) l)) in
+    let small : w .address < 256 =
+    subst (λ (a : ℕ). a < 256) at (ltb-true _ _ (every-at (λ a. ltb a 256) (addresses ws) k (o .inside) l)) in
     let c = entries want image k h .carries in
     record {
       itsRegister = sym (o .written (w .address) small) ∙ ap (λ (a : ℕ). among a (addresses ws)) (sym at) ∙ among-at (addresses ws) k l;

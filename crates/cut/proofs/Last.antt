@@ -15,12 +15,15 @@ use Rattle.cut.proofs.Latch.{acts}
 use Rattle.cut.proofs.Bank.{store, Whole, image-store, size-store}
 
 pub stored-last : (f : Step → Write) → ((i : Step) → f i .address ≡ i .register) → (a d : ℕ) → a < 256
-    → (is : List Step) (s : Chip) (o : ℕ) → Whole s → getD (s .image) a 0 ≡ read f a o d → getD (acts store (map f is) s .image) a 0 ≡ read f a (last a is o) d
+    → (is : List Step) (s : Chip) (o : ℕ) → Whole s → getD (s .image) a 0 ≡ read f a o d
+    → getD (acts store (map f is) s .image) a 0 ≡ read f a (last a is o) d
 stored-last f p a d h [] s o z e = e
 stored-last f p a d h (i ∷ is) s o z e =
-    stored-last f p a d h is (store (f i) s) _ (size-store (f i) s z) (ap (λ (l : List ℕ). getD l a 0) (image-store (f i) s) ∙ go (eqb a (i .register)) refl)
+    stored-last f p a d h is (store (f i) s) _ (size-store (f i) s z)
+    (ap (λ (l : List ℕ). getD l a 0) (image-store (f i) s) ∙ go (eqb a (i .register)) refl)
   where
-    go : (r : Bool) → eqb a (i .register) ≡ r → getD (set (s .image) (f i .address) (f i .value)) a 0 ≡ read f a (cond r (suc (i .raised)) o) d
+    go : (r : Bool) → eqb a (i .register) ≡ r
+        → getD (set (s .image) (f i .address) (f i .value)) a 0 ≡ read f a (cond r (suc (i .raised)) o) d
     go true q =
         let e′ : a ≡ i .register = eqb-true _ _ q in
         ap (λ (b : ℕ). getD (set (s .image) b (f i .value)) a 0) (p i ∙ sym e′) ∙ getD-set-same (s .image) a (f i .value) 0 (rw z h)

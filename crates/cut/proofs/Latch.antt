@@ -79,8 +79,8 @@ module _ {S E : Type 0} (act : E → S → S) where
     calm es s zero i t = refl
     calm [] s (suc k) i t = refl
     calm (e ∷ es) s (suc k) i t =
-        ⊎-elim (λ h. calm es (act e s) k (F .lasts e s i) (rw (F .tracks e s i) (h .1)) ∙ F .keeps e s i (h .0)) (λ h. absurd (false≢true (h .0)))
-        (first L false (status s) e es t)
+        ⊎-elim (λ h. calm es (act e s) k (F .lasts e s i) (rw (F .tracks e s i) (h .1)) ∙ F .keeps e s i (h .0))
+        (λ h. absurd (false≢true (h .0))) (first L false (status s) e es t)
 
     -- a walk with one exception: at every cut the value is as it began or as it ends
     pub once : (es : List E) (s : S) (k : ℕ) → Inv s → walk L true (status s) es ≡ true

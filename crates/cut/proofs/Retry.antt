@@ -1,5 +1,5 @@
--- A write that was taken, sent again, is taken and changes nothing; so a run whose events are repeated goes through the same states. Assumes
--- nothing.
+-- A write that was taken, sent again, is taken and changes nothing; so a run whose events are repeated goes through the same states.
+-- Assumes nothing.
 use mathlib.Core.Path.{_≡_, refl, sym, ap, _∙_}
 use mathlib.Core.Bool.{Bool, true, false, false≢true, cond, not, _&&_, _||_}
 use mathlib.Core.List.{List, [], _∷_, _++_}
@@ -41,6 +41,9 @@ none-rises n (g ∷ gs) = go (up g n) (none-rises n gs)
 sized-after : (s : Chip) (a v : ℕ) → length (s .image) ≡ 256 → length (writeOf s a v .chip .image) ≡ 256
 sized-after s a v z = stepped s a v z .sized ∙ z
 
+abbrev taking : ℕ → List ℕ → List ℕ → List ℕ → Wrote
+taking n image packet coefficients = record { refusal = n; chip = record { image = image; packet = packet; coefficients = coefficients } }
+
 took : (s : Chip) (a v : ℕ) → refuses s a v ≡ false → writeOf s a v ≡ record { refusal = 0; chip = put a (stored a v (s .image)) s }
 unfolding writeOf
 took s a v e = rw e
@@ -50,7 +53,9 @@ module _ (s : Chip) (a v : ℕ) (z : length (s .image) ≡ 256) (taken : writeOf
   unfolding writeOf
   kept-up = go (refuses s a v) taken
     where
-      go : (r : Bool) → cond {A = Wrote} r (record { refusal = 13; chip = s }) (record { refusal = 0; chip = put a (stored a v (s .image)) s }) .refusal ≡ 0
+      go : (r : Bool)
+          → cond {A = Wrote} r (record { refusal = 13; chip = s })
+          (record { refusal = 0; chip = put a (stored a v (s .image)) s }) .refusal ≡ 0
           → r ≡ false
       go true e = absurd (omega arith)
       go false e = refl
@@ -79,7 +84,8 @@ module _ (s : Chip) (a v : ℕ) (z : length (s .image) ≡ 256) (taken : writeOf
   packet-stays = stepped t a v (sized-after s a v z) .packet (rw stays (none-rises (holdsOf packets (t .image)) (packets .groups)))
 
   coefficients-stay : writeOf t a v .chip .coefficients ≡ t .coefficients
-  coefficients-stay = stepped t a v (sized-after s a v z) .coefficients (rw stays (none-rises (holdsOf converter (t .image)) (converter .groups)))
+  coefficients-stay =
+      stepped t a v (sized-after s a v z) .coefficients (rw stays (none-rises (holdsOf converter (t .image)) (converter .groups)))
 
   image-stays : writeOf t a v .chip .image ≡ t .image
   unfolding put
@@ -88,10 +94,11 @@ module _ (s : Chip) (a v : ℕ) (z : length (s .image) ≡ 256) (taken : writeOf
   pub sent-again : writeOf t a v ≡ record { refusal = 0; chip = t }
   sent-again =
       let w : Wrote = writeOf t a v in
-      ap (λ (x : Wrote). record { refusal = x .refusal; chip = w .chip }) (took t a v let-in)
-      ∙ ap (λ (i : List ℕ). record { refusal = 0; chip = record { image = i; packet = w .chip .packet; coefficients = w .chip .coefficients } }) image-stays
-      ∙ ap (λ (p : List ℕ). record { refusal = 0; chip = record { image = t .image; packet = p; coefficients = w .chip .coefficients } }) packet-stays
-      ∙ ap (λ (c : List ℕ). record { refusal = 0; chip = record { image = t .image; packet = t .packet; coefficients = c } }) coefficients-stay
+      let c : Chip = w .chip in
+      ap (λ (x : Wrote). taking (x .refusal) (c .image) (c .packet) (c .coefficients)) (took t a v let-in)
+      ∙ ap (λ (l : List ℕ). taking 0 l (c .packet) (c .coefficients)) image-stays
+      ∙ ap (λ (l : List ℕ). taking 0 (t .image) l (c .coefficients)) packet-stays
+      ∙ ap (λ (l : List ℕ). taking 0 (t .image) (t .packet) l) coefficients-stay
 
 -- ---- a list of events
 
@@ -105,7 +112,8 @@ Taken es s = (k : ℕ) → k < length es → happens (event es k) (cut es s k) .
 sized-happens : (e : Event) (s : Chip) → Whole s → Whole (happens e s .chip)
 sized-happens (write w) s z = sized-after s (w .address) (w .value) z
 
-again : (e : Event) (s : Chip) → Whole s → happens e s .refusal ≡ 0 → happens e (happens e s .chip) ≡ record { refusal = 0; chip = happens e s .chip }
+again : (e : Event) (s : Chip) → Whole s → happens e s .refusal ≡ 0
+    → happens e (happens e s .chip) ≡ record { refusal = 0; chip = happens e s .chip }
 again (write w) s z h = sent-again s (w .address) (w .value) z h
 
 -- an event that changes nothing, any number of times before the others
@@ -129,7 +137,8 @@ module _ (e : Event) (t : Chip) (idle : happens e t ≡ record { refusal = 0; ch
       ∙ idle-taken m es h k (le-of-suc-le-suc l)
 
 pub retries : (es : List Event) (s : Chip) → Whole s → Taken es s → (n : ℕ → ℕ) → Retried n es s
-retries [] s z h n = record { cuts = λ k. ap (λ (es : List Event). run es s) (take-nil k); taken = λ k l. absurd (not-suc-le-zero l); ends = refl }
+retries [] s z h n =
+    record { cuts = λ k. ap (λ (es : List Event). run es s) (take-nil k); taken = λ k l. absurd (not-suc-le-zero l); ends = refl }
 retries (e ∷ es) s z h n =
     let more : ℕ → ℕ = λ k. n (suc k) in
     let t : Chip = happens e s .chip in
@@ -142,7 +151,8 @@ retries (e ∷ es) s z h n =
       ends = idle-run e t idle (n 0) (retried more es) ∙ rest .ends;
     }
   where
-    cuts : (e : Event) (es : List Event) (s : Chip) (n : ℕ → ℕ) → happens e (happens e s .chip) ≡ record { refusal = 0; chip = happens e s .chip }
+    cuts : (e : Event) (es : List Event) (s : Chip) (n : ℕ → ℕ)
+        → happens e (happens e s .chip) ≡ record { refusal = 0; chip = happens e s .chip }
         → Retried (λ k. n (suc k)) es (happens e s .chip) → (k : ℕ) → cut (retried n (e ∷ es)) s k ≡ cut (e ∷ es) s (begun n (e ∷ es) k)
     cuts e es s n idle rest zero = refl
     cuts e es s n idle rest (suc k) = idle-cut e (happens e s .chip) idle (n 0) (retried (λ k. n (suc k)) es) k ∙ rest .cuts (k - n 0)

@@ -1,4 +1,5 @@
--- No write of a list is refused: from holds of which no two are up, a list whose walk keeps them so is stored write by write. Assumes nothing.
+-- No write of a list is refused: from holds of which no two are up, a list whose walk keeps them so is stored write by write. Assumes
+-- nothing.
 use mathlib.Core.Path.{_≡_, refl, sym, ap, _∙_}
 use mathlib.Core.Logic.{⊎-elim}
 use mathlib.Core.Bool.{false≢true, Bool, true, false, not, _&&_, _||_}
@@ -41,7 +42,8 @@ tidy = record { next = next packets; quiet = λ n w. neat (next packets n w) }
 pub neat-at : (n : ℕ) (ws : List Write) (k : ℕ) → neat n ≡ true → walk tidy false n ws ≡ true → neat (nexts tidy n (take k ws)) ≡ true
 neat-at n ws zero h t = h
 neat-at n [] (suc k) h t = h
-neat-at n (w ∷ ws) (suc k) h t = ⊎-elim (λ q. neat-at (next packets n w) ws k (q .0) (q .1)) (λ q. absurd (false≢true (q .0))) (first tidy false n w ws t)
+neat-at n (w ∷ ws) (suc k) h t =
+    ⊎-elim (λ q. neat-at (next packets n w) ws k (q .0) (q .1)) (λ q. absurd (false≢true (q .0))) (first tidy false n w ws t)
 
 pub tidy-seen : (want : ℕ → ℕ) (image : List ℕ) → Seen want image packets → (n : ℕ) (is : List Step)
     → walk tidy false n (map (written want image) is) ≡ walk tidy false n (map clean is)
@@ -59,8 +61,10 @@ module _ (w : Write) (s : Chip) (z : Whole s) (e : stored (w .address) (w .value
     unfolding refuses
     takes =
         let after : List ℕ = imageAfter s (w .address) (w .value) in
-        let b : two (holdsOf packets (s .image)) ≡ false = neat-two (holdsOf packets (s .image)) (sym (neat-only (holdsOf packets (s .image))) ∙ n) in
-        let a : two (holdsOf packets after) ≡ false = neat-two (holdsOf packets after) (sym (neat-only (holdsOf packets after)) ∙ ap neat later ∙ n′) in
+        let b : two (holdsOf packets (s .image))
+        ≡ false = neat-two (holdsOf packets (s .image)) (sym (neat-only (holdsOf packets (s .image))) ∙ n) in
+        let a : two (holdsOf packets after)
+        ≡ false = neat-two (holdsOf packets after) (sym (neat-only (holdsOf packets after)) ∙ ap neat later ∙ n′) in
         rw (b, a)
 
     took : writeOf s (w .address) (w .value) ≡ record { refusal = 0; chip = store w s }
@@ -79,10 +83,13 @@ module _ (want : ℕ → ℕ) (image₀ : List ℕ) where
     pub walks : walk tidy false (status packets (s .image)) (map f is) ≡ true
 
   next-neat : (i : Step) (is : List Step) (s : Chip) → Fit s (i ∷ is)
-      → (neat (next packets (status packets (s .image)) (f i)) ≡ true) × (walk tidy false (next packets (status packets (s .image)) (f i)) (map f is) ≡ true)
-  next-neat i is s fit = ⊎-elim (λ q. q) (λ q. absurd (false≢true (q .0))) (first tidy false (status packets (s .image)) (f i) (map f is) (fit .walks))
+      → (neat (next packets (status packets (s .image)) (f i)) ≡ true)
+      × (walk tidy false (next packets (status packets (s .image)) (f i)) (map f is) ≡ true)
+  next-neat i is s fit =
+      ⊎-elim (λ q. q) (λ q. absurd (false≢true (q .0))) (first tidy false (status packets (s .image)) (f i) (map f is) (fit .walks))
 
-  head-taken : (i : Step) (is : List Step) (s : Chip) → Fit s (i ∷ is) → writeOf s (f i .address) (f i .value) ≡ record { refusal = 0; chip = store (f i) s }
+  head-taken : (i : Step) (is : List Step) (s : Chip) → Fit s (i ∷ is)
+      → writeOf s (f i .address) (f i .value) ≡ record { refusal = 0; chip = store (f i) s }
   head-taken i is s fit = took (f i) s (fit .sized) (written-stored want image₀ i s (fit .agree)) (fit .holds) (next-neat i is s fit .0)
 
   tail-fit : (i : Step) (is : List Step) (s : Chip) → Fit s (i ∷ is) → Fit (store (f i) s) is
@@ -98,14 +105,17 @@ module _ (want : ℕ → ℕ) (image₀ : List ℕ) where
   run-acts is s zero fit = refl
   run-acts [] s (suc k) fit = refl
   run-acts (i ∷ is) s (suc k) fit =
-      ap (λ (w : Wrote). run (take k (sent (map f is))) (w .chip)) (head-taken i is s fit) ∙ run-acts is (store (f i) s) k (tail-fit i is s fit)
+      ap (λ (w : Wrote). run (take k (sent (map f is))) (w .chip)) (head-taken i is s fit)
+      ∙ run-acts is (store (f i) s) k (tail-fit i is s fit)
 
   pub run-all : (is : List Step) (s : Chip) → Fit s is → run (sent (map f is)) s ≡ acts store (map f is) s
   run-all [] s fit = refl
-  run-all (i ∷ is) s fit = ap (λ (w : Wrote). run (sent (map f is)) (w .chip)) (head-taken i is s fit) ∙ run-all is (store (f i) s) (tail-fit i is s fit)
+  run-all (i ∷ is) s fit = ap (λ (w : Wrote). run (sent (map f is)) (w .chip)) (head-taken i is s fit)
+      ∙ run-all is (store (f i) s) (tail-fit i is s fit)
 
   pub taken-at : (is : List Step) (s : Chip) (k : ℕ) → Fit s is → k < length (map f is)
-      → writeOf (acts store (take k (map f is)) s) (getD (map f is) k (0 gets 0) .address) (getD (map f is) k (0 gets 0) .value) .refusal ≡ 0
+      → writeOf (acts store (take k (map f is)) s) (getD (map f is) k (0 gets 0) .address) (getD (map f is) k (0 gets 0) .value) .refusal
+      ≡ 0
   taken-at [] s k fit h = absurd (not-suc-le-zero h)
   taken-at (i ∷ is) s zero fit h = ap (λ (w : Wrote). w .refusal) (head-taken i is s fit)
   taken-at (i ∷ is) s (suc k) fit h = taken-at is (store (f i) s) k (tail-fit i is s fit) (le-of-suc-le-suc h)

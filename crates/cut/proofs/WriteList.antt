@@ -24,7 +24,8 @@ two-elim P p0 p32 q = go (eqb (bit 5 q) 0) refl
   where
     go : (r : Bool) → eqb (bit 5 q) 0 ≡ r → P (32 * bit 5 q + 0)
     go true e = subst (λ (b : ℕ). P (32 * b + 0)) (sym (eqb-true _ _ e)) p0
-    go false e = let h : (bit 5 q ≡ 0) → ⊥ = eqb-false _ _ e in let z : bit 5 q ≡ 1 = omega arith in subst (λ (b : ℕ). P (32 * b + 0)) (sym z) p32
+    go false e = let h : (bit 5 q ≡ 0)
+        → ⊥ = eqb-false _ _ e in let z : bit 5 q ≡ 1 = omega arith in subst (λ (b : ℕ). P (32 * b + 0)) (sym z) p32
 
 -- each `search` computes all eight walks from one pair of starting holds
 walked-from : (p q : ℕ) → neat (only (packets .groups) p) ≡ true
@@ -39,9 +40,11 @@ pub planned-good : (want : ℕ → ℕ) (image : List ℕ) → Ready image → G
 planned-good want image r = record {
   walked = subst (λ (b : Bool). Walked (status packets image) (status converter image) (middle b)) (audio-same (holdsOf packets image))
       (walked-from (holdsOf packets image) (holdsOf converter image) (neat-only (holdsOf packets image) ∙ r .holds));
-  finishes = λ a h. ap (λ (o : ℕ). read (written want image) a o (getD image a 0)) (last-step (up audio (holdsOf packets image)) a h) ∙ read-final want image a;
+  finishes = λ a h. ap (λ (o : ℕ). read (written want image) a o (getD image a 0)) (last-step (up audio (holdsOf packets image)) a h)
+      ∙ read-final want image a;
   rests = λ a h t. last-step (up audio (holdsOf packets image)) a h ∙ final-none a t;
 }
 
-pub holds : (want : ℕ → ℕ) (s : Chip) → length (s .image) ≡ 256 → ready (s .image) ≡ true → Demand3 (λ image. sent (writeList want image)) want s
+pub holds : (want : ℕ → ℕ) (s : Chip) → length (s .image) ≡ 256 → ready (s .image) ≡ true
+    → Demand3 (λ image. sent (writeList want image)) want s
 holds want s whole ready = demand3 middleOf planned-good want s (record { whole = whole; holds = ready }) (each-fair want (s .image))

@@ -71,7 +71,8 @@ module _ (r : Request) (image : List ℕ) (g : Ranged r) (st : Stands r image) w
   fits = of (g .matrix)
     where
       of : (r .matrix ≡ noMatrix) ⊎ Filled (r .matrix) → (r .matrix .on < 2) × (r .matrix .mode < 4) × (first < 32)
-      of (inl e) = subst (λ (m : Matrix). (m .on < 2) × (m .mode < 4) × (getD (m .coefficients) 0 0 / 256 < 32)) (sym e) (lit< tt, lit< tt, lit< tt)
+      of (inl e) =
+          subst (λ (m : Matrix). (m .on < 2) × (m .mode < 4) × (getD (m .coefficients) 0 0 / 256 < 32)) (sym e) (lit< tt, lit< tt, lit< tt)
       of (inr f) = let c = f .small 0 in (omega (arith, f .on), f .mode, omega arith)
 
   pub enable-in : bit 7 (getD image 0x18 0) ≡ r .matrix .on

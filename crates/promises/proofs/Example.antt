@@ -25,7 +25,14 @@ unfolding steps divisorOf modeOf clockOf reference recommendedOf nearestK neares
 paired = refl
 
 on : (image : List ℕ) → length image ≡ 256 → ready image ≡ true → IsAccepted image
-on image whole clear = answer example image zeros (accepted example image zeros (record { read = read; whole = whole; clear = clear; paired = paired; long = refl }))
+on image whole clear =
+    answer example image zeros
+    (accepted example image zeros (record { read = read; whole = whole; clear = clear; paired = paired; long = refl }))
 
 pub worked : Example
-worked = record { onZeros = on zeros refl refl; withAvi = (refl, on _ refl refl); withAudio = (refl, on _ refl refl); withMatrix = (refl, on _ refl refl) }
+worked = record {
+  onZeros = on zeros refl refl;
+  withAvi = (refl, on _ refl refl);
+  withAudio = (refl, on _ refl refl);
+  withMatrix = (refl, on _ refl refl);
+}

@@ -90,7 +90,8 @@ module _ (input : List ℕ) (s : Chip) (z : Sized s) (d : Demand3 (listOf input)
   faces-end = subst Faces at-end (faces (length (sent ws)))
 
   -- the coefficients that the matrix call answers are those in use
-  twelve : (t : Chip) → Faces t → (out : List ℕ) → 25 ≤ length out → drop 1 (matrixSaid out t) ≡ coefficientBytes (coefficients t) ++ drop 25 out
+  twelve : (t : Chip) → Faces t → (out : List ℕ) → 25 ≤ length out
+      → drop 1 (matrixSaid out t) ≡ coefficientBytes (coefficients t) ++ drop 25 out
   twelve t f out h = ap (drop 1) (f .matrix out h)
 
   module _ (newAvi : drop 2 (inUse packets avi end) ≡ drop 3 (aviFrame (r .video)))
@@ -102,7 +103,8 @@ module _ (input : List ℕ) (s : Chip) (z : Sized s) (d : Demand3 (listOf input)
           let w : Write = getD ws k (0 gets 0) in
           let at : event (sent ws) k ≡ write w = List·getD-map write ws k (0 gets 0) in
           let t : happens (event (sent ws) k) (cut (sent ws) s k) .refusal ≡ 0 = d .careful .taken k (rw (length-map ws write) h) in
-          rw (entered-cut ws s k z) (ap (λ (x : Wrote). x .refusal) (views.entered (cut (sent ws) s k) (sized-cut k) (w .address) (w .value) .same)
+          rw (entered-cut ws s k z)
+          (ap (λ (x : Wrote). x .refusal) (views.entered (cut (sent ws) s k) (sized-cut k) (w .address) (w .value) .same)
           ∙ ap (λ (e : Event). happens e (cut (sent ws) s k) .refusal) (sym at) ∙ t);
       sized = λ k. sized-entered (take k ws) s z;
       start = refl;
@@ -114,7 +116,7 @@ module _ (input : List ℕ) (s : Chip) (z : Sized s) (d : Demand3 (listOf input)
             avi = rw (f .avi, faces 0 .avi, faces-end .avi) (b .avi);
             audio = rw (f .audio, faces 0 .audio, faces-end .audio) (b .audio);
             matrix = λ out h. rw (twelve (cut (sent ws) s k) f out h, twelve s (faces 0) out h, twelve end faces-end out h)
-                (⊎-map (ap (λ (c : List ℕ). coefficientBytes c ++ drop 25 out)) (ap (λ (c : List ℕ). coefficientBytes c ++ drop 25 out)) (b .matrix));
+                (let laid : List ℕ → List ℕ = λ c. coefficientBytes c ++ drop 25 out in ⊎-map (ap laid) (ap laid) (b .matrix));
           });
       ended = rw (entered-run ws s z) (record {
         opened = faces-end .mute ∙ ap (λ (m : ℕ). record { refusal = 0; mute = m }) (two-of end (d .ended .opened));
