@@ -17,6 +17,7 @@ use Rattle.request.specs.declared.Sound.{Sound}
 use Rattle.request.specs.declared.Sound.the-variants.{Off, On}
 use Rattle.request.specs.Read.{readOf, nctsOf, pairIn, pairFor}
 use Rattle.request.proofs.Coherent.{rows}
+use Rattle.line.proofs.Given.{lines}
 use Rattle.chip.specs.declared.Chip.{Chip}
 use Rattle.views.specs.Entry.{enterOf}
 use Rattle.views.specs.View.{viewRefusal, sentPart, noPart, muteOf}
@@ -49,7 +50,8 @@ settled = record {
   decode = λ image request. two _ _;
   read = λ request. one _;
   ncts = λ request. one _;
-  line = λ request. one _;
+  pairs = λ r. one _;
+  line = λ request. two _ _;
   preview = λ matrix a b c. one _;
   clock = λ video. one _;
   pair = λ video rate coherent. one _;
@@ -99,6 +101,7 @@ any-input = record {
   planning = λ request image buffer b. planning.refusals request b image buffer;
   decoding = decoding.refusals;
   request = rows;
+  line = λ request. lines request .given;
   pair = ncts-zeroed;
   preview = preview.refusals;
   write = entry.refusals;

@@ -14,7 +14,9 @@ use Rattle.frames.specs.Answers.{aviOf, audioOf}
 use Rattle.matrix.specs.Matrix.{fields, inRange, isAllowed}
 use Rattle.matrix.specs.Preview.{codeOf, previewOf}
 use Rattle.request.specs.Sections.{walk, walked}
-use Rattle.request.specs.Read.{outside, combined, judged, readOf, pairFor, nctsOf, lineOf}
+use Rattle.request.specs.Read.{outside, combined, judged, readOf, pairFor, nctsOf}
+use Rattle.line.specs.Line.{lineOf}
+use Rattle.line.specs.Words.{digits, acceptedText, refusedText}
 use Rattle.promises.specs.Cases.{mode, MarkedCases}
 
 multiple : (n cts : ℕ) → reference 0 * cts * clockOf (mode 4 1) .den ≡ clockOf (mode 4 1) .num * n → 23296 ∣ n
@@ -22,7 +24,7 @@ unfolding reference clockOf modeOf divisorOf steps
 multiple n cts e = divides 74250000000 4100096000 (lit< tt) n cts (omega arith)
 
 pub cases : MarkedCases
-unfolding steps divisorOf modeOf clockOf reference recommendedOf nearestK nearestIn nearestOf exactly coherentOf pairOf total aviFrame aviOf audioFrame audioOf audioOffFrame fields inRange isAllowed codeOf previewOf walk walked outside combined judged readOf pairFor nctsOf lineOf
+unfolding steps divisorOf modeOf clockOf reference recommendedOf nearestK nearestIn nearestOf exactly coherentOf pairOf total aviFrame aviOf audioFrame audioOf audioOffFrame fields inRange isAllowed codeOf previewOf walk walked outside combined judged readOf pairFor nctsOf lineOf digits acceptedText refusedText
 cases =
     record {
       example = refl;

@@ -4,9 +4,13 @@ use mathlib.Core.Path.{_≡_}
 use mathlib.Core.Logic.{_≢_}
 use mathlib.Core.List.{List}
 use Prim.Native.Nat.{ℕ}
+use Rattle.refusals.specs.Rows.{Given}
 use Rattle.matrix.specs.Matrix.{Bytes}
 use Rattle.matrix.specs.Preview.{PreviewRefusals}
+use Rattle.request.specs.Sections.{walked}
+use Rattle.request.specs.Request.{nctsRules}
 use Rattle.request.specs.Read.{Rows, nctsOf}
+use Rattle.line.specs.Line.{lineOf}
 use Rattle.chip.specs.declared.Chip.{Chip}
 use Rattle.views.specs.View.{ViewRefusals}
 use Rattle.views.specs.Entry.{WriteRefusals}
@@ -29,6 +33,7 @@ pub record Demand1 : Type 0 where
   pub decoding : (image buffer : List ℕ) → Refusals image buffer
   -- reading, N and CTS, and the small program's line over a request: 1 to 6 and 9
   pub request : (request : List ℕ) → Rows request
+  pub line : (request : List ℕ) → Bytes request → Given (nctsRules (walked request)) (lineOf request .refusal)
   pub pair : (request : List ℕ) → nctsOf request .refusal ≢ 0 → (nctsOf request .n ≡ 0) × (nctsOf request .cts ≡ 0)
   -- the preview, 5 and 12
   pub preview : (matrix : List ℕ) → Bytes matrix → (a b c : ℕ) → PreviewRefusals matrix a b c

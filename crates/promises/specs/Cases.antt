@@ -12,7 +12,8 @@ use Rattle.frames.specs.Frames.{audioOffFrame}
 use Rattle.frames.specs.Answers.{aviOf, audioOf}
 use Rattle.matrix.specs.Coefficient.{word, field, valueOf}
 use Rattle.matrix.specs.Preview.{previewOf}
-use Rattle.request.specs.Read.{readOf, lineOf}
+use Rattle.request.specs.Read.{readOf}
+use Rattle.line.specs.Words.{ascii, lineText}
 
 -- Table 39 as a request has it: mode 1, A 3155, 2048, 0, -1578; B -938, 2048, -376, 657; C -1, 2048, 3717, -1858
 abbrev table39 : List ℕ
@@ -26,10 +27,10 @@ mode vic family = record { vic = vic; family = family; encoding = 0; link = 1 }
 
 pub record MarkedCases : Type 0 where
   -- "For the ten bytes `04 10 00 00 01 03 02 02 01 00` the whole output is `accepted vic 16 n 6144 cts 148500 avi 27 audio 70`"
-  pub example : lineOf (0x04 ∷ 0x10 ∷ 0x00 ∷ 0x00 ∷ 0x01 ∷ 0x03 ∷ 0x02 ∷ 0x02 ∷ 0x01 ∷ 0x00 ∷ [])
-      ≡ record { refusal = 0; vic = 16; n = 6144; cts = 148500; avi = 0x27; audio = 0x70 }
+  pub example : lineText (0x04 ∷ 0x10 ∷ 0x00 ∷ 0x00 ∷ 0x01 ∷ 0x03 ∷ 0x02 ∷ 0x02 ∷ 0x01 ∷ 0x00 ∷ [])
+      ≡ ascii "accepted vic 16 n 6144 cts 148500 avi 27 audio 70\n"
   -- "and for an empty input `refused 1`"
-  pub empty : lineOf [] .refusal ≡ 1
+  pub empty : lineText [] ≡ ascii "refused 1\n"
   -- 1. `04`: refused 1
   pub case1 : readOf (0x04 ∷ []) .refusal ≡ 1
   -- 2. `05 10 00 00 01`: refused 2

@@ -16,8 +16,9 @@ use Rattle.frames.specs.Answers.{GivesAvi, GivesAudio}
 use Rattle.matrix.specs.declared.Pixel.{Pixel}
 use Rattle.matrix.specs.Preview.{Previews}
 use Rattle.request.specs.declared.Checked.{Checked}
-use Rattle.request.specs.declared.Line.{Line}
-use Rattle.request.specs.Read.{readOf, nctsOf, lineOf}
+use Rattle.line.specs.Words.{Prints}
+use Rattle.request.specs.declared.Request.{Request}
+use Rattle.request.specs.Read.{Reads, Pairs, PairsInput}
 use Rattle.chip.specs.declared.Chip.{Chip}
 use Rattle.chip.specs.declared.Wrote.{Wrote}
 use Rattle.chip.specs.Step.{Hands}
@@ -53,9 +54,10 @@ Is a x = x ≡ a
 pub record Settled : Type 0 where
   pub plan : (request image writes : List ℕ) → Settles {A = Planned × List ℕ} (λ o. Plans request image writes (o .0) (o .1))
   pub decode : (image request : List ℕ) → Settles {A = Decoded × List ℕ} (λ o. Decodes image request (o .0) (o .1))
-  pub read : (request : List ℕ) → Settles {A = Checked} (Is (readOf request))
-  pub ncts : (request : List ℕ) → Settles {A = Pair} (Is (nctsOf request))
-  pub line : (request : List ℕ) → Settles {A = Line} (Is (lineOf request))
+  pub read : (request : List ℕ) → Settles {A = Checked} (Reads request)
+  pub ncts : (request : List ℕ) → Settles {A = Pair} (PairsInput request)
+  pub pairs : (r : Request) → Settles {A = Pair} (Pairs r)
+  pub line : (request : List ℕ) → Settles {A = ℕ × List ℕ} (λ o. Prints request (o .0) (o .1))
   pub preview : (matrix : List ℕ) (a b c : ℕ) → Settles {A = Pixel} (Previews matrix a b c)
   pub clock : (video : Video) → Settles {A = Clock} (GivesClock video)
   pub pair : (video : Video) (rate coherent : ℕ) → Settles {A = Pair} (GivesPair video rate coherent)

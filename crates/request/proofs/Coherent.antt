@@ -7,7 +7,6 @@ use Prim.Native.Nat.{ℕ, zero, suc, _+_, _<_}
 use lib.Dec.{eqb, leb, lit<}
 use lib.ListN.{length, take, drop}
 use lib.Seq.{getD-drop}
-use borrow.Author.Tests.{eqb-true}
 use Rattle.lists.specs.Among.{among}
 use Rattle.refusals.specs.Rows.{noExactPair, _when_, Given}
 use Rattle.refusals.proofs.First.{Tried, then, tried}
@@ -22,7 +21,7 @@ use Rattle.matrix.specs.Matrix.{Bytes}
 use Rattle.request.specs.declared.Request.{Request}
 use Rattle.request.specs.Sections.{Walk, ends, notAllowed, whole, after, walk, walked, sections, bodyOf}
 use Rattle.request.specs.Request.{Present, present, rate, channels, coherent, Outside, requestIn, NoPair, readRules, nctsRules}
-use Rattle.request.specs.Read.{checked, pairIn, pairFor, readOf, nctsOf, accepted, lineOf, Rows}
+use Rattle.request.specs.Read.{checked, pairIn, pairFor, readOf, nctsOf, Rows}
 use Rattle.request.proofs.Ordered.{tried-read, Judged, passed, full, is-outside}
 
 -- where row 5 does not apply, the rate and the coherent byte of an audio section are in range
@@ -99,16 +98,6 @@ both-calls w bytes =
     then numberOf (readRules w) (noExactPair when NoPair w ∷ []) (checked w .refusal) (pairFor (checked w .request)) (noPair (checked w .refusal))
     (tried-read w bytes) (λ _. refl) (λ z. let j = passed w z in rw (j .request) (sounds w bytes j))
 
--- what the small program prints is refused as N and CTS are
-same-number : (input : List ℕ) → lineOf input .refusal ≡ nctsOf input .refusal
-unfolding lineOf
-same-number input = go (eqb (nctsOf input .refusal) 0) refl
-  where
-    go : (b : Bool) → eqb (nctsOf input .refusal) 0 ≡ b
-        → cond b (accepted (readOf input .request) (nctsOf input)) (record { refusal = nctsOf input .refusal; vic = 0; n = 0; cts = 0; avi = 0; audio = 0 }) .refusal ≡ nctsOf input .refusal
-    go true e = sym (eqb-true _ _ e)
-    go false e = refl
-
 pub rows : (input : List ℕ) → Rows input
 unfolding readOf nctsOf walked
 rows input =
@@ -118,5 +107,4 @@ rows input =
     record {
       read = λ b. tried (readRules w) _ refl (tried-read w (bytes b));
       ncts = both;
-      line = λ b. rw (same-number input) (both b);
     }

@@ -12,7 +12,7 @@ use lib.Seq.{length-take-le, take-take, take-nil}
 use borrow.Author.Tests.{leb-true, leb-false, le-leb, lt-leb, eqb-true}
 use Rattle.lists.specs.Among.{among}
 use Rattle.request.specs.Sections.{Walk, ends, notAllowed, whole, after, walk, walked, sections, longestOf}
-use Rattle.request.specs.Read.{emptied, judged, checked, readOf, nctsOf, lineOf, Lengths}
+use Rattle.request.specs.Read.{emptied, judged, checked, readOf, nctsOf, Lengths}
 use Rattle.request.proofs.Counted.{span, Counted, counted, spans, spanned, at-most, within}
 
 -- what is left of a walk where the input is cut after n bytes: of the bytes after the sections, those that are not cut off
@@ -85,12 +85,11 @@ unfolding nctsOf
 ncts-cut input n h = rw (read-cut input n h)
 
 pub lengths : (input : List ℕ) → Lengths input
-unfolding readOf walked lineOf
+unfolding readOf walked
 lengths input =
     record {
       accepted = one-of-them sections (length input) (walk sections input) (counted sections input);
       most = refl;
       read = λ n h. read-cut input n h;
       ncts = λ n h. ncts-cut input n h;
-      line = λ n h. rw (ncts-cut input n h, read-cut input n h);
     }

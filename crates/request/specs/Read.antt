@@ -18,10 +18,7 @@ use Rattle.request.specs.declared.Request.{Request}
 use Rattle.request.specs.declared.Checked.{Checked}
 use Rattle.request.specs.Sections.{longest, Walk, ends, notAllowed, whole, walked}
 use Rattle.request.specs.Request.{present, encoding, link, rate, channels, coherent, requestIn, readRules, nctsRules}
-use Rattle.request.specs.declared.Line.{Line}
 use Rattle.refusals.specs.Rows.{Row, inputEnds, countNotAllowed, bytesAfter, modeNotOffered, fieldOutOfRange, combination, number, Given}
-use Rattle.frames.specs.Frames.{audioOffFrame}
-use Rattle.frames.specs.Answers.{aviOf, audioOf}
 
 -- a refusal stands beside an empty request: fields 0, audio off, no matrix
 abbrev pub emptied : ℕ → Checked
@@ -61,6 +58,10 @@ checked (whole bodies rest) =
 unfoldable pub readOf : List ℕ → Checked
 readOf input = checked (walked input)
 
+-- what reading promises
+abbrev pub Reads : List ℕ → Checked → Type 0
+Reads input given = given ≡ readOf input
+
 -- N and CTS for a request: refusal 9
 abbrev pub pairIn : Request → Sound → Pair
 pairIn r Off = audioOff
@@ -69,37 +70,20 @@ pairIn r (On rate channels coherent) = pairOf (r .video) rate coherent
 unfoldable pub pairFor : Request → Pair
 pairFor r = pairIn r (r .sound)
 
+abbrev pub Pairs : Request → Pair → Type 0
+Pairs r given = given ≡ pairFor r
+
 -- N and CTS over a request slice: refusals 1 to 6 and 9
 unfoldable pub nctsOf : List ℕ → Pair
 nctsOf input = cond (eqb (readOf input .refusal) 0) (pairFor (readOf input .request)) (noPair (readOf input .refusal))
 
--- the checksums that the small program prints: byte 3 of each frame
-abbrev pub audioChecksum : Sound → ℕ
-audioChecksum Off = getD audioOffFrame 3 0
-audioChecksum (On rate channels coherent) = getD (audioOf channels .bytes) 3 0
-
--- "accepted vic .. n .. cts .. avi .. audio ..", or "refused" with its number: refusals 1 to 6 and 9
-abbrev pub accepted : Request → Pair → Line
-accepted r p =
-    record {
-      refusal = 0;
-      vic = r .video .vic;
-      n = p .n;
-      cts = p .cts;
-      avi = getD (aviOf (r .video) .bytes) 3 0;
-      audio = audioChecksum (r .sound);
-    }
-
-unfoldable pub lineOf : List ℕ → Line
-lineOf input =
-    cond (eqb (nctsOf input .refusal) 0) (accepted (readOf input .request) (nctsOf input))
-    (record { refusal = nctsOf input .refusal; vic = 0; n = 0; cts = 0; avi = 0; audio = 0 })
+abbrev pub PairsInput : List ℕ → Pair → Type 0
+PairsInput input given = given ≡ nctsOf input
 
 -- of the rows that a call checks, the lowest that applies is given, and none is given otherwise
 pub record Rows (input : List ℕ) : Type 0 where
   pub read : Bytes input → Given (readRules (walked input)) (readOf input .refusal)
   pub ncts : Bytes input → Given (nctsRules (walked input)) (nctsOf input .refusal)
-  pub line : Bytes input → Given (nctsRules (walked input)) (lineOf input .refusal)
 
 -- "Lengths are therefore 7, 10, 32 or 35"
 pub record Lengths (input : List ℕ) : Type 0 where
@@ -108,4 +92,3 @@ pub record Lengths (input : List ℕ) : Type 0 where
   -- so one byte more than the longest decides: cut there, or later, an input is answered as it is whole
   pub read : (n : ℕ) → longest < n → readOf (take n input) ≡ readOf input
   pub ncts : (n : ℕ) → longest < n → nctsOf (take n input) ≡ nctsOf input
-  pub line : (n : ℕ) → longest < n → lineOf (take n input) ≡ lineOf input

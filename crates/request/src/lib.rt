@@ -6,7 +6,7 @@ ghost use lib.ListN.{length};
 ghost use Rattle.matrix.specs.Matrix.{isAllowed};
 ghost use Rattle.request.specs.Sections.{Walks, RequestWalks};
 ghost use Rattle.request.specs.Request.{present, soundOf};
-ghost use Rattle.request.specs.Read.{audioOutside, outside, combined, judged, readOf, pairFor, nctsOf, audioChecksum, lineOf, emptied, Rows, Lengths};
+ghost use Rattle.request.specs.Read.{audioOutside, outside, combined, judged, Reads, Pairs, PairsInput, emptied, Rows, Lengths};
 ghost use mathlib.Core.List.{List};
 use clock::Pair;
 use matrix::Matrix;
@@ -34,16 +34,6 @@ pub struct Request {
     pub video: Video,
     pub sound: Sound,
     pub matrix: Matrix,
-}
-
-// What the small program prints: "accepted" with the five numbers, or "refused" with the first.
-pub struct Line {
-    pub refusal: u8,
-    pub vic: u8,
-    pub n: u32,
-    pub cts: u32,
-    pub avi: u8,
-    pub audio: u8,
 }
 
 // A request, or the number of a refusal beside an empty request.
@@ -151,7 +141,7 @@ fn judge(video: &[u8], audio: &[u8], body: &[u8]) -> Checked
 
 // A request read from an input: rows 1 to 6.
 pub fn read(s: &[u8]) -> Checked
-    ensures { λ r. ⌜ r ≡ readOf (now (s .entry)) ⌝ }
+    ensures { λ r. ⌜ Reads (now (s .entry)) r ⌝ }
 {
     let places = walk(s);
     if places.refusal != Refusal::NONE {
@@ -175,7 +165,7 @@ pub fn read(s: &[u8]) -> Checked
 
 // N and CTS for a request: row 9.
 pub fn pair_for(r: Request) -> Pair
-    ensures { λ p. ⌜ p ≡ pairFor r ⌝ }
+    ensures { λ p. ⌜ Pairs r p ⌝ }
 {
     let sound = r.sound;
     match sound {
@@ -190,7 +180,7 @@ pub fn pair_for(r: Request) -> Pair
 
 // N and CTS over a request slice: rows 1 to 6 and 9.
 pub fn ncts(s: &[u8]) -> Pair
-    ensures { λ r. ⌜ r ≡ nctsOf (now (s .entry)) ⌝ }
+    ensures { λ r. ⌜ PairsInput (now (s .entry)) r ⌝ }
 {
     let checked = read(s);
     if checked.refusal != Refusal::NONE {
@@ -202,59 +192,6 @@ pub fn ncts(s: &[u8]) -> Pair
     }
     let request = checked.request;
     pair_for(request)
-}
-
-// The checksum of the audio InfoFrame that a sound asks for.
-fn audio_checksum(sound: Sound) -> u8
-    ensures { λ r. ⌜ r ≡ audioChecksum sound ⌝ }
-{
-    match sound {
-        Sound::Off => {
-            let bytes = frames::audio_off();
-            bytes[3]
-        }
-        Sound::On {
-            rate: _,
-            channels,
-            coherent: _,
-        } => {
-            let frame = frames::audio_of(channels);
-            let bytes = frame.bytes;
-            bytes[3]
-        }
-    }
-}
-
-// What the small program prints of a request.
-pub fn line_of(s: &[u8]) -> Line
-    ensures { λ r. ⌜ r ≡ lineOf (now (s .entry)) ⌝ }
-{
-    let checked = read(s);
-    let pair = ncts(s);
-    if pair.refusal != Refusal::NONE {
-        return Line {
-            refusal: pair.refusal,
-            vic: 0,
-            n: 0,
-            cts: 0,
-            avi: 0,
-            audio: 0,
-        };
-    }
-    let request = checked.request;
-    let video = request.video;
-    let frame = frames::avi_of(video);
-    let bytes = frame.bytes;
-    let sound = request.sound;
-    let audio = audio_checksum(sound);
-    Line {
-        refusal: Refusal::NONE,
-        vic: video.vic,
-        n: pair.n,
-        cts: pair.cts,
-        avi: bytes[3],
-        audio: audio,
-    }
 }
 
 // The sections as they stand in an input: over any sections, and the three of a request.

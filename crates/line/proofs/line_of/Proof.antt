@@ -1,9 +1,9 @@
--- `request::line_of` meets its contract. Assumes nothing.
+-- `line::line_of` meets its contract. Assumes nothing.
 use borrow.Author.Tests.{eq-eqb, ne-eqb}
-use Rattle.request.specs.Read.{lineOf}
+use Rattle.line.specs.Line.{lineOf}
 use borrow.Author.Needs.{needs}
-use Rattle.request.proofs.line_of.Statement.{statement}
-use Rattle.request.proofs.line_of.Tie as tie
+use Rattle.line.proofs.line_of.Statement.{statement}
+use Rattle.line.proofs.line_of.Tie as tie
 
 read-requires : tie.Need-read-requires
 read-requires c κs = search needs

@@ -1,7 +1,7 @@
--- `request::audio_checksum` meets its contract, by the two kinds of sound. Assumes nothing.
+-- `line::audio_checksum` meets its contract, by the two kinds of sound. Assumes nothing.
 use borrow.Author.Needs.{needs}
-use Rattle.request.proofs.audio_checksum.Statement.{statement}
-use Rattle.request.proofs.audio_checksum.Tie as tie
+use Rattle.line.proofs.audio_checksum.Statement.{statement}
+use Rattle.line.proofs.audio_checksum.Tie as tie
 
 enum-told : tie.Need-enum-told
 enum-told c = search needs

@@ -1,0 +1,3 @@
+pub mod Digits
+pub mod Stored
+pub mod Given
