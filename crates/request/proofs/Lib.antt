@@ -6,3 +6,6 @@ pub mod Judged
 pub mod Ordered
 pub mod Coherent
 pub mod Cut
+pub mod Ranged
+pub mod Said
+pub mod Back

@@ -2,3 +2,4 @@ pub mod Sections
 pub mod Places
 pub mod Request
 pub mod Read
+pub mod Bytes

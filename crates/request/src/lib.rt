@@ -7,6 +7,7 @@ ghost use Rattle.matrix.specs.Matrix.{isAllowed};
 ghost use Rattle.request.specs.Sections.{Walks, RequestWalks};
 ghost use Rattle.request.specs.Request.{present, soundOf};
 ghost use Rattle.request.specs.Read.{audioOutside, outside, combined, judged, Reads, Pairs, PairsInput, emptied, Rows, Lengths};
+ghost use Rattle.request.specs.Bytes.{ThereAndBack};
 ghost use mathlib.Core.List.{List};
 use clock::Pair;
 use matrix::Matrix;
@@ -198,6 +199,11 @@ pub fn ncts(s: &[u8]) -> Pair
 pub fn in_sections()
     ensures { λ _. ⌜ ((table : List (List ℕ)) (input : List ℕ) → Walks table input) ⌝ }
     ensures { λ _. ⌜ ((input : List ℕ) → RequestWalks input) ⌝ }
+{}
+
+// A request and its bytes say the same.
+pub fn there_and_back()
+    ensures { λ _. ⌜ ThereAndBack ⌝ }
 {}
 
 // The rows of a request, in document 01's order.

@@ -1,4 +1,4 @@
--- The fields of an acceptable request are in range. Assumes nothing.
+-- The fields of a request that is read are in range. Assumes nothing.
 use mathlib.Core.Path.{_≡_, refl, sym, ap, subst}
 use mathlib.Core.Logic.{_⊎_, inl, inr}
 use mathlib.Core.Bool.{Bool, true, false, false≢true, cond, not, _&&_, _||_}
@@ -17,26 +17,18 @@ use Rattle.video.specs.Modes.{modes, rowOf, modeOf, offered}
 use Rattle.matrix.specs.declared.Matrix.{Matrix}
 use Rattle.matrix.specs.Matrix.{fields, isAllowed, matrixOf, noMatrix}
 use Rattle.matrix.proofs.Pairs.{sized, mode-small, fields-small, length-fields}
 use Rattle.request.specs.declared.Sound.{Sound}
 use Rattle.request.specs.declared.Sound.the-variants.{Off, On}
 use Rattle.request.specs.declared.Request.{Request}
-use Rattle.request.specs.declared.Checked.{Checked}
 use Rattle.request.specs.Sections.{walked, bodyOf}
 use Rattle.request.specs.Request.{present, encoding, link, rate, channels, coherent, requestIn}
 use Rattle.request.specs.Read.{audioOutside, outside, readOf}
 use Rattle.request.proofs.Ordered.{passed}
-use Rattle.decode.specs.Ends.{bytesOf, Acceptable}
+use Rattle.request.specs.Bytes.{Filled, Shaped}
 
 abbrev pub InRange : Sound → Type 0
 InRange Off = Unit
 InRange (On rate channels coherent) = (rate < 7) × ((channels ≡ 2) ⊎ (channels ≡ 8)) × (coherent < 2)
-
--- a matrix of twelve fields of 13 bits
-pub record Filled (m : Matrix) : Type 0 where
-  pub on : m .on ≡ 1
-  pub mode : m .mode < 4
-  pub twelve : length (m .coefficients) ≡ 12
-  pub small : (i : ℕ) → getD (m .coefficients) i 0 < 8192
 
 pub record Ranged (r : Request) : Type 0 where
   pub vic : r .video .vic < 64
@@ -44,7 +36,7 @@ pub record Ranged (r : Request) : Type 0 where
   pub encoding : r .video .encoding < 4
   pub link : r .video .link < 2
   pub sound : InRange (r .sound)
-  pub matrix : (r .matrix ≡ noMatrix) ⊎ Filled (r .matrix)
+  pub matrix : Shaped (r .matrix)
 
 -- ---- a mode that is offered is one of the table's
 
@@ -131,6 +123,3 @@ read-ranged input z =
     let w = walked input in
     let j = passed w z in
     subst Ranged (sym (j .request)) (in-range (bodyOf 0 w) (bodyOf 1 w) (bodyOf 2 w) (j .mode) (j .inside))
-
-pub ranged : (r : Request) → Acceptable r → Ranged r
-ranged r a = subst Ranged (ap (λ (c : Checked). c .request) (a .read)) (read-ranged (bytesOf r) (ap (λ (c : Checked). c .refusal) (a .read)))

@@ -1,0 +1,134 @@
+-- The bytes of the request that is read from an input are the input. Assumes nothing.
+use mathlib.Core.Path.{_≡_, refl, sym, ap, ap₂, _∙_, subst}
+use mathlib.Core.Logic.{_⊎_, inl, inr}
+use mathlib.Core.Bool.{Bool, true, false, false≢true, cond, not, _&&_, _||_}
+use mathlib.Core.List.{List, [], _∷_, _++_}
+use Prim.Native.Nat.{ℕ, zero, suc, _+_, _/_, _%_, _<_, _≤_}
+use native.Mathlib.Omega.{arith}
+use lib.Dec.{eqb, leb, ltb, lit<}
+use lib.ListN.{length, getD, drop, set, length-drop}
+use lib.Seq.{getD-append-add, getD-drop, drop-cons}
+use borrow.Author.Tests.{eqb-true, leb-true, ltb-true, lt-ltb, le-ltb, not-false}
+use Rattle.lists.proofs.Both.{both-left, both-right, neither-right}
+use Rattle.matrix.specs.Coefficient.{word, within, field, highByte, coefficientBytes}
+use Rattle.matrix.specs.Matrix.{fields, inRange, isAllowed, matrixOf, noMatrix, Bytes}
+use Rattle.matrix.proofs.Pairs.{ranged}
+use Rattle.refusals.specs.Rows.{bytesAfter}
+use Rattle.video.specs.Video.{videoIn, videoBody}
+use Rattle.video.proofs.Bodies as video
+use Rattle.request.specs.declared.Request.{Request}
+use Rattle.request.specs.declared.Checked.{Checked}
+use Rattle.request.specs.Sections.{Walk, ends, notAllowed, whole, walk, walked, sections, bodyOf, laid, fits, Sectioned}
+use Rattle.request.specs.Request.{present, encoding, link, soundOf, requestIn}
+use Rattle.request.specs.Read.{audioOutside, outside, judged, checked, refusedRequest, readOf}
+use Rattle.request.specs.Bytes.{audioBody, matrixBody, bodiesOf, asBytes, answeredAs, answeredBytes, ThereAndBack}
+use Rattle.request.proofs.Opened.{sectioned, request-walks}
+use Rattle.request.proofs.Ordered.{Judged, passed}
+use Rattle.request.proofs.Said.{said}
+
+none : (l : List ℕ) → length l ≡ 0 → l ≡ []
+none [] e = refl
+none (x ∷ l) e = absurd (omega arith)
+
+-- ---- each body is that of what it says
+
+audio-back : (a : List ℕ) → (length a ≡ 0) ⊎ (length a ≡ 3) → audioBody (soundOf a) ≡ a
+audio-back [] h = refl
+audio-back (x ∷ []) (inl e) = absurd (omega arith)
+audio-back (x ∷ []) (inr e) = absurd (omega arith)
+audio-back (x ∷ y ∷ []) (inl e) = absurd (omega arith)
+audio-back (x ∷ y ∷ []) (inr e) = absurd (omega arith)
+audio-back (x ∷ y ∷ z ∷ []) h = refl
+audio-back (x ∷ y ∷ z ∷ w ∷ l) (inl e) = absurd (omega arith)
+audio-back (x ∷ y ∷ z ∷ w ∷ l) (inr e) = absurd (omega arith)
+
+pair-back : (x y : ℕ) → x < 256 → y < 256 → within (word x y) ≡ true → (highByte (field (word x y)) ≡ x) × (field (word x y) % 256 ≡ y)
+pair-back x y h k t = go (ltb (word x y) 4096) refl t
+  where
+    go : (b : Bool) → ltb (word x y) 4096 ≡ b → (b || leb 61440 (word x y)) ≡ true → (highByte (field (word x y)) ≡ x) × (field (word x y) % 256 ≡ y)
+    go true e f =
+        let l : word x y < 4096 = ltb-true _ _ e in
+        (rw (lt-ltb (field (word x y)) 4096 (omega arith)) (omega arith), omega arith)
+    go false e f =
+        let l : 61440 ≤ word x y = leb-true 61440 (word x y) f in
+        (rw (le-ltb (field (word x y)) 4096 (omega arith)) (omega arith), omega arith)
+
+abbrev double : ℕ → ℕ
+double zero = zero
+double (suc n) = suc (suc (double n))
+
+coefficients-back : (n : ℕ) (l : List ℕ) → length l ≡ double n → Bytes l → inRange l ≡ true → coefficientBytes (fields l) ≡ l
+unfolding fields inRange
+coefficients-back zero [] e b t = refl
+coefficients-back zero (x ∷ l) e b t = absurd (omega arith)
+coefficients-back (suc n) [] e b t = absurd (omega arith)
+coefficients-back (suc n) (x ∷ []) e b t = absurd (omega arith)
+coefficients-back (suc n) (x ∷ y ∷ l) e b t =
+    let p = pair-back x y (b 0) (b 1) (both-left _ (inRange l) t) in
+    let ih : coefficientBytes (fields l) ≡ l = coefficients-back n l (omega arith) (λ i. b (suc (suc i))) (both-right (within (word x y)) _ t) in
+    rw (p .0, p .1, ih)
+
+matrix-back : (m : List ℕ) → Bytes m → (length m ≡ 0) ⊎ (length m ≡ 25) → (present m && not (isAllowed m)) ≡ false
+    → matrixBody (cond (present m) (matrixOf m) noMatrix) ≡ m
+matrix-back m b (inl e) x = rw (none m e)
+matrix-back m b (inr e) x =
+    let y : not (isAllowed m) ≡ false = subst (λ (n : ℕ). (not (eqb n 0) && not (isAllowed m)) ≡ false) e x in
+    let l : length (drop 1 m) ≡ double 12 = rw (length-drop 1 m, e) in
+    let r : inRange (drop 1 m) ≡ true = ranged m (not-false (isAllowed m) y) in
+    let c : coefficientBytes (fields (drop 1 m)) ≡ drop 1 m = coefficients-back 12 (drop 1 m) l (λ i. rw (getD-drop 1 m i 0) (b (1 + i))) r in
+    rw (e, c) (sym (drop-cons m 0 0 (omega arith)))
+
+-- ---- the whole input
+
+-- what comes after a count and a body
+past : (n : ℕ) (xs ys : List ℕ) → Bytes (n ∷ (xs ++ ys)) → Bytes ys
+past n xs ys b i = subst (λ (x : ℕ). x < 256) (getD-append-add xs ys i 0) (b (suc (length xs + i)))
+
+front : (n : ℕ) (xs ys : List ℕ) → Bytes (n ∷ (xs ++ ys)) → Bytes xs
+front n [] ys b i = lit< tt
+front n (x ∷ xs) ys b zero = b 1
+front n (x ∷ xs) ys b (suc i) = front x xs ys (λ j. b (suc j)) i
+
+nothing-after : (rest : List ℕ) (c : Checked) → cond (present rest) (refusedRequest bytesAfter) c .refusal ≡ 0 → rest ≡ []
+nothing-after rest c = go (eqb (length rest) 0) refl
+  where
+    go : (b : Bool) → eqb (length rest) 0 ≡ b → cond (not b) (refusedRequest bytesAfter) c .refusal ≡ 0 → rest ≡ []
+    go true e z = none rest (eqb-true _ _ e)
+    go false e z = absurd (omega arith)
+
+module _ (input : List ℕ) (b : Bytes input) where
+  bodies : (v a m rest : List ℕ) → Sectioned input v a m rest → rest ≡ [] → outside v a m ≡ false → asBytes (requestIn v a m) ≡ input
+  unfolding asBytes outside
+  bodies v a m rest s n o =
+      let x : (present m && not (isAllowed m)) ≡ false = neither-right (present a && audioOutside a) _ (neither-right (ltb 1 (link v)) _ (neither-right (ltb 2 (encoding v)) _ o)) in
+      let whole : Bytes (length v ∷ (v ++ (length a ∷ (a ++ (length m ∷ (m ++ rest)))))) = subst Bytes (s .made) b in
+      let end : Bytes m = front (length m) m rest (past (length a) a _ (past (length v) v _ whole)) in
+      let made : matrixBody (cond (present m) (matrixOf m) noMatrix) ≡ m = matrix-back m end (s .matrixCounted) x in
+      ap₂ (λ (x y : List ℕ). laid (x ∷ y ∷ matrixBody (cond (present m) (matrixOf m) noMatrix) ∷ []) []) (video.bodies .whole v (s .videoCounted)) (audio-back a (s .audioCounted))
+      ∙ ap₂ (λ (z r : List ℕ). laid (v ∷ a ∷ z ∷ []) r) made (sym n) ∙ sym (s .made)
+
+  found : (w : Walk) → walked input ≡ w → checked w .refusal ≡ 0 → Judged (bodyOf 0 w) (bodyOf 1 w) (bodyOf 2 w) (checked w) → asBytes (checked w .request) ≡ input
+  found ends e z j = absurd (omega arith)
+  found notAllowed e z j = absurd (omega arith)
+  found (whole [] rest) e z j = let t = request-walks input .three [] rest e in absurd (omega arith)
+  found (whole (v ∷ []) rest) e z j = let t = request-walks input .three (v ∷ []) rest e in absurd (omega arith)
+  found (whole (v ∷ a ∷ []) rest) e z j = let t = request-walks input .three (v ∷ a ∷ []) rest e in absurd (omega arith)
+  found (whole (v ∷ a ∷ m ∷ []) rest) e z j =
+      ap asBytes (j .request) ∙ bodies v a m rest (sectioned input v a m rest e) (nothing-after rest (judged v a m) z) (j .inside)
+  found (whole (v ∷ a ∷ m ∷ x ∷ l) rest) e z j = let t = request-walks input .three (v ∷ a ∷ m ∷ x ∷ l) rest e in absurd (omega arith)
+
+  pub back : readOf input .refusal ≡ 0 → asBytes (readOf input .request) ≡ input
+  unfolding readOf
+  back z = found (walked input) refl z (passed (walked input) z)
+
+family-zero : (r : Request) → asBytes (answeredAs r) ≡ set (asBytes r) 2 0
+unfolding asBytes
+family-zero r = refl
+
+pub there-and-back : ThereAndBack
+there-and-back =
+    record {
+      there = λ r s z. ap (λ (c : Checked). c .request) (said r s z);
+      back = back;
+      answered = λ input b z. family-zero (readOf input .request) ∙ ap (λ (l : List ℕ). set l 2 0) (back input b z);
+    }
