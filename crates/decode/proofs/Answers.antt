@@ -1,19 +1,18 @@
 -- What decoding answers, and when: the theorems of `specs/Theorems.antt`. Assumes nothing.
 use mathlib.Core.Path.{_≡_, refl, sym, ap, _∙_, subst}
-use mathlib.Core.Logic.{_⊎_, inl, inr}
+use mathlib.Core.Logic.{_≢_, _⊎_, inl, inr}
 use mathlib.Core.Bool.{Bool, true, false, false≢true, cond, not, _&&_, _||_}
 use mathlib.Core.List.{List, [], _∷_}
 use Prim.Native.Nat.{ℕ, zero, suc, _/_, _%_, _<_, _≤_}
 use native.Mathlib.Nat.{eq-or-lt-of-le, le-of-suc-le-suc, not-suc-le-zero}
 use native.Mathlib.Omega.{arith}
 use lib.Dec.{eqb, ltb}
-use lib.ListN.{length, getD, set, take, drop, length-take, length-drop}
-use borrow.Author.Tests.{eqb-true, eq-eqb, ne-eqb, le-ltb, not-false}
+use lib.ListN.{length, getD, take, drop, length-take, length-drop}
+use borrow.Author.Tests.{eqb-true, eq-eqb, le-ltb, not-true, not-false}
 use Rattle.lists.proofs.Both.{both-left, both-right}
-use Rattle.lists.proofs.Decides.{equal, less, opposite}
-use Rattle.refusals.specs.Rows.{noRequest, _when_, Condition}
-use Rattle.refusals.specs.Rows as rows
-use Rattle.refusals.proofs.First.{Tried, test, tried}
+use Rattle.lists.proofs.Decides.{Decides, equal, less, opposite}
+use Rattle.refusals.specs.Rows.{imageLength, bufferShort, noRequest, _if_}
+use Rattle.refusals.proofs.Tests.{Decided, lowest-given, past, numbered, answer-none, answer-some}
 use Rattle.bits.specs.Merge.{merge}
 use Rattle.bits.proofs.Truth.{E, var, by, law}
 use Rattle.registers.specs.Classes.{readOnly, free, named, bits}
@@ -22,19 +21,21 @@ use Rattle.matrix.specs.Matrix.{fields, noMatrix}
 use Rattle.matrix.proofs.Pairs.{fields-small, length-fields}
 use Rattle.request.specs.declared.Request.{Request}
 use Rattle.request.specs.declared.Checked.{Checked}
+use Rattle.request.specs.Sections.{longest}
 use Rattle.request.specs.Read.{readOf, pairFor}
+use Rattle.request.specs.Bytes.{asBytes, inFamily, answeredAs, answeredBytes, Shaped}
 use Rattle.plan.specs.Wanted.{wanted}
 use Rattle.writes.specs.List.{byte, decided, written, isWritten, finished}
 use Rattle.decode.specs.declared.Decoded.{Decoded}
-use Rattle.decode.specs.Ends.{bytesOf, inFamily, Acceptable, Stands, Ends}
-use Rattle.decode.specs.Extract.{at, matrixIn, extract}
+use Rattle.decode.specs.Ends.{Acceptable, Stands, Ends}
+use Rattle.decode.specs.Extract.{byteIn, matrixIn, extract}
 use Rattle.plan.specs.Stands.{standsBelow}
-use Rattle.decode.specs.Decode.{endsIn, found, refusalOf, decodeRules, decodeOf, bufferOf}
+use Rattle.decode.specs.Decode.{endsIn, someEnds, decodeRules, decodeTests, decodeRefusal, notDecoded, decodeOf, inFront, decodedBuffer}
 use Rattle.decode.specs.Theorems.{Answered, ExactlyWhen, AtMostOne, Refusals, Ran, ReadBack}
-use Rattle.decode.proofs.Ranged.{ranged}
+use Rattle.request.proofs.Ranged.{Ranged, read-ranged}
+use Rattle.request.proofs.Said.{said}
+use Rattle.request.proofs.Back.{back}
 use Rattle.decode.proofs.Extracted.{extracted}
-use Rattle.decode.proofs.Says.{Shaped, said}
-use Rattle.decode.proofs.Back.{back}
 
 -- ---- the test of `Stands`
 
@@ -54,35 +55,39 @@ module _ (r : Request) (image : List ℕ) where
       go (inl e) ih = rw e (eqb-true _ _ (both-left _ (standsBelow r image n) t))
       go (inr l) ih = ih l
 
+-- an acceptable request has its fields in range
+ranged : (r : Request) → Acceptable r → Ranged r
+ranged r a = subst Ranged (ap (λ (c : Checked). c .request) (a .read)) (read-ranged (asBytes r) (ap (λ (c : Checked). c .refusal) (a .read)))
+
 -- ---- one family
 
 ends-tested : (r : Request) (f : ℕ) (image : List ℕ) → Acceptable (inFamily f r) → Stands (inFamily f r) image → endsIn r f image ≡ true
 unfolding endsIn
 ends-tested r f image a s =
     let q : Request = inFamily f r in
-    let z : readOf (bytesOf q) .refusal ≡ 0 = ap (λ (c : Checked). c .refusal) (a .read) in
-    rw (eq-eqb (readOf (bytesOf q) .refusal) 0 z, eq-eqb (pairFor q .refusal) 0 (a .paired)) (stands-tested q image 256 s)
+    let z : readOf (asBytes q) .refusal ≡ 0 = ap (λ (c : Checked). c .refusal) (a .read) in
+    rw (eq-eqb (readOf (asBytes q) .refusal) 0 z, eq-eqb (pairFor q .refusal) 0 (a .paired)) (stands-tested q image 256 s)
 
-test-ends : (r : Request) (f : ℕ) (image : List ℕ) → Shaped (r .matrix) → r .video .family ≡ 0 → endsIn r f image ≡ true → Ends r image
+test-ends : (r : Request) (f : ℕ) (image : List ℕ) → Shaped (r .matrix) → answeredAs r ≡ r → endsIn r f image ≡ true → Ends r image
 unfolding endsIn
 test-ends r f image h e t =
     let q : Request = inFamily f r in
-    let u : (eqb (readOf (bytesOf q) .refusal) 0 && eqb (pairFor q .refusal) 0) ≡ true = both-left _ (standsBelow q image 256) t in
+    let u : (eqb (readOf (asBytes q) .refusal) 0 && eqb (pairFor q .refusal) 0) ≡ true = both-left _ (standsBelow q image 256) t in
     record {
       family = f;
-      zero = e;
+      answered = e;
       acceptable = record {
         read = said q h (eqb-true _ _ (both-left _ (eqb (pairFor q .refusal) 0) u));
-        paired = eqb-true _ _ (both-right (eqb (readOf (bytesOf q) .refusal) 0) _ u);
+        paired = eqb-true _ _ (both-right (eqb (readOf (asBytes q) .refusal) 0) _ u);
       };
-      stands = test-stands q image 256 (both-right (eqb (readOf (bytesOf q) .refusal) 0 && eqb (pairFor q .refusal) 0) _ t);
+      stands = test-stands q image 256 (both-right (eqb (readOf (asBytes q) .refusal) 0 && eqb (pairFor q .refusal) 0) _ t);
     }
 
 -- ---- an image of 256 bytes
 
 module _ (image : List ℕ) (long : length image ≡ 256) where
   pub shaped : Shaped (matrixIn image)
-  shaped = go (eqb (at image reg.csc / reg.cscEnableMask % 2) 0)
+  shaped = go (eqb (byteIn image reg.csc / reg.cscEnableMask % 2) 0)
     where
       coefficients : List ℕ
       coefficients = take reg.cscCount (drop reg.csc image)
@@ -90,7 +95,7 @@ module _ (image : List ℕ) (long : length image ≡ 256) where
       l : length (take reg.cscCount (drop reg.csc image)) ≡ 24
       l = simp (length-take, length-drop, long)
 
-      go : (b : Bool) → Shaped (cond b noMatrix (record { on = 1; mode = at image reg.csc / 32 % 4; coefficients = fields (take reg.cscCount (drop reg.csc image)) }))
+      go : (b : Bool) → Shaped (cond b noMatrix (record { on = 1; mode = byteIn image reg.csc / 32 % 4; coefficients = fields (take reg.cscCount (drop reg.csc image)) }))
       go true = inl refl
       go false = inr (record {
         on = refl;
@@ -99,8 +104,8 @@ module _ (image : List ℕ) (long : length image ≡ 256) where
         small = fields-small (take reg.cscCount (drop reg.csc image));
       })
 
-  found-ends : found image ≡ true → Ends (extract image) image
-  unfolding found extract
+  found-ends : someEnds image ≡ true → Ends (extract image) image
+  unfolding someEnds extract
   found-ends t = go (endsIn (extract image) 0 image) refl t
     where
       go : (b : Bool) → endsIn (extract image) 0 image ≡ b → (b || endsIn (extract image) 1 image) ≡ true → Ends (extract image) image
@@ -109,10 +114,10 @@ module _ (image : List ℕ) (long : length image ≡ 256) where
 
   is-extracted : (r : Request) → Ends r image → extract image ≡ r
   is-extracted r e =
-      extracted (inFamily (e .family) r) image long (ranged (inFamily (e .family) r) (e .acceptable)) (e .stands) ∙ ap (λ (f : ℕ). inFamily f r) (sym (e .zero))
+      extracted (inFamily (e .family) r) image long (ranged (inFamily (e .family) r) (e .acceptable)) (e .stands) ∙ e .answered
 
-  ends-found : (r : Request) → Ends r image → found image ≡ true
-  unfolding found
+  ends-found : (r : Request) → Ends r image → someEnds image ≡ true
+  unfolding someEnds
   ends-found r e = rw (is-extracted r e) (go (e .family) (ranged (inFamily (e .family) r) (e .acceptable) .family) (ends-tested r (e .family) image (e .acceptable) (e .stands)))
     where
       right : (b : Bool) → (b || true) ≡ true
@@ -130,58 +135,53 @@ at-most-one image long r q e f = sym (is-extracted image long r e) ∙ is-extrac
 -- ---- the refusals
 
 module _ (image buffer : List ℕ) where
-  last : length image ≡ 256 → (b : Bool) → found image ≡ b → Tried (noRequest when ((r : Request) → Ends r image → ⊥) ∷ []) (cond b 0 11)
-  last long true e = inr ((λ n. n (extract image) (found-ends image long e)), refl)
-  last long false e = inl ((λ r f. false≢true (sym e ∙ ends-found image long r f)), refl)
+  none-ends : length image ≡ 256 → Decides (not (someEnds image)) ((r : Request) → Ends r image → ⊥)
+  none-ends long = record {
+    passes = λ t r e. false≢true (sym (not-true (someEnds image) t) ∙ ends-found image long r e);
+    fails = λ f n. n (extract image) (found-ends image long (not-false (someEnds image) f));
+  }
 
-  in-turn : Tried (decodeRules image buffer) (refusalOf image buffer)
-  unfolding refusalOf
-  in-turn =
-      let rules : List Condition = decodeRules image buffer in
-      test (λ (n : ℕ). n) (rows.at rules 0) (drop 1 rules) (not (eqb (length image) 256)) _ _ refl (opposite (equal (length image) 256))
-      (λ m. test (λ (n : ℕ). n) (rows.at rules 1) (drop 2 rules) (ltb (length buffer) 35) _ _ refl (less (length buffer) 35)
-      (λ _. last (eqb-true _ _ (not-false (eqb (length image) 256) m)) (found image) refl))
+  each-decided : Decided (decodeTests image buffer) (decodeRules image buffer)
+  each-decided = (
+    refl,
+    opposite (equal (length image) 256),
+    λ m. (refl, less (length buffer) longest, λ _. (refl, none-ends (eqb-true _ _ (not-false (eqb (length image) 256) m)), λ _. tt)),
+  )
 
-  number-given : decodeOf image buffer .refusal ≡ refusalOf image buffer
+  number-given : decodeOf image buffer .refusal ≡ decodeRefusal image buffer
   unfolding decodeOf
-  number-given = go (eqb (refusalOf image buffer) 0) refl
-    where
-      go : (b : Bool) → eqb (refusalOf image buffer) 0 ≡ b
-          → cond {A = Decoded} b (record { refusal = 0; count = length (bytesOf (extract image)) }) (record { refusal = refusalOf image buffer; count = 0 }) .refusal ≡ refusalOf image buffer
-      go true e = sym (eqb-true _ _ e)
-      go false e = refl
+  number-given = numbered notDecoded _ (λ d. d .refusal) (decodeRefusal image buffer) refl refl
 
   pub refusals : Refusals image buffer
-  unfolding decodeOf bufferOf
+  unfolding decodeOf decodedBuffer decodeRefusal
   refusals = record {
-    given = rw number-given (tried (decodeRules image buffer) (refusalOf image buffer) refl in-turn);
-    unchanged = λ n. rw (ne-eqb (refusalOf image buffer) 0 (λ e. n (number-given ∙ e))) (refl, refl);
+    given = rw number-given (lowest-given (decodeTests image buffer) (decodeRules image buffer) refl each-decided);
+    unchanged = λ n. let h : decodeRefusal image buffer ≢ 0 = λ e. n (number-given ∙ e) in
+        (ap (λ (d : Decoded). d .count) (answer-some notDecoded _ (decodeRefusal image buffer) h), answer-some (λ m. buffer) _ (decodeRefusal image buffer) h);
   }
 
   -- where none is given
-  answers : refusalOf image buffer ≡ 0 → Answered (bytesOf (extract image)) image buffer
-  unfolding decodeOf bufferOf
-  answers z = record { counted = rw (eq-eqb (refusalOf image buffer) 0 z); left = rw (eq-eqb (refusalOf image buffer) 0 z) }
+  answers : decodeRefusal image buffer ≡ 0 → Answered (asBytes (extract image)) image buffer
+  unfolding decodeOf decodedBuffer
+  answers z = record { counted = answer-none notDecoded _ (decodeRefusal image buffer) z; left = answer-none (λ n. buffer) _ (decodeRefusal image buffer) z }
 
-  accepted : refusalOf image buffer ≡ 0 → (length image ≡ 256) × (found image ≡ true)
-  unfolding refusalOf
-  accepted = go (eqb (length image) 256) refl (ltb (length buffer) 35) (found image) refl
-    where
-      go : (s : Bool) → eqb (length image) 256 ≡ s → (t f : Bool) → found image ≡ f → cond {A = ℕ} (not s) 7 (cond t 10 (cond f 0 11)) ≡ 0 → (length image ≡ 256) × (found image ≡ true)
-      go false e t f g z = absurd (omega arith)
-      go true e true f g z = absurd (omega arith)
-      go true e false true g z = (eqb-true _ _ e, g)
-      go true e false false g z = absurd (omega arith)
+  accepted : decodeRefusal image buffer ≡ 0 → (length image ≡ 256) × (someEnds image ≡ true)
+  unfolding decodeRefusal
+  accepted z =
+      let p = past (imageLength if not (eqb (length image) 256)) (drop 1 (decodeTests image buffer)) z in
+      let q = past (bufferShort if ltb (length buffer) longest) (drop 2 (decodeTests image buffer)) (p .1) in
+      let r = past (noRequest if not (someEnds image)) [] (q .1) in
+      (eqb-true _ _ (not-false (eqb (length image) 256) (p .0)), not-false (someEnds image) (r .0))
 
-  none : length image ≡ 256 → 35 ≤ length buffer → found image ≡ true → refusalOf image buffer ≡ 0
-  unfolding refusalOf
-  none l h f = rw (eq-eqb (length image) 256 l, le-ltb (length buffer) 35 h, f)
+  none : length image ≡ 256 → longest ≤ length buffer → someEnds image ≡ true → decodeRefusal image buffer ≡ 0
+  unfolding decodeRefusal
+  none l h f = rw (eq-eqb (length image) 256 l, le-ltb (length buffer) longest h, f)
 
   pub exactly : ExactlyWhen image buffer
   exactly = record {
-    only = λ z. let y : refusalOf image buffer ≡ 0 = sym number-given ∙ z in let p = accepted y in
+    only = λ z. let y : decodeRefusal image buffer ≡ 0 = sym number-given ∙ z in let p = accepted y in
         record { request = extract image; ends = found-ends image (p .0) (p .1); answered = answers y };
-    each = λ l h r e. subst (λ (q : Request). Answered (bytesOf q) image buffer) (is-extracted image l r e) (answers (none l h (ends-found image l r e)));
+    each = λ l h r e. subst (λ (q : Request). Answered (asBytes q) image buffer) (is-extracted image l r e) (answers (none l h (ends-found image l r e)));
   }
 
 -- ---- the finished image
@@ -210,28 +210,22 @@ module _ (input before image : List ℕ) where
   abbrev r : Request
   r = readOf input .request
 
-  ends : Ran input before image → Ends (inFamily 0 r) image
+  ends : Ran input before image → Ends (answeredAs r) image
   ends ran = record {
     family = r .video .family;
-    zero = refl;
+    answered = refl;
     acceptable = record {
-      read = ap readOf (back input (ran .bytes) (ran .read)) ∙ ap (λ (n : ℕ). numbered n) (ran .read);
+      read = ap readOf (back input (ran .bytes) (ran .read)) ∙ ap (λ (n : ℕ). asked n) (ran .read);
       paired = ran .paired;
     };
     stands = λ a h. finished-again (wanted r) before image a (ran .registers a h);
   }
     where
-      numbered : ℕ → Checked
-      numbered n = record { refusal = n; request = r }
-
-  -- the request with family 0 is the input, its family byte 0
-  family-zero : (q : Request) → bytesOf (inFamily 0 q) ≡ set (bytesOf q) 2 0
-  unfolding bytesOf
-  family-zero q = refl
+      asked : ℕ → Checked
+      asked n = record { refusal = n; request = r }
 
   pub read-back : ReadBack input before image
   read-back = record {
     ends = ends;
-    answered = λ ran buffer h. subst (λ (l : List ℕ). Answered l image buffer) (family-zero r ∙ ap (λ (l : List ℕ). set l 2 0) (back input (ran .bytes) (ran .read)))
-        (exactly image buffer .each (ran .sized) h (inFamily 0 r) (ends ran));
+    answered = λ ran buffer h. exactly image buffer .each (ran .sized) h (answeredAs r) (ends ran);
   }

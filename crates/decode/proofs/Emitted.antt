@@ -1,18 +1,48 @@
--- The bytes of coefficients, stored two by two. `sets d at xs` of lib.Seq is d with xs stored from index at. Assumes nothing.
+-- Bytes stored section by section. `sets d at xs` of lib.Seq is d with xs stored from index at. Assumes nothing.
+--     one-more      a byte more of a body
+--     emitted       sections one after another are the bytes of a request
+--     turn-bytes    a coefficient more of a matrix
 use mathlib.Core.Path.{_≡_, refl, sym, ap, ap₂, _∙_}
 use mathlib.Core.Bool.{Bool, true, false, cond}
-use mathlib.Core.List.{List, [], _∷_, _++_}
-use Prim.Native.Nat.{ℕ, suc, _+_, _*_, _/_, _%_, _≤_, _<_}
+use mathlib.Core.List.{List, [], _∷_, _++_, append-nil}
+use Prim.Native.Nat.{ℕ, suc, _+_, _*_, _%_, _≤_, _<_}
 use native.Mathlib.Numerals.{add-one}
 use native.Mathlib.Omega.{arith}
-use lib.Dec.{eqb, ltb, lit≤}
-use lib.ListN.{length, getD, take, drop, set, length-append}
-use lib.Seq.{sets, sets-eq, take-at, take-suc, take-all, length-take-le}
-use Rattle.lists.proofs.Emit.{sets-two}
+use lib.Dec.{eqb, lit≤}
+use lib.ListN.{length, getD, take, drop, set, replicate, drop-of-length-le, length-append}
+use lib.Seq.{sets, sets-eq, take-suc, take-all, take-at, length-take-le}
+use Rattle.lists.proofs.Emit.{sets-append, sets-two, sets-front}
+use Rattle.video.specs.Video.{videoBody}
 use Rattle.matrix.specs.declared.Matrix.{Matrix}
 use Rattle.matrix.specs.Coefficient.{highByte, coefficientBytes}
 use Rattle.matrix.proofs.Pairs.{length-bytes}
-use Rattle.decode.specs.Ends.{matrixSection}
+use Rattle.request.specs.declared.Sound.{Sound}
+use Rattle.request.specs.declared.Sound.the-variants.{Off, On}
+use Rattle.request.specs.declared.Request.{Request}
+use Rattle.request.specs.Sections.{audioCount, matrixCount, longest, laid}
+use Rattle.request.specs.Bytes.{audioBody, matrixBody, bodiesOf, asBytes}
+use Rattle.decode.specs.Decode.{inFront}
+
+pub one-more : (body d : List ℕ) (at i n : ℕ) → i < length body → at + i ≡ n
+    → set (sets d at (take i body)) n (getD body i 0) ≡ sets d at (take (i + 1) body)
+one-more body d at i n h e =
+    let l : length (take i body) ≡ i = length-take-le i body (omega arith) in
+    rw (add-one, take-suc body i 0 h, sets-append (take i body) (getD body i 0 ∷ []) d at, l, e)
+
+-- after the last: the count and the body
+pub whole-section : (body d : List ℕ) (place start i n : ℕ) → start ≡ place + 1 → length body ≤ i
+    → sets (set d place n) start (take i body) ≡ sets d place (n ∷ body)
+whole-section body d place start i n e h = rw (e, add-one, take-all i body h)
+
+-- sections stored one after another, from a place on
+abbrev pub inTurn : List ℕ → ℕ → List (List ℕ) → List ℕ
+inTurn d place [] = d
+inTurn d place (b ∷ bs) = inTurn (sets d place (length b ∷ b)) (place + suc (length b)) bs
+
+pub emitted : (d : List ℕ) (place : ℕ) (bodies : List (List ℕ)) → inTurn d place bodies ≡ sets d place (laid bodies [])
+emitted d place [] = refl
+emitted d place (b ∷ bs) =
+    emitted (sets d place (length b ∷ b)) (place + suc (length b)) bs ∙ sym (sets-append (length b ∷ b) (laid bs []) d place)
 
 bytes-append : (xs ys : List ℕ) → coefficientBytes (xs ++ ys) ≡ coefficientBytes xs ++ coefficientBytes ys
 bytes-append [] ys = refl
@@ -28,31 +58,67 @@ turn-bytes cs d at i n m a b h e f p q =
     ∙ ap (sets d at) (ap₂ (λ (x y : ℕ). coefficientBytes (take i cs) ++ (x ∷ y ∷ [])) p q
     ∙ sym (ap (λ (n : ℕ). coefficientBytes (take n cs)) (add-one i) ∙ ap coefficientBytes (take-suc cs i 0 h) ∙ bytes-append (take i cs) (getD cs i 0 ∷ [])))
 
--- after the last turn: the section, from its count on
-pub section-bytes : (cs d : List ℕ) (at mode i : ℕ) → length cs ≤ i
-    → sets (set (set d at 25) (at + 1) mode) (at + 2) (coefficientBytes (take i cs)) ≡ sets d at (25 ∷ mode ∷ coefficientBytes cs)
-section-bytes cs d at mode i h =
-    let e : at + 2 ≡ suc (suc at) = omega arith in
-    rw (e, add-one, take-all i cs h)
+-- after the last: the body of a matrix section
+pub whole-matrix : (cs : List ℕ) (mode i : ℕ) → length cs ≡ 12 → 12 ≤ i
+    → sets (mode ∷ replicate 24 0) 1 (coefficientBytes (take i cs)) ≡ mode ∷ coefficientBytes cs
+whole-matrix cs mode i l h =
+    let n : length (coefficientBytes cs) ≡ 24 = omega (arith, length-bytes cs) in
+    let past : length (mode ∷ replicate 24 0) ≤ 1 + length (coefficientBytes cs) = omega arith in
+    ap (λ (k : List ℕ). sets (mode ∷ replicate 24 0) 1 (coefficientBytes k)) (take-all i cs (omega arith))
+    ∙ sets-eq (coefficientBytes cs) (mode ∷ replicate 24 0) 1 (omega arith)
+    ∙ rw (drop-of-length-le (mode ∷ replicate 24 0) past, append-nil (coefficientBytes cs))
 
--- the front of a list whose last part was stored
-pub front : (out xs : List ℕ) (at n : ℕ) → n ≡ at + length xs → n ≤ length out → take n (sets out at xs) ≡ take at out ++ xs
-front out xs at n e h =
-    let l : length (take at out ++ xs) ≡ n = length-append (take at out) xs ∙ ap (λ (m : ℕ). m + length xs) (length-take-le at out (omega arith)) ∙ sym e in
-    ap (take n) (sets-eq xs out at (omega arith)) ∙ take-at (take at out ++ xs) (drop (at + length xs) out) n l
+-- ---- a request
 
-pub section-length : (m : Matrix) → length (m .coefficients) ≡ 12 → length (matrixSection m) ≤ 26
-section-length m h = go (eqb (m .on) 0)
+pub audio-room : (s : Sound) → length (audioBody s) ≤ audioCount
+audio-room Off = lit≤ tt
+audio-room (On rate channels coherent) = lit≤ tt
+
+matrix-room : (m : Matrix) → length (m .coefficients) ≡ 12 → length (matrixBody m) ≤ matrixCount
+matrix-room m h = go (eqb (m .on) 0)
   where
-    go : (b : Bool) → length (cond b (0 ∷ []) (25 ∷ m .mode ∷ coefficientBytes (m .coefficients))) ≤ 26
+    go : (b : Bool) → length (cond b [] (m .mode ∷ coefficientBytes (m .coefficients))) ≤ matrixCount
     go true = lit≤ tt
     go false = omega (arith, length-bytes (m .coefficients))
 
-pub whole : (m : Matrix) (out all bs : List ℕ) (place n : ℕ) → length (m .coefficients) ≡ 12 → length out ≡ 35 → place ≤ 9 → take place out ++ matrixSection m ≡ all
-    → (n ≡ place + length (matrixSection m)) × (bs ≡ sets out place (matrixSection m)) → (n ≡ length all) × (take n bs ≡ all)
-whole m out all bs place n k l h e f =
-    let s : length (matrixSection m) ≤ 26 = section-length m k in
-    let t : length (take place out) ≡ place = length-take-le place out (omega arith) in (
-      f .0 ∙ ap (λ (x : ℕ). x + length (matrixSection m)) (sym t) ∙ sym (length-append (take place out) (matrixSection m)) ∙ ap length e,
-      ap (take n) (f .1) ∙ front out (matrixSection m) place n (f .0) (omega (arith, f .0)) ∙ e,
+-- the bytes that bodies take with their counts
+abbrev total : List (List ℕ) → ℕ
+total [] = 0
+total (b ∷ bs) = suc (length b) + total bs
+
+laid-length : (bodies : List (List ℕ)) → length (laid bodies []) ≡ total bodies
+laid-length [] = refl
+laid-length (b ∷ bs) = omega (arith, length-append b (laid bs []), laid-length bs)
+
+pub requested : (q : Request) (d : List ℕ) {d₁ d₂ d₃ video : List ℕ} {p₁ p₂ p₃ : ℕ} → longest ≤ length d → length (q .matrix .coefficients) ≡ 12
+    → video ≡ videoBody (q .video)
+    → (p₁ ≡ 0 + suc (length video)) × (d₁ ≡ sets d 0 (length video ∷ video))
+    → (p₂ ≡ p₁ + suc (length (audioBody (q .sound)))) × (d₂ ≡ sets d₁ p₁ (length (audioBody (q .sound)) ∷ audioBody (q .sound)))
+    → (p₃ ≡ p₂ + suc (length (matrixBody (q .matrix)))) × (d₃ ≡ sets d₂ p₂ (length (matrixBody (q .matrix)) ∷ matrixBody (q .matrix)))
+    → ((p₃ ≡ length (asBytes q)) × (p₃ ≤ longest)) × (d₃ ≡ inFront (asBytes q) d)
+unfolding asBytes
+requested q d room twelve v e f g =
+    let a : List ℕ = audioBody (q .sound) in
+    let m : List ℕ = matrixBody (q .matrix) in
+    let n : length (laid (bodiesOf q) []) ≡ total (bodiesOf q) = laid-length (bodiesOf q) in
+    let l = ap length v in
+    let x = audio-room (q .sound) in
+    let y = matrix-room (q .matrix) twelve in (
+      (omega (arith, e .0, f .0, g .0), omega (arith, e .0, f .0, g .0)),
+      g .1
+          ∙ ap₂ (λ (b : List ℕ) (p : ℕ). sets b p (length m ∷ m)) (f .1) (f .0)
+          ∙ ap₂ (λ (b : List ℕ) (p : ℕ). sets (sets b p (length a ∷ a)) (p + suc (length a)) (length m ∷ m)) (e .1) (e .0)
+          ∙ ap (λ (u : List ℕ). inTurn d 0 (u ∷ a ∷ m ∷ [])) v
+          ∙ emitted d 0 (bodiesOf q) ∙ sets-front (laid (bodiesOf q) []) d (omega arith),
     )
+
+-- what stands in front
+module _ (xs d : List ℕ) {n : ℕ} {out : List ℕ} (counted : n ≡ length xs) (left : out ≡ inFront xs d) where
+  pub front-room : n ≤ length out
+  front-room = omega (arith, ap length left, length-append xs (drop (length xs) d))
+
+  pub front-sized : n ≡ length (take n out)
+  front-sized = sym (length-take-le n out front-room)
+
+  pub front-taken : take n out ≡ xs
+  front-taken = ap (take n) left ∙ take-at xs (drop (length xs) d) n (sym counted)

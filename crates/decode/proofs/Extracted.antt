@@ -20,11 +20,12 @@ use Rattle.request.specs.declared.Sound.the-variants.{Off, On}
 use Rattle.request.specs.declared.Request.{Request}
 use Rattle.plan.specs.Wanted.{wanted, cscBytes, rateCodes, withAudio, rateCode, ctsSelect}
 use Rattle.writes.specs.List.{isWritten, decided}
-use Rattle.decode.specs.Ends.{Stands, inFamily}
-use Rattle.decode.specs.Extract.{at, rateOf, soundIn, matrixIn, extract}
+use Rattle.decode.specs.Ends.{Stands}
+use Rattle.decode.specs.Extract.{byteIn, rateOf, soundIn, matrixIn, extract}
 use Rattle.decode.proofs.Stored.{each, window, cc, Wants, wants}
 use Rattle.decode.proofs.Standing.{clear, is-written, reads, small-byte}
-use Rattle.decode.proofs.Ranged.{InRange, Filled, Ranged}
+use Rattle.request.specs.Bytes.{Filled, Shaped, answeredAs}
+use Rattle.request.proofs.Ranged.{InRange, Ranged}
 
 -- ---- coefficients
 
@@ -78,48 +79,48 @@ module _ (r : Request) (image : List ℕ) (long : length image ≡ 256) (g : Ran
   w : Wants r
   w = wants r
 
-  vic : at image reg.vicManual % 64 ≡ r .video .vic
+  vic : byteIn image reg.vicManual % 64 ≡ r .video .vic
   unfolding isWritten decided classAt
   vic = omega (arith, reads r image st reg.vicManual 0 6 (lit< tt) refl, w .vic, g .vic)
 
-  encoding : at image reg.aviInfoframeByte1 / 32 % 4 ≡ r .video .encoding
+  encoding : byteIn image reg.aviInfoframeByte1 / 32 % 4 ≡ r .video .encoding
   unfolding isWritten decided classAt
   encoding = omega (arith, reads r image st reg.aviInfoframeByte1 5 2 (lit< tt) refl, w .encoding, g .encoding)
 
-  link : at image reg.hdcpHdmiCfg / 2 % 2 ≡ r .video .link
+  link : byteIn image reg.hdcpHdmiCfg / 2 % 2 ≡ r .video .link
   unfolding isWritten decided classAt
   link = omega (arith, reads r image st reg.hdcpHdmiCfg 1 1 (lit< tt) refl, w .link, g .link)
 
   -- ---- sound
 
-  packets : at image reg.packetEnable1 / 32 % 2 ≡ withAudio (r .sound)
+  packets : byteIn image reg.packetEnable1 / 32 % 2 ≡ withAudio (r .sound)
   unfolding isWritten decided classAt
   packets = reads r image st reg.packetEnable1 5 1 (lit< tt) refl ∙ rw (w .audio) (enabled (r .sound) (r .video .link) (g .link))
 
-  rate : at image reg.i2sFreqIdCfg / 16 % 16 ≡ rateCode (r .sound) * 16 / 16 % 16
+  rate : byteIn image reg.i2sFreqIdCfg / 16 % 16 ≡ rateCode (r .sound) * 16 / 16 % 16
   unfolding isWritten decided classAt
   rate = rw (← w .rate) (reads r image st reg.i2sFreqIdCfg 4 4 (lit< tt) refl)
 
-  channels : at image reg.audioInfoframeByte1 % 8 ≡ cc (r .sound) % 8
+  channels : byteIn image reg.audioInfoframeByte1 % 8 ≡ cc (r .sound) % 8
   unfolding isWritten decided classAt
   channels = omega (arith, reads r image st reg.audioInfoframeByte1 0 3 (lit< tt) refl, w .channels)
 
-  coherent : at image reg.audioSource / 128 % 2 ≡ ctsSelect (r .sound) * 128 / 128 % 2
+  coherent : byteIn image reg.audioSource / 128 % 2 ≡ ctsSelect (r .sound) * 128 / 128 % 2
   unfolding isWritten decided classAt
   coherent = rw (← w .coherent) (reads r image st reg.audioSource 7 1 (lit< tt) refl)
 
-  heard : (s : Sound) → InRange s → at image reg.packetEnable1 / 32 % 2 ≡ withAudio s → at image reg.i2sFreqIdCfg / 16 % 16 ≡ rateCode s * 16 / 16 % 16
-      → at image reg.audioInfoframeByte1 % 8 ≡ cc s % 8 → at image reg.audioSource / 128 % 2 ≡ ctsSelect s * 128 / 128 % 2 → soundIn image ≡ s
-  heard Off k p q c h = rw (eq-eqb (at image reg.packetEnable1 / 32 % 2) 0 p)
+  heard : (s : Sound) → InRange s → byteIn image reg.packetEnable1 / 32 % 2 ≡ withAudio s → byteIn image reg.i2sFreqIdCfg / 16 % 16 ≡ rateCode s * 16 / 16 % 16
+      → byteIn image reg.audioInfoframeByte1 % 8 ≡ cc s % 8 → byteIn image reg.audioSource / 128 % 2 ≡ ctsSelect s * 128 / 128 % 2 → soundIn image ≡ s
+  heard Off k p q c h = rw (eq-eqb (byteIn image reg.packetEnable1 / 32 % 2) 0 p)
   heard (On x y z) k p q c h =
       let b = rate-back x (k .0) in
       let code : getD rateCodes x 0 * 16 / 16 % 16 ≡ getD rateCodes x 0 = omega (arith, b .1) in
-      let e : rateOf (at image reg.i2sFreqIdCfg / 16 % 16) ≡ x = rw (q, code) (b .0) in
-      let f : at image reg.audioInfoframeByte1 % 8 + 1 ≡ y = count (k .1) in
-      let d : at image reg.audioSource / 128 % 2 ≡ z = omega (arith, k .2) in
-      rw (ne-eqb (at image reg.packetEnable1 / 32 % 2) 0 (omega arith), e, f, d)
+      let e : rateOf (byteIn image reg.i2sFreqIdCfg / 16 % 16) ≡ x = rw (q, code) (b .0) in
+      let f : byteIn image reg.audioInfoframeByte1 % 8 + 1 ≡ y = count (k .1) in
+      let d : byteIn image reg.audioSource / 128 % 2 ≡ z = omega (arith, k .2) in
+      rw (ne-eqb (byteIn image reg.packetEnable1 / 32 % 2) 0 (omega arith), e, f, d)
     where
-      count : (y ≡ 2) ⊎ (y ≡ 8) → at image reg.audioInfoframeByte1 % 8 + 1 ≡ y
+      count : (y ≡ 2) ⊎ (y ≡ 8) → byteIn image reg.audioInfoframeByte1 % 8 + 1 ≡ y
       count (inl l) = omega arith
       count (inr l) = omega arith
 
@@ -151,25 +152,25 @@ module _ (r : Request) (image : List ℕ) (long : length image ≡ 256) (g : Ran
   head : wanted r reg.csc ≡ r .matrix .on * 128 + r .matrix .mode * 32 + getD (r .matrix .coefficients) 0 0 / 256
   head = ap (λ (l : List ℕ). getD l 0 0) (w .csc)
 
-  on : at image reg.csc / 128 % 2 ≡ wanted r reg.csc / 128 % 2
+  on : byteIn image reg.csc / 128 % 2 ≡ wanted r reg.csc / 128 % 2
   unfolding isWritten decided classAt
   on = reads r image st reg.csc 7 1 (lit< tt) refl
 
-  mode : at image reg.csc / 32 % 4 ≡ wanted r reg.csc / 32 % 4
+  mode : byteIn image reg.csc / 32 % 4 ≡ wanted r reg.csc / 32 % 4
   unfolding isWritten decided classAt
   mode = reads r image st reg.csc 5 2 (lit< tt) refl
 
-  converted : (r .matrix ≡ noMatrix) ⊎ Filled (r .matrix) → matrixIn image ≡ r .matrix
+  converted : Shaped (r .matrix) → matrixIn image ≡ r .matrix
   converted (inl e) =
       let h : wanted r reg.csc ≡ 40 = head ∙ rw e in
-      rw (eq-eqb (at image reg.csc / 128 % 2) 0 (omega (arith, on))) (sym e)
+      rw (eq-eqb (byteIn image reg.csc / 128 % 2) 0 (omega (arith, on))) (sym e)
   converted (inr f) =
       let c : getD (r .matrix .coefficients) 0 0 < 8192 = f .small 0 in
       let o : r .matrix .on ≡ 1 = f .on in
-      let h : at image reg.csc / 128 % 2 ≡ 1 = omega (arith, on, head, f .mode) in
-      let k : at image reg.csc / 32 % 4 ≡ r .matrix .mode = omega (arith, mode, head, f .mode) in
-      rw (ne-eqb (at image reg.csc / 128 % 2) 0 (omega arith), k, coefficients-read (f .twelve) (f .small), ← o)
+      let h : byteIn image reg.csc / 128 % 2 ≡ 1 = omega (arith, on, head, f .mode) in
+      let k : byteIn image reg.csc / 32 % 4 ≡ r .matrix .mode = omega (arith, mode, head, f .mode) in
+      rw (ne-eqb (byteIn image reg.csc / 128 % 2) 0 (omega arith), k, coefficients-read (f .twelve) (f .small), ← o)
 
-  pub extracted : extract image ≡ inFamily 0 r
+  pub extracted : extract image ≡ answeredAs r
   unfolding extract
   extracted = rw (vic, encoding, link, sound, converted (g .matrix))

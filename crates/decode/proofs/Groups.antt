@@ -26,7 +26,8 @@ use Rattle.writes.specs.List.{isWritten, decided, byte}
 use Rattle.decode.specs.Ends.{Stands}
 use Rattle.decode.proofs.Stored.{each, window, wants}
 use Rattle.decode.proofs.Standing.{clear, is-written, reads, small-byte, there}
-use Rattle.decode.proofs.Ranged.{InRange, Filled, Ranged}
+use Rattle.request.specs.Bytes.{Filled, Shaped}
+use Rattle.request.proofs.Ranged.{InRange, Ranged}
 use Rattle.decode.proofs.Extracted.{coefficients-read}
 
 -- ---- the bytes of a frame are bytes
@@ -109,7 +110,7 @@ module _ (r : Request) (image : List ℕ) (long : length image ≡ 256) (g : Ran
   pub matrix-in : fields (registersOf matrix image) ≡ r .matrix .coefficients
   matrix-in = of (g .matrix)
     where
-      of : (r .matrix ≡ noMatrix) ⊎ Filled (r .matrix) → fields (registersOf matrix image) ≡ r .matrix .coefficients
+      of : Shaped (r .matrix) → fields (registersOf matrix image) ≡ r .matrix .coefficients
       of (inl e) =
           coefficients-read r image long g st (ap (λ (m : Matrix). length (m .coefficients)) e)
           (λ i. subst (λ (m : Matrix). getD (m .coefficients) i 0 < 8192) (sym e) (none-small i))

@@ -2,11 +2,8 @@ pub mod Fields
 pub mod Stored
 pub mod Standing
 pub mod BitByBit
-pub mod Ranged
 pub mod Extracted
 pub mod Groups
-pub mod Says
-pub mod Back
 pub mod Answers
 pub mod Found
 pub mod Emitted

@@ -1,54 +1,60 @@
 -- What decoding answers: refusals 7, 10 and 11.
 use mathlib.Core.Path.{_≡_}
 use mathlib.Core.Logic.{_≢_}
-use mathlib.Core.Bool.{Bool, true, cond, not, _&&_, _||_}
+use mathlib.Core.Bool.{Bool, not, _&&_, _||_}
 use mathlib.Core.List.{List, [], _∷_, _++_}
-use Prim.Native.Nat.{ℕ, zero, suc, _<_}
+use Prim.Native.Nat.{ℕ, _<_}
 use lib.Dec.{eqb, ltb}
-use lib.ListN.{length, drop, getD}
-use Rattle.refusals.specs.Rows.{imageLength, bufferShort, noRequest, number, Condition, _when_}
+use lib.ListN.{length, drop}
+use Rattle.refusals.specs.Rows.{imageLength, bufferShort, noRequest, Condition, _when_, Test, _if_, lowest, answer}
 use Rattle.request.specs.declared.Request.{Request}
+use Rattle.request.specs.Sections.{longest}
 use Rattle.request.specs.Read.{readOf, pairFor}
+use Rattle.request.specs.Bytes.{asBytes, inFamily}
 use Rattle.plan.specs.Stands.{standsBelow}
 use Rattle.decode.specs.declared.Decoded.{Decoded}
-use Rattle.decode.specs.Ends.{bytesOf, inFamily, Ends}
+use Rattle.decode.specs.Ends.{Ends}
 use Rattle.decode.specs.Extract.{extract}
 
--- the request in a family is acceptable, and stands in the image
+-- the request in a family is acceptable, and stands in the image; and so in one of the two. `ExactlyWhen` ties them to `Ends`.
 unfoldable pub endsIn : Request → ℕ → List ℕ → Bool
 endsIn r family image =
     let q : Request = inFamily family r in
-    eqb (readOf (bytesOf q) .refusal) 0 && eqb (pairFor q .refusal) 0 && standsBelow q image 256
+    eqb (readOf (asBytes q) .refusal) 0 && eqb (pairFor q .refusal) 0 && standsBelow q image 256
 
-unfoldable pub found : List ℕ → Bool
-found image = endsIn (extract image) 0 image || endsIn (extract image) 1 image
+unfoldable pub someEnds : List ℕ → Bool
+someEnds image = endsIn (extract image) 0 image || endsIn (extract image) 1 image
 
-unfoldable pub refusalOf : List ℕ → List ℕ → ℕ
-refusalOf image buffer =
-    cond (not (eqb (length image) 256)) (number imageLength)
-    (cond (ltb (length buffer) 35) (number bufferShort) (cond (found image) 0 (number noRequest)))
-
--- "decoding 7, 10 and 11"
+-- "decoding 7, 10 and 11": when each applies, and how it is tested
 abbrev pub decodeRules : List ℕ → List ℕ → List Condition
 decodeRules image buffer =
     imageLength when (length image ≢ 256) ∷
-    bufferShort when (length buffer < 35) ∷
+    bufferShort when (length buffer < longest) ∷
     noRequest when ((r : Request) → Ends r image → ⊥) ∷ []
 
+abbrev pub decodeTests : List ℕ → List ℕ → List Test
+decodeTests image buffer =
+    imageLength if not (eqb (length image) 256) ∷
+    bufferShort if ltb (length buffer) longest ∷
+    noRequest if not (someEnds image) ∷ []
+
+unfoldable pub decodeRefusal : List ℕ → List ℕ → ℕ
+decodeRefusal image buffer = lowest (decodeTests image buffer)
+
 -- a refusal has its number and count 0
-abbrev pub nothing : ℕ → Decoded
-nothing number = record { refusal = number; count = 0 }
+abbrev pub notDecoded : ℕ → Decoded
+notDecoded number = record { refusal = number; count = 0 }
 
 unfoldable pub decodeOf : List ℕ → List ℕ → Decoded
-decodeOf image buffer =
-    cond (eqb (refusalOf image buffer) 0) (record { refusal = 0; count = length (bytesOf (extract image)) })
-    (nothing (refusalOf image buffer))
+decodeOf image buffer = answer (decodeRefusal image buffer) notDecoded (record { refusal = 0; count = length (asBytes (extract image)) })
 
--- the buffer: the request at its front, and "Buffer bytes after the request stay"
-unfoldable pub bufferOf : List ℕ → List ℕ → List ℕ
-bufferOf image buffer =
-    cond (eqb (refusalOf image buffer) 0) (bytesOf (extract image) ++ drop (length (bytesOf (extract image))) buffer) buffer
+-- the buffer: a request at its front, and "Buffer bytes after the request stay"; a refusal "changes no lent byte"
+abbrev pub inFront : List ℕ → List ℕ → List ℕ
+inFront bytes buffer = bytes ++ drop (length bytes) buffer
+
+unfoldable pub decodedBuffer : List ℕ → List ℕ → List ℕ
+decodedBuffer image buffer = answer (decodeRefusal image buffer) (λ n. buffer) (inFront (asBytes (extract image)) buffer)
 
 -- what decoding promises: its answer, and what it leaves in the lent buffer
 abbrev pub Decodes : List ℕ → List ℕ → Decoded → List ℕ → Type 0
-Decodes image buffer answer left = (answer ≡ decodeOf image buffer) × (left ≡ bufferOf image buffer)
+Decodes image buffer answer left = (answer ≡ decodeOf image buffer) × (left ≡ decodedBuffer image buffer)

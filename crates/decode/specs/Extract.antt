@@ -1,4 +1,4 @@
--- How the code reads a request off an image: each field from one register. The family is answered as 0.
+-- How the code reads a request off an image: each field from one register. `ExactlyWhen` and `AtMostOne` of `Theorems` tie it to document 01.
 use mathlib.Core.Bool.{cond}
 use mathlib.Core.List.{List, [], _∷_}
 use Prim.Native.Nat.{ℕ, _+_, _/_, _%_, _^_}
@@ -12,8 +12,8 @@ use Rattle.request.specs.declared.Sound.{Sound}
 use Rattle.request.specs.declared.Sound.the-variants.{Off, On}
 use Rattle.request.specs.declared.Request.{Request}
 
-abbrev pub at : List ℕ → ℕ → ℕ
-at image a = getD image a 0
+abbrev pub byteIn : List ℕ → ℕ → ℕ
+byteIn image a = getD image a 0
 
 -- the rate of a code, 0 to 6; 7 for a code that is none
 abbrev pub rateOf : ℕ → ℕ
@@ -22,22 +22,22 @@ rateOf code = getD (1 ∷ 7 ∷ 2 ∷ 0 ∷ 7 ∷ 7 ∷ 7 ∷ 7 ∷ 3 ∷ 7 ∷ 
 -- sound is on where its sample packets are; the channels are one more than CC
 abbrev pub soundIn : List ℕ → Sound
 soundIn image =
-    cond (eqb (at image reg.packetEnable1 / reg.audioSamplePacketEnableMask % 2) 0) Off
-    (On (rateOf (at image reg.i2sFreqIdCfg / 2 ^ reg.i2sSamplingFrequencyShift % 16)) (at image reg.audioInfoframeByte1 % 8 + 1)
-    (at image reg.audioSource / reg.ctsSelectMask % 2))
+    cond (eqb (byteIn image reg.packetEnable1 / reg.audioSamplePacketEnableMask % 2) 0) Off
+    (On (rateOf (byteIn image reg.i2sFreqIdCfg / 2 ^ reg.i2sSamplingFrequencyShift % 16)) (byteIn image reg.audioInfoframeByte1 % 8 + 1)
+    (byteIn image reg.audioSource / reg.ctsSelectMask % 2))
 
 abbrev pub matrixIn : List ℕ → Matrix
 matrixIn image =
-    cond (eqb (at image reg.csc / reg.cscEnableMask % 2) 0) noMatrix
-    (record { on = 1; mode = at image reg.csc / 2 ^ reg.cscScalingFactorShift % 4; coefficients = fields (take reg.cscCount (drop reg.csc image)) })
+    cond (eqb (byteIn image reg.csc / reg.cscEnableMask % 2) 0) noMatrix
+    (record { on = 1; mode = byteIn image reg.csc / 2 ^ reg.cscScalingFactorShift % 4; coefficients = fields (take reg.cscCount (drop reg.csc image)) })
 
 abbrev pub videoNamed : List ℕ → Video
 videoNamed image =
     record {
-      vic = at image reg.vicManual % 64;
+      vic = byteIn image reg.vicManual % 64;
       family = 0;
-      encoding = at image reg.aviInfoframeByte1 / 2 ^ reg.y1y0Shift % 4;
-      link = at image reg.hdcpHdmiCfg / reg.hdmiDviModeSelectMask % 2;
+      encoding = byteIn image reg.aviInfoframeByte1 / 2 ^ reg.y1y0Shift % 4;
+      link = byteIn image reg.hdcpHdmiCfg / reg.hdmiDviModeSelectMask % 2;
     }
 
 unfoldable pub extract : List ℕ → Request

@@ -2,36 +2,38 @@
 use mathlib.Core.Path.{_≡_}
 use mathlib.Core.Logic.{_↔_, _≢_, _⊎_}
 use mathlib.Core.Bool.{true}
-use mathlib.Core.List.{List, _++_}
+use mathlib.Core.List.{List}
 use Prim.Native.Nat.{ℕ, _<_, _≤_}
-use lib.ListN.{length, getD, set, drop}
+use lib.ListN.{length, getD}
 use Rattle.refusals.specs.Rows.{Given}
 use Rattle.bits.specs.Merge.{bit}
 use Rattle.registers.specs.Classes.{named, mandated}
 use Rattle.matrix.specs.Matrix.{Bytes}
 use Rattle.request.specs.declared.Request.{Request}
+use Rattle.request.specs.Sections.{longest}
 use Rattle.request.specs.Read.{readOf, pairFor}
+use Rattle.request.specs.Bytes.{asBytes, answeredAs, answeredBytes}
 use Rattle.plan.specs.Wanted.{wanted}
 use Rattle.writes.specs.List.{isWritten, finished}
-use Rattle.decode.specs.Ends.{bytesOf, inFamily, Stands, Ends}
-use Rattle.decode.specs.Decode.{decodeRules, decodeOf, bufferOf}
+use Rattle.decode.specs.Ends.{Stands, Ends}
+use Rattle.decode.specs.Decode.{decodeRules, decodeOf, inFront, decodedBuffer}
 
 -- a request, by its bytes, is answered: their count, and the bytes at the buffer's front; "Buffer bytes after the request stay"
 pub record Answered (bytes image buffer : List ℕ) : Type 0 where
   pub counted : decodeOf image buffer ≡ record { refusal = 0; count = length bytes }
-  pub left : bufferOf image buffer ≡ bytes ++ drop (length bytes) buffer
+  pub left : decodedBuffer image buffer ≡ inFront bytes buffer
 
 pub record Answer (image buffer : List ℕ) : Type 0 where
   pub request : Request
   pub ends : Ends request image
-  pub answered : Answered (bytesOf request) image buffer
+  pub answered : Answered (asBytes request) image buffer
 
 -- "Decoding answers a request exactly when .."
 pub record ExactlyWhen (image buffer : List ℕ) : Type 0 where
   -- what is answered is a request that ends in the image
   pub only : decodeOf image buffer .refusal ≡ 0 → Answer image buffer
   -- a request that ends in the image is answered
-  pub each : length image ≡ 256 → 35 ≤ length buffer → (r : Request) → Ends r image → Answered (bytesOf r) image buffer
+  pub each : length image ≡ 256 → longest ≤ length buffer → (r : Request) → Ends r image → Answered (asBytes r) image buffer
 
 -- the bits that count: "named and mandated"; "free and read-only bits do not count"
 abbrev pub Counts : ℕ → ℕ → Type 0
@@ -53,7 +55,7 @@ AtMostOne image = length image ≡ 256 → (r q : Request) → Ends r image → 
 -- "decoding 7, 10 and 11": "the lowest that applies is given"; it "returns its number and count 0 and changes no lent byte"
 pub record Refusals (image buffer : List ℕ) : Type 0 where
   pub given : Given (decodeRules image buffer) (decodeOf image buffer .refusal)
-  pub unchanged : decodeOf image buffer .refusal ≢ 0 → (decodeOf image buffer .count ≡ 0) × (bufferOf image buffer ≡ buffer)
+  pub unchanged : decodeOf image buffer .refusal ≢ 0 → (decodeOf image buffer .count ≡ 0) × (decodedBuffer image buffer ≡ buffer)
 
 -- an accepted input, and an image as its list leaves it: each of the 256 registers is `finished`
 pub record Ran (input before image : List ℕ) : Type 0 where
@@ -63,7 +65,7 @@ pub record Ran (input before image : List ℕ) : Type 0 where
   pub sized : length image ≡ 256
   pub registers : (a : ℕ) → a < 256 → getD image a 0 ≡ finished (wanted (readOf input .request)) before a
 
--- "the finished image reads back as the same request, but for the frame-rate family, which no register names": the input, its family byte 0
+-- "the finished image reads back as the same request, but for the frame-rate family, which no register names"
 pub record ReadBack (input before image : List ℕ) : Type 0 where
-  pub ends : Ran input before image → Ends (inFamily 0 (readOf input .request)) image
-  pub answered : Ran input before image → (buffer : List ℕ) → 35 ≤ length buffer → Answered (set input 2 0) image buffer
+  pub ends : Ran input before image → Ends (answeredAs (readOf input .request)) image
+  pub answered : Ran input before image → (buffer : List ℕ) → longest ≤ length buffer → Answered (answeredBytes input) image buffer

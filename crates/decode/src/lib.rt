@@ -1,21 +1,26 @@
 // Decoding: from a finished image back to the request. Document 01, "Register classes", last paragraph.
 ghost use mathlib.Core.Path.{_≡_};
 ghost use mathlib.Core.Bool.{_||_};
-ghost use mathlib.Core.List.{List, _++_};
-ghost use Prim.Native.Nat.{ℕ, _+_, _<_, _≤_};
-ghost use lib.ListN.{getD, length, take, drop, set};
+ghost use mathlib.Core.List.{List, _∷_};
+ghost use Prim.Native.Nat.{ℕ, suc, _+_, _<_, _≤_};
+ghost use lib.ListN.{getD, length};
 ghost use lib.Seq.{sets};
+ghost use Rattle.matrix.specs.Coefficient.{coefficientBytes};
 ghost use Rattle.request.specs.declared.Request.{Request};
+ghost use Rattle.request.specs.Sections.{audioCount, matrixCount, longest};
+ghost use Rattle.request.specs.Bytes.{audioBody, matrixBody, asBytes, inFamily};
 ghost use Rattle.plan.specs.Stands.{standsIn};
-ghost use Rattle.decode.specs.Ends.{matrixSection, bytesOf};
 ghost use Rattle.decode.specs.Extract.{rateOf, soundIn, matrixIn, extract};
-ghost use Rattle.decode.specs.Decode.{nothing, Decodes};
+ghost use Rattle.decode.specs.Decode.{inFront, notDecoded, Decodes};
 ghost use Rattle.decode.specs.Theorems.{ExactlyWhen, BitByBit, AtMostOne, Refusals, ReadBack};
 use map::Map;
 use matrix::Matrix;
 use refusals::Refusal;
 use request::Request;
 use request::Sound;
+use request::sections::AUDIO_COUNT;
+use request::sections::LONGEST;
+use request::sections::MATRIX_COUNT;
 use video::Video;
 
 // The number of a refusal, 0 for none, and the count of bytes of the request.
@@ -87,105 +92,128 @@ fn extract(image: &[u8]) -> Request
     }
 }
 
-// The bytes of a request, at the front of 35.
-struct Bytes {
-    bytes: [u8; 35],
-    count: usize,
-}
-
-// The matrix section, from a place on.
-fn with_matrix(out: [u8; 35], place: usize, m: Matrix) -> Bytes
-    requires { ⌜ (place ≤ 9) × ((i : ℕ) → getD (m .coefficients) i 0 < 8192) ⌝ }
-    ensures { λ r. ⌜ (r .count ≡ place + length (matrixSection m)) × (r .bytes ≡ sets out place (matrixSection m)) ⌝ }
+// A section from a place of the buffer on, its count and its body, and the place after it.
+fn section(buffer: &mut [u8], place: usize, body: &[u8]) -> usize
+    requires { ⌜ (length (now body) < 256) × (place + suc (length (now body)) ≤ length (now buffer)) ⌝ }
+    ensures { λ r. ⌜ r ≡ place + suc (length (now (body .entry))) ⌝ }
+    ensures { λ _. ⌜ now (buffer .exit) ≡ sets (now (buffer .entry)) place (length (now (body .entry)) ∷ now (body .entry)) ⌝ }
 {
-    let mut next = out;
-    if m.on == 0 {
-        next[place] = 0;
-        return Bytes {
-            bytes: next,
-            count: place + 1,
-        };
-    }
-    let fields = m.coefficients;
-    next[place] = 25;
-    next[place + 1] = m.mode;
+    buffer[place] = body.len() as u8;
+    let start = place + 1;
     let mut i: usize = 0;
-    while i < 12 {
-        next[place + 2 + 2 * i] = matrix::high_byte(fields[i]);
-        next[place + 3 + 2 * i] = (fields[i] % 256) as u8;
+    while i < body.len() {
+        buffer[start + i] = body[i];
         i = i + 1;
     }
-    Bytes {
-        bytes: next,
-        count: place + 26,
-    }
+    start + i
 }
 
-// The bytes of a request.
-fn bytes_of(q: Request) -> Bytes
-    requires { ⌜ ((i : ℕ) → getD (q .matrix .coefficients) i 0 < 8192) ⌝ }
-    ensures { λ r. ⌜ (r .count ≡ length (bytesOf q)) × (take (r .count) (r .bytes) ≡ bytesOf q) ⌝ }
+fn audio_section(buffer: &mut [u8], place: usize, sound: Sound) -> usize
+    requires { ⌜ place + suc audioCount ≤ length (now buffer) ⌝ }
+    ensures { λ r. ⌜ r ≡ place + suc (length (audioBody sound)) ⌝ }
+    ensures { λ _. ⌜ now (buffer .exit) ≡ sets (now (buffer .entry)) place (length (audioBody sound) ∷ audioBody sound) ⌝ }
 {
-    let sound = q.sound;
-    let matrix = q.matrix;
-    let mut out = [0u8; 35];
-    out[0] = 4;
-    out[1] = q.video.vic;
-    out[2] = q.video.family;
-    out[3] = q.video.encoding;
-    out[4] = q.video.link;
     match sound {
-        Sound::Off => with_matrix(out, 6, matrix),
+        Sound::Off => {
+            let body = [0u8; AUDIO_COUNT as usize];
+            section(buffer, place, &body[..0])
+        }
         Sound::On {
             rate,
             channels,
             coherent,
         } => {
-            out[5] = 3;
-            out[6] = rate;
-            out[7] = channels;
-            out[8] = coherent;
-            with_matrix(out, 9, matrix)
+            let body = [rate, channels, coherent];
+            section(buffer, place, &body)
         }
     }
 }
 
-// Whether the request of these bytes, in a family, is accepted on some image and stands in this one.
-fn ends_in(bytes: [u8; 35], count: usize, family: u8, image: &[u8]) -> bool
-    requires { ⌜ count ≤ 35 ⌝ }
-    ensures { λ r. ⌜ r ≡ standsIn (take count (set bytes 2 family)) (now (image .entry)) ⌝ }
+// The body of the section of a matrix that is on.
+fn matrix_body(m: Matrix) -> [u8; MATRIX_COUNT as usize]
+    requires { ⌜ ((i : ℕ) → getD (m .coefficients) i 0 < 8192) ⌝ }
+    ensures { λ r. ⌜ r ≡ m .mode ∷ coefficientBytes (m .coefficients) ⌝ }
 {
-    let mut input = bytes;
-    input[2] = family;
-    plan::stands(&input[0..count], image)
+    let fields = m.coefficients;
+    let mut out = [0u8; MATRIX_COUNT as usize];
+    out[0] = m.mode;
+    let mut i: usize = 0;
+    while i < 12 {
+        out[1 + 2 * i] = matrix::high_byte(fields[i]);
+        out[2 + 2 * i] = (fields[i] % 256) as u8;
+        i = i + 1;
+    }
+    out
+}
+
+fn matrix_section(buffer: &mut [u8], place: usize, m: Matrix) -> usize
+    requires { ⌜ (place + suc matrixCount ≤ length (now buffer)) × ((i : ℕ) → getD (m .coefficients) i 0 < 8192) ⌝ }
+    ensures { λ r. ⌜ r ≡ place + suc (length (matrixBody m)) ⌝ }
+    ensures { λ _. ⌜ now (buffer .exit) ≡ sets (now (buffer .entry)) place (length (matrixBody m) ∷ matrixBody m) ⌝ }
+{
+    let body = matrix_body(m);
+    if m.on == 0 {
+        return section(buffer, place, &body[..0]);
+    }
+    section(buffer, place, &body)
+}
+
+// The bytes of a request at the front of the buffer, a line for each section, and their count.
+fn emit(q: Request, buffer: &mut [u8]) -> usize
+    requires { ⌜ (longest ≤ length (now buffer)) × ((i : ℕ) → getD (q .matrix .coefficients) i 0 < 8192) ⌝ }
+    ensures { λ r. ⌜ (r ≡ length (asBytes q)) × (r ≤ longest) ⌝ }
+    ensures { λ _. ⌜ now (buffer .exit) ≡ inFront (asBytes q) (now (buffer .entry)) ⌝ }
+{
+    let video = video::video_body(q.video);
+    let sound = q.sound;
+    let matrix = q.matrix;
+    let after_video = section(buffer, 0, &video);
+    let after_audio = audio_section(buffer, after_video, sound);
+    matrix_section(buffer, after_audio, matrix)
+}
+
+// The request in a family.
+fn in_family(q: Request, family: u8) -> Request
+    ensures { λ r. ⌜ r ≡ inFamily family q ⌝ }
+{
+    let sound = q.sound;
+    let matrix = q.matrix;
+    Request {
+        video: Video {
+            vic: q.video.vic,
+            family: family,
+            encoding: q.video.encoding,
+            link: q.video.link,
+        },
+        sound: sound,
+        matrix: matrix,
+    }
+}
+
+// Whether the request in a family is accepted on some image and stands in this one.
+fn ends_in(q: Request, family: u8, image: &[u8]) -> bool
+    requires { ⌜ ((i : ℕ) → getD (q .matrix .coefficients) i 0 < 8192) ⌝ }
+    ensures { λ r. ⌜ r ≡ standsIn (asBytes (inFamily family q)) (now (image .entry)) ⌝ }
+{
+    let mut bytes = [0u8; LONGEST];
+    let count = emit(in_family(q, family), &mut bytes);
+    plan::stands(&bytes[..count], image)
 }
 
 // In one of its families.
-fn ends(bytes: [u8; 35], count: usize, image: &[u8]) -> bool
-    requires { ⌜ count ≤ 35 ⌝ }
-    ensures { λ r. ⌜ r ≡ (standsIn (take count (set bytes 2 0)) (now (image .entry)) || standsIn (take count (set bytes 2 1)) (now (image .entry))) ⌝ }
+fn ends(q: Request, image: &[u8]) -> bool
+    requires { ⌜ ((i : ℕ) → getD (q .matrix .coefficients) i 0 < 8192) ⌝ }
+    ensures { λ r. ⌜ r ≡ (standsIn (asBytes (inFamily 0 q)) (now (image .entry)) || standsIn (asBytes (inFamily 1 q)) (now (image .entry))) ⌝ }
 {
-    if ends_in(bytes, count, 0, image) {
+    if ends_in(q, 0, image) {
         return true;
     }
-    ends_in(bytes, count, 1, image)
-}
-
-// Bytes at the front of a buffer; those after them stay.
-fn put(bytes: [u8; 35], count: usize, buffer: &mut [u8])
-    requires { ⌜ (count ≤ 35) × (35 ≤ length (now buffer)) ⌝ }
-    ensures { λ _. ⌜ now (buffer .exit) ≡ take count bytes ++ drop count (now (buffer .entry)) ⌝ }
-{
-    let mut i: usize = 0;
-    while i < count {
-        buffer[i] = bytes[i];
-        i = i + 1;
-    }
+    ends_in(q, 1, image)
 }
 
 // A refusal: its number, and no byte.
 fn refused(number: u8) -> Decoded
-    ensures { λ r. ⌜ r ≡ nothing number ⌝ }
+    ensures { λ r. ⌜ r ≡ notDecoded number ⌝ }
 {
     Decoded {
         refusal: number,
@@ -200,17 +228,14 @@ pub fn decode(image: &[u8], buffer: &mut [u8]) -> Decoded
     if image.len() != 256 {
         return refused(Refusal::IMAGE_LENGTH);
     }
-    if buffer.len() < 35 {
+    if buffer.len() < LONGEST {
         return refused(Refusal::BUFFER_SHORT);
     }
     let q = extract(image);
-    let said = bytes_of(q);
-    let bytes = said.bytes;
-    let count = said.count;
-    if !ends(bytes, count, image) {
+    if !ends(q, image) {
         return refused(Refusal::NO_REQUEST);
     }
-    put(bytes, count, buffer);
+    let count = emit(q, buffer);
     Decoded {
         refusal: Refusal::NONE,
         count: count as u32,

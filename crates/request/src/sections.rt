@@ -16,6 +16,19 @@ pub const AUDIO: usize = 1;
 
 pub const MATRIX: usize = 2;
 
+// The count of each section where it is not empty.
+pub const VIDEO_COUNT: u8 = 4;
+
+pub const AUDIO_COUNT: u8 = 3;
+
+pub const MATRIX_COUNT: u8 = 25;
+
+// "the longest request, 35": of each section its count, and a body of its largest count.
+pub const LONGEST: usize = SECTIONS
+    + VIDEO_COUNT as usize
+    + AUDIO_COUNT as usize
+    + MATRIX_COUNT as usize;
+
 // Where the body of each section ends in the input, or the number of a refusal with zeros beside it. A body starts after its count, which
 // stands where the body before it ends.
 pub struct Places {
@@ -28,13 +41,13 @@ pub fn allows(k: usize, count: u8) -> bool
     ensures { λ r. ⌜ r ≡ among count (getD sections k []) ⌝ }
 {
     if k == VIDEO {
-        return count == 4;
+        return count == VIDEO_COUNT;
     }
     if k == AUDIO {
-        return (count == 0) | (count == 3);
+        return (count == 0) | (count == AUDIO_COUNT);
     }
     if k == MATRIX {
-        return (count == 0) | (count == 25);
+        return (count == 0) | (count == MATRIX_COUNT);
     }
     false
 }

@@ -17,10 +17,4 @@ returns-2 : tie.Need-returns-2
 returns-2 c = rw (sym (c .before .before .ends-in .ensures) ∙ c .before .if1 .left) (c .ends-in2 .ensures)
 
 pub ends-spec : {M : Type 1} → statement M
-ends-spec =
-    tie.close
-    (tie.spec
-    ends-in-requires
-    returns
-    ends-in-requires-2
-    returns-2)
+ends-spec = tie.close (tie.spec ends-in-requires returns ends-in-requires-2 returns-2)

@@ -1,41 +1,46 @@
 -- `decode::ends_in` meets its contract. Assumes nothing.
+use lib.Dec.{lit≤}
+use Rattle.decode.proofs.Emitted.{front-room, front-sized, front-taken}
 use mathlib.Core.Path.{ap, _∙_}
+use mathlib.Core.List.{List}
 use Prim.Native.Nat.{ℕ}
-use native.Mathlib.Nat.{sub-zero}
-use native.Mathlib.Omega.{arith}
-use lib.ListN.{take, set, length-set}
-use borrow.Author.Needs.{needs}
+use Rattle.request.specs.Bytes.{asBytes}
 use Rattle.plan.specs.Stands.{standsIn}
+use borrow.Author.Needs.{needs}
 use Rattle.decode.proofs.ends_in.Statement.{statement}
 use Rattle.decode.proofs.ends_in.Tie as tie
 
-array-write-input : tie.Need-array-write-input
-array-write-input c = search needs
+in-family-requires : tie.Need-in-family-requires
+in-family-requires c κs = search needs
 
-sub-stands : tie.Need-sub-stands
-sub-stands c = search needs
+slice-aggregate-emit : tie.Need-slice-aggregate-emit
+slice-aggregate-emit c = search needs
 
-part-stands-start : tie.Need-part-stands-start
-part-stands-start c = search needs
+emit-requires : tie.Need-emit-requires
+emit-requires c κs = (lit≤ tt, rw (c .before .in-family .ensures) (c .before .before .before .pre))
 
-part-stands-end : tie.Need-part-stands-end
-part-stands-end c = simp length-set (omega arith)
+array-share-prefix-bytes : tie.Need-array-share-prefix-bytes
+array-share-prefix-bytes c = let e = c .before .emit .ensures in front-room (asBytes (c .before .before .before .in-family .result)) _ (e .0 .0) (e .1)
+
+slice-aggregate-stands : tie.Need-slice-aggregate-stands
+slice-aggregate-stands c = let e = c .before .before .emit .ensures in front-sized (asBytes (c .before .before .before .before .in-family .result)) _ (e .0 .0) (e .1)
 
 stands-requires : tie.Need-stands-requires
 stands-requires c κs = search needs
 
 returns : tie.Need-returns
 returns c =
-    let a = c .before .before .before .before .args in
-    c .stands .ensures ∙ ap (λ (n : ℕ). standsIn (take n (set (a .bytes) 2 (a .family))) (a .image .now)) (sub-zero (a .count))
+    let e = c .before .before .before .emit .ensures in
+    c .stands .ensures ∙ ap (λ (l : List ℕ). standsIn l (c .before .before .before .before .before .before .before .args .image .now)) (front-taken _ _ (e .0 .0) (e .1) ∙ ap asBytes (c .before .before .before .before .before .in-family .ensures))
 
 pub ends-in-spec : {M : Type 1} → statement M
 ends-in-spec =
     tie.close
     (tie.spec
-    array-write-input
-    sub-stands
-    part-stands-start
-    part-stands-end
+    in-family-requires
+    slice-aggregate-emit
+    emit-requires
+    array-share-prefix-bytes
+    slice-aggregate-stands
     stands-requires
     returns)
