@@ -13,6 +13,8 @@ use Rattle.chip.specs.Machine.{Write}
 use Rattle.request.specs.declared.Request.{Request}
 use Rattle.request.specs.declared.Checked.{Checked}
 use Rattle.request.specs.Read.{readOf, pairFor}
+use Rattle.request.specs.Bytes.{asBytes}
+use Rattle.request.proofs.Ranged.{Ranged, read-ranged}
 use Rattle.plan.specs.Wanted.{wanted}
 use Rattle.plan.specs.declared.Planned.{Planned}
 use Rattle.writes.specs.List.{finishedImage, ready}
@@ -23,9 +25,8 @@ use Rattle.cut.specs.Demand.{toItsEnd, cuts, Demand3}
 use Rattle.cut.proofs.WriteList.{holds}
 use Rattle.writes.proofs.InOrder.{in-order}
 use Rattle.writes.proofs.Carries.{entries}
-use Rattle.decode.specs.Ends.{bytesOf, Acceptable, Stands}
+use Rattle.decode.specs.Ends.{Acceptable, Stands}
 use Rattle.decode.specs.Theorems.{Ran}
-use Rattle.decode.proofs.Ranged.{Ranged, read-ranged}
 use Rattle.decode.proofs.Groups.{avi-in, audio-in, matrix-in}
 use Rattle.decode.proofs.Answers.{finished-again, read-back}
 use Rattle.promises.specs.Rules.{asked, Listed, Demand2, Accepted, OnSomeImage}
@@ -152,13 +153,13 @@ on-some-image r = (there, back)
   where
     there : Acceptable r → Accepted r
     there a =
-        let says : readOf (bytesOf r) .request ≡ r = ap (λ (c : Checked). c .request) (a .read) in
+        let says : readOf (asBytes r) .request ≡ r = ap (λ (c : Checked). c .request) (a .read) in
         let z : List ℕ = replicate 256 0 in
         record {
           image = z;
           buffer = z;
           says = says;
-          accepted = answer (bytesOf r) z z (accepted (bytesOf r) z z (record {
+          accepted = answer (asBytes r) z z (accepted (asBytes r) z z (record {
             read = ap (λ (c : Checked). c .refusal) (a .read);
             whole = refl;
             clear = refl;
@@ -172,7 +173,7 @@ on-some-image r = (there, back)
 
     back : Accepted r → Acceptable r
     back b =
-        let f = fine (bytesOf r) (b .image) (b .buffer) (answered (bytesOf r) (b .image) (b .buffer) (b .accepted)) in
+        let f = fine (asBytes r) (b .image) (b .buffer) (answered (asBytes r) (b .image) (b .buffer) (b .accepted)) in
         record {
           read = ap₂ the (f .read) (b .says);
           paired = ap (λ (q : Request). pairFor q .refusal) (sym (b .says)) ∙ eqb-true _ _ (f .paired);

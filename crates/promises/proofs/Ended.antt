@@ -16,13 +16,14 @@ use Rattle.matrix.specs.Matrix.{noMatrix}
 use Rattle.request.specs.declared.Sound.{Sound}
 use Rattle.request.specs.declared.Sound.the-variants.{Off, On}
 use Rattle.request.specs.declared.Request.{Request}
+use Rattle.request.specs.Bytes.{Filled}
+use Rattle.request.proofs.Ranged.{Ranged}
 use Rattle.chip.specs.Machine.{Group, avi, audio, registersOf}
 use Rattle.writes.specs.List.{decided, isWritten}
 use Rattle.plan.specs.Wanted.{wanted}
 use Rattle.decode.specs.Ends.{Stands}
 use Rattle.decode.proofs.Stored.{stored, wants}
 use Rattle.decode.proofs.Standing.{reads}
-use Rattle.decode.proofs.Ranged.{Filled, Ranged}
 use Rattle.promises.specs.AnyCut.{Headed}
 
 module _ (r : Request) where

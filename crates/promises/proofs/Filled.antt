@@ -25,6 +25,7 @@ use Rattle.request.specs.declared.Request.{Request}
 use Rattle.request.specs.Sections.{walked, bodyOf}
 use Rattle.request.specs.Read.{readOf, pairIn, pairFor, nctsOf}
 use Rattle.request.proofs.Ordered.{passed}
+use Rattle.request.proofs.Ranged.{read-ranged}
 use Rattle.bits.specs.Merge.{merge, under, bit}
 use Rattle.registers.specs.Classes.{classAt}
 use Rattle.chip.specs.Machine.{Write, _gets_}
@@ -34,7 +35,6 @@ use Rattle.writes.proofs.Carries.{masked, entries}
 use Rattle.writes.proofs.Image.{image-at}
 use Rattle.plan.specs.Wanted.{wanted, SoundFits, Fits}
 use Rattle.plan.proofs.Accepted.{fits}
-use Rattle.decode.proofs.Ranged.{read-ranged}
 use Rattle.promises.specs.Finished.{Place, place, bitsOf, NeverThree, inM, inC, places, Shows, Each, Finished, Paired}
 use Rattle.promises.proofs.Bits.{same-bits}
 use Rattle.promises.proofs.Named.{field, ordered}

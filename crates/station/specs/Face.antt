@@ -30,7 +30,7 @@ abbrev pub StationPlan : List ℕ → List ℕ → List ℕ → CountOut → Lis
 StationPlan request image writes out left = (out ≡ countOut (planOf request image writes)) × (left ≡ bufferOf request image writes)
 
 abbrev pub StationDecode : List ℕ → List ℕ → CountOut → List ℕ → Type 0
-StationDecode image request out left = (out ≡ requestOut (decoding.decodeOf image request)) × (left ≡ decoding.bufferOf image request)
+StationDecode image request out left = (out ≡ requestOut (decoding.decodeOf image request)) × (left ≡ decoding.decodedBuffer image request)
 
 abbrev pub StationNcts : List ℕ → PairOut → Type 0
 StationNcts request out = out ≡ pairOut (nctsOf request)
