@@ -1,4 +1,5 @@
--- Document 01, "The chip machine": its groups and their holds, one write, and what is in use.
+-- Document 01, "The chip machine": its groups and their holds, one write, and what is in use. What a write is made of (`filled`,
+-- `bufferAfter`, `put`, `stored`, `two`, `refuses`, `writeOf`) follows the code; `Step` says of it, bit by bit, what document 01 does.
 use mathlib.Core.Path.{_≡_}
 use mathlib.Core.Bool.{Bool, cond, not, _&&_, _||_}
 use mathlib.Core.List.{List, [], _∷_, _++_}
@@ -27,8 +28,8 @@ pub record Buffer : Type 0 where
   pub groups : List Group
   pub bytes : Chip → List ℕ
 
--- "Packet holds: 0x4A[6] AVI, [5] audio, [4] GC"; "A packet's registers run from its version to its last data byte, reserved ones included: 16
--- for AVI, 13 for audio"; "GC's is 0x4B alone"
+-- "Packet holds: 0x4A[6] AVI, [5] audio, [4] GC"; "A packet's registers run from its version to its last data byte, reserved ones included:
+-- 16 for AVI, 13 for audio"; "GC's is 0x4B alone"
 abbrev pub avi : Group
 avi = record { hold = 6; first = aviInfoframeVersion; count = aviInfoframeCount }
 
@@ -60,21 +61,25 @@ up g holds = eqb (bit (g .hold) holds) 1
 abbrev pub registersOf : Group → List ℕ → List ℕ
 registersOf g image = take (g .count) (drop (g .first) image)
 
--- "A hold going 0 to 1 copies that packet's registers, as they stood before the write, to the packet buffer" ("a packet fills its front, the
--- rest stays"): a buffer's bytes as the holds go from one byte to another
+-- "A hold going 0 to 1 copies that packet's registers, as they stood before the write, to the packet buffer" ("a packet fills its front,
+-- the rest stays"): a buffer's bytes as the holds go from one byte to another
 abbrev pub filled : List Group → ℕ → ℕ → List ℕ → List ℕ → List ℕ
 filled [] old new image bytes = bytes
 filled (g ∷ gs) old new image bytes =
     cond (up g new && not (up g old)) (registersOf g image ++ drop (g .count) bytes) (filled gs old new image bytes)
 
+-- a buffer's bytes after a byte is stored at an address
 abbrev pub bufferAfter : Buffer → ℕ → ℕ → Chip → List ℕ
 bufferAfter b address byte s =
     cond (eqb address (b .register)) (filled (b .groups) (holdsOf b (s .image)) byte (s .image) (b .bytes s)) (b .bytes s)
 
 -- a byte stored as it is
 unfoldable pub put : ℕ → ℕ → Chip → Chip
-put address byte s =
-    record { image = set (s .image) address byte; packet = bufferAfter packets address byte s; coefficients = bufferAfter converter address byte s }
+put address byte s = record {
+  image = set (s .image) address byte;
+  packet = bufferAfter packets address byte s;
+  coefficients = bufferAfter converter address byte s;
+}
 
 -- "Read-only bits never change"
 unfoldable pub stored : ℕ → ℕ → List ℕ → ℕ

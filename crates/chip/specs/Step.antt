@@ -11,7 +11,8 @@ use Rattle.refusals.specs.Rows.{twoHolds, Condition, _when_, Given}
 use Rattle.registers.specs.Classes.{readOnly}
 use Rattle.chip.specs.declared.Chip.{Chip}
 use Rattle.chip.specs.declared.Wrote.{Wrote}
-use Rattle.chip.specs.Machine.{Group, Buffer, avi, audio, gc, matrix, packets, converter, up, registersOf, holdsOf, imageAfter, refuses, writeOf}
+use Rattle.chip.specs.Machine.{Group, Buffer, avi, audio, gc, matrix, packets, converter, up, registersOf, holdsOf}
+use Rattle.chip.specs.Machine.{imageAfter, refuses, writeOf}
 
 -- "(machine) two packet holds are up, or the write would leave two up"
 abbrev pub TwoUp : List ℕ → Type 0

@@ -12,13 +12,15 @@ use Rattle.chip.specs.Machine.{coefficients, modeInUse}
 use Rattle.views.specs.declared.converter.Count.{Count}
 use Rattle.views.specs.Entry.{lentAs}
 
--- mode and the twelve in use, 25 bytes as the request has them. The packet buffer is not lent, and plays no part. `Faces` ties them to the machine.
+-- mode and the twelve in use, 25 bytes as the request has them. The packet buffer is not lent, and plays no part. `Faces` ties them to
+-- the machine.
 unfoldable pub matrixBytes : List ℕ → List ℕ → List ℕ
 matrixBytes image buffer = modeInUse (lentAs image [] buffer) ∷ coefficientBytes (coefficients (lentAs image [] buffer))
 
 -- the tests of rows 7 and 10; `MatrixRefusals` ties them to document 01's rows
 abbrev pub matrixTests : List ℕ → List ℕ → List ℕ → List Test
-matrixTests image buffer out = imageLength if not (eqb (length image) 256 && eqb (length buffer) 24) ∷ bufferShort if ltb (length out) 25 ∷ []
+matrixTests image buffer out =
+    imageLength if not (eqb (length image) 256 && eqb (length buffer) 24) ∷ bufferShort if ltb (length out) 25 ∷ []
 
 unfoldable pub matrixRefusal : List ℕ → List ℕ → List ℕ → ℕ
 matrixRefusal image buffer out = lowest (matrixTests image buffer out)

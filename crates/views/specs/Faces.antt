@@ -32,7 +32,8 @@ pub record Faces (s : Chip) : Type 0 where
       → matrixOut (s .image) (s .coefficients) out ≡ (modeInUse s ∷ coefficientBytes (coefficients s)) ++ drop 25 out
   pub twelve : fields (coefficientBytes (coefficients s)) ≡ coefficients s
 
--- a write over slices of these lengths is the machine's own, and keeps them; where it is taken, the calls answer what the machine then has in use
+-- a write over slices of these lengths is the machine's own, and keeps them; where it is taken, the calls answer what the machine then has
+-- in use
 pub record Entered (s : Chip) (address value : ℕ) : Type 0 where
   pub same : enterOf s address value ≡ writeOf s address value
   pub sized : Sized (enterOf s address value .chip)

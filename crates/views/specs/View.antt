@@ -19,7 +19,8 @@ packetAt which = cond (eqb which 0) avi audio
 
 -- the tests of rows 7 and 13, and before them row 5 where a packet is asked for; `ViewRefusals` ties them to document 01's rows
 abbrev pub lentTests : List ℕ → List ℕ → List Test
-lentTests image packet = imageLength if not (eqb (length image) 256 && eqb (length packet) 32) ∷ twoHolds if two (holdsOf packets image) ∷ []
+lentTests image packet =
+    imageLength if not (eqb (length image) 256 && eqb (length packet) 32) ∷ twoHolds if two (holdsOf packets image) ∷ []
 
 unfoldable pub lentRefusal : List ℕ → List ℕ → ℕ
 lentRefusal image packet = lowest (lentTests image packet)
@@ -63,7 +64,8 @@ noMute number = record { refusal = number; mute = 0 }
 unfoldable pub muteOf : List ℕ → List ℕ → Mute
 muteOf image packet = answer (lentRefusal image packet) noMute (record { refusal = 0; mute = mute (lentAs image packet []) })
 
--- what each call promises: the part, its bytes and where it starts; the same in numbers; its refusal; the mute. `Faces` ties them to the machine.
+-- what each call promises: the part, its bytes and where it starts; the same in numbers; its refusal; the mute. `Faces` ties them to the
+-- machine.
 abbrev pub Sends : List ℕ → List ℕ → ℕ → ℕ × ℕ → ℕ × ℕ → List ℕ → ℕ × ℕ → Type 0
 Sends image packet which imageStart packetStart bytes start =
     (bytes ≡ sentOf image packet which) × (start ≡ startIn (sentPart image packet which) imageStart packetStart)
