@@ -1,16 +1,16 @@
 -- The rows of planning, tested in order: those of the request by its own theorem, and then rows 7 to 10. Assumes nothing.
 use mathlib.Core.Path.{_≡_, refl, sym, _∙_, subst}
 use mathlib.Core.Logic.{inl, inr, _≢_}
-use mathlib.Core.Bool.{Bool, true, false, not, _&&_, _||_}
+use mathlib.Core.Bool.{Bool, true, false, cond, not, _&&_, _||_}
 use mathlib.Core.List.{List, [], _∷_}
 use Prim.Native.Nat.{ℕ}
 use native.Mathlib.Omega.{arith}
 use lib.Dec.{eqb}
 use lib.ListN.{length, drop}
-use borrow.Author.Tests.{eq-eqb, ne-eqb, eqb-true, eqb-false, not-true, not-false}
+use borrow.Author.Tests.{eq-eqb, eqb-true, eqb-false, not-true, not-false}
 use Rattle.lists.proofs.Decides.{Decides, itself, equal, less, opposite, either, together}
-use Rattle.refusals.specs.Rows.{noExactPair, Condition, _when_, at}
-use Rattle.refusals.proofs.First.{Tried, test, then, tried}
+use Rattle.refusals.specs.Rows.{noExactPair, Condition, _when_}
+use Rattle.refusals.proofs.First.{Tried, then, tried}
 use Rattle.matrix.specs.Matrix.{Bytes}
 use Rattle.request.specs.Sections.{walked}
 use Rattle.request.specs.Request.{readRules, NoPair}
@@ -18,7 +18,9 @@ use Rattle.request.specs.Read.{readOf, pairFor, nctsOf}
 use Rattle.request.proofs.Coherent.{rows}
 use Rattle.chip.specs.Machine.{up, avi, audio, gc, packets, holdsOf}
 use Rattle.writes.specs.List.{ready}
-use Rattle.plan.specs.Plan.{HoldsUp, planRules, laterRefusal, refusalOf, planOf, bufferOf, PlanRefusals}
+use Rattle.refusals.proofs.Tests.{Decided, lowest-given, numbered}
+use Rattle.plan.specs.declared.Planned.{Planned}
+use Rattle.plan.specs.Plan.{HoldsUp, planRules, nothing, laterTests, laterRefusal, planWith, bufferWith, planOf, planBuffer, PlanRefusals}
 use Rattle.refusals.proofs.Again.{again, past}
 
 -- row 8
@@ -57,32 +59,42 @@ module _ (input : List ℕ) (bytes : Bytes input) where
     abbrev rules : List Condition
     rules = planRules input image buffer
 
-    later-tried : readOf input .refusal ≡ 0 → Tried (drop 6 rules) (laterRefusal (readOf input .request) image buffer)
-    unfolding laterRefusal
-    later-tried z =
-        test same (at rules 6) (drop 7 rules) _ _ _ refl (opposite (equal (length image) 256))
-        (λ _. test same (at rules 7) (drop 8 rules) _ _ _ refl (holds-up image)
-        (λ _. test same (at rules 8) (drop 9 rules) _ _ _ refl (no-pair z)
-        (λ _. test same (at rules 9) [] _ _ _ refl (less (length buffer) 256) (λ _. refl))))
+    decided : readOf input .refusal ≡ 0 → Decided (laterTests (readOf input .request) image buffer) (drop 6 rules)
+    decided z =
+        (refl, opposite (equal (length image) 256), λ _. (refl, holds-up image, λ _. (refl, no-pair z, λ _. (refl, less (length buffer) 256, λ _. tt))))
 
-    in-turn : Tried rules (refusalOf input image buffer)
-    unfolding refusalOf
-    in-turn = then same (readRules (walked input)) (drop 6 rules) _ _ _ (again _ _ (rows input .read bytes)) (λ _. refl) later-tried
+    refusal : ℕ
+    refusal = cond (eqb (readOf input .refusal) 0) (laterRefusal (readOf input .request) image buffer) (readOf input .refusal)
 
-    answered : planOf input image buffer .refusal ≡ refusalOf input image buffer
-    unfolding planOf
-    answered = go (eqb (refusalOf input image buffer) 0) refl
+    in-turn : Tried rules refusal
+    unfolding refusal laterRefusal
+    in-turn = then same (readRules (walked input)) (drop 6 rules) _ _ _ (again _ _ (rows input .read bytes)) (λ _. refl)
+        (λ z. again _ _ (lowest-given (laterTests (readOf input .request) image buffer) (drop 6 rules) refl (decided z)))
+
+    answered : planOf input image buffer .refusal ≡ refusal
+    unfolding refusal planOf planWith
+    answered = go (eqb (readOf input .refusal) 0)
       where
-        go : (b : Bool) → eqb (refusalOf input image buffer) 0 ≡ b → planOf input image buffer .refusal ≡ refusalOf input image buffer
-        go true e = simp e (sym (eqb-true _ _ e))
-        go false e = simp e
+        later : Planned
+        later = planWith (readOf input .request) image buffer
+
+        go : (a : Bool) → cond a later (nothing (readOf input .refusal)) .refusal ≡ cond a (laterRefusal (readOf input .request) image buffer) (readOf input .refusal)
+        go true = numbered nothing _ (λ (p : Planned). p .refusal) (laterRefusal (readOf input .request) image buffer) refl refl
+        go false = refl
+
+    -- beside a refusal the count is 0 and the buffer as it was
+    aside : (x : Planned) (ws : List ℕ) (a b : Bool) → eqb (readOf input .refusal) 0 ≡ a → eqb (laterRefusal (readOf input .request) image buffer) 0 ≡ b → refusal ≢ 0
+        → (cond a (cond b x (nothing (laterRefusal (readOf input .request) image buffer))) (nothing (readOf input .refusal)) .count ≡ 0)
+        × (cond a (cond b ws buffer) buffer ≡ buffer)
+    unfolding refusal
+    aside x ws true true e f h = absurd (h (rw e (eqb-true _ 0 f)))
+    aside x ws true false e f h = (refl, refl)
+    aside x ws false b e f h = (refl, refl)
 
     pub refusals : PlanRefusals input image buffer
-    unfolding planOf bufferOf
-    refusals =
-        let zero : refusalOf input image buffer ≢ 0 → eqb (refusalOf input image buffer) 0 ≡ false = λ h. ne-eqb _ _ h in
-        record {
-          given = rw answered (tried rules _ refl in-turn);
-          count = λ h. let e = zero (λ z. h (answered ∙ z)) in simp e;
-          kept = λ h. let e = zero (λ z. h (answered ∙ z)) in simp e;
-        }
+    unfolding planOf planBuffer planWith bufferWith
+    refusals = record {
+      given = rw answered (tried rules _ refl in-turn);
+      count = λ h. aside _ [] _ _ refl refl (λ z. h (answered ∙ z)) .0;
+      kept = λ h. aside (nothing 0) _ _ _ refl refl (λ z. h (answered ∙ z)) .1;
+    }

@@ -1,21 +1,20 @@
 -- Document 01, "Refusal numbers" (planning checks 1 to 10) and "The write list": what planning answers, and what it leaves in the lent buffer.
 use mathlib.Core.Path.{_≡_}
 use mathlib.Core.Logic.{_≢_, _⊎_}
-use mathlib.Core.Bool.{Bool, true, cond, not}
-use mathlib.Core.List.{List, [], _∷_, _++_, map}
+use mathlib.Core.Bool.{Bool, true, not, _&&_}
+use mathlib.Core.List.{List, [], _∷_, _++_}
 use Prim.Native.Nat.{ℕ, _<_}
 use lib.Dec.{eqb, ltb}
-use lib.ListN.{length, getD}
-use Rattle.refusals.specs.Rows.{imageLength, holdsUp, noExactPair, bufferShort, number, Condition, _when_, Given}
+use lib.ListN.{length}
+use Rattle.refusals.specs.Rows.{imageLength, holdsUp, noExactPair, bufferShort, Condition, _when_, Given, Test, _if_, lowest, answer}
 use Rattle.request.specs.declared.Request.{Request}
 use Rattle.request.specs.Sections.{walked}
 use Rattle.request.specs.Request.{readRules, NoPair}
 use Rattle.request.specs.Read.{readOf, pairFor}
-use Rattle.chip.specs.Machine.{Write, up, avi, audio, gc, packets, holdsOf}
+use Rattle.chip.specs.Machine.{up, avi, audio, gc, packets, holdsOf}
+use Rattle.writes.specs.List.{writeList, fronted, standsBelow, ready}
 use Rattle.plan.specs.declared.Planned.{Planned}
 use Rattle.plan.specs.Wanted.{wanted}
-use Rattle.writes.specs.Steps.{steps, middle}
-use Rattle.writes.specs.List.{written, writeList, fronted, ready}
 
 -- row 8, "GC hold up, or AVI and audio holds both up"
 abbrev pub HoldsUp : List ℕ → Type 0
@@ -31,46 +30,46 @@ planRules input image buffer =
     noExactPair when NoPair (walked input) ∷
     bufferShort when (length buffer < 256) ∷ []
 
--- the list that an image of wanted bytes gives, in one of its two orders
-unfoldable pub inOrder : List ℕ → List ℕ → Bool → List Write
-inOrder wanted image audioFirst = map (written (λ a. getD wanted a 0) image) (steps (middle audioFirst))
+-- rows 7 to 10 as the code tests them, for a request that was read
+abbrev pub laterTests : Request → List ℕ → List ℕ → List Test
+laterTests r image buffer =
+    imageLength if not (eqb (length image) 256) ∷
+    holdsUp if not (ready image) ∷
+    noExactPair if not (eqb (pairFor r .refusal) 0) ∷
+    bufferShort if ltb (length buffer) 256 ∷ []
 
--- rows 7 to 10, for a request that was read
 unfoldable pub laterRefusal : Request → List ℕ → List ℕ → ℕ
-laterRefusal r image buffer =
-    cond (not (eqb (length image) 256)) (number imageLength)
-    (cond (not (ready image)) (number holdsUp)
-    (cond (not (eqb (pairFor r .refusal) 0)) (number noExactPair) (cond (ltb (length buffer) 256) (number bufferShort) 0)))
-
-unfoldable pub refusalOf : List ℕ → List ℕ → List ℕ → ℕ
-refusalOf input image buffer =
-    cond (eqb (readOf input .refusal) 0) (laterRefusal (readOf input .request) image buffer) (readOf input .refusal)
-
--- the write list of an input on an image
-unfoldable pub writesOf : List ℕ → List ℕ → List Write
-writesOf input image = writeList (wanted (readOf input .request)) image
+laterRefusal r image buffer = lowest (laterTests r image buffer)
 
 -- a refusal has its number and count 0
 abbrev pub nothing : ℕ → Planned
 nothing number = record { refusal = number; count = 0 }
 
--- the answer: the number of the refusal, 0 for none, and the count of pairs
-unfoldable pub planOf : List ℕ → List ℕ → List ℕ → Planned
-planOf input image buffer =
-    cond (eqb (refusalOf input image buffer) 0) (record { refusal = 0; count = length (writesOf input image) })
-    (nothing (refusalOf input image buffer))
+-- for such a request: the number of the refusal, 0 for none, and the count of pairs; and the buffer, with the list at its front
+unfoldable pub planWith : Request → List ℕ → List ℕ → Planned
+planWith r image buffer = answer (laterRefusal r image buffer) nothing (record { refusal = 0; count = length (writeList (wanted r) image) })
 
--- the buffer: the list at its front; a refusal changes no byte
-unfoldable pub bufferOf : List ℕ → List ℕ → List ℕ → List ℕ
-bufferOf input image buffer =
-    cond (eqb (refusalOf input image buffer) 0) (fronted (writesOf input image) buffer) buffer
+unfoldable pub bufferWith : Request → List ℕ → List ℕ → List ℕ
+bufferWith r image buffer = answer (laterRefusal r image buffer) (λ _. buffer) (fronted (writeList (wanted r) image) buffer)
+
+-- the answer, and what is left in the buffer: a refusal changes no byte
+unfoldable pub planOf : List ℕ → List ℕ → List ℕ → Planned
+planOf input image buffer = answer (readOf input .refusal) nothing (planWith (readOf input .request) image buffer)
+
+unfoldable pub planBuffer : List ℕ → List ℕ → List ℕ → List ℕ
+planBuffer input image buffer = answer (readOf input .refusal) (λ _. buffer) (bufferWith (readOf input .request) image buffer)
 
 -- what planning promises: its answer, and what it leaves in the lent buffer
 abbrev pub Plans : List ℕ → List ℕ → List ℕ → Planned → List ℕ → Type 0
-Plans input image buffer answer left = (answer ≡ planOf input image buffer) × (left ≡ bufferOf input image buffer)
+Plans input image buffer answer left = (answer ≡ planOf input image buffer) × (left ≡ planBuffer input image buffer)
+
+-- an input that is accepted on some image, and whose list would leave this one as it is
+unfoldable pub standsIn : List ℕ → List ℕ → Bool
+standsIn input image =
+    eqb (readOf input .refusal) 0 && eqb (length image) 256 && eqb (pairFor (readOf input .request) .refusal) 0 && standsBelow (wanted (readOf input .request)) image 256
 
 -- "the lowest that applies is given, and none is given otherwise. Each returns its number and count 0 and changes no lent byte."
 pub record PlanRefusals (input image buffer : List ℕ) : Type 0 where
   pub given : Given (planRules input image buffer) (planOf input image buffer .refusal)
   pub count : planOf input image buffer .refusal ≢ 0 → planOf input image buffer .count ≡ 0
-  pub kept : planOf input image buffer .refusal ≢ 0 → bufferOf input image buffer ≡ buffer
+  pub kept : planOf input image buffer .refusal ≢ 0 → planBuffer input image buffer ≡ buffer

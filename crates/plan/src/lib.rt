@@ -1,12 +1,11 @@
 // Planning: from a request and a register image to the write list. Document 01, "The write list".
 ghost use mathlib.Core.Path.{_≡_};
 ghost use mathlib.Core.Logic.{_≢_};
-ghost use mathlib.Core.Bool.{false, cond, not, _&&_};
+ghost use mathlib.Core.Bool.{cond, not, _&&_};
 ghost use mathlib.Core.List.{List};
 ghost use Prim.Native.Nat.{ℕ, _+_, _/_, _%_, _<_, _≤_};
 ghost use lib.Dec.{eqb};
 ghost use lib.ListN.{getD, length};
-ghost use Rattle.bits.specs.Merge.{merge};
 ghost use Rattle.map.specs.Map.{outputFormatMask};
 ghost use Rattle.video.specs.Modes.{modeOf};
 ghost use Rattle.frames.specs.Frames.{aviFrame};
@@ -15,12 +14,7 @@ ghost use Rattle.request.specs.Read.{pairFor};
 ghost use Rattle.chip.specs.Machine.{up, avi, audio, gc};
 ghost use Rattle.plan.specs.Wanted.{run, stores, twenty, ctsSelect, inputs, rateCode, withAudio, audioBytes, halves, cscBytes};
 ghost use Rattle.plan.specs.Wanted.{clockBytes, inputBytes, enableBytes, frameBytes, wantedImage, SoundFits, MatrixFits, Fits};
-ghost use Rattle.writes.specs.Steps.{_raising_, steps, middle, stepAddresses, stepBits};
-ghost use Rattle.writes.specs.List.{decided, byte};
-ghost use Rattle.plan.specs.Stands.{asWanted, standsIn};
-ghost use Rattle.map.specs.Map as reg;
-ghost use Rattle.writes.specs.List.{fronted};
-ghost use Rattle.plan.specs.Plan.{inOrder, nothing, Plans, PlanRefusals};
+ghost use Rattle.plan.specs.Plan.{nothing, planWith, bufferWith, Plans, standsIn, PlanRefusals};
 use clock::Pair;
 use map::Map;
 use matrix::Matrix;
@@ -28,8 +22,6 @@ use refusals::Refusal;
 use request::Request;
 use request::Sound;
 use video::Video;
-
-mod steps;
 
 // The number of a refusal, 0 for none, and the count of pairs written.
 pub struct Planned {
@@ -243,93 +235,6 @@ fn with_frames(out: [u8; 256], r: Request) -> [u8; 256]
     laid(next, Map::AUDIO_INFOFRAME_VERSION as usize, &audio[1..])
 }
 
-// The bits of each register that a step decides and not the request.
-fn decided_masks() -> [u8; 256]
-    ensures { λ r. ⌜ ((a : ℕ) → a < 256 → getD r a 0 ≡ decided a) ⌝ }
-{
-    let mut out = [0u8; 256];
-    out[Map::INFOFRAME_UPDATE as usize] = Map::AVI_PACKET_UPDATE_MASK
-        + Map::AUDIO_INFOFRAME_PACKET_UPDATE_MASK;
-    out[Map::COEFFICIENT_UPDATE as usize] = Map::COEFFICIENT_UPDATE_MASK;
-    out[Map::GC as usize] = Map::CLEAR_AV_MUTE_MASK + Map::SET_AV_MUTE_MASK;
-    out
-}
-
-// A written byte by the masks of its class: the old byte's free and read-only bits, mandated and wanted bits.
-fn written_byte(read_only: u8, free: u8, named: u8, bits: u8, old: u8, wanted: u8) -> u8
-    ensures { λ r. ⌜ r ≡ merge 8 «read_only» old (merge 8 free old (merge 8 named wanted bits)) ⌝ }
-{
-    let set = bits::merge(named, wanted, bits);
-    let kept = bits::merge(free, old, set);
-    bits::merge(read_only, old, kept)
-}
-
-// Every register's byte, as a list of these wanted bytes writes it.
-fn carried(image: &[u8], wanted: &[u8]) -> [u8; 256]
-    requires { ⌜ (length (now image) ≡ 256) × (length (now wanted) ≡ 256) ⌝ }
-    ensures { λ r. ⌜ ((a : ℕ) → a < 256 → getD r a 0 ≡ byte a (getD (now (image .entry)) a 0) (getD (now (wanted .entry)) a 0)) ⌝ }
-{
-    let read_only = registers::read_only_masks();
-    let free = registers::free_masks();
-    let named = registers::named_masks();
-    let bits = registers::mandated_bits();
-    let mut out = [0u8; 256];
-    let mut a: usize = 0;
-    while a < 256 {
-        out[a] = written_byte(
-            read_only[a],
-            free[a],
-            named[a],
-            bits[a],
-            image[a],
-            wanted[a],
-        );
-        a = a + 1;
-    }
-    out
-}
-
-// The first step of the two packets, and how many steps each has: its registers, its hold up and down.
-const PACKETS: usize = 35;
-
-const AVI_STEPS: usize = Map::AVI_INFOFRAME_COUNT as usize + 2;
-
-const AUDIO_STEPS: usize = Map::AUDIO_INFOFRAME_COUNT as usize + 2;
-
-// The place of a step in the table, which has AVI before audio. "If the audio hold is up at the start, audio goes before AVI."
-fn place(audio_first: bool, i: usize) -> usize
-    requires { ⌜ i < 84 ⌝ }
-    ensures { λ r. ⌜ (r < 84) × (getD (steps (middle false)) r (0 raising 0) ≡ getD (steps (middle «audio_first»)) i (0 raising 0)) ⌝ }
-{
-    if !audio_first {
-        return i;
-    }
-    if i < PACKETS {
-        return i;
-    }
-    if i < PACKETS + AUDIO_STEPS {
-        return i + AVI_STEPS;
-    }
-    if i < PACKETS + AUDIO_STEPS + AVI_STEPS {
-        return i - AUDIO_STEPS;
-    }
-    i
-}
-
-// The register of each step, AVI before audio.
-fn step_addresses() -> [u8; 84]
-    ensures { λ r. ⌜ r ≡ stepAddresses ⌝ }
-{
-    steps::ADDRESSES
-}
-
-// The bits that each step decides.
-fn step_bits() -> [u8; 84]
-    ensures { λ r. ⌜ r ≡ stepBits ⌝ }
-{
-    steps::BITS
-}
-
 // The byte that every register with a named bit is to hold.
 fn wanted_image(r: Request, pair: Pair) -> [u8; 256]
     requires { ⌜ Fits r ⌝ }
@@ -346,41 +251,14 @@ fn wanted_image(r: Request, pair: Pair) -> [u8; 256]
     with_frames(enabled, r)
 }
 
-// Whether the audio hold is up in a byte of 0x4A.
-fn audio_up(holds: u8) -> bool
-    ensures { λ r. ⌜ r ≡ up audio holds ⌝ }
-{
-    holds / Map::AUDIO_INFOFRAME_PACKET_UPDATE_MASK % 2 == 1
-}
-
 // GC hold down, and not both other holds up.
 fn is_ready(holds: u8) -> bool
     ensures { λ r. ⌜ r ≡ (not (up gc holds) && not (up avi holds && up audio holds)) ⌝ }
 {
     let gc = holds / Map::GC_PACKET_UPDATE_MASK % 2 == 1;
     let avi = holds / Map::AVI_PACKET_UPDATE_MASK % 2 == 1;
-    !gc & !(avi & audio_up(holds))
-}
-
-// The list, at the front of the buffer.
-fn write_list(image: &[u8], wanted: &[u8], audio_first: bool, writes: &mut [u8])
-    requires { ⌜ (length (now image) ≡ 256) × (length (now wanted) ≡ 256) × (256 ≤ length (now writes)) ⌝ }
-    ensures { λ _. ⌜ now (writes .exit) ≡ fronted (inOrder (now (wanted .entry)) (now (image .entry)) «audio_first») (now (writes .entry)) ⌝ }
-{
-    let bytes = carried(image, wanted);
-    let addresses = step_addresses();
-    let bits = step_bits();
-    let decided = decided_masks();
-    let mut i: usize = 0;
-    while i < 84 {
-        let p = place(audio_first, i);
-        let a = addresses[p];
-        let at = a as usize;
-        let v = bits::merge(decided[at], bits[p], bytes[at]);
-        writes[2 * i] = a;
-        writes[2 * i + 1] = v;
-        i = i + 1;
-    }
+    let audio = holds / Map::AUDIO_INFOFRAME_PACKET_UPDATE_MASK % 2 == 1;
+    !gc & !(avi & audio)
 }
 
 // A refusal: its number, and no pair.
@@ -393,22 +271,17 @@ fn refused(number: u8) -> Planned
     }
 }
 
-// The write list of a request on an image, as pairs of address and value in a lent buffer: refusals 1 to 10.
-pub fn plan(input: &[u8], image: &[u8], writes: &mut [u8]) -> Planned
-    ensures { λ r. ⌜ Plans (now (input .entry)) (now (image .entry)) (now (writes .entry)) r (now (writes .exit)) ⌝ }
+// The write list of a request that was read: refusals 7 to 10.
+fn plan_with(r: Request, image: &[u8], writes: &mut [u8]) -> Planned
+    requires { ⌜ Fits r ⌝ }
+    ensures { λ p. ⌜ (p ≡ planWith r (now (image .entry)) (now (writes .entry))) × (now (writes .exit) ≡ bufferWith r (now (image .entry)) (now (writes .entry))) ⌝ }
 {
-    let checked = request::read(input);
-    if checked.refusal != Refusal::NONE {
-        return refused(checked.refusal);
-    }
     if image.len() != 256 {
         return refused(Refusal::IMAGE_LENGTH);
     }
-    let holds = image[Map::INFOFRAME_UPDATE as usize];
-    if !is_ready(holds) {
+    if !is_ready(image[Map::INFOFRAME_UPDATE as usize]) {
         return refused(Refusal::HOLDS_UP);
     }
-    let r = checked.request;
     let pair = request::pair_for(r);
     if pair.refusal != Refusal::NONE {
         return refused(Refusal::NO_EXACT_PAIR);
@@ -417,49 +290,22 @@ pub fn plan(input: &[u8], image: &[u8], writes: &mut [u8]) -> Planned
         return refused(Refusal::BUFFER_SHORT);
     }
     let wanted = wanted_image(r, pair);
-    write_list(image, &wanted, audio_up(holds), writes);
+    let count = writes::write_list(image, &wanted, writes);
     Planned {
         refusal: Refusal::NONE,
-        count: 84,
+        count: count,
     }
 }
 
-// The bits that the list leaves up of those that its steps decide: the picture open.
-fn opened(a: u8) -> u8
-    ensures { λ r. ⌜ r ≡ cond (eqb a reg.gc) reg.clearAvMuteMask 0 ⌝ }
+// The write list of a request on an image, as pairs of address and value in a lent buffer: refusals 1 to 10.
+pub fn plan(input: &[u8], image: &[u8], writes: &mut [u8]) -> Planned
+    ensures { λ r. ⌜ Plans (now (input .entry)) (now (image .entry)) (now (writes .entry)) r (now (writes .exit)) ⌝ }
 {
-    if a == Map::GC {
-        return Map::CLEAR_AV_MUTE_MASK;
+    let checked = request::read(input);
+    if checked.refusal != Refusal::NONE {
+        return refused(checked.refusal);
     }
-    0
-}
-
-// The byte of a register that the list writes, in the finished image.
-fn finished_byte(a: u8, decided: u8, carried: u8) -> u8
-    ensures { λ r. ⌜ r ≡ merge 8 decided (cond (eqb a reg.gc) reg.clearAvMuteMask 0) carried ⌝ }
-{
-    bits::merge(decided, opened(a), carried)
-}
-
-// Whether every register of an image is as a list of these wanted bytes would leave it: those of its steps.
-fn as_wanted(image: &[u8], wanted: &[u8]) -> bool
-    requires { ⌜ (length (now image) ≡ 256) × (length (now wanted) ≡ 256) ⌝ }
-    ensures { λ r. ⌜ r ≡ asWanted (now (wanted .entry)) (now (image .entry)) 256 ⌝ }
-{
-    let bytes = carried(image, wanted);
-    let addresses = step_addresses();
-    let decided = decided_masks();
-    let mut k: usize = 0;
-    while k < 84 {
-        let a = addresses[k];
-        let at = a as usize;
-        let old = image[at];
-        if finished_byte(a, decided[at], bytes[at]) != old {
-            return false;
-        }
-        k = k + 1;
-    }
-    true
+    plan_with(checked.request, image, writes)
 }
 
 // Whether an input is accepted on some image, and its list would leave this image as it is.
@@ -479,7 +325,7 @@ pub fn stands(input: &[u8], image: &[u8]) -> bool
         return false;
     }
     let wanted = wanted_image(r, pair);
-    as_wanted(image, &wanted)
+    writes::stands(image, &wanted)
 }
 
 // The refusals of planning, in document 01's order.

@@ -1,6 +1,6 @@
--- The finished image as a list: its entries, and a list with these entries. Assumes nothing.
+-- A column of the registers: its entries, and a list with these entries; the finished image is one. Assumes nothing.
 use mathlib.Core.Path.{_≡_, refl, sym, ap, _∙_}
-use mathlib.Core.List.{List, map}
+use mathlib.Core.List.{List}
 use Prim.Native.Nat.{ℕ, zero, suc, _+_, _<_}
 use native.Mathlib.Nat.{add-zero, not-suc-le-zero, le-of-suc-le-suc}
 use native.Mathlib.Omega.{arith}
@@ -8,7 +8,7 @@ use lib.ListN.{length, getD, length-map}
 use lib.Seq.{ext-getD}
 use Rattle.lists.proofs.Emit.{map-at}
 use Rattle.writes.specs.Steps.{from}
-use Rattle.writes.specs.List.{finished, finishedImage}
+use Rattle.writes.specs.List.{finished, column, finishedImage}
 
 length-from : (first count : ℕ) → length (from first count) ≡ count
 length-from first zero = refl
@@ -19,17 +19,25 @@ from-at first zero i h = absurd (not-suc-le-zero h)
 from-at first (suc count) zero h = sym (add-zero first)
 from-at first (suc count) (suc i) h = from-at (suc first) count i (le-of-suc-le-suc h) ∙ omega arith
 
+module _ (f : ℕ → ℕ) where
+  pub column-length : length (column f) ≡ 256
+  unfolding column
+  column-length = length-map (from 0 256) f ∙ length-from 0 256
+
+  pub column-at : (a : ℕ) → a < 256 → getD (column f) a 0 ≡ f a
+  unfolding column
+  column-at a h = map-at f (from 0 256) a 0 0 (rw (length-from 0 256) h) ∙ ap f (from-at 0 256 a h ∙ omega arith)
+
+  -- a list with these entries is the column
+  pub is-column : (l : List ℕ) → length l ≡ 256 → ((a : ℕ) → a < 256 → getD l a 0 ≡ f a) → l ≡ column f
+  is-column l e each = ext-getD 0 l _ (e ∙ sym column-length) (λ a h. let k : a < 256 = rw e at h in each a k ∙ sym (column-at a k))
+
 module _ (want : ℕ → ℕ) (image : List ℕ) where
   pub image-length : length (finishedImage want image) ≡ 256
-  unfolding finishedImage
-  image-length = length-map (from 0 256) (finished want image) ∙ length-from 0 256
+  image-length = column-length (finished want image)
 
   pub image-at : (a : ℕ) → a < 256 → getD (finishedImage want image) a 0 ≡ finished want image a
-  unfolding finishedImage
-  image-at a h =
-      map-at (finished want image) (from 0 256) a 0 0 (rw (length-from 0 256) h)
-      ∙ ap (finished want image) (from-at 0 256 a h ∙ omega arith)
+  image-at = column-at (finished want image)
 
-  -- a list with these entries is the image
   pub is-image : (l : List ℕ) → length l ≡ 256 → ((a : ℕ) → a < 256 → getD l a 0 ≡ finished want image a) → l ≡ finishedImage want image
-  is-image l e each = ext-getD 0 l _ (e ∙ sym image-length) (λ a h. let k : a < 256 = rw e at h in each a k ∙ sym (image-at a k))
+  is-image = is-column (finished want image)

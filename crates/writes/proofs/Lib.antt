@@ -2,3 +2,5 @@ pub mod Last
 pub mod InOrder
 pub mod Carries
 pub mod Image
+pub mod Columns
+pub mod Pairs

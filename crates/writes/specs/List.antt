@@ -1,8 +1,9 @@
 -- Document 01, "The write list". `want a` is the byte whose named bits are wanted in register a.
-use mathlib.Core.Bool.{Bool, cond, not, _&&_, _||_}
+use mathlib.Core.Path.{_≡_}
+use mathlib.Core.Bool.{Bool, true, cond, not, _&&_, _||_}
 use mathlib.Core.List.{List, [], _∷_, _++_, map}
-use Prim.Native.Nat.{ℕ, _+_}
-use lib.Dec.{eqb}
+use Prim.Native.Nat.{ℕ, zero, suc, _+_}
+use lib.Dec.{eqb, ltb}
 use lib.ListN.{length, getD, drop}
 use Rattle.lists.specs.Among.{among}
 use Rattle.bits.specs.Merge.{merge}
@@ -63,10 +64,27 @@ leftUp a = cond (eqb a reg.gc) reg.clearAvMuteMask 0
 unfoldable pub finished : (ℕ → ℕ) → List ℕ → ℕ → ℕ
 finished want image a = cond (isWritten a) (written want image (a raising leftUp a) .value) (getD image a 0)
 
--- the finished image whole: 256 bytes
-unfoldable pub finishedImage : (ℕ → ℕ) → List ℕ → List ℕ
-finishedImage want image = map (finished want image) (from 0 256)
+-- one number of each register; and so the finished image whole: 256 bytes
+unfoldable pub column : (ℕ → ℕ) → List ℕ
+column f = map f (from 0 256)
+
+abbrev pub finishedImage : (ℕ → ℕ) → List ℕ → List ℕ
+finishedImage want image = column (finished want image)
 
 -- refusal 8 does not apply: GC hold down, and not both other holds up
 abbrev pub ready : List ℕ → Bool
 ready image = let n : ℕ = holdsOf packets image in not (up gc n) && not (up avi n && up audio n)
+
+-- whether every register below n stands as the list would leave it. (`finished` takes free and read-only bits from the image itself.)
+unfoldable pub standsBelow : (ℕ → ℕ) → List ℕ → ℕ → Bool
+standsBelow want image zero = true
+standsBelow want image (suc a) = eqb (finished want image a) (getD image a 0) && standsBelow want image a
+
+-- no image of 256 bytes, or no room for a list
+abbrev pub noRoom : List ℕ → List ℕ → Bool
+noRoom image buffer = not (eqb (length image) 256) || ltb (length buffer) 256
+
+-- what `write_list` promises: the list at the front of the buffer, and its count; where there is no room, nothing
+abbrev pub Lists : (ℕ → ℕ) → List ℕ → List ℕ → ℕ → List ℕ → Type 0
+Lists want image buffer count left =
+    (count ≡ cond (noRoom image buffer) 0 (length (writeList want image))) × (left ≡ cond (noRoom image buffer) buffer (fronted (writeList want image) buffer))

@@ -1,7 +1,8 @@
 -- Document 01, "The write list": the steps, in order. That their registers are those that the document lists, in its order, is `Order`.
-use mathlib.Core.Bool.{Bool, false, cond}
-use mathlib.Core.List.{List, [], _∷_, _++_, map}
+use mathlib.Core.Bool.{Bool, cond}
+use mathlib.Core.List.{List, [], _∷_, _++_}
 use Prim.Native.Nat.{ℕ, zero, suc, _+_, _-_}
+use lib.ListN.{length}
 use Rattle.map.specs.Map as reg
 use Rattle.registers.specs.Steps.{table14, others}
 
@@ -51,9 +52,9 @@ middle audioFirst = each table14 ++ coefficientSteps ++ cond audioFirst (audioSt
 abbrev pub steps : List Step → List Step
 steps between = reg.gc raising reg.setAvMuteMask ∷ between ++ reg.gc raising reg.clearAvMuteMask ∷ []
 
--- the steps, AVI before audio, as two columns
-unfoldable pub stepAddresses : List ℕ
-stepAddresses = map (λ i. i .register) (steps (middle false))
+-- how many steps stand before the two packets, and how many there are
+abbrev pub packetsAt : ℕ
+packetsAt = 1 + length table14 + length coefficientSteps
 
-unfoldable pub stepBits : List ℕ
-stepBits = map (λ i. i .raised) (steps (middle false))
+abbrev pub stepCount : ℕ
+stepCount = packetsAt + length aviSteps + length audioSteps + length others + 1

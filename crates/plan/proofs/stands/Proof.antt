@@ -3,9 +3,9 @@ use mathlib.Core.Path.{_≡_, refl, sym, ap, _∙_}
 use mathlib.Core.Bool.{and-false}
 use borrow.Author.Tests.{eq-eqb, ne-eqb}
 use Rattle.request.specs.Read.{readOf}
-use Rattle.plan.specs.Stands.{standsIn}
+use Rattle.plan.specs.Wanted.{wanted}
+use Rattle.plan.specs.Plan.{standsIn}
 use Rattle.plan.proofs.Accepted.{fits}
-use Rattle.plan.proofs.Standing.{same}
 use borrow.Author.Needs.{needs}
 use Rattle.plan.proofs.stands.Statement.{statement}
 use Rattle.plan.proofs.stands.Tie as tie
@@ -36,20 +36,16 @@ wanted-image-requires c κs =
     let r = e .before .before .before in
     (rw (r .read .ensures) (fits _ (rw (r .read .ensures) at (e .before .if1 .left))), c .before .before .pair-for .ensures)
 
-slice-aggregate-as-wanted : tie.Need-slice-aggregate-as-wanted
-slice-aggregate-as-wanted c = search needs
-
-as-wanted-requires : tie.Need-as-wanted-requires
-as-wanted-requires c κs = search needs
+stands-requires : tie.Need-stands-requires
+stands-requires c κs = search needs
 
 returns-4 : tie.Need-returns-4
-unfolding standsIn
+unfolding standsIn wanted
 returns-4 c =
     let d = c .before .before .before in
     let e = d .before .before .before .before in
     let r = e .before .before .before in
-    c .as-wanted .ensures ∙ rw (c .before .before .wanted-image .ensures) (same (r .read .result .request) _ 256
-    ∙ simp (← r .read .ensures, eq-eqb _ _ (e .before .if1 .left), eq-eqb _ _ (e .if2 .left), ← d .before .before .pair-for .ensures, eq-eqb _ _ (d .if3 .left)))
+    c .stands .ensures ∙ simp (c .before .before .wanted-image .ensures, ← r .read .ensures, eq-eqb _ _ (e .before .if1 .left), eq-eqb _ _ (e .if2 .left), ← d .before .before .pair-for .ensures, eq-eqb _ _ (d .if3 .left))
 
 pub stands-spec : {M : Type 1} → statement M
 stands-spec =
@@ -61,6 +57,5 @@ stands-spec =
     pair-for-requires
     returns-3
     wanted-image-requires
-    slice-aggregate-as-wanted
-    as-wanted-requires
+    stands-requires
     returns-4)

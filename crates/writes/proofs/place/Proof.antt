@@ -1,9 +1,9 @@
--- `plan::place` meets its contract: audio first, it is `moved`. Assumes nothing.
+-- `writes::place` meets its contract: audio first, it is `moved`. Assumes nothing.
 use borrow.Author.Tests.{lt-ltb, le-ltb, not-true, not-false}
 use borrow.Author.Needs.{needs}
-use Rattle.plan.proofs.Columns.{at-place, unmoved}
-use Rattle.plan.proofs.place.Statement.{statement}
-use Rattle.plan.proofs.place.Tie as tie
+use Rattle.writes.proofs.Columns.{at-place, unmoved}
+use Rattle.writes.proofs.place.Statement.{statement}
+use Rattle.writes.proofs.place.Tie as tie
 
 returns : tie.Need-returns
 returns c = (search needs, unmoved (c .before .args .i) (not-true _ (c .if1 .taken)))

@@ -1,0 +1,188 @@
+-- What the columns of the code give: the byte of each step, and the finished image. Assumes nothing.
+use mathlib.Core.Path.{_≡_, refl, sym, ap, ap₂, _∙_, subst}
+use mathlib.Core.Logic.{_⊎_, inl, inr}
+use mathlib.Core.Bool.{Bool, true, false, cond, _&&_}
+use mathlib.Core.List.{List, [], _∷_, map}
+use Prim.Native.Nat.{ℕ, _+_, _-_, _<_}
+use native.Mathlib.Nat.{eq-or-lt-of-le}
+use native.Mathlib.Omega.{arith}
+use lib.Dec.{eqb, ltb, lit<}
+use lib.ListN.{getD, length, set, List·getD-map}
+use lib.Seq.{getD-set-same, getD-set-other}
+use borrow.Author.Tests.{eqb-true, eqb-false, ltb-true}
+use Rattle.lists.proofs.Both.{both-left, both-right}
+use Rattle.bits.specs.Merge.{merge}
+use Rattle.bits.proofs.Below.{below, at-below}
+use Rattle.bits.proofs.Truth.{E, zeros, var, by, law, law-if}
+use Rattle.map.specs.Map as reg
+use Rattle.registers.specs.Classes.{classAt, readOnly, free, named, bits}
+use Rattle.registers.proofs.Whole.{rule}
+use Rattle.registers.proofs.Apart.{row, rules, holds}
+use Rattle.writes.specs.Steps.{Step, _raising_, steps, middle, aviSteps, audioSteps, packetsAt, stepCount}
+use Rattle.writes.specs.List.{byte, decided, isWritten, leftUp, written, finished, column}
+use Rattle.writes.specs.Columns.{stepAddresses, stepRaised, keptBits, wantedBits, setBits, closed}
+use Rattle.writes.proofs.Image.{column-at}
+
+-- ---- the steps
+
+abbrev pub step : Bool → ℕ → Step
+step b i = getD (steps (middle b)) i (0 raising 0)
+
+pub step-count : (b : Bool) → length (steps (middle b)) ≡ stepCount
+unfolding middle
+step-count true = refl
+step-count false = refl
+
+in-steps : (f : Step → ℕ) {w : Step} (i : ℕ) → step false i ≡ w → getD (map f (steps (middle false))) i (f (0 raising 0)) ≡ f w
+in-steps f i e = List·getD-map f (steps (middle false)) i (0 raising 0) ∙ ap f e
+
+pub address-at : (i : ℕ) {w : Step} {l : List ℕ} → l ≡ stepAddresses → step false i ≡ w → getD l i 0 ≡ w .register
+unfolding stepAddresses
+address-at i l e = rw l (in-steps (λ (w : Step). w .register) i e)
+
+pub raised-at : (i : ℕ) {w : Step} {l : List ℕ} → l ≡ stepRaised → step false i ≡ w → getD l i 0 ≡ w .raised
+unfolding stepRaised
+raised-at i l e = rw l (in-steps (λ (w : Step). w .raised) i e)
+
+-- where a step stands, audio first: the two packets change places
+abbrev pub moved : ℕ → ℕ
+moved i =
+    cond (ltb i packetsAt) i
+    (cond (ltb i (packetsAt + length audioSteps)) (i + length aviSteps)
+    (cond (ltb i (packetsAt + length audioSteps + length aviSteps)) (i - length audioSteps) i))
+
+abbrev found : ℕ → Bool
+found i = eqb (step false (moved i) .register) (step true i .register) && eqb (step false (moved i) .raised) (step true i .raised)
+
+all-found : below found stepCount ≡ true
+unfolding middle
+all-found = refl
+
+pub there : (i : ℕ) → i < stepCount → step false (moved i) ≡ step true i
+there i h =
+    let t : found i ≡ true = at-below found stepCount i all-found h in
+    let v : Bool = eqb (step false (moved i) .raised) (step true i .raised) in
+    ap₂ (λ (a b : ℕ). a raising b) (eqb-true _ _ (both-left _ v t)) (eqb-true _ _ (both-right (eqb (step false (moved i) .register) (step true i .register)) _ t))
+
+pub at-place : {b : Bool} (i r : ℕ) → b ≡ true → i < stepCount → moved i ≡ r → r < stepCount → (r < stepCount) × (step false r ≡ step b i)
+at-place {b} i r e h m l =
+    (l, subst (λ (x : Bool). step false r ≡ step x i) (sym e) (subst (λ (n : ℕ). step false n ≡ step true i) m (there i h)))
+
+pub unmoved : {b : Bool} (i : ℕ) → b ≡ false → step false i ≡ step b i
+unmoved i e = ap (λ (x : Bool). step x i) (sym e)
+
+-- a step writes a register, and raises no bit but those that steps decide
+abbrev proper : Step → Bool
+proper i = ltb (i .register) 256 && (isWritten (i .register) && eqb (merge 8 (decided (i .register)) 0 (i .raised)) 0)
+
+pub record Proper (i : Step) : Type 0 where
+  pub small : i .register < 256
+  pub writes : isWritten (i .register) ≡ true
+  pub raises : merge 8 (decided (i .register)) 0 (i .raised) ≡ 0
+
+pub step-proper : (i : ℕ) → i < stepCount → Proper (step false i)
+unfolding middle isWritten classAt decided merge
+step-proper i h =
+    let w : Step = step false i in
+    let t : proper w ≡ true = at-below (λ j. proper (step false j)) stepCount i refl h in
+    let u : (isWritten (w .register) && eqb (merge 8 (decided (w .register)) 0 (w .raised)) 0) ≡ true = both-right (ltb (w .register) 256) _ t in
+    record {
+      small = ltb-true _ _ (both-left (ltb (w .register) 256) _ t);
+      writes = both-left (isWritten (w .register)) _ u;
+      raises = eqb-true _ _ (both-right (isWritten (w .register)) _ u);
+    }
+
+-- ---- the registers
+
+-- what steps decide is named, and so is what they leave up
+decided-named : (a : ℕ) → a < 256 → merge 8 (named a) 0 (decided a) ≡ 0
+unfolding classAt decided merge
+decided-named a h = eqb-true _ 0 (at-below (λ a. eqb (merge 8 (named a) 0 (decided a)) 0) 256 a refl h)
+
+left-decided : (a : ℕ) → a < 256 → merge 8 (decided a) 0 (leftUp a) ≡ 0
+unfolding decided merge
+left-decided a h = eqb-true _ 0 (at-below (λ a. eqb (merge 8 (decided a) 0 (leftUp a)) 0) 256 a refl h)
+
+left-none : (a : ℕ) → a < 256 → isWritten a ≡ false → leftUp a ≡ 0
+unfolding isWritten classAt
+left-none a h e = eqb-true _ 0 (rw e at (at-below (λ a. cond (isWritten a) true (eqb (leftUp a) 0)) 256 a refl h))
+
+-- "the law of the three columns": `var 5` is what steps decide, `var 6` what this one raises, `var 7` the old byte, `var 8` the wanted one
+three : (a x old wanted : ℕ) → a < 256 → merge 8 (decided a) 0 x ≡ 0
+    → byte a old (merge 8 (decided a) x wanted)
+    ≡ merge 8 x x (merge 8 (merge 8 (readOnly a) (readOnly a) (free a)) old (merge 8 (merge 8 (decided a) 0 (named a)) wanted (merge 8 (named a) 0 (bits a))))
+unfolding byte
+three a x old wanted h e =
+    let ρ : List ℕ = decided a ∷ x ∷ old ∷ wanted ∷ [] in
+    law-if (by (var 5) zeros (var 6) ∷ by (var 2) zeros (var 5) ∷ rules)
+    (by (var 0) (var 7) (by (var 3) (var 7) (by (var 2) (by (var 5) (var 6) (var 8)) (var 4))))
+    (by (var 6) (var 6) (by (by (var 0) (var 0) (var 3)) (var 7) (by (by (var 5) zeros (var 2)) (var 8) (by (var 2) zeros (var 4)))))
+    8 (row (classAt a) ρ) refl (e, (decided-named a h, holds (classAt a) ρ (rule a h)))
+
+-- all bits kept
+all-kept : (x y : ℕ) → x < 256 → merge 8 255 x y ≡ x
+unfolding merge
+all-kept x y h = omega arith
+
+-- no bit raised
+none-raised : (m x y : ℕ) → merge 8 0 0 (merge 8 m x y) ≡ merge 8 m x y
+none-raised m x y = law (by zeros zeros (by (var 0) (var 1) (var 2))) (by (var 0) (var 1) (var 2)) 8 (m ∷ x ∷ y ∷ []) refl
+
+-- a byte as the code has it, from the columns
+pub by-columns : (want : ℕ → ℕ) (image : List ℕ) (a : ℕ) → a < 256 → {k w s : List ℕ} → k ≡ column keptBits → w ≡ column wantedBits → s ≡ column setBits
+    → merge 8 (getD k a 0) (getD image a 0) (merge 8 (getD w a 0) (want a) (getD s a 0)) ≡ closed want image a
+unfolding closed
+by-columns want image a h k w s = rw (k, w, s, column-at keptBits a h, column-at wantedBits a h, column-at setBits a h)
+
+module _ (want : ℕ → ℕ) (image : List ℕ) where
+  -- a step's byte is the closed one with the step's bits raised
+  pub raised-written : (i : Step) → Proper i → merge 8 (i .raised) (i .raised) (closed want image (i .register)) ≡ written want image i .value
+  unfolding closed written
+  raised-written i p = rw (p .writes) (sym (three (i .register) (i .raised) _ _ (p .small) (p .raises)))
+
+  -- and so is the finished one; a register that is not written stays
+  pub raised-finished : (a : ℕ) → a < 256 → getD image a 0 < 256 → merge 8 (leftUp a) (leftUp a) (closed want image a) ≡ finished want image a
+  unfolding closed finished written
+  raised-finished a h small = go (isWritten a) refl
+    where
+      go : (t : Bool) → isWritten a ≡ t → merge 8 (leftUp a) (leftUp a) (closed want image a) ≡ finished want image a
+      go true e = rw e (sym (three a (leftUp a) _ _ h (left-decided a h)))
+      go false e = rw (e, left-none a h e) (none-raised 255 _ _ ∙ all-kept _ _ small)
+
+  -- the value of the step at place p of the table, as the code has it
+  pub step-value : (p : ℕ) {w : Step} {rs xs : List ℕ} (bytes : List ℕ) → p < stepCount → step false p ≡ w → rs ≡ stepAddresses → xs ≡ stepRaised
+      → ((a : ℕ) → a < 256 → getD bytes a 0 ≡ closed want image a)
+      → merge 8 (getD xs p 0) (getD xs p 0) (getD bytes (getD rs p 0) 0) ≡ written want image w .value
+  step-value p {w} bytes h e rs xs each =
+      let q : Proper w = subst Proper e (step-proper p h) in
+      rw (address-at p rs e, raised-at p xs e, each (w .register) (q .small)) (raised-written w q)
+
+  unraised : (a : ℕ) → eqb a reg.gc ≡ false → closed want image a ≡ merge 8 (leftUp a) (leftUp a) (closed want image a)
+  unfolding closed
+  unraised a t = rw t (sym (none-raised _ _ _))
+
+  -- the closed image with the picture opened is the finished one
+  pub opened-finished : (bytes : List ℕ) (v : ℕ) → length bytes ≡ 256 → ((a : ℕ) → a < 256 → getD bytes a 0 ≡ closed want image a)
+      → v ≡ merge 8 reg.clearAvMuteMask reg.clearAvMuteMask (getD bytes reg.gc 0) → ((a : ℕ) → a < 256 → getD image a 0 < 256)
+      → (a : ℕ) → a < 256 → getD (set bytes reg.gc v) a 0 ≡ finished want image a
+  opened-finished bytes v l each e small a h = go (eqb a reg.gc) refl
+    where
+      go : (t : Bool) → eqb a reg.gc ≡ t → getD (set bytes reg.gc v) a 0 ≡ finished want image a
+      go true t =
+          let q : a ≡ reg.gc = eqb-true a reg.gc t in
+          subst (λ (x : ℕ). getD (set bytes reg.gc v) x 0 ≡ finished want image x) (sym q)
+          (getD-set-same bytes reg.gc v 0 (rw l (lit< tt)) ∙ e ∙ rw (each reg.gc (lit< tt)) (raised-finished reg.gc (lit< tt) (small reg.gc (lit< tt))))
+      go false t =
+          getD-set-other bytes reg.gc a v 0 (eqb-false a reg.gc t) ∙ each a h ∙ unraised a t ∙ raised-finished a h (small a h)
+
+pub address-small : (p : ℕ) {rs : List ℕ} → p < stepCount → rs ≡ stepAddresses → getD rs p 0 < 256
+address-small p h rs = rw (address-at p rs refl) (step-proper p h .small)
+
+-- a turn of a loop that stores one byte after the other
+pub one-more : (f : ℕ → ℕ) (out : List ℕ) (a v : ℕ) → a < length out → v ≡ f a → ((j : ℕ) → j < a → getD out j 0 ≡ f j)
+    → (j : ℕ) → j < a + 1 → getD (set out a v) j 0 ≡ f j
+one-more f out a v h e before j l = go (eq-or-lt-of-le (omega arith))
+  where
+    go : (j ≡ a) ⊎ (j < a) → getD (set out a v) j 0 ≡ f j
+    go (inl q) = rw q (getD-set-same out a v 0 h ∙ e)
+    go (inr q) = getD-set-other out a j v 0 (λ z. omega arith) ∙ before j q

@@ -1,0 +1,98 @@
+-- `writes::closed` meets its contract. The loop's invariant: every register passed has its byte. Assumes nothing.
+use mathlib.Core.Path.{_≡_, _∙_}
+use Prim.Native.Nat.{ℕ, _-_, _<_, _≤_}
+use native.Mathlib.Omega.{arith}
+use lib.ListN.{length, getD}
+use borrow.Author.Needs.{needs}
+use Rattle.writes.specs.Columns.{closed}
+use Rattle.writes.proofs.Columns.{by-columns, one-more}
+use Rattle.writes.proofs.closed.Statement.{statement}
+use Rattle.writes.proofs.closed.Tie as tie
+
+abbrev Inv-loop : tie.InvT-loop
+Inv-loop image wanted keep want set out₀ a₀ out a =
+    (a ≤ 256) × (length out ≡ 256) × ((j : ℕ) → j < a → getD out j 0 ≡ closed (λ b. getD wanted b 0) image j)
+
+abbrev μ-loop : tie.MeasureT-loop
+μ-loop image wanted keep want set out₀ a₀ out a = 256 - a
+
+keep-requires : tie.Need-keep-requires Inv-loop μ-loop
+keep-requires c κs = search needs
+
+want-requires : tie.Need-want-requires Inv-loop μ-loop
+want-requires c κs = search needs
+
+set-requires : tie.Need-set-requires Inv-loop μ-loop
+set-requires c κs = search needs
+
+loop-holds : tie.Need-loop-holds Inv-loop μ-loop
+loop-holds c = (search needs, search needs, λ j h. absurd (omega arith))
+
+array-read-merge : tie.Need-array-read-merge Inv-loop μ-loop
+array-read-merge c = search needs
+
+shared-slice-read-merge : tie.Need-shared-slice-read-merge Inv-loop μ-loop
+shared-slice-read-merge c = search needs
+
+array-read-merge-2 : tie.Need-array-read-merge-2 Inv-loop μ-loop
+array-read-merge-2 c = search needs
+
+element-copy-out-merge : tie.Need-element-copy-out-merge Inv-loop μ-loop
+element-copy-out-merge c = search needs
+
+array-read-merge-3 : tie.Need-array-read-merge-3 Inv-loop μ-loop
+array-read-merge-3 c = search needs
+
+merge-requires : tie.Need-merge-requires Inv-loop μ-loop
+merge-requires c κs = search needs
+
+merge-requires-2 : tie.Need-merge-requires-2 Inv-loop μ-loop
+merge-requires-2 c κs = search needs
+
+array-write-out : tie.Need-array-write-out Inv-loop μ-loop
+array-write-out c = search needs
+
+add-a : tie.Need-add-a Inv-loop μ-loop
+add-a c = search needs
+
+loop-less : tie.Need-loop-less Inv-loop μ-loop
+loop-less c = search needs
+
+loop-again : tie.Need-loop-again Inv-loop μ-loop
+loop-again c =
+    let l = c .before .before .before .before .before .loop in
+    let s = c .before .before .before .before .before .before in
+    let a = s .before .before .before .before .args in (
+      search needs,
+      search needs,
+      one-more (closed (λ b. getD (a .wanted .now) b 0) (a .image .now)) (l .out) (l .a) _ (search needs)
+          (c .merge2 .ensures ∙ rw (c .before .merge .ensures)
+          (by-columns _ (a .image .now) (l .a) (search needs) (s .before .before .keep .ensures) (s .before .want .ensures) (s .set .ensures)))
+          (l .inv .2),
+    )
+
+returns : tie.Need-returns Inv-loop μ-loop
+returns c = λ a h. c .before .loop .inv .2 a (omega arith)
+
+pub closed-spec : {M : Type 1} → statement M
+closed-spec =
+    tie.close
+    (tie.spec
+    Inv-loop
+    μ-loop
+    keep-requires
+    want-requires
+    set-requires
+    loop-holds
+    array-read-merge
+    shared-slice-read-merge
+    array-read-merge-2
+    element-copy-out-merge
+    array-read-merge-3
+    merge-requires
+    merge-requires-2
+    array-write-out
+    add-a
+    loop-less
+    loop-again
+    returns)

@@ -1,0 +1,30 @@
+-- The list as the code has it: two columns of the steps, three of the registers. proofs/Columns ties them to `written` and `finished`.
+use mathlib.Core.Bool.{false, cond}
+use mathlib.Core.List.{List, map}
+use Prim.Native.Nat.{ℕ}
+use lib.ListN.{getD}
+use Rattle.bits.specs.Merge.{merge}
+use Rattle.registers.specs.Classes.{readOnly, free, named, bits}
+use Rattle.writes.specs.Steps.{middle, steps}
+use Rattle.writes.specs.List.{decided, isWritten}
+
+-- the steps, AVI before audio: the register of each, and the bits that it raises
+unfoldable pub stepAddresses : List ℕ
+stepAddresses = map (λ i. i .register) (steps (middle false))
+
+unfoldable pub stepRaised : List ℕ
+stepRaised = map (λ i. i .raised) (steps (middle false))
+
+-- of a register: the bits that a write keeps, those that are as wanted, and the others, where no step raises any
+abbrev pub keptBits : ℕ → ℕ
+keptBits a = cond (isWritten a) (merge 8 (readOnly a) (readOnly a) (free a)) 255
+
+abbrev pub wantedBits : ℕ → ℕ
+wantedBits a = cond (isWritten a) (merge 8 (decided a) 0 (named a)) 0
+
+abbrev pub setBits : ℕ → ℕ
+setBits a = cond (isWritten a) (merge 8 (named a) 0 (bits a)) 0
+
+-- register a as the list leaves it, with the bits that steps decide down
+unfoldable pub closed : (ℕ → ℕ) → List ℕ → ℕ → ℕ
+closed want image a = merge 8 (keptBits a) (getD image a 0) (merge 8 (wantedBits a) (want a) (setBits a))
