@@ -29,7 +29,7 @@ use Rattle.writes.specs.List.{byte, decided, written, isWritten, finished}
 use Rattle.decode.specs.declared.Decoded.{Decoded}
 use Rattle.decode.specs.Ends.{Acceptable, Stands, Ends}
 use Rattle.decode.specs.Extract.{byteIn, matrixIn, extract}
-use Rattle.plan.specs.Stands.{standsBelow}
+use Rattle.writes.specs.List.{standsBelow}
 use Rattle.decode.specs.Decode.{endsIn, someEnds, decodeRules, decodeTests, decodeRefusal, notDecoded, decodeOf, inFront, decodedBuffer}
 use Rattle.decode.specs.Theorems.{Answered, ExactlyWhen, AtMostOne, Refusals, Ran, ReadBack}
 use Rattle.request.proofs.Ranged.{Ranged, read-ranged}
@@ -40,19 +40,19 @@ use Rattle.decode.proofs.Extracted.{extracted}
 -- ---- the test of `Stands`
 
 module _ (r : Request) (image : List ℕ) where
-  stands-tested : (n : ℕ) → ((a : ℕ) → a < n → finished (wanted r) image a ≡ getD image a 0) → standsBelow r image n ≡ true
+  stands-tested : (n : ℕ) → ((a : ℕ) → a < n → finished (wanted r) image a ≡ getD image a 0) → standsBelow (wanted r) image n ≡ true
   unfolding standsBelow
   stands-tested zero f = refl
   stands-tested (suc n) f = rw (eq-eqb (finished (wanted r) image n) (getD image n 0) (f n (omega arith))) (stands-tested n (λ a h. f a (omega arith)))
 
-  test-stands : (n : ℕ) → standsBelow r image n ≡ true → (a : ℕ) → a < n → finished (wanted r) image a ≡ getD image a 0
+  test-stands : (n : ℕ) → standsBelow (wanted r) image n ≡ true → (a : ℕ) → a < n → finished (wanted r) image a ≡ getD image a 0
   unfolding standsBelow
   test-stands zero t a h = absurd (not-suc-le-zero h)
   test-stands (suc n) t a h =
       go (eq-or-lt-of-le (le-of-suc-le-suc h)) (test-stands n (both-right (eqb (finished (wanted r) image n) (getD image n 0)) _ t) a)
     where
       go : (a ≡ n) ⊎ (a < n) → (a < n → finished (wanted r) image a ≡ getD image a 0) → finished (wanted r) image a ≡ getD image a 0
-      go (inl e) ih = rw e (eqb-true _ _ (both-left _ (standsBelow r image n) t))
+      go (inl e) ih = rw e (eqb-true _ _ (both-left _ (standsBelow (wanted r) image n) t))
       go (inr l) ih = ih l
 
 -- an acceptable request has its fields in range
@@ -72,7 +72,7 @@ test-ends : (r : Request) (f : ℕ) (image : List ℕ) → Shaped (r .matrix) �
 unfolding endsIn
 test-ends r f image h e t =
     let q : Request = inFamily f r in
-    let u : (eqb (readOf (asBytes q) .refusal) 0 && eqb (pairFor q .refusal) 0) ≡ true = both-left _ (standsBelow q image 256) t in
+    let u : (eqb (readOf (asBytes q) .refusal) 0 && eqb (pairFor q .refusal) 0) ≡ true = both-left _ (standsBelow (wanted q) image 256) t in
     record {
       family = f;
       answered = e;

@@ -14,7 +14,9 @@ use Rattle.request.specs.Sections.{longest}
 use Rattle.request.specs.Read.{readOf, pairFor}
 use Rattle.request.specs.Bytes.{asBytes, inFamily, Shaped}
 use Rattle.request.proofs.Said.{said}
-use Rattle.plan.specs.Stands.{standsBelow, standsIn}
+use Rattle.writes.specs.List.{standsBelow}
+use Rattle.plan.specs.Wanted.{wanted}
+use Rattle.plan.specs.Plan.{standsIn}
 use Rattle.decode.specs.declared.Decoded.{Decoded}
 use Rattle.decode.specs.Extract.{extract}
 use Rattle.decode.specs.Decode.{endsIn, someEnds, decodeRefusal, notDecoded, decodeOf, inFront, decodedBuffer}
@@ -32,8 +34,8 @@ stands-ends r family image s l = go (eqb (readOf (asBytes (inFamily family r)) .
   where
     go : (b : Bool) → eqb (readOf (asBytes (inFamily family r)) .refusal) 0 ≡ b
         → (b && eqb (length image) 256 && eqb (pairFor (readOf (asBytes (inFamily family r)) .request) .refusal) 0
-        && standsBelow (readOf (asBytes (inFamily family r)) .request) image 256)
-        ≡ (b && eqb (pairFor (inFamily family r) .refusal) 0 && standsBelow (inFamily family r) image 256)
+        && standsBelow (wanted (readOf (asBytes (inFamily family r)) .request)) image 256)
+        ≡ (b && eqb (pairFor (inFamily family r) .refusal) 0 && standsBelow (wanted (inFamily family r)) image 256)
     go false e = refl
     go true e = rw (said (inFamily family r) s (eqb-true _ _ e), eq-eqb (length image) 256 l)
 

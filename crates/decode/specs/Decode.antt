@@ -11,7 +11,8 @@ use Rattle.request.specs.declared.Request.{Request}
 use Rattle.request.specs.Sections.{longest}
 use Rattle.request.specs.Read.{readOf, pairFor}
 use Rattle.request.specs.Bytes.{asBytes, inFamily}
-use Rattle.plan.specs.Stands.{standsBelow}
+use Rattle.plan.specs.Wanted.{wanted}
+use Rattle.writes.specs.List.{standsBelow}
 use Rattle.decode.specs.declared.Decoded.{Decoded}
 use Rattle.decode.specs.Ends.{Ends}
 use Rattle.decode.specs.Extract.{extract}
@@ -20,7 +21,7 @@ use Rattle.decode.specs.Extract.{extract}
 unfoldable pub endsIn : Request → ℕ → List ℕ → Bool
 endsIn r family image =
     let q : Request = inFamily family r in
-    eqb (readOf (asBytes q) .refusal) 0 && eqb (pairFor q .refusal) 0 && standsBelow q image 256
+    eqb (readOf (asBytes q) .refusal) 0 && eqb (pairFor q .refusal) 0 && standsBelow (wanted q) image 256
 
 unfoldable pub someEnds : List ℕ → Bool
 someEnds image = endsIn (extract image) 0 image || endsIn (extract image) 1 image

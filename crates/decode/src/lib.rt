@@ -9,7 +9,7 @@ ghost use Rattle.matrix.specs.Coefficient.{coefficientBytes};
 ghost use Rattle.request.specs.declared.Request.{Request};
 ghost use Rattle.request.specs.Sections.{audioCount, matrixCount, longest};
 ghost use Rattle.request.specs.Bytes.{audioBody, matrixBody, asBytes, inFamily};
-ghost use Rattle.plan.specs.Stands.{standsIn};
+ghost use Rattle.plan.specs.Plan.{standsIn};
 ghost use Rattle.decode.specs.Extract.{rateOf, soundIn, matrixIn, extract};
 ghost use Rattle.decode.specs.Decode.{inFront, notDecoded, Decodes};
 ghost use Rattle.decode.specs.Theorems.{ExactlyWhen, BitByBit, AtMostOne, Refusals, ReadBack};

@@ -1,10 +1,7 @@
 -- Demands 2 and 3, tied to the planning entry. Assumes nothing.
 use mathlib.Core.Path.{_≡_, refl, sym, ap, ap₂, subst, _∙_}
-use mathlib.Core.Bool.{Bool, true, false, false≢true, cond, not}
 use mathlib.Core.List.{List}
 use Prim.Native.Nat.{ℕ}
-use native.Mathlib.Omega.{arith}
-use lib.Dec.{eqb, ltb}
 use lib.ListN.{length, getD, drop, replicate}
 use borrow.Author.Tests.{eqb-true, eq-eqb, le-ltb}
 use Rattle.matrix.specs.Matrix.{Bytes}
@@ -17,9 +14,10 @@ use Rattle.request.specs.Bytes.{asBytes}
 use Rattle.request.proofs.Ranged.{Ranged, read-ranged}
 use Rattle.plan.specs.Wanted.{wanted}
 use Rattle.plan.specs.declared.Planned.{Planned}
-use Rattle.writes.specs.List.{finishedImage, ready}
+use Rattle.writes.specs.List.{finishedImage}
 use Rattle.writes.proofs.Image.{image-length, image-at}
-use Rattle.plan.specs.Plan.{laterRefusal, refusalOf, writesOf, planOf, bufferOf}
+use Rattle.plan.specs.Plan.{planOf}
+use Rattle.plan.proofs.Fine.{Fine, fine, accepts, leaves}
 use Rattle.plan.proofs.Ordered.{refusals}
 use Rattle.cut.specs.Demand.{toItsEnd, cuts, Demand3}
 use Rattle.cut.proofs.WriteList.{holds}
@@ -36,59 +34,15 @@ use Rattle.promises.specs.LentBytes.{Followed}
 use Rattle.promises.proofs.LentBytes.{left, followed}
 use Rattle.promises.specs.AnyCut.{listOf, Again, AnyCut}
 
--- an answer without a refusal comes from no refusal
-answered : (input image buffer : List ℕ) → planOf input image buffer .refusal ≡ 0 → refusalOf input image buffer ≡ 0
-unfolding planOf
-answered input image buffer z = go (eqb (refusalOf input image buffer) 0) refl z
-  where
-    go : (b : Bool) → eqb (refusalOf input image buffer) 0 ≡ b
-        → cond {A = Planned} b (record { refusal = 0; count = length (writesOf input image) }) (record { refusal = refusalOf input image buffer; count = 0 }) .refusal ≡ 0
-        → refusalOf input image buffer ≡ 0
-    go true e z = eqb-true _ _ e
-    go false e z = z
+listed : (input image buffer : List ℕ) → Fine input image buffer → Listed input image buffer
+listed input image buffer f = record { count = ap (λ (p : Planned). p .count) (accepts input image buffer f); list = leaves input image buffer f }
 
--- what no refusal says of the image, and what it takes from the image: its length and its holds
-pub record Fine (input image buffer : List ℕ) : Type 0 where
-  pub read : readOf input .refusal ≡ 0
-  pub whole : length image ≡ 256
-  pub clear : ready image ≡ true
-  pub paired : eqb (pairFor (readOf input .request) .refusal) 0 ≡ true
-  pub long : ltb (length buffer) 256 ≡ false
-
-fine : (input image buffer : List ℕ) → refusalOf input image buffer ≡ 0 → Fine input image buffer
-unfolding refusalOf laterRefusal
-fine input image buffer z =
-    go (eqb (readOf input .refusal) 0) refl (eqb (length image) 256) refl (ready image) refl (eqb (pairFor (readOf input .request) .refusal) 0) refl
-    (ltb (length buffer) 256) refl z
-  where
-    go : (r : Bool) → eqb (readOf input .refusal) 0 ≡ r → (l : Bool) → eqb (length image) 256 ≡ l → (h : Bool) → ready image ≡ h
-        → (p : Bool) → eqb (pairFor (readOf input .request) .refusal) 0 ≡ p → (b : Bool) → ltb (length buffer) 256 ≡ b
-        → cond r (cond (not l) 7 (cond (not h) 8 (cond (not p) 9 (cond b 10 0)))) (readOf input .refusal) ≡ 0
-        → Fine input image buffer
-    go true er true el true eh true ep false eb z = record { read = eqb-true _ _ er; whole = eqb-true _ _ el; clear = eh; paired = ep; long = eb }
-    go true er true el true eh true ep true eb z = absurd (omega arith)
-    go true er true el true eh false ep b eb z = absurd (omega arith)
-    go true er true el false eh p ep b eb z = absurd (omega arith)
-    go true er false el h eh p ep b eb z = absurd (omega arith)
-    go false er l el h eh p ep b eb z = absurd (false≢true (sym er ∙ eq-eqb _ _ z))
-
--- and back, on any image with that length and those holds
-pub accepted : (input image buffer : List ℕ) → Fine input image buffer → refusalOf input image buffer ≡ 0
-unfolding refusalOf laterRefusal
-accepted input image buffer f = rw (eq-eqb _ 0 (f .read), eq-eqb _ 256 (f .whole), f .clear, f .paired, f .long)
-
-pub answer : (input image buffer : List ℕ) → refusalOf input image buffer ≡ 0 → planOf input image buffer .refusal ≡ 0
-unfolding planOf
-answer input image buffer z = rw z
-
-listed : (input image buffer : List ℕ) → refusalOf input image buffer ≡ 0 → Listed input image buffer
-unfolding planOf bufferOf writesOf
-listed input image buffer r = record { count = rw r; list = rw r }
+pub accepted : (input image buffer : List ℕ) → Fine input image buffer → planOf input image buffer .refusal ≡ 0
+accepted input image buffer f = ap (λ (p : Planned). p .refusal) (accepts input image buffer f)
 
 pub any-cut : (input buffer : List ℕ) (s : Chip) → planOf input (s .image) buffer .refusal ≡ 0 → AnyCut input buffer s
 any-cut input buffer s z =
-    let r : refusalOf input (s .image) buffer ≡ 0 = answered input (s .image) buffer z in
-    let f = fine input (s .image) buffer r in
+    let f = fine input (s .image) buffer z in
     let d : Demand3 (listOf input) (asked input) s = holds (asked input) s (f .whole) (f .clear) in
     let q : Request = readOf input .request in
     let e : Chip = toItsEnd (listOf input) s in
@@ -96,7 +50,7 @@ any-cut input buffer s z =
     let stands : Stands q (e .image) =
     λ a h. finished-again (wanted q) (s .image) (e .image) a (ap (λ (l : List ℕ). getD l a 0) (d .registers) ∙ image-at (wanted q) (s .image) a h) in
     let g : Ranged q = read-ranged input (f .read) in
-    let l : Listed input (s .image) buffer = listed input (s .image) buffer r in
+    let l : Listed input (s .image) buffer = listed input (s .image) buffer f in
     let newAvi = ap (drop 2) (d .ended .avi) ∙ avi-in q (e .image) sized g stands in
     let newAudio = ap (drop 2) (d .ended .audio) ∙ audio-in q (e .image) sized g stands in
     let newMatrix = d .ended .matrix ∙ matrix-in q (e .image) sized g stands in
@@ -114,15 +68,15 @@ any-cut input buffer s z =
       bytes = λ z. subst (λ (ws : List Write). Followed q ws s) (sym (left input (s .image) buffer l)) (followed input s z d newAvi newAudio newMatrix newMode);
       again = λ ks room long.
           let image : List ℕ = cuts (listOf input) ks s .image in
-          let y : refusalOf input image room ≡ 0 = accepted input image room
-          (record { read = f .read; whole = d .whole ks; clear = d .ready ks; paired = f .paired; long = le-ltb (length room) 256 long }) in
-          record { accepted = answer input image room y; listed = listed input image room y };
+          let y : Fine input image room =
+          record { read = f .read; whole = d .whole ks; clear = d .ready ks; paired = f .paired; long = le-ltb (length room) 256 long } in
+          record { accepted = accepted input image room y; listed = listed input image room y };
     }
 
 pub rules : (input buffer : List ℕ) (s : Chip) → Demand2 input buffer s
 rules input buffer s = record {
   accepted = λ b. refusals input b (s .image) buffer .given .none;
-  listed = λ z. listed input (s .image) buffer (answered input (s .image) buffer z);
+  listed = λ z. listed input (s .image) buffer (fits z);
   order = in-order (asked input) (s .image);
   entries = entries (asked input) (s .image);
   finished = λ z. any-cut input buffer s z .demand .registers;
@@ -133,11 +87,11 @@ rules input buffer s = record {
 }
   where
     fits : planOf input (s .image) buffer .refusal ≡ 0 → Fine input (s .image) buffer
-    fits z = fine input (s .image) buffer (answered input (s .image) buffer z)
+    fits = fine input (s .image) buffer
 
     ran : Bytes input → planOf input (s .image) buffer .refusal ≡ 0 → Ran input (s .image) (finishedImage (asked input) (s .image))
     ran b z =
-        let f = fine input (s .image) buffer (answered input (s .image) buffer z) in
+        let f = fits z in
         record {
           bytes = b;
           read = f .read;
@@ -159,13 +113,13 @@ on-some-image r = (there, back)
           image = z;
           buffer = z;
           says = says;
-          accepted = answer (asBytes r) z z (accepted (asBytes r) z z (record {
+          accepted = accepted (asBytes r) z z (record {
             read = ap (λ (c : Checked). c .refusal) (a .read);
             whole = refl;
             clear = refl;
             paired = eq-eqb _ 0 (ap (λ (q : Request). pairFor q .refusal) says ∙ a .paired);
             long = refl;
-          }));
+          });
         }
 
     the : ℕ → Request → Checked
@@ -173,7 +127,7 @@ on-some-image r = (there, back)
 
     back : Accepted r → Acceptable r
     back b =
-        let f = fine (asBytes r) (b .image) (b .buffer) (answered (asBytes r) (b .image) (b .buffer) (b .accepted)) in
+        let f = fine (asBytes r) (b .image) (b .buffer) (b .accepted) in
         record {
           read = ap₂ the (f .read) (b .says);
           paired = ap (λ (q : Request). pairFor q .refusal) (sym (b .says)) ∙ eqb-true _ _ (f .paired);

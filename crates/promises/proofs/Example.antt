@@ -14,7 +14,7 @@ use Rattle.request.specs.Sections.{walk, walked}
 use Rattle.request.specs.Read.{outside, combined, judged, readOf, pairFor}
 use Rattle.writes.specs.List.{ready}
 use Rattle.promises.specs.Example.{example, zeros, IsAccepted, Example}
-use Rattle.promises.proofs.AnyCut.{Fine, accepted, answer}
+use Rattle.promises.proofs.AnyCut.{accepted}
 
 read : readOf example .refusal ≡ 0
 unfolding walk walked outside combined judged readOf modeOf clockOf
@@ -26,8 +26,7 @@ paired = refl
 
 on : (image : List ℕ) → length image ≡ 256 → ready image ≡ true → IsAccepted image
 on image whole clear =
-    answer example image zeros
-    (accepted example image zeros (record { read = read; whole = whole; clear = clear; paired = paired; long = refl }))
+    accepted example image zeros (record { read = read; whole = whole; clear = clear; paired = paired; long = refl })
 
 pub worked : Example
 worked = record {

@@ -21,8 +21,8 @@ use Rattle.views.specs.Faces.{Sized, Faces, Entered}
 use Rattle.views.proofs.Shown as views
 use Rattle.writes.specs.List.{flat, writeList}
 use Rattle.plan.specs.Wanted.{audioBytes}
-use Rattle.plan.specs.Plan.{planOf, bufferOf}
-use Rattle.plan.proofs.Pairs.{length-flat}
+use Rattle.plan.specs.Plan.{planOf, planBuffer}
+use Rattle.writes.proofs.Pairs.{length-flat}
 use Rattle.cut.specs.Run.{Event, write, run, cut, event, happens}
 use Rattle.cut.specs.Demand.{sent, toItsEnd, Demand3}
 use Rattle.cut.proofs.Taken.{neat-two}

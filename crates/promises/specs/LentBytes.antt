@@ -15,7 +15,7 @@ use Rattle.views.specs.View.{sentOf, muteOf}
 use Rattle.views.specs.Converter.{matrixOut}
 use Rattle.views.specs.Faces.{Sized}
 use Rattle.plan.specs.Wanted.{audioBytes}
-use Rattle.plan.specs.Plan.{planOf, bufferOf}
+use Rattle.plan.specs.Plan.{planOf, planBuffer}
 use Rattle.cut.specs.Run.{Either}
 
 -- "Pairs of address and value"
@@ -26,7 +26,7 @@ pairsOf (a ∷ v ∷ rest) = a gets v ∷ pairsOf rest
 
 -- those that planning leaves in the lent buffer, by the count that it answers
 abbrev pub pairsLeft : List ℕ → List ℕ → List ℕ → List Write
-pairsLeft input image buffer = pairsOf (take (2 * planOf input image buffer .count) (bufferOf input image buffer))
+pairsLeft input image buffer = pairsOf (take (2 * planOf input image buffer .count) (planBuffer input image buffer))
 
 -- the three slices after these writes over them; one that is refused changes nothing
 abbrev pub entered : List Write → Chip → Chip

@@ -13,7 +13,7 @@ use Rattle.request.specs.Read.{readOf, nctsOf}
 use Rattle.request.specs.Bytes.{asBytes, answeredBytes}
 use Rattle.plan.specs.Wanted.{wanted}
 use Rattle.writes.specs.List.{writeList, flat, finishedImage}
-use Rattle.plan.specs.Plan.{planRules, planOf, bufferOf}
+use Rattle.plan.specs.Plan.{planRules, planOf, planBuffer}
 use Rattle.decode.specs.Ends.{Acceptable}
 use Rattle.decode.specs.Theorems.{Answered}
 use Rattle.cut.specs.Run.{run}
@@ -33,7 +33,7 @@ Permitted rules = (i : ℕ) → i < length rules → at rules i .When → ⊥
 -- the list of a request on an image stands at the front of the lent buffer, with its count; "buffer bytes after the list stay"
 pub record Listed (input image buffer : List ℕ) : Type 0 where
   pub count : planOf input image buffer .count ≡ length (writeList (asked input) image)
-  pub list : bufferOf input image buffer ≡ flat (writeList (asked input) image) ++ drop (length (flat (writeList (asked input) image))) buffer
+  pub list : planBuffer input image buffer ≡ flat (writeList (asked input) image) ++ drop (length (flat (writeList (asked input) image))) buffer
 
 pub record Demand2 (input buffer : List ℕ) (s : Chip) : Type 0 where
   -- "A request is accepted exactly when document 01's rules .. permit it."

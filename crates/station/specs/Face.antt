@@ -8,7 +8,7 @@ use Rattle.plan.specs.declared.Planned.{Planned}
 use Rattle.decode.specs.declared.Decoded.{Decoded}
 use Rattle.request.specs.Read.{nctsOf}
 use Rattle.matrix.specs.Preview.{previewOf}
-use Rattle.plan.specs.Plan.{planOf, bufferOf}
+use Rattle.plan.specs.Plan.{planOf, planBuffer}
 use Rattle.decode.specs.Decode as decoding
 use Rattle.station.specs.declared.CountOut.{CountOut}
 use Rattle.station.specs.declared.PairOut.{PairOut}
@@ -27,7 +27,7 @@ abbrev pub pixelOut : Pixel → PixelOut
 pixelOut p = record { refusal = p .refusal; a = p .a; b = p .b; c = p .c }
 
 abbrev pub StationPlan : List ℕ → List ℕ → List ℕ → CountOut → List ℕ → Type 0
-StationPlan request image writes out left = (out ≡ countOut (planOf request image writes)) × (left ≡ bufferOf request image writes)
+StationPlan request image writes out left = (out ≡ countOut (planOf request image writes)) × (left ≡ planBuffer request image writes)
 
 abbrev pub StationDecode : List ℕ → List ℕ → CountOut → List ℕ → Type 0
 StationDecode image request out left = (out ≡ requestOut (decoding.decodeOf image request)) × (left ≡ decoding.decodedBuffer image request)

@@ -5,7 +5,7 @@ use mathlib.Core.Path.{ap, _∙_}
 use mathlib.Core.List.{List}
 use Prim.Native.Nat.{ℕ}
 use Rattle.request.specs.Bytes.{asBytes}
-use Rattle.plan.specs.Stands.{standsIn}
+use Rattle.plan.specs.Plan.{standsIn}
 use borrow.Author.Needs.{needs}
 use Rattle.decode.proofs.ends_in.Statement.{statement}
 use Rattle.decode.proofs.ends_in.Tie as tie
