@@ -16,7 +16,8 @@ clockIn hertz family =
 -- refusal 4: "VIC not listed below, or family not offered by it"; zeros beside it
 unfoldable pub clockOf : Video → Clock
 clockOf video =
-    cond (offered video) (clockIn (modeOf (video .vic) .hertz) (video .family)) (record { refusal = number modeNotOffered; num = 0; den = 0 })
+    cond (offered video) (clockIn (modeOf (video .vic) .hertz) (video .family))
+    (record { refusal = number modeNotOffered; num = 0; den = 0 })
 
 -- what `clock_of` promises
 abbrev pub GivesClock : Video → Clock → Type 0

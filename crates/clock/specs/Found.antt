@@ -1,5 +1,5 @@
--- How the code finds the pair that `Pairs` speaks of, and what the calls answer: tied to document 01's words by `PairRule` and `ClockRefusals`. With
--- u/v the ratio clock / (128·fs) in lowest terms, CTS = N·u/v, so the exact pairs are N = k·v, CTS = k·u.
+-- How the code finds the pair that `Pairs` speaks of, and what the calls answer: tied to document 01's words by `PairRule` and
+-- `ClockRefusals`. With u/v the ratio clock / (128·fs) in lowest terms, CTS = N·u/v, so the exact pairs are N = k·v, CTS = k·u.
 use mathlib.Core.Path.{_≡_}
 use mathlib.Core.Bool.{Bool, cond, _&&_, _||_, not}
 use Prim.Native.Nat.{ℕ, _+_, _-_, _*_, _/_, min}
@@ -41,7 +41,8 @@ nearestOf clock rate =
 -- the test of `Exact`
 unfoldable pub exactly : Clock → ℕ → ℕ → ℕ → Bool
 exactly clock rate n cts =
-    leb (reference rate) (1500 * n) && leb (300 * n) (reference rate) && leb cts 1048575 && eqb (reference rate * cts * clock .den) (clock .num * n)
+    leb (reference rate) (1500 * n) && leb (300 * n) (reference rate) && leb cts 1048575
+    && eqb (reference rate * cts * clock .den) (clock .num * n)
 
 unfoldable pub coherentOf : Clock → ℕ → Pair
 coherentOf clock rate =

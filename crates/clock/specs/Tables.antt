@@ -28,10 +28,10 @@ row num den r32 r44 r88 r176 r48 r96 r192 =
       cts = r32 .cts ∷ r44 .cts ∷ r48 .cts ∷ r88 .cts ∷ r96 .cts ∷ r176 .cts ∷ r192 .cts ∷ [];
     }
 
--- The rows as the tables print them, a line for each table: 25.2/1.001 MHz, 25.2, 27, 27·1.001, 54, 54·1.001, 74.25/1.001, 74.25, 148.5/1.001
--- and 148.5 MHz. "HDMI 1.4 decides over 000", so these numbers are HDMI 1.4's and not 000's: CTS 165000 (000: 16500) at 148.5 MHz and 44.1, 88.2,
--- 176.4 kHz; N 23296 (000: 35672) at 74.25/1.001 MHz and 96 kHz; N 11648 (000: 17836) at 148.5/1.001 MHz and 96 kHz. At 74.25/1.001 MHz and
--- 32 kHz the tables print two CTS, 210937 and 210938, taken in turn: no pair there is exact.
+-- The rows as the tables print them, a line for each table: 25.2/1.001 MHz, 25.2, 27, 27·1.001, 54, 54·1.001, 74.25/1.001, 74.25,
+-- 148.5/1.001 and 148.5 MHz. "HDMI 1.4 decides over 000", so these numbers are HDMI 1.4's and not 000's: CTS 165000 (000: 16500) at
+-- 148.5 MHz and 44.1, 88.2, 176.4 kHz; N 23296 (000: 35672) at 74.25/1.001 MHz and 96 kHz; N 11648 (000: 17836) at 148.5/1.001 MHz and
+-- 96 kHz. At 74.25/1.001 MHz and 32 kHz the tables print two CTS, 210937 and 210938, taken in turn: no pair there is exact.
 abbrev pub recommended : List Recommended
 recommended =
     row 25200000000 1001

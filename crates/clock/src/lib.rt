@@ -29,7 +29,7 @@ pub struct NCts {
     pub cts: u32,
 }
 
-// Tables 80 to 82 of source document 000, row by row as the definition has them: the clock in Hz as a fraction, and N and CTS at the rates 0 to 6.
+// Tables 80 to 82 of source document 000, in the rows of the definition: the clock in Hz as a fraction, and N and CTS at the rates 0 to 6.
 #[rattlefmt::skip]
 const NUMS: [u64; 10] = [
     25200000000, 25200000, 27000000, 27027000, 54000000, 54054000, 74250000000, 74250000, 148500000000, 148500000,
@@ -108,7 +108,8 @@ fn reference(rate: u8) -> u64
     128 * RATES[rate as usize] as u64
 }
 
-// The recommended pair for a clock and rate; N 0 where there is none. The clocks are named before the loop: a constant is built where it is named.
+// The recommended pair for a clock and rate; N 0 where there is none. The clocks are named before the loop, since a constant is built anew
+// wherever it is named.
 fn recommended_pair(clock: Clock, rate: u8) -> NCts
     requires { ⌜ rate < 7 ⌝ }
     requires { ⌜ Sized clock ⌝ }

@@ -27,7 +27,8 @@ aviOf video =
 -- the audio frame: refusal 5
 unfoldable pub audioOf : ℕ → Audio
 audioOf channels =
-    cond (not (eqb channels 2) && not (eqb channels 8)) (noAudio (number fieldOutOfRange)) (record { refusal = 0; bytes = audioFrame channels })
+    cond (not (eqb channels 2) && not (eqb channels 8)) (noAudio (number fieldOutOfRange))
+    (record { refusal = 0; bytes = audioFrame channels })
 
 -- what `avi_of` and `audio_of` promise
 abbrev pub GivesAvi : Video → Avi → Type 0

@@ -1,7 +1,8 @@
 // The checksum, and the AVI and audio InfoFrames: document 01, "InfoFrames".
 ghost use mathlib.Core.Path.{_≡_};
 ghost use Prim.Native.Nat.{_%_, _≤_};
-ghost use Rattle.frames.specs.Frames.{total, checksumOf, frame, colorimetry, aviHeader, aviPayload, audioHeader, audioPayload, audioOffFrame};
+ghost use Rattle.frames.specs.Frames.{total, checksumOf, frame, colorimetry};
+ghost use Rattle.frames.specs.Frames.{aviHeader, aviPayload, audioHeader, audioPayload, audioOffFrame};
 ghost use Rattle.frames.specs.Answers.{GivesAvi, GivesAudio};
 ghost use Rattle.frames.specs.Theorems.{Checksum, FrameRefusals};
 use refusals::Refusal;

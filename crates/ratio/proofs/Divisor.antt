@@ -1,7 +1,8 @@
 -- The laws of the divisor that Euclid's rule finds: it is the greatest, and by it a fraction is brought to lowest terms. Assumes nothing.
 use mathlib.Core.Path.{_≡_, refl, sym, ap, _∙_, subst}
 use Prim.Native.Nat.{ℕ, zero, suc, _+_, _*_, _/_, _%_, _<_, _≤_, _∣_}
-use native.Mathlib.Nat.{dvd-refl, dvd-zero, dvd-mod-iff, dvd-add-iff-right, dvd-mul-right-of-dvd, dvd-of-mul-dvd-mul-left, eq-one-of-dvd-one, mul-dvd-mul-left, pos-of-dvd-of-pos}
+use native.Mathlib.Nat.{dvd-refl, dvd-zero, dvd-mod-iff, dvd-add-iff-right, dvd-mul-right-of-dvd, dvd-of-mul-dvd-mul-left}
+use native.Mathlib.Nat.{eq-one-of-dvd-one, mul-dvd-mul-left, pos-of-dvd-of-pos}
 use native.Mathlib.Nat.{mod-lt, div-add-mod, mul-div-cancel', mul-add, mul-assoc, mul-left-comm, mul-one, zero-lt-suc, not-suc-le-zero, le-refl}
 use native.Mathlib.Omega.{arith}
 use Rattle.ratio.specs.Lowest.{steps, divisorOf, Lowest}

@@ -13,8 +13,8 @@ pub record Reduces (num den : ℕ) (r : Ratio) : Type 0 where
   pub some : 0 < den → Lowest num den (r .u) (r .v)
   pub none : den ≡ 0 → (r .u ≡ 0) × (r .v ≡ 0)
 
--- Euclid's rule, by which definitions compute: the divisor of (a, 0) is a, and that of (a, b) is that of (b, a % b). At most b steps are taken.
--- `LowestTerms` says that this is what any other way finds.
+-- Euclid's rule, by which definitions compute: the divisor of (a, 0) is a, and that of (a, b) is that of (b, a % b). At most b steps are
+-- taken. `LowestTerms` says that any other way finds the same.
 unfoldable pub steps : ℕ → ℕ → ℕ → ℕ
 steps zero a b = a
 steps (suc n) a zero = a

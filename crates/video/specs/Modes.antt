@@ -10,7 +10,8 @@ use Rattle.video.specs.declared.Video.{Video}
 -- VIC; clock in Hz at family 0; how many families it offers; picture aspect as the AVI InfoFrame's M has it, 1 for 4:3 and 2 for 16:9;
 -- colorimetry as its C has it where the encoding is not RGB ("InfoFrames": 1 for VIC 1, 2, 3, 17, 18 and 2 for the rest)
 abbrev pub mode : ℕ → ℕ → ℕ → ℕ → ℕ → Mode
-mode vic hertz families aspect colorimetry = record { vic = vic; hertz = hertz; families = families; aspect = aspect; colorimetry = colorimetry }
+mode vic hertz families aspect colorimetry =
+    record { vic = vic; hertz = hertz; families = families; aspect = aspect; colorimetry = colorimetry }
 
 abbrev pub modes : List Mode
 modes =

@@ -21,6 +21,7 @@ pub struct Mode {
     pub colorimetry: u8,
 }
 
+// A row of the table.
 fn row(vic: u8, hertz: u32, families: u8, aspect: u8, colorimetry: u8) -> Mode
     ensures { λ r. ⌜ r ≡ mode vic hertz families aspect colorimetry ⌝ }
 {
@@ -33,7 +34,7 @@ fn row(vic: u8, hertz: u32, families: u8, aspect: u8, colorimetry: u8) -> Mode
     }
 }
 
-// The mode of a VIC: "Modes and clocks", row by row as the definition has them. A `match` and no array, since a call builds its arrays anew.
+// The mode of a VIC: "Modes and clocks", row by row as the definition has them. A `match` and no array: a call builds its arrays anew.
 pub fn mode_of(vic: u8) -> Mode
     ensures { λ r. ⌜ r ≡ modeOf vic ⌝ }
 {

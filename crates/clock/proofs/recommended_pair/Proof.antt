@@ -1,4 +1,4 @@
--- `clock::recommended_pair` meets its contract: the rows not passed yet hold the answer, and the code's tables are the columns. Assumes nothing.
+-- `clock::recommended_pair` meets its contract: the rows not passed hold the answer; the code's tables are the columns. Assumes nothing.
 use mathlib.Core.Path.{_≡_, refl, sym, ap, _∙_}
 use mathlib.Core.Bool.{cond}
 use mathlib.Core.List.{List}
