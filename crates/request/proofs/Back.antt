@@ -13,14 +13,14 @@ use Rattle.lists.proofs.Both.{both-left, both-right, neither-right}
 use Rattle.matrix.specs.Coefficient.{word, within, field, highByte, coefficientBytes}
 use Rattle.matrix.specs.Matrix.{fields, inRange, isAllowed, matrixOf, noMatrix, Bytes}
 use Rattle.matrix.proofs.Pairs.{ranged}
-use Rattle.refusals.specs.Rows.{bytesAfter}
+use Rattle.refusals.specs.Rows.{answer}
 use Rattle.video.specs.Video.{videoIn, videoBody}
 use Rattle.video.proofs.Bodies as video
 use Rattle.request.specs.declared.Request.{Request}
 use Rattle.request.specs.declared.Checked.{Checked}
 use Rattle.request.specs.Sections.{Walk, ends, notAllowed, whole, walk, walked, sections, bodyOf, laid, fits, Sectioned}
 use Rattle.request.specs.Request.{present, encoding, link, soundOf, requestIn}
-use Rattle.request.specs.Read.{audioOutside, outside, judged, checked, refusedRequest, readOf}
+use Rattle.request.specs.Read.{audioOutside, outside, emptied, judged, checked, readOf}
 use Rattle.request.specs.Bytes.{audioBody, matrixBody, bodiesOf, asBytes, answeredAs, answeredBytes, ThereAndBack}
 use Rattle.request.proofs.Opened.{sectioned, request-walks}
 use Rattle.request.proofs.Ordered.{Judged, passed}
@@ -89,10 +89,10 @@ front n [] ys b i = lit< tt
 front n (x ∷ xs) ys b zero = b 1
 front n (x ∷ xs) ys b (suc i) = front x xs ys (λ j. b (suc j)) i
 
-nothing-after : (rest : List ℕ) (c : Checked) → cond (present rest) (refusedRequest bytesAfter) c .refusal ≡ 0 → rest ≡ []
+nothing-after : (rest : List ℕ) (c : Checked) → answer (cond (present rest) 3 0) emptied c .refusal ≡ 0 → rest ≡ []
 nothing-after rest c = go (eqb (length rest) 0) refl
   where
-    go : (b : Bool) → eqb (length rest) 0 ≡ b → cond (not b) (refusedRequest bytesAfter) c .refusal ≡ 0 → rest ≡ []
+    go : (b : Bool) → eqb (length rest) 0 ≡ b → answer (cond (not b) 3 0) emptied c .refusal ≡ 0 → rest ≡ []
     go true e z = none rest (eqb-true _ _ e)
     go false e z = absurd (omega arith)
 

@@ -19,7 +19,7 @@ use Rattle.clock.proofs.Rows.{in-turn}
 use Rattle.request.specs.declared.Sound.the-variants.{Off, On}
 use Rattle.matrix.specs.Matrix.{Bytes}
 use Rattle.request.specs.declared.Request.{Request}
-use Rattle.request.specs.Sections.{Walk, ends, notAllowed, whole, after, walk, walked, sections, bodyOf}
+use Rattle.request.specs.Sections.{Walk, ends, notAllowed, whole, after, walk, walked, sections, bodyOf, videoSection, audioSection, matrixSection}
 use Rattle.request.specs.Request.{Present, present, rate, channels, coherent, Outside, requestIn, NoPair, readRules, nctsRules}
 use Rattle.request.specs.Read.{checked, pairIn, pairFor, readOf, nctsOf, Rows}
 use Rattle.request.proofs.Ordered.{tried-read, Judged, passed, full, is-outside}
@@ -30,27 +30,27 @@ in-range v a m o p (inl h) = o (inr (inr (inl (p, inl h))))
 in-range v a m o p (inr h) = o (inr (inr (inl (p, inr (inr h)))))
 
 -- the rules of the call on single fields, where the mode is offered and the fields are in range: row 9 is left
-nine : (w : Walk) → offered (videoIn (bodyOf 0 w)) ≡ true → ((6 < rate (bodyOf 1 w)) ⊎ (1 < coherent (bodyOf 1 w)) → ⊥) → Present (bodyOf 1 w)
-    → (n : ℕ) → Tried (pairRules (videoIn (bodyOf 0 w)) (rate (bodyOf 1 w)) (coherent (bodyOf 1 w))) n → Tried (noExactPair when (NoPair w) ∷ []) n
+nine : (w : Walk) → offered (videoIn (videoSection w)) ≡ true → ((6 < rate (audioSection w)) ⊎ (1 < coherent (audioSection w)) → ⊥) → Present (audioSection w)
+    → (n : ℕ) → Tried (pairRules (videoIn (videoSection w)) (rate (audioSection w)) (coherent (audioSection w))) n → Tried (noExactPair when (NoPair w) ∷ []) n
 nine w o r p n (inl h) = absurd (false≢true (sym (h .0) ∙ o))
 nine w o r p n (inr (_, inl h)) = absurd (r (h .0))
 nine w o r p n (inr (_, inr (_, inl h))) = inl ((p, h .0 .0, h .0 .1), h .1)
 nine w o r p n (inr (_, inr (_, inr h))) = inr ((λ x. h .0 (x .1, x .2)), h .1)
 
-sounds : (w : Walk) → Bytes (bodyOf 2 w) → Judged (bodyOf 0 w) (bodyOf 1 w) (bodyOf 2 w) (checked w)
-    → Tried (noExactPair when (NoPair w) ∷ []) (pairFor (requestIn (bodyOf 0 w) (bodyOf 1 w) (bodyOf 2 w)) .refusal)
+sounds : (w : Walk) → Bytes (matrixSection w) → Judged (videoSection w) (audioSection w) (matrixSection w) (checked w)
+    → Tried (noExactPair when (NoPair w) ∷ []) (pairFor (requestIn (videoSection w) (audioSection w) (matrixSection w)) .refusal)
 unfolding pairFor
-sounds w bytes j = go (present (bodyOf 1 w)) refl
+sounds w bytes j = go (present (audioSection w)) refl
   where
     r : Request
-    r = requestIn (bodyOf 0 w) (bodyOf 1 w) (bodyOf 2 w)
+    r = requestIn (videoSection w) (audioSection w) (matrixSection w)
 
-    go : (b : Bool) → present (bodyOf 1 w) ≡ b
-        → Tried (noExactPair when (NoPair w) ∷ []) (pairIn r (cond b (On (rate (bodyOf 1 w)) (channels (bodyOf 1 w)) (coherent (bodyOf 1 w))) Off) .refusal)
+    go : (b : Bool) → present (audioSection w) ≡ b
+        → Tried (noExactPair when (NoPair w) ∷ []) (pairIn r (cond b (On (rate (audioSection w)) (channels (audioSection w)) (coherent (audioSection w))) Off) .refusal)
     go true e =
-        let p = full (bodyOf 1 w) .passes e in
-        nine w (j .mode) (in-range (bodyOf 0 w) (bodyOf 1 w) (bodyOf 2 w) (is-outside (bodyOf 0 w) (bodyOf 1 w) (bodyOf 2 w) bytes .fails (j .inside)) p) p _ (in-turn _ _ _)
-    go false e = inr ((λ x. full (bodyOf 1 w) .fails e (x .0)), refl)
+        let p = full (audioSection w) .passes e in
+        nine w (j .mode) (in-range (videoSection w) (audioSection w) (matrixSection w) (is-outside (videoSection w) (audioSection w) (matrixSection w) bytes .fails (j .inside)) p) p _ (in-turn _ _ _)
+    go false e = inr ((λ x. full (audioSection w) .fails e (x .0)), refl)
 
 abbrev numberOf : Pair → ℕ
 numberOf p = p .refusal
@@ -92,7 +92,7 @@ parts (c ∷ cs) (n ∷ s) b k = go (among n c) (leb n (length s)) (joined (take
     go true false h = none-there
     go false u h = none-there
 
-both-calls : (w : Walk) → Bytes (bodyOf 2 w)
+both-calls : (w : Walk) → Bytes (matrixSection w)
     → Tried (nctsRules w) (cond (eqb (checked w .refusal) 0) (pairFor (checked w .request)) (noPair (checked w .refusal)) .refusal)
 both-calls w bytes =
     then numberOf (readRules w) (noExactPair when NoPair w ∷ []) (checked w .refusal) (pairFor (checked w .request)) (noPair (checked w .refusal))
@@ -102,7 +102,7 @@ pub rows : (input : List ℕ) → Rows input
 unfolding readOf nctsOf walked
 rows input =
     let w : Walk = walked input in
-    let bytes : Bytes input → Bytes (bodyOf 2 w) = λ b. parts sections input b 2 in
+    let bytes : Bytes input → Bytes (matrixSection w) = λ b. parts sections input b 2 in
     let both : Bytes input → Given (nctsRules w) (nctsOf input .refusal) = λ b. tried (nctsRules w) _ refl (both-calls w (bytes b)) in
     record {
       read = λ b. tried (readRules w) _ refl (tried-read w (bytes b));

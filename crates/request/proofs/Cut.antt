@@ -11,6 +11,7 @@ use lib.ListN.{length, take, drop, getD, length-take}
 use lib.Seq.{length-take-le, take-take, take-nil}
 use borrow.Author.Tests.{leb-true, leb-false, le-leb, lt-leb, eqb-true}
 use Rattle.lists.specs.Among.{among}
+use Rattle.refusals.specs.Rows.{answer}
 use Rattle.request.specs.Sections.{Walk, ends, notAllowed, whole, after, walk, walked, sections, longestOf}
 use Rattle.request.specs.Read.{emptied, judged, checked, readOf, nctsOf, Lengths}
 use Rattle.request.proofs.Counted.{span, Counted, counted, spans, spanned, at-most, within}
@@ -71,7 +72,7 @@ one-of-them cs k ends c z = absurd (omega arith)
 one-of-them cs k notAllowed c z = absurd (omega arith)
 one-of-them cs k (whole bodies rest) c z = go (eqb (length rest) 0) refl z
   where
-    go : (b : Bool) → eqb (length rest) 0 ≡ b → cond (not b) (emptied 3) (judged (getD bodies 0 []) (getD bodies 1 []) (getD bodies 2 [])) .refusal ≡ 0 → among k (spans cs) ≡ true
+    go : (b : Bool) → eqb (length rest) 0 ≡ b → answer (cond (not b) 3 0) emptied (judged (getD bodies 0 []) (getD bodies 1 []) (getD bodies 2 [])) .refusal ≡ 0 → among k (spans cs) ≡ true
     go true e z = let l : length rest ≡ 0 = eqb-true (length rest) 0 e in let q : k ≡ span bodies = omega arith in rw q (spanned cs bodies (c .1))
     go false e z = absurd (omega arith)
 

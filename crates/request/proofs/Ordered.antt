@@ -1,32 +1,35 @@
 -- The rows of a request, tested in order. Assumes nothing.
-use mathlib.Core.Path.{_≡_, refl, ap}
-use mathlib.Core.Logic.{_≢_, inl, inr}
-use mathlib.Core.Bool.{Bool, true, false, cond, not}
-use mathlib.Core.List.{List, []}
+use mathlib.Core.Path.{_≡_, refl, sym, ap, _∙_}
+use mathlib.Core.Bool.{Bool, true, false, false≢true, cond}
+use mathlib.Core.List.{List, [], _∷_, _++_}
 use Prim.Native.Nat.{ℕ}
-use native.Mathlib.Omega.{arith}
+use lib.Dec.{eqb}
+use borrow.Author.Tests.{eqb-true, eqb-false, not-false}
 use lib.ListN.{length, drop, getD}
-use Rattle.refusals.specs.Rows.{Condition, at}
+use Rattle.refusals.specs.Rows.{combination, Test, _if_, lowest, answer}
 use Rattle.lists.proofs.Decides.{Decides, failing, itself, equal, less, opposite, either, together, restated}
 use Rattle.matrix.specs.Matrix.{isAllowed, Allowed, Bytes}
 use Rattle.matrix.proofs.Numbers.{numbers}
-use Rattle.refusals.proofs.First.{Tried, test}
+use Rattle.refusals.proofs.First.{Tried}
+use Rattle.refusals.proofs.Again.{again}
+use Rattle.refusals.proofs.Tests.{Decided, lowest-given, lowest-append, past, numbered, answer-none}
 use Rattle.video.specs.Video.{videoIn}
 use Rattle.video.specs.Modes.{offered}
 use Rattle.request.specs.declared.Checked.{Checked}
-use Rattle.request.specs.Sections.{Walk, ends, notAllowed, whole, bodyOf}
+use Rattle.request.specs.Sections.{Walk, ends, notAllowed, whole, videoSection, audioSection, matrixSection, restOf}
 use Rattle.request.specs.Request.{Present, present, encoding, link, rate, channels, coherent, AudioOutside, Outside, Combined, requestIn, readRules}
-use Rattle.request.specs.Read.{audioOutside, outside, combined, emptied, judged, checked}
+use Rattle.request.specs.Read.{audioOutside, outside, combined, emptied, bodyTests, judged, isEnds, isNotAllowed, walkTests, checked}
 
--- the three kinds of walk are different
-abbrev kind : Walk → ℕ
-kind ends = 0
-kind notAllowed = 1
-kind (whole bodies rest) = 2
+-- what the tests of rows 1 and 2 decide
+ends-decided : (w : Walk) → Decides (isEnds w) (w ≡ ends)
+ends-decided ends = record { passes = λ t. refl; fails = λ f. absurd (false≢true (sym f)) }
+ends-decided notAllowed = record { passes = λ t. absurd (false≢true t); fails = λ f e. false≢true (ap isEnds e) }
+ends-decided (whole bodies rest) = record { passes = λ t. absurd (false≢true t); fails = λ f e. false≢true (ap isEnds e) }
 
--- the number of an answer
-abbrev numberOf : Checked → ℕ
-numberOf c = c .refusal
+refused-decided : (w : Walk) → Decides (isNotAllowed w) (w ≡ notAllowed)
+refused-decided ends = record { passes = λ t. absurd (false≢true t); fails = λ f e. false≢true (ap isNotAllowed e) }
+refused-decided notAllowed = record { passes = λ t. refl; fails = λ f. absurd (false≢true (sym f)) }
+refused-decided (whole bodies rest) = record { passes = λ t. absurd (false≢true t); fails = λ f e. false≢true (ap isNotAllowed e) }
 
 -- what the tests of rows 3, 5 and 6 decide
 pub full : (l : List ℕ) → Decides (present l) (Present l)
@@ -47,33 +50,45 @@ is-combined v a m =
     either (together (opposite (equal (encoding v) 0)) (equal (length m) 0))
     (together (equal (link v) 0) (either (full a) (opposite (equal (encoding v) 0))))
 
-judged-rules : (w : Walk) → Bytes (bodyOf 2 w) → Tried (drop 3 (readRules w)) (judged (bodyOf 0 w) (bodyOf 1 w) (bodyOf 2 w) .refusal)
-unfolding judged
-judged-rules w bytes =
-    let rs : List Condition = readRules w in
-    test numberOf (at rs 3) (drop 4 rs) _ _ _ refl (failing (offered (videoIn (bodyOf 0 w))))
-    (λ n. test numberOf (at rs 4) (drop 5 rs) _ _ _ refl (is-outside (bodyOf 0 w) (bodyOf 1 w) (bodyOf 2 w) bytes)
-    (λ m. test numberOf (at rs 5) [] _ _ _ refl (is-combined (bodyOf 0 w) (bodyOf 1 w) (bodyOf 2 w)) (λ o. refl)))
-
--- a walk that found the bodies did not end early, and met no count that is not allowed
-not-ends : (w : Walk) → kind w ≢ 0 → w ≡ ends → ⊥
-not-ends w h e = h (ap kind e)
-
-not-refused : (w : Walk) → kind w ≢ 1 → w ≡ notAllowed → ⊥
-not-refused w h e = h (ap kind e)
-
-pub tried-read : (w : Walk) → Bytes (bodyOf 2 w) → Tried (readRules w) (checked w .refusal)
-tried-read ends bytes = inl (refl, refl)
-tried-read notAllowed bytes = inr (not-ends notAllowed (omega arith), inl (refl, refl))
-tried-read (whole bodies rest) bytes =
-    let w : Walk = whole bodies rest in
-    inr (
-      not-ends w (omega arith),
-      inr (
-        not-refused w (omega arith),
-        test numberOf (at (readRules w) 2) (drop 3 (readRules w)) (present rest) _ _ refl (full rest) (λ f. judged-rules w bytes),
+-- the tests of a walk and of its bodies decide rows 1 to 6
+decided : (w : Walk) → Bytes (matrixSection w)
+    → Decided (walkTests w ++ bodyTests (videoSection w) (audioSection w) (matrixSection w)) (readRules w)
+decided w bytes =
+    let v : List ℕ = videoSection w in
+    let a : List ℕ = audioSection w in
+    let m : List ℕ = matrixSection w in (
+      refl,
+      ends-decided w,
+      λ e. (
+        refl,
+        refused-decided w,
+        λ n. (
+          refl,
+          full (restOf w),
+          λ r.
+              (refl, failing (offered (videoIn v)), λ o. (refl, is-outside v a m bytes, λ x. (refl, is-combined v a m, λ c. tt))),
+        ),
       ),
     )
+
+-- the number that is given is that of the lowest
+abbrev numberOf : Checked → ℕ
+numberOf c = c .refusal
+
+judged-number : (v a m : List ℕ) → judged v a m .refusal ≡ lowest (bodyTests v a m)
+unfolding judged
+judged-number v a m = numbered emptied (record { refusal = 0; request = requestIn v a m }) numberOf (lowest (bodyTests v a m)) refl refl
+
+pub tried-read : (w : Walk) → Bytes (matrixSection w) → Tried (readRules w) (checked w .refusal)
+tried-read w bytes =
+    let more : List Test = bodyTests (videoSection w) (audioSection w) (matrixSection w) in
+    let n : checked w .refusal ≡ lowest (walkTests w ++ more) = go (eqb (lowest (walkTests w)) 0) ∙ sym (lowest-append (walkTests w) more) in
+    rw n (again _ (readRules w) (lowest-given (walkTests w ++ more) (readRules w) refl (decided w bytes)))
+  where
+    go : (b : Bool) → cond b (judged (videoSection w) (audioSection w) (matrixSection w)) (emptied (lowest (walkTests w))) .refusal
+        ≡ cond b (lowest (bodyTests (videoSection w) (audioSection w) (matrixSection w))) (lowest (walkTests w))
+    go true = judged-number (videoSection w) (audioSection w) (matrixSection w)
+    go false = refl
 
 module _ (v a m : List ℕ) where
   pub record Judged (c : Checked) : Type 0 where
@@ -82,28 +97,35 @@ module _ (v a m : List ℕ) where
     pub inside : outside v a m ≡ false
     pub apart : combined v a m ≡ false
 
-  judgement : Bool → Bool → Bool → Checked
-  judgement o x y =
-      cond (not o) (emptied 4) (cond x (emptied 5) (cond y (emptied 6) (record { refusal = 0; request = requestIn v a m })))
-
-  by-tests : (o x y : Bool) → offered (videoIn v) ≡ o → outside v a m ≡ x → combined v a m ≡ y → judgement o x y .refusal ≡ 0 → Judged (judgement o x y)
-  unfolding judgement
-  by-tests false x y e f g z = absurd (omega arith)
-  by-tests true true y e f g z = absurd (omega arith)
-  by-tests true false true e f g z = absurd (omega arith)
-  by-tests true false false e f g z = record { request = refl; mode = e; inside = f; apart = g }
-
   pub accepted : judged v a m .refusal ≡ 0 → Judged (judged v a m)
-  unfolding judged judgement
-  accepted = by-tests (offered (videoIn v)) (outside v a m) (combined v a m) refl refl refl
+  unfolding judged
+  accepted z =
+      let n : lowest (bodyTests v a m) ≡ 0 = sym (judged-number v a m) ∙ z in
+      let f = past (at-row 0) (drop 1 (bodyTests v a m)) n in
+      let g = past (at-row 1) (drop 2 (bodyTests v a m)) (f .1) in
+      let h = past (at-row 2) [] (g .1) in
+      record {
+        request = ap (λ (c : Checked). c .request) (answer-none emptied (record { refusal = 0; request = requestIn v a m }) (lowest (bodyTests v a m)) n);
+        mode = not-false (offered (videoIn v)) (f .0);
+        inside = g .0;
+        apart = h .0;
+      }
+    where
+      at-row : ℕ → Test
+      at-row i = getD (bodyTests v a m) i (combination if false)
 
--- a walk that no row refuses: its request is what its bodies say, in a mode that is offered, with each field in range
-pub passed : (w : Walk) → checked w .refusal ≡ 0 → Judged (bodyOf 0 w) (bodyOf 1 w) (bodyOf 2 w) (checked w)
-passed ends z = absurd (omega arith)
-passed notAllowed z = absurd (omega arith)
-passed (whole bodies rest) z = go (present rest) z
+-- a walk that no row refuses: no byte is left, its request is what its bodies say, in a mode that is offered, with each field in range
+pub alone : (w : Walk) → checked w .refusal ≡ 0 → (lowest (walkTests w) ≡ 0) × (judged (videoSection w) (audioSection w) (matrixSection w) .refusal ≡ 0)
+alone w = go (eqb (lowest (walkTests w)) 0) refl
   where
-    go : (b : Bool) → cond b (emptied 3) (judged (getD bodies 0 []) (getD bodies 1 []) (getD bodies 2 [])) .refusal ≡ 0
-        → Judged (getD bodies 0 []) (getD bodies 1 []) (getD bodies 2 []) (cond b (emptied 3) (judged (getD bodies 0 []) (getD bodies 1 []) (getD bodies 2 [])))
-    go true z = absurd (omega arith)
-    go false z = accepted (getD bodies 0 []) (getD bodies 1 []) (getD bodies 2 []) z
+    go : (b : Bool) → eqb (lowest (walkTests w)) 0 ≡ b
+        → cond b (judged (videoSection w) (audioSection w) (matrixSection w)) (emptied (lowest (walkTests w))) .refusal ≡ 0
+        → (lowest (walkTests w) ≡ 0) × (judged (videoSection w) (audioSection w) (matrixSection w) .refusal ≡ 0)
+    go true e z = (eqb-true _ 0 e, z)
+    go false e z = absurd (eqb-false _ 0 e z)
+
+pub passed : (w : Walk) → checked w .refusal ≡ 0 → Judged (videoSection w) (audioSection w) (matrixSection w) (checked w)
+passed w z =
+    let p = alone w z in
+    let e : checked w ≡ judged (videoSection w) (audioSection w) (matrixSection w) = answer-none emptied _ (lowest (walkTests w)) (p .0) in
+    rw e (accepted (videoSection w) (audioSection w) (matrixSection w) (p .1))

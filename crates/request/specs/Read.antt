@@ -1,6 +1,6 @@
 -- What the calls on a request answer, as the code finds it.
 use mathlib.Core.Path.{_≡_}
-use mathlib.Core.Bool.{Bool, true, cond, not, _&&_, _||_}
+use mathlib.Core.Bool.{Bool, true, false, not, _&&_, _||_}
 use mathlib.Core.List.{List, [], _∷_}
 use Prim.Native.Nat.{ℕ, _<_}
 use lib.Dec.{eqb, ltb}
@@ -16,16 +16,13 @@ use Rattle.request.specs.declared.Sound.{Sound}
 use Rattle.request.specs.declared.Sound.the-variants.{Off, On}
 use Rattle.request.specs.declared.Request.{Request}
 use Rattle.request.specs.declared.Checked.{Checked}
-use Rattle.request.specs.Sections.{longest, Walk, ends, notAllowed, whole, walked}
+use Rattle.request.specs.Sections.{longest, Walk, ends, notAllowed, whole, walked, videoSection, audioSection, matrixSection, restOf}
 use Rattle.request.specs.Request.{present, encoding, link, rate, channels, coherent, requestIn, readRules, nctsRules}
-use Rattle.refusals.specs.Rows.{Row, inputEnds, countNotAllowed, bytesAfter, modeNotOffered, fieldOutOfRange, combination, number, Given}
+use Rattle.refusals.specs.Rows.{inputEnds, countNotAllowed, bytesAfter, modeNotOffered, fieldOutOfRange, combination, Given, Test, _if_, lowest, answer}
 
 -- a refusal stands beside an empty request: fields 0, audio off, no matrix
 abbrev pub emptied : ℕ → Checked
 emptied number = record { refusal = number; request = record { video = noVideo; sound = Off; matrix = noMatrix } }
-
-abbrev pub refusedRequest : Row → Checked
-refusedRequest row = emptied (number row)
 
 -- the tests of row 5 and row 6
 abbrev pub audioOutside : List ℕ → Bool
@@ -39,20 +36,35 @@ unfoldable pub combined : List ℕ → List ℕ → List ℕ → Bool
 combined video audio matrix =
     (not (eqb (encoding video) 0) && eqb (length matrix) 0) || (eqb (link video) 0 && (present audio || not (eqb (encoding video) 0)))
 
--- rows 4 to 6, in order
+-- rows 4 to 6 of the bodies, and rows 1 to 3 before them: a line for each row. They decide the conditions of `readRules` (`Rows`, below).
+abbrev pub bodyTests : List ℕ → List ℕ → List ℕ → List Test
+bodyTests video audio matrix =
+    modeNotOffered if not (offered (videoIn video)) ∷
+    fieldOutOfRange if outside video audio matrix ∷
+    combination if combined video audio matrix ∷ []
+
 unfoldable pub judged : List ℕ → List ℕ → List ℕ → Checked
 judged video audio matrix =
-    cond (not (offered (videoIn video))) (refusedRequest modeNotOffered)
-    (cond (outside video audio matrix) (refusedRequest fieldOutOfRange)
-    (cond (combined video audio matrix) (refusedRequest combination)
-    (record { refusal = 0; request = requestIn video audio matrix })))
+    answer (lowest (bodyTests video audio matrix)) emptied (record { refusal = 0; request = requestIn video audio matrix })
 
--- rows 1 to 3, and then the others
+abbrev pub isEnds : Walk → Bool
+isEnds ends = true
+isEnds notAllowed = false
+isEnds (whole bodies rest) = false
+
+abbrev pub isNotAllowed : Walk → Bool
+isNotAllowed ends = false
+isNotAllowed notAllowed = true
+isNotAllowed (whole bodies rest) = false
+
+abbrev pub walkTests : Walk → List Test
+walkTests w =
+    inputEnds if isEnds w ∷
+    countNotAllowed if isNotAllowed w ∷
+    bytesAfter if present (restOf w) ∷ []
+
 abbrev pub checked : Walk → Checked
-checked ends = refusedRequest inputEnds
-checked notAllowed = refusedRequest countNotAllowed
-checked (whole bodies rest) =
-    cond (present rest) (refusedRequest bytesAfter) (judged (getD bodies 0 []) (getD bodies 1 []) (getD bodies 2 []))
+checked w = answer (lowest (walkTests w)) emptied (judged (videoSection w) (audioSection w) (matrixSection w))
 
 -- a request read from an input: refusals 1 to 6
 unfoldable pub readOf : List ℕ → Checked
@@ -75,7 +87,7 @@ Pairs r given = given ≡ pairFor r
 
 -- N and CTS over a request slice: refusals 1 to 6 and 9
 unfoldable pub nctsOf : List ℕ → Pair
-nctsOf input = cond (eqb (readOf input .refusal) 0) (pairFor (readOf input .request)) (noPair (readOf input .refusal))
+nctsOf input = answer (readOf input .refusal) noPair (pairFor (readOf input .request))
 
 abbrev pub PairsInput : List ℕ → Pair → Type 0
 PairsInput input given = given ≡ nctsOf input

@@ -15,7 +15,7 @@ use Rattle.matrix.specs.Matrix.{Allowed, matrixOf, noMatrix}
 use Rattle.request.specs.declared.Sound.{Sound}
 use Rattle.request.specs.declared.Sound.the-variants.{Off, On}
 use Rattle.request.specs.declared.Request.{Request}
-use Rattle.request.specs.Sections.{Walk, ends, notAllowed, bodyOf, restOf}
+use Rattle.request.specs.Sections.{Walk, ends, notAllowed, videoSection, audioSection, matrixSection, restOf}
 
 -- not empty
 abbrev pub Present : List ℕ → Type 0
@@ -59,15 +59,15 @@ readRules w =
     inputEnds when (w ≡ ends) ∷
     countNotAllowed when (w ≡ notAllowed) ∷
     bytesAfter when Present (restOf w) ∷
-    modeNotOffered when (offered (videoIn (bodyOf 0 w)) ≡ false) ∷
-    fieldOutOfRange when Outside (bodyOf 0 w) (bodyOf 1 w) (bodyOf 2 w) ∷
-    combination when Combined (bodyOf 0 w) (bodyOf 1 w) (bodyOf 2 w) ∷ []
+    modeNotOffered when (offered (videoIn (videoSection w)) ≡ false) ∷
+    fieldOutOfRange when Outside (videoSection w) (audioSection w) (matrixSection w) ∷
+    combination when Combined (videoSection w) (audioSection w) (matrixSection w) ∷ []
 
 -- row 9, "coherent audio, and no exact pair exists"
 abbrev pub NoPair : Walk → Type 0
 NoPair w =
-    Present (bodyOf 1 w) × (coherent (bodyOf 1 w) ≡ 1)
-    × ((n cts : ℕ) → Exact (clockOf (videoIn (bodyOf 0 w))) (rate (bodyOf 1 w)) n cts → ⊥)
+    Present (audioSection w) × (coherent (audioSection w) ≡ 1)
+    × ((n cts : ℕ) → Exact (clockOf (videoIn (videoSection w))) (rate (audioSection w)) n cts → ⊥)
 
 abbrev pub nctsRules : Walk → List Condition
 nctsRules w = readRules w ++ noExactPair when (NoPair w) ∷ []
