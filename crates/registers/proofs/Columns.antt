@@ -4,12 +4,8 @@ use mathlib.Core.List.{map}
 use Prim.Native.Nat.{ℕ}
 use lib.ListN.{getD, List·getD-map}
 use Rattle.registers.specs.declared.Class.{Class}
-use Rattle.registers.specs.Classes.{class, classes, classAt, column}
+use Rattle.registers.specs.Classes.{class, classes, classAt}
 
 pub at-address : (f : Class → ℕ) (a : ℕ) → getD (map f classes) a (f (class 0 0 0 0 0)) ≡ f (classAt a)
 unfolding classAt
 at-address f a = List·getD-map f classes a (class 0 0 0 0 0)
-
-pub in-column : (f : Class → ℕ) (a : ℕ) → getD (column f) a (f (class 0 0 0 0 0)) ≡ f (classAt a)
-unfolding column
-in-column f a = at-address f a

@@ -1,7 +1,7 @@
 -- Document 01, "Register classes": the class of each bit of the 256 registers of the main map, and the table's rule.
 -- The register map (section 5) and Table 14 of source document 000 fill it.
 use mathlib.Core.Path.{_≡_}
-use mathlib.Core.List.{List, [], _∷_, map}
+use mathlib.Core.List.{List, [], _∷_}
 use Prim.Native.Nat.{ℕ, zero, suc, _+_, _<_, _≤_}
 use lib.ListN.{getD}
 use Rattle.bits.specs.Merge.{bit}
@@ -24,7 +24,7 @@ classes = each byPrecedence 0 256
 unfoldable pub classAt : ℕ → Class
 classAt a = getD classes a (class 0 0 0 0 0)
 
--- what the class of an address promises; `rule` and `precedence` tie the table to document 01
+-- what `class_at` promises
 abbrev pub Classifies : ℕ → Class → Type 0
 Classifies a c = c ≡ classAt a
 
@@ -43,22 +43,6 @@ free a = classAt a .free
 -- the mandated bits
 abbrev pub bits : ℕ → ℕ
 bits a = classAt a .bits
-
--- one number of every address: a column of the table
-unfoldable pub column : (Class → ℕ) → List ℕ
-column f = map f classes
-
-abbrev pub readOnlyMasks : List ℕ
-readOnlyMasks = column (λ c. c .«read_only»)
-
-abbrev pub namedMasks : List ℕ
-namedMasks = column (λ c. c .named)
-
-abbrev pub freeMasks : List ℕ
-freeMasks = column (λ c. c .free)
-
-abbrev pub mandatedBits : List ℕ
-mandatedBits = column (λ c. c .bits)
 
 pub record Rule (c : Class) : Type 0 where
   -- "The four masks share no bit and cover all eight": each bit lies in exactly one of them

@@ -4,7 +4,6 @@ ghost use mathlib.Core.Bool.{_&&_, not};
 ghost use Prim.Native.Nat.{ℕ, _<_};
 ghost use Rattle.lists.specs.Among.{among};
 ghost use Rattle.registers.specs.Classes.{classAt, Classifies, readOnly, named, Rule};
-ghost use Rattle.registers.specs.Classes.{readOnlyMasks, namedMasks, freeMasks, mandatedBits};
 ghost use Rattle.registers.specs.Steps.{others, hasNamed, elsewhere};
 ghost use Rattle.registers.specs.Fields.{namedFields, maskIn};
 ghost use Rattle.registers.specs.Table14.{Table14};
@@ -36,31 +35,6 @@ pub fn class_at(a: u8) -> Class
         free: table::FREE[a as usize],
         bits: table::BITS[a as usize],
     }
-}
-
-// The same numbers of all addresses, for a caller that goes over the whole map.
-pub fn read_only_masks() -> [u8; 256]
-    ensures { λ r. ⌜ r ≡ readOnlyMasks ⌝ }
-{
-    table::READ_ONLY
-}
-
-pub fn named_masks() -> [u8; 256]
-    ensures { λ r. ⌜ r ≡ namedMasks ⌝ }
-{
-    table::NAMED
-}
-
-pub fn free_masks() -> [u8; 256]
-    ensures { λ r. ⌜ r ≡ freeMasks ⌝ }
-{
-    table::FREE
-}
-
-pub fn mandated_bits() -> [u8; 256]
-    ensures { λ r. ⌜ r ≡ mandatedBits ⌝ }
-{
-    table::BITS
 }
 
 // "This rule is proved once over the whole table."
