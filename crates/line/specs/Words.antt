@@ -36,8 +36,8 @@ hex byte = digit (byte / 16) ∷ digit (byte % 16) ∷ []
 -- `accepted vic 16 n 6144 cts 148500 avi 27 audio 70`, or `refused 1`; and the line's end
 unfoldable pub acceptedText : Line → List ℕ
 acceptedText l =
-    (ascii "accepted vic " ++ decimal (l .vic)) ++ (ascii " n " ++ decimal (l .n)) ++ (ascii " cts " ++ decimal (l .cts)) ++ (ascii " avi " ++ hex (l .avi))
-    ++ (ascii " audio " ++ hex (l .audio)) ++ ascii "\n"
+    (ascii "accepted vic " ++ decimal (l .vic)) ++ (ascii " n " ++ decimal (l .n)) ++ (ascii " cts " ++ decimal (l .cts))
+    ++ (ascii " avi " ++ hex (l .avi)) ++ (ascii " audio " ++ hex (l .audio)) ++ ascii "\n"
 
 unfoldable pub refusedText : ℕ → List ℕ
 refusedText number = (ascii "refused " ++ decimal number) ++ ascii "\n"

@@ -9,7 +9,8 @@ use lib.ListN.{length, getD}
 
 -- a row, named after its "When"
 pub data Row : Type 0 where
-  inputEnds countNotAllowed bytesAfter modeNotOffered fieldOutOfRange combination imageLength holdsUp noExactPair bufferShort noRequest inputAbove twoHolds : Row
+  inputEnds countNotAllowed bytesAfter modeNotOffered fieldOutOfRange combination : Row
+  imageLength holdsUp noExactPair bufferShort noRequest inputAbove twoHolds : Row
 
 abbrev pub number : Row → ℕ
 number inputEnds = 1
@@ -29,8 +30,8 @@ number twoHolds = 13
 -- "Checked in this order"
 abbrev pub order : List Row
 order =
-    inputEnds ∷ countNotAllowed ∷ bytesAfter ∷ modeNotOffered ∷ fieldOutOfRange ∷ combination ∷ imageLength ∷ holdsUp ∷ noExactPair ∷ bufferShort ∷
-    noRequest ∷ inputAbove ∷ twoHolds ∷ []
+    inputEnds ∷ countNotAllowed ∷ bytesAfter ∷ modeNotOffered ∷ fieldOutOfRange ∷ combination ∷
+    imageLength ∷ holdsUp ∷ noExactPair ∷ bufferShort ∷ noRequest ∷ inputAbove ∷ twoHolds ∷ []
 
 -- a row that a call checks, and when it applies to the call's input
 pub record Condition : Type 1 where

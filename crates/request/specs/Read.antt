@@ -18,7 +18,8 @@ use Rattle.request.specs.declared.Request.{Request}
 use Rattle.request.specs.declared.Checked.{Checked}
 use Rattle.request.specs.Sections.{longest, Walk, ends, notAllowed, whole, walked, videoSection, audioSection, matrixSection, restOf}
 use Rattle.request.specs.Request.{present, encoding, link, rate, channels, coherent, requestIn, readRules, nctsRules}
-use Rattle.refusals.specs.Rows.{inputEnds, countNotAllowed, bytesAfter, modeNotOffered, fieldOutOfRange, combination, Given, Test, _if_, lowest, answer}
+use Rattle.refusals.specs.Rows.{Given, Test, _if_, lowest, answer}
+use Rattle.refusals.specs.Rows.{inputEnds, countNotAllowed, bytesAfter, modeNotOffered, fieldOutOfRange, combination}
 
 -- a refusal stands beside an empty request: fields 0, audio off, no matrix
 abbrev pub emptied : ℕ → Checked

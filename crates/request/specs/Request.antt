@@ -6,7 +6,8 @@ use mathlib.Core.List.{List, [], _∷_, _++_}
 use Prim.Native.Nat.{ℕ, _<_}
 use lib.Dec.{eqb}
 use lib.ListN.{getD, length}
-use Rattle.refusals.specs.Rows.{inputEnds, countNotAllowed, bytesAfter, modeNotOffered, fieldOutOfRange, combination, noExactPair, Condition, _when_}
+use Rattle.refusals.specs.Rows.{Condition, _when_}
+use Rattle.refusals.specs.Rows.{inputEnds, countNotAllowed, bytesAfter, modeNotOffered, fieldOutOfRange, combination, noExactPair}
 use Rattle.video.specs.Video.{videoIn}
 use Rattle.video.specs.Modes.{offered}
 use Rattle.clock.specs.Clocks.{clockOf}

@@ -102,7 +102,8 @@ next {table} b = getD table (length (b .bodies)) []
 -- row 1, "input ends before a count or inside a section"
 pub record Ends (table : List (List ℕ)) (input : List ℕ) : Type 0 where
   pub begun : Begun table input
-  pub there : (length (begun .left) ≡ 0) ⊎ ((among (getD (begun .left) 0 0) (next begun) ≡ true) × (length (begun .left) ≤ getD (begun .left) 0 0))
+  pub there : (length (begun .left) ≡ 0)
+      ⊎ ((among (getD (begun .left) 0 0) (next begun) ≡ true) × (length (begun .left) ≤ getD (begun .left) 0 0))
 
 -- row 2, "a count the section does not allow"
 pub record NotAllowed (table : List (List ℕ)) (input : List ℕ) : Type 0 where
@@ -112,7 +113,8 @@ pub record NotAllowed (table : List (List ℕ)) (input : List ℕ) : Type 0 wher
 
 -- what a walk finds, over any sections, and what stands in the input
 pub record Walks (table : List (List ℕ)) (input : List ℕ) : Type 0 where
-  pub whole : (bodies : List (List ℕ)) (rest : List ℕ) → (walk table input ≡ whole bodies rest) ↔ ((fits table bodies ≡ true) × (input ≡ laid bodies rest))
+  pub whole : (bodies : List (List ℕ)) (rest : List ℕ)
+      → (walk table input ≡ whole bodies rest) ↔ ((fits table bodies ≡ true) × (input ≡ laid bodies rest))
   pub ends : (walk table input ≡ ends) ↔ Ends table input
   pub notAllowed : (walk table input ≡ notAllowed) ↔ NotAllowed table input
 
@@ -125,4 +127,5 @@ pub record Sectioned (input video audio matrix rest : List ℕ) : Type 0 where
 
 pub record RequestWalks (input : List ℕ) : Type 0 where
   pub three : (bodies : List (List ℕ)) (rest : List ℕ) → walked input ≡ whole bodies rest → length bodies ≡ 3
-  pub whole : (video audio matrix rest : List ℕ) → (walked input ≡ whole (video ∷ audio ∷ matrix ∷ []) rest) ↔ Sectioned input video audio matrix rest
+  pub whole : (video audio matrix rest : List ℕ)
+      → (walked input ≡ whole (video ∷ audio ∷ matrix ∷ []) rest) ↔ Sectioned input video audio matrix rest
