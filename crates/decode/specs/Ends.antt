@@ -20,7 +20,8 @@ pub record Acceptable (r : Request) : Type 0 where
 abbrev pub Stands : Request → List ℕ → Type 0
 Stands r image = (a : ℕ) → a < 256 → finished (wanted r) image a ≡ getD image a 0
 
--- "Decoding answers a request exactly when, for that request in one of its families, accepted on some image, .."; and the request is as it is answered
+-- "Decoding answers a request exactly when, for that request in one of its families, accepted on some image, .."; and the request itself
+-- is as it is answered ("Family is answered as 0")
 pub record Ends (r : Request) (image : List ℕ) : Type 0 where
   pub family : ℕ
   pub answered : answeredAs r ≡ r

@@ -1,4 +1,4 @@
--- How the code reads a request off an image: each field from one register. `ExactlyWhen` and `AtMostOne` of `Theorems` tie it to document 01.
+-- How the code reads a request off an image: each field from one register. `ExactlyWhen` and `AtMostOne` (Theorems) tie it to document 01.
 use mathlib.Core.Bool.{cond}
 use mathlib.Core.List.{List, [], _∷_}
 use Prim.Native.Nat.{ℕ, _+_, _/_, _%_, _^_}
@@ -29,7 +29,11 @@ soundIn image =
 abbrev pub matrixIn : List ℕ → Matrix
 matrixIn image =
     cond (eqb (byteIn image reg.csc / reg.cscEnableMask % 2) 0) noMatrix
-    (record { on = 1; mode = byteIn image reg.csc / 2 ^ reg.cscScalingFactorShift % 4; coefficients = fields (take reg.cscCount (drop reg.csc image)) })
+    (record {
+      on = 1;
+      mode = byteIn image reg.csc / 2 ^ reg.cscScalingFactorShift % 4;
+      coefficients = fields (take reg.cscCount (drop reg.csc image));
+    })
 
 abbrev pub videoNamed : List ℕ → Video
 videoNamed image =

@@ -51,7 +51,9 @@ returns-3 c =
     (eleven _ (a .buffer .now) (sized e) (e .if2 .left) (sym (tested t) ∙ not-true _ (c .before .if3 .taken))) (omega arith)
 
 emit-requires : tie.Need-emit-requires
-emit-requires c κs = (c .before .before .before .before .if2 .left, rw (c .before .before .before .extract .ensures) (small _ (sized (c .before .before .before .before))))
+emit-requires c κs =
+    let e = c .before .before .before in
+    (e .before .if2 .left, rw (e .extract .ensures) (small _ (sized (e .before))))
 
 cast-t10 : tie.Need-cast-t10
 cast-t10 c = omega (arith, c .before .before .emit .ensures .0 .1)
@@ -62,10 +64,12 @@ same-length c = search needs
 returns-4 : tie.Need-returns-4
 returns-4 c =
     let w = c .before .before .emit .ensures in
-    let t = c .before .before .before .before .before in
+    let f = c .before .before .before .before in
+    let t = f .before in
     let e = t .before .before in
     let a = e .before .before .before .before .args in
-    accepts (a .image .now) (a .buffer .now) (none _ (a .buffer .now) (sized e) (e .if2 .left) (sym (tested t) ∙ not-false _ (c .before .before .before .before .if3 .left)))
+    accepts (a .image .now) (a .buffer .now)
+    (none _ (a .buffer .now) (sized e) (e .if2 .left) (sym (tested t) ∙ not-false _ (f .if3 .left)))
     (t .before .extract .ensures) (w .0 .0) (w .1)
 
 pub decode-spec : {M : Type 1} → statement M

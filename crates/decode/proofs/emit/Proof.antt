@@ -1,4 +1,4 @@
--- `decode::emit` meets its contract. Assumes nothing.
+-- `decode::emit` meets its contract: three sections in turn are the bytes of the request. Assumes nothing.
 use mathlib.Core.Path.{ap}
 use native.Mathlib.Omega.{arith}
 use lib.ListN.{length}
@@ -21,9 +21,12 @@ audio-section-requires c κs = search needs
 
 matrix-section-requires : tie.Need-matrix-section-requires
 matrix-section-requires c κs =
-    let s = c .before .before .before .before .before .before .before .before .before .before .before .before .before in
-    let n = ap length (c .before .before .before .before .before .before .before .before .before .before .before .video-body .ensures) in
-    (omega (arith, audio-room (s .args .q .sound), c .before .before .before .audio-section .ensures .0, c .before .before .before .before .before .before .before .section .ensures .0), s .pre .1)
+    let a = c .before .before .before in
+    let v = a .before .before .before .before in
+    let b = v .before .before .before .before in
+    let s = b .before .before in
+    let n = ap length (b .video-body .ensures) in
+    (omega (arith, audio-room (s .args .q .sound), a .audio-section .ensures .0, v .section .ensures .0), s .pre .1)
 
 same-length : tie.Need-same-length
 same-length c = search needs
@@ -31,7 +34,11 @@ same-length c = search needs
 returns : tie.Need-returns
 returns c =
     let s = c .before .before .before .before .before .before .before .before .before .before .before .before .before .before .before .before in
-    requested (s .args .q) (s .args .buffer .now) (s .pre .0) (search needs) (c .before .before .before .before .before .before .before .before .before .before .before .before .before .before .video-body .ensures) (c .before .before .before .before .before .before .before .before .before .before .section .ensures) (c .before .before .before .before .before .before .audio-section .ensures) (c .before .before .matrix-section .ensures)
+    requested (s .args .q) (s .args .buffer .now) (s .pre .0) (search needs)
+    (c .before .before .before .before .before .before .before .before .before .before .before .before .before .before .video-body .ensures)
+    (c .before .before .before .before .before .before .before .before .before .before .section .ensures)
+    (c .before .before .before .before .before .before .audio-section .ensures)
+    (c .before .before .matrix-section .ensures)
 
 pub emit-spec : {M : Type 1} → statement M
 emit-spec =

@@ -20,18 +20,25 @@ emit-requires : tie.Need-emit-requires
 emit-requires c κs = (lit≤ tt, rw (c .before .in-family .ensures) (c .before .before .before .pre))
 
 array-share-prefix-bytes : tie.Need-array-share-prefix-bytes
-array-share-prefix-bytes c = let e = c .before .emit .ensures in front-room (asBytes (c .before .before .before .in-family .result)) _ (e .0 .0) (e .1)
+array-share-prefix-bytes c =
+    let e = c .before in
+    front-room (asBytes (e .before .before .in-family .result)) _ (e .emit .ensures .0 .0) (e .emit .ensures .1)
 
 slice-aggregate-stands : tie.Need-slice-aggregate-stands
-slice-aggregate-stands c = let e = c .before .before .emit .ensures in front-sized (asBytes (c .before .before .before .before .in-family .result)) _ (e .0 .0) (e .1)
+slice-aggregate-stands c =
+    let e = c .before .before in
+    front-sized (asBytes (e .before .before .in-family .result)) _ (e .emit .ensures .0 .0) (e .emit .ensures .1)
 
 stands-requires : tie.Need-stands-requires
 stands-requires c κs = search needs
 
 returns : tie.Need-returns
 returns c =
-    let e = c .before .before .before .emit .ensures in
-    c .stands .ensures ∙ ap (λ (l : List ℕ). standsIn l (c .before .before .before .before .before .before .before .args .image .now)) (front-taken _ _ (e .0 .0) (e .1) ∙ ap asBytes (c .before .before .before .before .before .in-family .ensures))
+    let e = c .before .before .before in
+    let f = e .before .before in
+    let a = f .before .before .args in
+    c .stands .ensures
+    ∙ ap (λ (l : List ℕ). standsIn l (a .image .now)) (front-taken _ _ (e .emit .ensures .0 .0) (e .emit .ensures .1) ∙ ap asBytes (f .in-family .ensures))
 
 pub ends-in-spec : {M : Type 1} → statement M
 ends-in-spec =

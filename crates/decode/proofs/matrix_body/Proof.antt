@@ -69,8 +69,11 @@ loop-again : tie.Need-loop-again Inv-loop μ-loop
 loop-again c =
     let l = c .before .before .loop in
     let s = c .before .before .before .before in
-    let high = c .high-byte .ensures ∙ ap highByte (mod-eq-of-lt (s .pre (l .i))) in
-    (search needs, search needs, rw (l .inv .2) (turn-bytes (s .args .m .coefficients) _ 1 (l .i) _ _ _ _ (omega arith) (omega arith) (omega arith) high refl))
+    let high = c .high-byte .ensures ∙ ap highByte (mod-eq-of-lt (s .pre (l .i))) in (
+      search needs,
+      search needs,
+      rw (l .inv .2) (turn-bytes (s .args .m .coefficients) _ 1 (l .i) _ _ _ _ (omega arith) (omega arith) (omega arith) high refl),
+    )
 
 returns : tie.Need-returns Inv-loop μ-loop
 returns c =

@@ -32,7 +32,10 @@ same-length-2 : tie.Need-same-length-2
 same-length-2 c = search needs
 
 returns-2 : tie.Need-returns-2
-returns-2 c = simp (ne-eqb _ _ (c .before .before .before .before .before .if1 .left)) (rw (c .before .before .before .before .before .before .before .matrix-body .ensures) at (c .before .before .section2 .ensures))
+returns-2 c =
+    let s = c .before .before in
+    let e = s .before .before .before in
+    simp (ne-eqb _ _ (e .if1 .left)) (rw (e .before .before .matrix-body .ensures) at (s .section2 .ensures))
 
 pub matrix-section-spec : {M : Type 1} → statement M
 matrix-section-spec =

@@ -10,7 +10,9 @@ use Rattle.decode.proofs.section.Statement.{statement}
 use Rattle.decode.proofs.section.Tie as tie
 
 abbrev Inv-loop : tie.InvT-loop
-Inv-loop buffer₀ place body start i₀ buffer i = (i ≤ length body) × (start ≡ place + 1) × (length buffer ≡ length buffer₀) × (place + suc (length body) ≤ length buffer₀) × (buffer ≡ sets buffer₀ start (take i body))
+Inv-loop buffer₀ place body start i₀ buffer i =
+    (i ≤ length body) × (start ≡ place + 1) × (length buffer ≡ length buffer₀) × (place + suc (length body) ≤ length buffer₀)
+    × (buffer ≡ sets buffer₀ start (take i body))
 
 abbrev μ-loop : tie.MeasureT-loop
 μ-loop buffer₀ place body start i₀ buffer i = length body - i
@@ -44,8 +46,13 @@ loop-less c = search needs
 
 loop-again : tie.Need-loop-again Inv-loop μ-loop
 loop-again c =
-    let l = c .before .before .loop in
-    (search needs, search needs, simp length-set (l .inv .2 ∙ simp length-set), l .inv .3, rw (l .inv .4) (one-more _ _ _ (l .i) _ (search needs) refl))
+    let l = c .before .before .loop in (
+      search needs,
+      search needs,
+      simp length-set (l .inv .2 ∙ simp length-set),
+      l .inv .3,
+      rw (l .inv .4) (one-more _ _ _ (l .i) _ (search needs) refl),
+    )
 
 add-result : tie.Need-add-result Inv-loop μ-loop
 add-result c = search needs
@@ -56,8 +63,10 @@ same-length c = c .before .loop .inv .2 ∙ simp length-set
 returns : tie.Need-returns Inv-loop μ-loop
 returns c =
     let l = c .before .loop in
-    let a = c .before .before .args in
-    (search needs, l .inv .4 ∙ whole-section (a .body .now) (a .buffer .now) (a .place) _ (l .i) (length (a .body .now)) (l .inv .1) (omega arith))
+    let a = c .before .before .args in (
+      search needs,
+      l .inv .4 ∙ whole-section (a .body .now) (a .buffer .now) (a .place) _ (l .i) (length (a .body .now)) (l .inv .1) (omega arith),
+    )
 
 pub section-spec : {M : Type 1} → statement M
 section-spec =
