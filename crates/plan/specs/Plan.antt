@@ -1,4 +1,4 @@
--- Document 01, "Refusal numbers" (planning checks 1 to 10) and "The write list": what planning answers, and what it leaves in the lent buffer.
+-- Document 01, "Refusal numbers" (planning checks 1 to 10) and "The write list": what planning answers, and what it leaves in the buffer.
 use mathlib.Core.Path.{_≡_}
 use mathlib.Core.Logic.{_≢_, _⊎_}
 use mathlib.Core.Bool.{Bool, true, not, _&&_}
@@ -52,6 +52,9 @@ planWith r image buffer = answer (laterRefusal r image buffer) nothing (record {
 unfoldable pub bufferWith : Request → List ℕ → List ℕ → List ℕ
 bufferWith r image buffer = answer (laterRefusal r image buffer) (λ _. buffer) (fronted (writeList (wanted r) image) buffer)
 
+abbrev pub PlansWith : Request → List ℕ → List ℕ → Planned → List ℕ → Type 0
+PlansWith r image buffer answer left = (answer ≡ planWith r image buffer) × (left ≡ bufferWith r image buffer)
+
 -- the answer, and what is left in the buffer: a refusal changes no byte
 unfoldable pub planOf : List ℕ → List ℕ → List ℕ → Planned
 planOf input image buffer = answer (readOf input .refusal) nothing (planWith (readOf input .request) image buffer)
@@ -63,10 +66,11 @@ planBuffer input image buffer = answer (readOf input .refusal) (λ _. buffer) (b
 abbrev pub Plans : List ℕ → List ℕ → List ℕ → Planned → List ℕ → Type 0
 Plans input image buffer answer left = (answer ≡ planOf input image buffer) × (left ≡ planBuffer input image buffer)
 
--- an input that is accepted on some image, and whose list would leave this one as it is
+-- an input that is accepted on some image, and whose list would leave this one as it is (decode's `ExactlyWhen` is about it)
 unfoldable pub standsIn : List ℕ → List ℕ → Bool
 standsIn input image =
-    eqb (readOf input .refusal) 0 && eqb (length image) 256 && eqb (pairFor (readOf input .request) .refusal) 0 && standsBelow (wanted (readOf input .request)) image 256
+    let r : Request = readOf input .request in
+    eqb (readOf input .refusal) 0 && eqb (length image) 256 && eqb (pairFor r .refusal) 0 && standsBelow (wanted r) image 256
 
 -- "the lowest that applies is given, and none is given otherwise. Each returns its number and count 0 and changes no lent byte."
 pub record PlanRefusals (input image buffer : List ℕ) : Type 0 where

@@ -18,9 +18,9 @@ use Rattle.request.specs.declared.Request.{Request}
 use Rattle.request.specs.Read.{pairFor}
 
 -- registers from an address on get these bytes
-abbrev pub run : ℕ → List ℕ → List Write
-run a [] = []
-run a (b ∷ bs) = a gets b ∷ run (suc a) bs
+abbrev pub laid : ℕ → List ℕ → List Write
+laid a [] = []
+laid a (b ∷ bs) = a gets b ∷ laid (suc a) bs
 
 -- "Coherent audio sets 0x0A[7] to 1"
 abbrev pub ctsSelect : Sound → ℕ
@@ -71,7 +71,7 @@ cscBytes m =
 
 -- N and CTS
 abbrev pub clockBytes : Pair → List Write
-clockBytes p = run reg.n0 (twenty (p .n)) ++ run reg.ctsManual0 (twenty (p .cts))
+clockBytes p = laid reg.n0 (twenty (p .n)) ++ laid reg.ctsManual0 (twenty (p .cts))
 
 -- how sound arrives, and Output Format, which is that of the encoding. A named field for which document 01 gives no value, Audio Select,
 -- Audio Mode, I2S Format and Input ID, holds the map's default, 0.
@@ -89,18 +89,19 @@ enableBytes r =
     reg.vicManual gets r .video .vic ∷
     reg.packetEnable0 gets (r .video .link * reg.gcPacketEnableMask) ∷
     reg.packetEnable1
-    gets (withAudio (r .sound) * (reg.nCtsPacketEnableMask + reg.audioSamplePacketEnableMask + reg.audioInfoframeEnableMask) + r .video .link * reg.aviInfoframeEnableMask) ∷
+    gets (withAudio (r .sound) * (reg.nCtsPacketEnableMask + reg.audioSamplePacketEnableMask + reg.audioInfoframeEnableMask)
+    + r .video .link * reg.aviInfoframeEnableMask) ∷
     reg.infoframeUpdate gets reg.autoChecksumEnableMask ∷
     reg.hdcpHdmiCfg gets (r .video .link * reg.hdmiDviModeSelectMask) ∷ []
 
 -- the InfoFrames, whose first byte has no register
 abbrev pub frameBytes : Request → List Write
 frameBytes r =
-    run reg.aviInfoframeVersion (drop 1 (aviFrame (r .video))) ++ run reg.audioInfoframeVersion (drop 1 (audioBytes (r .sound)))
+    laid reg.aviInfoframeVersion (drop 1 (aviFrame (r .video))) ++ laid reg.audioInfoframeVersion (drop 1 (audioBytes (r .sound)))
 
 -- the registers with a named bit, but for 0x4B, whose bits are the step's
 abbrev pub wantedBytes : Request → List Write
-wantedBytes r = clockBytes (pairFor r) ++ inputBytes r ++ run reg.csc (cscBytes (r .matrix)) ++ enableBytes r ++ frameBytes r
+wantedBytes r = clockBytes (pairFor r) ++ inputBytes r ++ laid reg.csc (cscBytes (r .matrix)) ++ enableBytes r ++ frameBytes r
 
 -- the bytes of a list of writes, stored in order
 abbrev pub stores : List ℕ → List Write → List ℕ

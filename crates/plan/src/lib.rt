@@ -12,9 +12,9 @@ ghost use Rattle.frames.specs.Frames.{aviFrame};
 ghost use Rattle.matrix.specs.Matrix.{Bytes};
 ghost use Rattle.request.specs.Read.{pairFor};
 ghost use Rattle.chip.specs.Machine.{up, avi, audio, gc};
-ghost use Rattle.plan.specs.Wanted.{run, stores, twenty, ctsSelect, inputs, rateCode, withAudio, audioBytes, halves, cscBytes};
+ghost use Rattle.plan.specs.Wanted.{laid, stores, twenty, ctsSelect, inputs, rateCode, withAudio, audioBytes, halves, cscBytes};
 ghost use Rattle.plan.specs.Wanted.{clockBytes, inputBytes, enableBytes, frameBytes, wantedImage, SoundFits, MatrixFits, Fits};
-ghost use Rattle.plan.specs.Plan.{nothing, planWith, bufferWith, Plans, standsIn, PlanRefusals};
+ghost use Rattle.plan.specs.Plan.{nothing, PlansWith, Plans, standsIn, PlanRefusals};
 use clock::Pair;
 use map::Map;
 use matrix::Matrix;
@@ -32,7 +32,7 @@ pub struct Planned {
 // Bytes stored from a place on.
 fn laid(out: [u8; 256], at: usize, bytes: &[u8]) -> [u8; 256]
     requires { ⌜ at + length (now bytes) ≤ 256 ⌝ }
-    ensures { λ r. ⌜ r ≡ stores out (run at (now (bytes .entry))) ⌝ }
+    ensures { λ r. ⌜ r ≡ stores out (laid at (now (bytes .entry))) ⌝ }
 {
     let mut next = out;
     let mut i: usize = 0;
@@ -274,7 +274,7 @@ fn refused(number: u8) -> Planned
 // The write list of a request that was read: refusals 7 to 10.
 fn plan_with(r: Request, image: &[u8], writes: &mut [u8]) -> Planned
     requires { ⌜ Fits r ⌝ }
-    ensures { λ p. ⌜ (p ≡ planWith r (now (image .entry)) (now (writes .entry))) × (now (writes .exit) ≡ bufferWith r (now (image .entry)) (now (writes .entry))) ⌝ }
+    ensures { λ p. ⌜ PlansWith r (now (image .entry)) (now (writes .entry)) p (now (writes .exit)) ⌝ }
 {
     if image.len() != 256 {
         return refused(Refusal::IMAGE_LENGTH);

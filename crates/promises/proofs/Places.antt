@@ -24,7 +24,7 @@ use Rattle.request.specs.declared.Sound.the-variants.{Off, On}
 use Rattle.request.specs.declared.Request.{Request}
 use Rattle.request.specs.Read.{pairFor}
 use Rattle.writes.specs.List.{decided, isWritten, leftUp, finished}
-use Rattle.plan.specs.Wanted.{run, audioBytes, wanted, clockBytes, inputBytes, cscBytes, enableBytes}
+use Rattle.plan.specs.Wanted.{laid, audioBytes, wanted, clockBytes, inputBytes, cscBytes, enableBytes}
 use Rattle.plan.specs.Wanted.{inputs, rateCode, ctsSelect, withAudio, SoundFits, MatrixFits}
 use Rattle.decode.proofs.Stored.{look, stored}
 use Rattle.promises.specs.Finished.{Place, bitsOf, places, Shows, Each}
@@ -46,15 +46,15 @@ audio-sum (On rate channels coherent) = refl
 
 abbrev bytes : Request → List Write
 bytes r =
-    clockBytes (pairFor r) ++ inputBytes r ++ run 0x18 (cscBytes (r .matrix)) ++ enableBytes r ++
-    (run 0x52 (drop 1 (aviFrame (r .video))) ++
-    run 0x70 (drop 1 (frame audioHeader (audioPayload (inCC (r .sound)) (inCA (r .sound))))))
+    clockBytes (pairFor r) ++ inputBytes r ++ laid 0x18 (cscBytes (r .matrix)) ++ enableBytes r ++
+    (laid 0x52 (drop 1 (aviFrame (r .video))) ++
+    laid 0x70 (drop 1 (frame audioHeader (audioPayload (inCC (r .sound)) (inCA (r .sound))))))
 
-laid : (r : Request) (a : ℕ) → a < 256 → wanted r a ≡ look a (bytes r) 0
-laid r a h =
+looked-up : (r : Request) (a : ℕ) → a < 256 → wanted r a ≡ look a (bytes r) 0
+looked-up r a h =
     stored r a h
-    ∙ ap (λ (l : List ℕ). look a (clockBytes (pairFor r) ++ inputBytes r ++ run 0x18 (cscBytes (r .matrix)) ++ enableBytes r ++
-    (run 0x52 (drop 1 (aviFrame (r .video))) ++ run 0x70 (drop 1 l))) 0) (audio-frame (r .sound))
+    ∙ ap (λ (l : List ℕ). look a (clockBytes (pairFor r) ++ inputBytes r ++ laid 0x18 (cscBytes (r .matrix)) ++ enableBytes r ++
+    (laid 0x52 (drop 1 (aviFrame (r .video))) ++ laid 0x70 (drop 1 l))) 0) (audio-frame (r .sound))
 
 -- ---- from the wanted bytes to the finished image
 
@@ -76,7 +76,7 @@ module _ (r : Request) (image after : List ℕ) (ends : (a : ℕ) → a < 256 �
       let h : f .address < 256 = ltb-true _ _ (both-right (isField (stepped f) (f .address) (f .high) (f .low)) _ o) in
       let k = field (wanted r) image (f .address) (stepped f) (f .high) (f .low) (both-left _ (ltb (f .address) 256) o) in (
         ap (bitsOf (f .high) (f .low)) (ends (f .address) h) ∙ k
-            ∙ ap (λ (x : ℕ). bitsOf (f .high) (f .low) (cond (stepped f) (leftUp (f .address)) x)) (laid r (f .address) h) ∙ s .0,
+            ∙ ap (λ (x : ℕ). bitsOf (f .high) (f .low) (cond (stepped f) (leftUp (f .address)) x)) (looked-up r (f .address) h) ∙ s .0,
         each fs (both-right (ours f) (every ours fs) t) (s .1),
       )
 

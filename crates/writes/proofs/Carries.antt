@@ -1,4 +1,4 @@
--- What a written byte carries, by the class table's rule: laws of merges, each a truth table; and so each entry of the list. Assumes nothing.
+-- What a written byte carries, by the class table's rule: laws of merges, each a truth table; so each entry of the list. Assumes nothing.
 use mathlib.Core.Path.{_≡_, refl, sym, ap, _∙_}
 use mathlib.Core.Bool.{Bool, true, false, _&&_}
 use mathlib.Core.List.{List, [], _∷_, map}
@@ -58,7 +58,8 @@ module _ (a : ℕ) (h : a < 256) (old wanted x : ℕ) where
   ρ = old ∷ wanted ∷ decided a ∷ x ∷ []
 
   asked-law : (e f : E) → table 9 (by (var 2) zeros (var 7) ∷ rules) e f ≡ true → num 8 e (row (classAt a) ρ) ≡ num 8 f (row (classAt a) ρ)
-  asked-law e f t = law-if (by (var 2) zeros (var 7) ∷ rules) e f 8 (row (classAt a) ρ) t (decided-named a h, holds (classAt a) ρ (rule a h))
+  asked-law e f t =
+      law-if (by (var 2) zeros (var 7) ∷ rules) e f 8 (row (classAt a) ρ) t (decided-named a h, holds (classAt a) ρ (rule a h))
 
   entry-named : under (requested a) (byte a old (merge 8 (decided a) x wanted)) ≡ under (requested a) wanted
   unfolding byte
@@ -70,7 +71,8 @@ module _ (a : ℕ) (h : a < 256) (old wanted x : ℕ) where
 
 -- what holds of every step: its register, that it says no more than it decides, and one of the two holds at most
 abbrev fits : Step → Bool
-fits i = ltb (i .register) 256 && (eqb (under (decided (i .register)) (i .raised)) (i .raised) && ltb (bit 6 (i .raised) + bit 5 (i .raised)) 2)
+fits i =
+    ltb (i .register) 256 && (eqb (under (decided (i .register)) (i .raised)) (i .raised) && ltb (bit 6 (i .raised) + bit 5 (i .raised)) 2)
 
 every-step : (b : Bool) → every fits (steps (middle b)) ≡ true
 unfolding middle decided merge

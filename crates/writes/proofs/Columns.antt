@@ -18,29 +18,26 @@ use Rattle.map.specs.Map as reg
 use Rattle.registers.specs.Classes.{classAt, readOnly, free, named, bits}
 use Rattle.registers.proofs.Whole.{rule}
 use Rattle.registers.proofs.Apart.{row, rules, holds}
-use Rattle.writes.specs.Steps.{Step, _raising_, steps, middle, aviSteps, audioSteps, packetsAt, stepCount}
+use Rattle.writes.specs.Steps.{Step, _raising_, steps, middle, stepAt, aviSteps, audioSteps, packetsAt, stepCount}
 use Rattle.writes.specs.List.{byte, decided, isWritten, leftUp, written, finished, column}
 use Rattle.writes.specs.Columns.{stepAddresses, stepRaised, keptBits, wantedBits, setBits, closed}
 use Rattle.writes.proofs.Image.{column-at}
 
 -- ---- the steps
 
-abbrev pub step : Bool → ℕ → Step
-step b i = getD (steps (middle b)) i (0 raising 0)
-
 pub step-count : (b : Bool) → length (steps (middle b)) ≡ stepCount
 unfolding middle
 step-count true = refl
 step-count false = refl
 
-in-steps : (f : Step → ℕ) {w : Step} (i : ℕ) → step false i ≡ w → getD (map f (steps (middle false))) i (f (0 raising 0)) ≡ f w
+in-steps : (f : Step → ℕ) {w : Step} (i : ℕ) → stepAt false i ≡ w → getD (map f (steps (middle false))) i (f (0 raising 0)) ≡ f w
 in-steps f i e = List·getD-map f (steps (middle false)) i (0 raising 0) ∙ ap f e
 
-pub address-at : (i : ℕ) {w : Step} {l : List ℕ} → l ≡ stepAddresses → step false i ≡ w → getD l i 0 ≡ w .register
+pub address-at : (i : ℕ) {w : Step} {l : List ℕ} → l ≡ stepAddresses → stepAt false i ≡ w → getD l i 0 ≡ w .register
 unfolding stepAddresses
 address-at i l e = rw l (in-steps (λ (w : Step). w .register) i e)
 
-pub raised-at : (i : ℕ) {w : Step} {l : List ℕ} → l ≡ stepRaised → step false i ≡ w → getD l i 0 ≡ w .raised
+pub raised-at : (i : ℕ) {w : Step} {l : List ℕ} → l ≡ stepRaised → stepAt false i ≡ w → getD l i 0 ≡ w .raised
 unfolding stepRaised
 raised-at i l e = rw l (in-steps (λ (w : Step). w .raised) i e)
 
@@ -52,24 +49,26 @@ moved i =
     (cond (ltb i (packetsAt + length audioSteps + length aviSteps)) (i - length audioSteps) i))
 
 abbrev found : ℕ → Bool
-found i = eqb (step false (moved i) .register) (step true i .register) && eqb (step false (moved i) .raised) (step true i .raised)
+found i = eqb (stepAt false (moved i) .register) (stepAt true i .register) && eqb (stepAt false (moved i) .raised) (stepAt true i .raised)
 
 all-found : below found stepCount ≡ true
 unfolding middle
 all-found = refl
 
-pub there : (i : ℕ) → i < stepCount → step false (moved i) ≡ step true i
+pub there : (i : ℕ) → i < stepCount → stepAt false (moved i) ≡ stepAt true i
 there i h =
     let t : found i ≡ true = at-below found stepCount i all-found h in
-    let v : Bool = eqb (step false (moved i) .raised) (step true i .raised) in
-    ap₂ (λ (a b : ℕ). a raising b) (eqb-true _ _ (both-left _ v t)) (eqb-true _ _ (both-right (eqb (step false (moved i) .register) (step true i .register)) _ t))
+    let v : Bool = eqb (stepAt false (moved i) .raised) (stepAt true i .raised) in
+    let u : Bool = eqb (stepAt false (moved i) .register) (stepAt true i .register) in
+    ap₂ (λ (a b : ℕ). a raising b) (eqb-true _ _ (both-left _ v t)) (eqb-true _ _ (both-right u _ t))
 
-pub at-place : {b : Bool} (i r : ℕ) → b ≡ true → i < stepCount → moved i ≡ r → r < stepCount → (r < stepCount) × (step false r ≡ step b i)
+pub at-place : {b : Bool} (i r : ℕ) → b ≡ true → i < stepCount → moved i ≡ r → r < stepCount
+    → (r < stepCount) × (stepAt false r ≡ stepAt b i)
 at-place {b} i r e h m l =
-    (l, subst (λ (x : Bool). step false r ≡ step x i) (sym e) (subst (λ (n : ℕ). step false n ≡ step true i) m (there i h)))
+    (l, subst (λ (x : Bool). stepAt false r ≡ stepAt x i) (sym e) (subst (λ (n : ℕ). stepAt false n ≡ stepAt true i) m (there i h)))
 
-pub unmoved : {b : Bool} (i : ℕ) → b ≡ false → step false i ≡ step b i
-unmoved i e = ap (λ (x : Bool). step x i) (sym e)
+pub unmoved : {b : Bool} (i : ℕ) → b ≡ false → stepAt false i ≡ stepAt b i
+unmoved i e = ap (λ (x : Bool). stepAt x i) (sym e)
 
 -- a step writes a register, and raises no bit but those that steps decide
 abbrev proper : Step → Bool
@@ -80,12 +79,13 @@ pub record Proper (i : Step) : Type 0 where
   pub writes : isWritten (i .register) ≡ true
   pub raises : merge 8 (decided (i .register)) 0 (i .raised) ≡ 0
 
-pub step-proper : (i : ℕ) → i < stepCount → Proper (step false i)
+pub step-proper : (i : ℕ) → i < stepCount → Proper (stepAt false i)
 unfolding middle isWritten classAt decided merge
 step-proper i h =
-    let w : Step = step false i in
-    let t : proper w ≡ true = at-below (λ j. proper (step false j)) stepCount i refl h in
-    let u : (isWritten (w .register) && eqb (merge 8 (decided (w .register)) 0 (w .raised)) 0) ≡ true = both-right (ltb (w .register) 256) _ t in
+    let w : Step = stepAt false i in
+    let t : proper w ≡ true = at-below (λ j. proper (stepAt false j)) stepCount i refl h in
+    let u : (isWritten (w .register) && eqb (merge 8 (decided (w .register)) 0 (w .raised)) 0) ≡ true =
+    both-right (ltb (w .register) 256) _ t in
     record {
       small = ltb-true _ _ (both-left (ltb (w .register) 256) _ t);
       writes = both-left (isWritten (w .register)) _ u;
@@ -110,7 +110,8 @@ left-none a h e = eqb-true _ 0 (rw e at (at-below (λ a. cond (isWritten a) true
 -- "the law of the three columns": `var 5` is what steps decide, `var 6` what this one raises, `var 7` the old byte, `var 8` the wanted one
 three : (a x old wanted : ℕ) → a < 256 → merge 8 (decided a) 0 x ≡ 0
     → byte a old (merge 8 (decided a) x wanted)
-    ≡ merge 8 x x (merge 8 (merge 8 (readOnly a) (readOnly a) (free a)) old (merge 8 (merge 8 (decided a) 0 (named a)) wanted (merge 8 (named a) 0 (bits a))))
+    ≡ merge 8 x x (merge 8 (merge 8 (readOnly a) (readOnly a) (free a)) old
+    (merge 8 (merge 8 (decided a) 0 (named a)) wanted (merge 8 (named a) 0 (bits a))))
 unfolding byte
 three a x old wanted h e =
     let ρ : List ℕ = decided a ∷ x ∷ old ∷ wanted ∷ [] in
@@ -129,19 +130,22 @@ none-raised : (m x y : ℕ) → merge 8 0 0 (merge 8 m x y) ≡ merge 8 m x y
 none-raised m x y = law (by zeros zeros (by (var 0) (var 1) (var 2))) (by (var 0) (var 1) (var 2)) 8 (m ∷ x ∷ y ∷ []) refl
 
 -- a byte as the code has it, from the columns
-pub by-columns : (want : ℕ → ℕ) (image : List ℕ) (a : ℕ) → a < 256 → {k w s : List ℕ} → k ≡ column keptBits → w ≡ column wantedBits → s ≡ column setBits
+pub by-columns : (want : ℕ → ℕ) (image : List ℕ) (a : ℕ) → a < 256 → {k w s : List ℕ}
+    → k ≡ column keptBits → w ≡ column wantedBits → s ≡ column setBits
     → merge 8 (getD k a 0) (getD image a 0) (merge 8 (getD w a 0) (want a) (getD s a 0)) ≡ closed want image a
 unfolding closed
 by-columns want image a h k w s = rw (k, w, s, column-at keptBits a h, column-at wantedBits a h, column-at setBits a h)
 
 module _ (want : ℕ → ℕ) (image : List ℕ) where
   -- a step's byte is the closed one with the step's bits raised
-  pub raised-written : (i : Step) → Proper i → merge 8 (i .raised) (i .raised) (closed want image (i .register)) ≡ written want image i .value
+  pub raised-written : (i : Step) → Proper i
+      → merge 8 (i .raised) (i .raised) (closed want image (i .register)) ≡ written want image i .value
   unfolding closed written
   raised-written i p = rw (p .writes) (sym (three (i .register) (i .raised) _ _ (p .small) (p .raises)))
 
   -- and so is the finished one; a register that is not written stays
-  pub raised-finished : (a : ℕ) → a < 256 → getD image a 0 < 256 → merge 8 (leftUp a) (leftUp a) (closed want image a) ≡ finished want image a
+  pub raised-finished : (a : ℕ) → a < 256 → getD image a 0 < 256
+      → merge 8 (leftUp a) (leftUp a) (closed want image a) ≡ finished want image a
   unfolding closed finished written
   raised-finished a h small = go (isWritten a) refl
     where
@@ -150,7 +154,8 @@ module _ (want : ℕ → ℕ) (image : List ℕ) where
       go false e = rw (e, left-none a h e) (none-raised 255 _ _ ∙ all-kept _ _ small)
 
   -- the value of the step at place p of the table, as the code has it
-  pub step-value : (p : ℕ) {w : Step} {rs xs : List ℕ} (bytes : List ℕ) → p < stepCount → step false p ≡ w → rs ≡ stepAddresses → xs ≡ stepRaised
+  pub step-value : (p : ℕ) {w : Step} {rs xs : List ℕ} (bytes : List ℕ) → p < stepCount → stepAt false p ≡ w
+      → rs ≡ stepAddresses → xs ≡ stepRaised
       → ((a : ℕ) → a < 256 → getD bytes a 0 ≡ closed want image a)
       → merge 8 (getD xs p 0) (getD xs p 0) (getD bytes (getD rs p 0) 0) ≡ written want image w .value
   step-value p {w} bytes h e rs xs each =
@@ -171,7 +176,8 @@ module _ (want : ℕ → ℕ) (image : List ℕ) where
       go true t =
           let q : a ≡ reg.gc = eqb-true a reg.gc t in
           subst (λ (x : ℕ). getD (set bytes reg.gc v) x 0 ≡ finished want image x) (sym q)
-          (getD-set-same bytes reg.gc v 0 (rw l (lit< tt)) ∙ e ∙ rw (each reg.gc (lit< tt)) (raised-finished reg.gc (lit< tt) (small reg.gc (lit< tt))))
+          (getD-set-same bytes reg.gc v 0 (rw l (lit< tt)) ∙ e
+          ∙ rw (each reg.gc (lit< tt)) (raised-finished reg.gc (lit< tt) (small reg.gc (lit< tt))))
       go false t =
           getD-set-other bytes reg.gc a v 0 (eqb-false a reg.gc t) ∙ each a h ∙ unraised a t ∙ raised-finished a h (small a h)
 

@@ -9,9 +9,9 @@ use lib.ListN.{length, getD, take, set, length-map}
 use lib.Seq.{sets, take-suc, length-take-le}
 use Rattle.lists.proofs.Emit.{sets-two, map-at}
 use Rattle.chip.specs.Machine.{Write, _gets_}
-use Rattle.writes.specs.Steps.{_raising_, steps, middle, stepCount}
+use Rattle.writes.specs.Steps.{_raising_, steps, middle, stepAt, stepCount}
 use Rattle.writes.specs.List.{written, flat}
-use Rattle.writes.proofs.Columns.{step, step-count}
+use Rattle.writes.proofs.Columns.{step-count}
 
 pub length-flat : (ws : List Write) → length (flat ws) ≡ 2 * length ws
 unfolding flat
@@ -40,10 +40,10 @@ module _ (want : ℕ → ℕ) (image : List ℕ) (b : Bool) where
   pub count : length inOrder ≡ stepCount
   count = length-map (steps (middle b)) (written want image) ∙ step-count b
 
-  pub step-turn : (d : List ℕ) (i a v : ℕ) → i < stepCount → a ≡ step b i .register → v ≡ written want image (step b i) .value
+  pub step-turn : (d : List ℕ) (i a v : ℕ) → i < stepCount → a ≡ stepAt b i .register → v ≡ written want image (stepAt b i) .value
       → set (set (sets d 0 (flat (take i inOrder))) (2 * i) a) (2 * i + 1) v ≡ sets d 0 (flat (take (i + 1) inOrder))
   unfolding written
   step-turn d i a v h p q =
-      let e : getD inOrder i (0 gets 0) ≡ written want image (step b i) =
+      let e : getD inOrder i (0 gets 0) ≡ written want image (stepAt b i) =
       map-at (written want image) (steps (middle b)) i (0 raising 0) (0 gets 0) (rw (step-count b) h) in
       turn inOrder d i a v (0 gets 0) (rw count h) (p ∙ sym (ap (λ (w : Write). w .address) e)) (q ∙ sym (ap (λ (w : Write). w .value) e))

@@ -13,7 +13,7 @@ use Rattle.registers.specs.Steps.{table14, hasNamed, inRun}
 use Rattle.chip.specs.Machine.{Write, _gets_, Group, up, avi, audio, gc, packets, holdsOf}
 use Rattle.writes.specs.Steps.{Step, from, _raising_, middle, steps}
 
--- the bits of a register that steps decide: "a hold write to 0x4A has the other named hold 0". What they do to an entry of the list: `Entry`.
+-- the bits of a register that steps decide: "a hold write to 0x4A has the other named hold 0". Of an entry of the list it is `Entry`.
 unfoldable pub decided : ℕ → ℕ
 decided a =
     cond (eqb a reg.infoframeUpdate) (reg.aviPacketUpdateMask + reg.audioInfoframePacketUpdateMask)
@@ -60,7 +60,8 @@ isWritten a = hasNamed a || covers avi a || covers audio a || among a table14
 abbrev pub leftUp : ℕ → ℕ
 leftUp a = cond (eqb a reg.gc) reg.clearAvMuteMask 0
 
--- the finished image, register by register: each of these with its mandated and wanted bits, holds down and the picture open; every other as it was
+-- the finished image, register by register: each of these with its mandated and wanted bits, holds down and the picture open;
+-- every other as it was. (In the document's notation, field by field: `Finished` of promises. That the list ends so: `Demand3`.)
 unfoldable pub finished : (ℕ → ℕ) → List ℕ → ℕ → ℕ
 finished want image a = cond (isWritten a) (written want image (a raising leftUp a) .value) (getD image a 0)
 
@@ -80,6 +81,10 @@ unfoldable pub standsBelow : (ℕ → ℕ) → List ℕ → ℕ → Bool
 standsBelow want image zero = true
 standsBelow want image (suc a) = eqb (finished want image a) (getD image a 0) && standsBelow want image a
 
+-- an image of 256 bytes that stands so
+abbrev pub standsWhole : (ℕ → ℕ) → List ℕ → Bool
+standsWhole want image = eqb (length image) 256 && standsBelow want image 256
+
 -- no image of 256 bytes, or no room for a list
 abbrev pub noRoom : List ℕ → List ℕ → Bool
 noRoom image buffer = not (eqb (length image) 256) || ltb (length buffer) 256
@@ -87,4 +92,5 @@ noRoom image buffer = not (eqb (length image) 256) || ltb (length buffer) 256
 -- what `write_list` promises: the list at the front of the buffer, and its count; where there is no room, nothing
 abbrev pub Lists : (ℕ → ℕ) → List ℕ → List ℕ → ℕ → List ℕ → Type 0
 Lists want image buffer count left =
-    (count ≡ cond (noRoom image buffer) 0 (length (writeList want image))) × (left ≡ cond (noRoom image buffer) buffer (fronted (writeList want image) buffer))
+    (count ≡ cond (noRoom image buffer) 0 (length (writeList want image)))
+    × (left ≡ cond (noRoom image buffer) buffer (fronted (writeList want image) buffer))

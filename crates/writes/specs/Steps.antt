@@ -2,7 +2,7 @@
 use mathlib.Core.Bool.{Bool, cond}
 use mathlib.Core.List.{List, [], _∷_, _++_}
 use Prim.Native.Nat.{ℕ, zero, suc, _+_, _-_}
-use lib.ListN.{length}
+use lib.ListN.{length, getD}
 use Rattle.map.specs.Map as reg
 use Rattle.registers.specs.Steps.{table14, others}
 
@@ -37,7 +37,9 @@ coefficientSteps =
 
 -- "AVI hold up, its registers, hold down; audio likewise"
 abbrev pub aviSteps : List Step
-aviSteps = reg.infoframeUpdate raising reg.aviPacketUpdateMask ∷ span reg.aviInfoframeVersion reg.aviInfoframeCount ++ reg.infoframeUpdate raising 0 ∷ []
+aviSteps =
+    reg.infoframeUpdate raising reg.aviPacketUpdateMask ∷ span reg.aviInfoframeVersion reg.aviInfoframeCount ++
+    reg.infoframeUpdate raising 0 ∷ []
 
 abbrev pub audioSteps : List Step
 audioSteps =
@@ -51,6 +53,10 @@ middle audioFirst = each table14 ++ coefficientSteps ++ cond audioFirst (audioSt
 -- "Order: mute; ..; open"
 abbrev pub steps : List Step → List Step
 steps between = reg.gc raising reg.setAvMuteMask ∷ between ++ reg.gc raising reg.clearAvMuteMask ∷ []
+
+-- the step at a place of the list
+abbrev pub stepAt : Bool → ℕ → Step
+stepAt audioFirst i = getD (steps (middle audioFirst)) i (0 raising 0)
 
 -- how many steps stand before the two packets, and how many there are
 abbrev pub packetsAt : ℕ

@@ -7,8 +7,8 @@ ghost use lib.Dec.{eqb};
 ghost use lib.ListN.{getD, length};
 ghost use Rattle.bits.specs.Merge.{merge};
 ghost use Rattle.chip.specs.Machine.{audio, packets, up};
-ghost use Rattle.writes.specs.Steps.{_raising_, steps, middle, stepCount};
-ghost use Rattle.writes.specs.List.{column, standsBelow, Lists};
+ghost use Rattle.writes.specs.Steps.{stepAt, stepCount};
+ghost use Rattle.writes.specs.List.{column, standsWhole, Lists};
 ghost use Rattle.writes.specs.Columns.{stepAddresses, stepRaised, keptBits, wantedBits, setBits, closed};
 ghost use Rattle.writes.specs.Order.{Order};
 ghost use Rattle.writes.specs.Carried.{Entries};
@@ -66,7 +66,7 @@ fn closed(image: &[u8], wanted: &[u8; 256]) -> [u8; 256]
 // The place of a step in the table, which has AVI before audio. "If the audio hold is up at the start, audio goes before AVI."
 fn place(audio_first: bool, i: usize) -> usize
     requires { ⌜ i < stepCount ⌝ }
-    ensures { λ r. ⌜ (r < stepCount) × (getD (steps (middle false)) r (0 raising 0) ≡ getD (steps (middle «audio_first»)) i (0 raising 0)) ⌝ }
+    ensures { λ r. ⌜ (r < stepCount) × (stepAt false r ≡ stepAt «audio_first» i) ⌝ }
 {
     if !audio_first {
         return i;
@@ -123,7 +123,7 @@ pub fn write_list(image: &[u8], wanted: &[u8; 256], writes: &mut [u8]) -> u32
 
 // Whether an image stands as the list of these wanted bytes would leave it.
 pub fn stands(image: &[u8], wanted: &[u8; 256]) -> bool
-    ensures { λ r. ⌜ r ≡ (eqb (length (now (image .entry))) 256 && standsBelow (λ a. getD (now (wanted .entry)) a 0) (now (image .entry)) 256) ⌝ }
+    ensures { λ r. ⌜ r ≡ standsWhole (λ a. getD (now (wanted .entry)) a 0) (now (image .entry)) ⌝ }
 {
     if image.len() != 256 {
         return false;

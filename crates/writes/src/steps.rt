@@ -1,7 +1,7 @@
-// The steps of the list and the masks of a written byte, as columns. Document 01, "The write list"; what they are is said in specs/Columns.antt.
+// The steps of the list and the masks of a written byte, as columns. Document 01, "The write list"; specs/Columns.antt says what they are.
 use map::Map;
 
-// How many steps stand before the two packets, how many each packet has (its hold up, its registers, its hold down), and how many there are.
+// How many steps stand before the two packets, how many each packet has (its hold up, registers, its hold down), and how many there are.
 pub const PACKETS: usize = 1 + 8 + Map::CSC_COUNT as usize + 2;
 
 pub const AVI: usize = Map::AVI_INFOFRAME_COUNT as usize + 2;
@@ -36,8 +36,8 @@ pub const ADDRESSES: [u8; STEPS] = [
     Map::INFOFRAME_UPDATE,
     Map::AUDIO_INFOFRAME_VERSION, Map::AUDIO_INFOFRAME_VERSION + 1, Map::AUDIO_INFOFRAME_VERSION + 2, Map::AUDIO_INFOFRAME_VERSION + 3,
     Map::AUDIO_INFOFRAME_VERSION + 4, Map::AUDIO_INFOFRAME_VERSION + 5, Map::AUDIO_INFOFRAME_VERSION + 6, Map::AUDIO_INFOFRAME_VERSION + 7,
-    Map::AUDIO_INFOFRAME_VERSION + 8, Map::AUDIO_INFOFRAME_VERSION + 9, Map::AUDIO_INFOFRAME_VERSION + 10, Map::AUDIO_INFOFRAME_VERSION + 11,
-    Map::AUDIO_INFOFRAME_VERSION + 12,
+    Map::AUDIO_INFOFRAME_VERSION + 8, Map::AUDIO_INFOFRAME_VERSION + 9, Map::AUDIO_INFOFRAME_VERSION + 10,
+    Map::AUDIO_INFOFRAME_VERSION + 11, Map::AUDIO_INFOFRAME_VERSION + 12,
     Map::INFOFRAME_UPDATE,
     // the others
     Map::N0, Map::N1, Map::N2, Map::CTS_MANUAL0,

@@ -4,13 +4,13 @@ use Prim.Native.Nat.{_+_, _-_, _≤_}
 use native.Mathlib.Nat.{add-zero}
 use lib.ListN.{length, drop}
 use borrow.Author.Needs.{needs}
-use Rattle.plan.specs.Wanted.{run, stores}
-use Rattle.plan.proofs.Stored.{run-more, run-end}
+use Rattle.plan.specs.Wanted.{laid, stores}
+use Rattle.plan.proofs.Stored.{laid-more, laid-end}
 use Rattle.plan.proofs.laid.Statement.{statement}
 use Rattle.plan.proofs.laid.Tie as tie
 
 abbrev Inv-loop : tie.InvT-loop
-Inv-loop at bytes next₀ i₀ next i = (i ≤ length bytes) × (length next ≡ 256) × (stores next (run (at + i) (drop i bytes)) ≡ stores next₀ (run at bytes))
+Inv-loop at bytes next₀ i₀ next i = (i ≤ length bytes) × (length next ≡ 256) × (stores next (laid (at + i) (drop i bytes)) ≡ stores next₀ (laid at bytes))
 
 abbrev μ-loop : tie.MeasureT-loop
 μ-loop at bytes next₀ i₀ next i = length bytes - i
@@ -37,13 +37,13 @@ loop-again : tie.Need-loop-again Inv-loop μ-loop
 loop-again c =
     let l = c .before .before .loop in
     let a = c .before .before .before .args in
-    (search needs, search needs, run-more (l .next) (a .bytes .now) (a .at) (l .i) (search needs) ∙ l .inv .2)
+    (search needs, search needs, laid-more (l .next) (a .bytes .now) (a .at) (l .i) (search needs) ∙ l .inv .2)
 
 returns : tie.Need-returns Inv-loop μ-loop
 returns c =
     let l = c .before .loop in
     let a = c .before .before .args in
-    sym (run-end (l .next) (a .bytes .now) (a .at) (l .i) (search needs)) ∙ l .inv .2
+    sym (laid-end (l .next) (a .bytes .now) (a .at) (l .i) (search needs)) ∙ l .inv .2
 
 pub laid-spec : {M : Type 1} → statement M
 laid-spec =

@@ -5,7 +5,7 @@ use lib.ListN.{replicate}
 use Rattle.map.specs.Map as reg
 use Rattle.chip.specs.Machine.{Write}
 use Rattle.request.specs.Read.{pairFor}
-use Rattle.plan.specs.Wanted.{run, cscBytes, clockBytes, inputBytes, enableBytes, frameBytes, wantedImage}
+use Rattle.plan.specs.Wanted.{laid, cscBytes, clockBytes, inputBytes, enableBytes, frameBytes, wantedImage}
 use Rattle.plan.proofs.Stored.{more}
 use borrow.Author.Needs.{needs}
 use Rattle.plan.proofs.wanted_image.Statement.{statement}
@@ -46,11 +46,11 @@ returns c =
     let z : List ℕ = replicate 256 0 in
     let one : List Write = clockBytes (pairFor r) in
     let two : List Write = one ++ inputBytes r in
-    let three : List Write = two ++ run reg.csc (cscBytes (r .matrix)) in
+    let three : List Write = two ++ laid reg.csc (cscBytes (r .matrix)) in
     let four : List Write = three ++ enableBytes r in
     more z four (frameBytes r)
     (more z three (enableBytes r)
-    (more z two (run reg.csc (cscBytes (r .matrix)))
+    (more z two (laid reg.csc (cscBytes (r .matrix)))
     (more z one (inputBytes r) (rw (p .pre .1) at (i .before .with-clock .ensures)) (i .with-inputs .ensures))
     (rw (m .csc-bytes .ensures) at (l .laid .ensures)))
     (c .before .with-enables .ensures))

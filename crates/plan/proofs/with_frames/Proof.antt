@@ -2,7 +2,7 @@
 use mathlib.Core.Path.{_≡_}
 use lib.ListN.{take, drop}
 use Rattle.frames.specs.Frames.{aviFrame}
-use Rattle.plan.specs.Wanted.{run, audioBytes}
+use Rattle.plan.specs.Wanted.{laid, audioBytes}
 use Rattle.plan.proofs.Stored.{more, rest}
 use borrow.Author.Needs.{needs}
 use Rattle.plan.proofs.with_frames.Statement.{statement}
@@ -51,7 +51,7 @@ returns c =
     let r = b .before .before .args .r in
     let audio : take 13 (drop 1 (b .audio-bytes .result)) ≡ drop 1 (b .audio-bytes .result) = rest 13 (b .audio-bytes .result) (search needs) in
     let video : take 16 (drop 1 (b .before .avi-bytes .result)) ≡ drop 1 (b .before .avi-bytes .result) = rest 16 (b .before .avi-bytes .result) (search needs) in
-    more (b .before .before .args .out) (run 0x52 (drop 1 (aviFrame (r .video)))) (run 0x70 (drop 1 (audioBytes (r .sound))))
+    more (b .before .before .args .out) (laid 0x52 (drop 1 (aviFrame (r .video)))) (laid 0x70 (drop 1 (audioBytes (r .sound))))
     (rw (video, b .before .avi-bytes .ensures) at (l .laid .ensures)) (rw (audio, b .audio-bytes .ensures) at (c .laid2 .ensures))
 
 pub with-frames-spec : {M : Type 1} → statement M
