@@ -37,7 +37,7 @@ abbrev pub audio : Group
 audio = record { hold = 5; first = audioInfoframeVersion; count = audioInfoframeCount }
 
 abbrev pub gc : Group
-gc = record { hold = 4; first = reg.gc; count = 1 }
+gc = record { hold = 4; first = reg.avMute; count = 1 }
 
 -- "Coefficient hold 0x1A[5]: the same for the 24 bytes 0x18 to 0x2F, copied whole"
 abbrev pub matrix : Group

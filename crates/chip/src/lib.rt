@@ -69,7 +69,7 @@ fn packet_after(packet: [u8; 32], image: [u8; 256], old: u8, new: u8) -> [u8; 32
         return next;
     }
     if (new / Map::GC_PACKET_UPDATE_MASK % 2 == 1) & !(old / Map::GC_PACKET_UPDATE_MASK % 2 == 1) {
-        fill(&image, Map::GC as usize, 1, &mut next);
+        fill(&image, Map::AV_MUTE as usize, 1, &mut next);
         return next;
     }
     next

@@ -93,12 +93,12 @@ converter-byte old x wanted =
     clean-hold : (a b : ℕ) → a < 2 → 32 * a + 0 ≡ only (converter .groups) (32 * a + 64 * b)
     clean-hold a b h = omega arith
 
-pub mute-byte : (old x wanted : ℕ) → let b : ℕ = byte reg.gc old (merge 8 0xC0 x wanted) in bit 6 b + 2 * bit 7 b ≡ bit 6 x + 2 * bit 7 x
+pub mute-byte : (old x wanted : ℕ) → let b : ℕ = byte reg.avMute old (merge 8 0xC0 x wanted) in bit 6 b + 2 * bit 7 b ≡ bit 6 x + 2 * bit 7 x
 unfolding classAt
 mute-byte old x wanted =
-    let b : ℕ = byte reg.gc old (merge 8 0xC0 x wanted) in
-    let b6 : bit 6 b ≡ bit 6 x = byte-bit reg.gc 6 old _ (lit< tt) ∙ merge-bit 8 6 0xC0 x wanted (lit< tt) in
-    let b7 : bit 7 b ≡ bit 7 x = byte-bit reg.gc 7 old _ (lit< tt) ∙ merge-bit 8 7 0xC0 x wanted (lit< tt) in
+    let b : ℕ = byte reg.avMute old (merge 8 0xC0 x wanted) in
+    let b6 : bit 6 b ≡ bit 6 x = byte-bit reg.avMute 6 old _ (lit< tt) ∙ merge-bit 8 6 0xC0 x wanted (lit< tt) in
+    let b7 : bit 7 b ≡ bit 7 x = byte-bit reg.avMute 7 old _ (lit< tt) ∙ merge-bit 8 7 0xC0 x wanted (lit< tt) in
     rw (b6, b7)
 
 -- a step with no more than its hold bits

@@ -216,36 +216,36 @@ module _ (mid : (ℕ → ℕ) → List ℕ → List Step)
 
     -- the mute bits after a write to their register
     mute-store : (x : ℕ) (u : Chip) → Whole u → up gc (status packets (u .image)) ≡ false
-        → mute (store (f (reg.gc raising x)) u) ≡ bit 6 x + 2 * bit 7 x
+        → mute (store (f (reg.avMute raising x)) u) ≡ bit 6 x + 2 * bit 7 x
     unfolding gcInUse written decided
     mute-store x u e h =
-        let d : inUse packets gc (store (f (reg.gc raising x)) u) ≡ registersOf gc (store (f (reg.gc raising x)) u .image) =
-        down-part packets gc (store (f (reg.gc raising x)) u)
-        (sym (gc-same (holdsOf packets (store (f (reg.gc raising x)) u .image)))
-        ∙ ap (λ (n : ℕ). up gc n) (gc-shown .tracks (f (reg.gc raising x)) u e) ∙ h) in
-        rw (d, image-store, getD-take {A = ℕ} 1 _ 0 0 (lit< tt), getD-drop, getD-set-same (u .image) reg.gc _ 0 (rw e (lit< tt)))
-        (mute-byte (getD (s .image) reg.gc 0) x (want reg.gc))
+        let d : inUse packets gc (store (f (reg.avMute raising x)) u) ≡ registersOf gc (store (f (reg.avMute raising x)) u .image) =
+        down-part packets gc (store (f (reg.avMute raising x)) u)
+        (sym (gc-same (holdsOf packets (store (f (reg.avMute raising x)) u .image)))
+        ∙ ap (λ (n : ℕ). up gc n) (gc-shown .tracks (f (reg.avMute raising x)) u e) ∙ h) in
+        rw (d, image-store, getD-take {A = ℕ} 1 _ 0 0 (lit< tt), getD-drop, getD-set-same (u .image) reg.avMute _ 0 (rw e (lit< tt)))
+        (mute-byte (getD (s .image) reg.avMute 0) x (want reg.avMute))
 
     -- the state after the first write
     dark : Chip
-    dark = store (f (reg.gc raising reg.setAvMuteMask)) s
+    dark = store (f (reg.avMute raising reg.setAvMuteMask)) s
 
     dark-sized : Whole dark
     unfolding dark
-    dark-sized = size-store (f (reg.gc raising reg.setAvMuteMask)) s (r .whole)
+    dark-sized = size-store (f (reg.avMute raising reg.setAvMuteMask)) s (r .whole)
 
     dark-holds : status packets (dark .image) ≡ status packets (s .image)
     unfolding dark written
-    dark-holds = gc-shown .tracks (f (reg.gc raising reg.setAvMuteMask)) s (r .whole)
+    dark-holds = gc-shown .tracks (f (reg.avMute raising reg.setAvMuteMask)) s (r .whole)
 
     -- the writes between, and the last
     abbrev ws : List Write
     ws = map f ms
 
     abbrev opening : Write
-    opening = f (reg.gc raising reg.clearAvMuteMask)
+    opening = f (reg.avMute raising reg.clearAvMuteMask)
 
-    shape : map f (ms ++ reg.gc raising reg.clearAvMuteMask ∷ []) ≡ ws ++ opening ∷ []
+    shape : map f (ms ++ reg.avMute raising reg.clearAvMuteMask ∷ []) ≡ ws ++ opening ∷ []
     shape = map-append f ms _
 
     count : length (P want (s .image)) ≡ suc (suc (length ws))
@@ -297,11 +297,11 @@ module _ (mid : (ℕ → ℕ) → List ℕ → List Step)
     others-stay k a h t = rw (cut-acts k, take-map f k is, stand (take k is) a h, last-none a is 0 k (good want (s .image) r .rests a h t))
 
     -- a register that a write moves is the mute's, or the picture is muted before and after
-    covered : (a k : ℕ) → a ≢ reg.gc → getD (cutOf P want s (suc k) .image) a 0 ≢ getD (cutOf P want s k .image) a 0
+    covered : (a k : ℕ) → a ≢ reg.avMute → getD (cutOf P want s (suc k) .image) a 0 ≢ getD (cutOf P want s k .image) a 0
         → Muted (cutOf P want s k) × Muted (cutOf P want s (suc k))
     unfolding dark written
     covered a zero h m =
-        absurd (m (ap (λ (t : Chip). getD (t .image) a 0) (cut-dark 0) ∙ elsewhere (f (reg.gc raising reg.setAvMuteMask)) s a h))
+        absurd (m (ap (λ (t : Chip). getD (t .image) a 0) (cut-dark 0) ∙ elsewhere (f (reg.avMute raising reg.setAvMuteMask)) s a h))
     covered a (suc j) h m = go (ltb (suc (suc j)) (length (P want (s .image)))) refl
       where
         late : (i : ℕ) → length ws ≤ i → getD (cutOf P want s (suc i) .image) a 0 ≡ getD (acts store ws dark .image) a 0

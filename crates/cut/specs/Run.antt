@@ -84,7 +84,7 @@ Stays a j s t = bit j (getD (t .image) a 0) ≡ bit j (getD (s .image) a 0)
 pub record Covered (es : List Event) (s : Chip) : Type 0 where
   -- "where the chip takes the VIC from 0x3C, that is outside the group and the mute covers it": an event that moves any register but the
   -- mute's own has the picture muted before it and after it
-  pub moves : (a k : ℕ) → a ≢ reg.gc → getD (cut es s (suc k) .image) a 0 ≢ getD (cut es s k .image) a 0
+  pub moves : (a k : ℕ) → a ≢ reg.avMute → getD (cut es s (suc k) .image) a 0 ≢ getD (cut es s k .image) a 0
       → Muted (cut es s k) × Muted (cut es s (suc k))
   pub vic : (k : ℕ) → getD (cut es s k .image) reg.vicManual 0 ≢ getD (s .image) reg.vicManual 0
       → Muted (cut es s k) ⊎ (length es ≤ k)

@@ -200,7 +200,7 @@ unfolding finished written
 finished-again want before image a e = go (isWritten a) e
   where
     w : ℕ
-    w = merge 8 (decided a) (cond (eqb a reg.gc) reg.clearAvMuteMask 0) (want a)
+    w = merge 8 (decided a) (cond (eqb a reg.avMute) reg.clearAvMuteMask 0) (want a)
 
     go : (b : Bool) → getD image a 0 ≡ cond b (byte a (getD before a 0) w) (getD before a 0) → cond b (byte a (getD image a 0) w) (getD image a 0) ≡ getD image a 0
     go true e = rw e (again a (getD before a 0) w)

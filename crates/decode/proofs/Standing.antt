@@ -63,7 +63,7 @@ byte-small a old w = merge-small 8 _ _ _
 
 -- the bits that its last step decides in a register, and those wanted
 abbrev asked : (ℕ → ℕ) → ℕ → ℕ
-asked want a = merge 8 (decided a) (cond (eqb a reg.gc) reg.clearAvMuteMask 0) (want a)
+asked want a = merge 8 (decided a) (cond (eqb a reg.avMute) reg.clearAvMuteMask 0) (want a)
 
 -- a register that the list writes, as the list leaves it
 pub left : (want : ℕ → ℕ) (image : List ℕ) (a : ℕ) → isWritten a ≡ true → finished want image a ≡ byte a (getD image a 0) (asked want a)
@@ -85,4 +85,4 @@ module _ (r : Request) (image : List ℕ) (st : Stands r image) where
       let b : below (λ j. undecided a (j + s)) k ≡ true = both-right (isWritten a && leb (k + s) 8) _ t in
       field-same s k (getD image a 0) (wanted r a)
       (λ j i. ap (λ (x : ℕ). bit (j + s) x) (sym (there a h w))
-      ∙ named-bit a (j + s) (getD image a 0) (cond (eqb a reg.gc) reg.clearAvMuteMask 0) (wanted r a) h (omega arith) (at-below (λ j. undecided a (j + s)) k j b i))
+      ∙ named-bit a (j + s) (getD image a 0) (cond (eqb a reg.avMute) reg.clearAvMuteMask 0) (wanted r a) h (omega arith) (at-below (λ j. undecided a (j + s)) k j b i))

@@ -194,8 +194,8 @@ abbrev pub gcPacketUpdateMask : ℕ
 gcPacketUpdateMask = 0x10
 
 -- 0x4B: Clear AV Mute, Set AV Mute
-abbrev pub gc : ℕ
-gc = 0x4B
+abbrev pub avMute : ℕ
+avMute = 0x4B
 
 abbrev pub clearAvMuteMask : ℕ
 clearAvMuteMask = 0x80

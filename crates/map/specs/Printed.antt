@@ -68,7 +68,7 @@ rows =
     mask 6 6 reg.aviPacketUpdateMask ∷
     mask 5 5 reg.audioInfoframePacketUpdateMask ∷
     mask 4 4 reg.gcPacketUpdateMask ∷
-    register 0x4B reg.gc ∷
+    register 0x4B reg.avMute ∷
     mask 7 7 reg.clearAvMuteMask ∷
     mask 6 6 reg.setAvMuteMask ∷
     register 0x52 reg.aviInfoframeVersion ∷

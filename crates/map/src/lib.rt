@@ -142,7 +142,7 @@ impl Map {
     pub const GC_PACKET_UPDATE_MASK: u8 = 0x10;
 
     // 0x4B: Clear AV Mute, Set AV Mute
-    pub const GC: u8 = 0x4B;
+    pub const AV_MUTE: u8 = 0x4B;
 
     pub const CLEAR_AV_MUTE_MASK: u8 = 0x80;
 
@@ -282,7 +282,7 @@ pub fn constants() -> [u8; 87]
         Map::AVI_PACKET_UPDATE_MASK,
         Map::AUDIO_INFOFRAME_PACKET_UPDATE_MASK,
         Map::GC_PACKET_UPDATE_MASK,
-        Map::GC,
+        Map::AV_MUTE,
         Map::CLEAR_AV_MUTE_MASK,
         Map::SET_AV_MUTE_MASK,
         Map::AVI_INFOFRAME_VERSION,

@@ -14,7 +14,8 @@ use Rattle.matrix.specs.declared.Pixel.{Pixel}
 use Rattle.matrix.specs.Coefficient.{valueOf}
 use Rattle.matrix.specs.Matrix.{isAllowed, matrixOf, Allowed}
 
--- "Output A = (InA·A1/4096 + InB·A2/4096 + InC·A3/4096 + A4)·2^mode", with the one division at the end, where it "rounds down to a whole code"
+-- "Output A = (InA·A1/4096 + InB·A2/4096 + InC·A3/4096 + A4)·2^mode", with the one division at the end, where it "rounds down to a whole
+-- code"
 abbrev pub rounded : ℕ → ℕ → ℕ → ℤ → ℤ → ℤ → ℤ → ℕ → ℤ
 rounded a b c k1 k2 k3 k4 mode = shrZ ((pos a *ℤ k1 +ℤ pos b *ℤ k2 +ℤ pos c *ℤ k3 +ℤ k4 *ℤ pos 4096) *ℤ pos (2 ^ mode)) 4096
 
@@ -49,7 +50,7 @@ noPixel number = record { refusal = number; a = 0; b = 0; c = 0 }
 unfoldable pub previewOf : List ℕ → ℕ → ℕ → ℕ → Pixel
 previewOf body a b c =
     answer (lowest (previewTests body a b c)) noPixel
-    (record { refusal = 0; a = outputOf (matrixOf body) 0 a b c; b = outputOf (matrixOf body) 1 a b c; c = outputOf (matrixOf body) 2 a b c })
+    (let code : ℕ → ℕ = λ row. outputOf (matrixOf body) row a b c in record { refusal = 0; a = code 0; b = code 1; c = code 2 })
 
 -- what the preview promises
 abbrev pub Previews : List ℕ → ℕ → ℕ → ℕ → Pixel → Type 0

@@ -6,7 +6,7 @@ use native.Mathlib.Omega.{arith}
 use lib.Arith.{mod-mul}
 use Rattle.bits.specs.Merge.{bit}
 use Rattle.bits.proofs.Laws.{bit-code}
-use Rattle.promises.specs.Finished.{bitsOf}
+use Rattle.promises.specs.Finished.{bitsIn}
 
 -- count bits from `low` on
 numeral : ℕ → ℕ → ℕ → ℕ
@@ -28,7 +28,7 @@ numeral-same (suc count) low x y e =
     ap₂ (λ (a b : ℕ). a * 2 + b) (numeral-same count (suc low) x y (λ j l h. e j (omega arith) (omega arith)))
     (e low (omega arith) (omega arith))
 
-pub same-bits : (high low x y : ℕ) → ((j : ℕ) → low ≤ j → j ≤ high → bit j x ≡ bit j y) → bitsOf high low x ≡ bitsOf high low y
+pub same-bits : (high low x y : ℕ) → ((j : ℕ) → low ≤ j → j ≤ high → bit j x ≡ bit j y) → bitsIn high low x ≡ bitsIn high low y
 same-bits high low x y e =
     sym (numeral-code (high + 1 - low) low x) ∙ numeral-same (high + 1 - low) low x y (λ j l h. e j l (omega arith))
     ∙ numeral-code (high + 1 - low) low y

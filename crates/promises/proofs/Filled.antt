@@ -35,7 +35,7 @@ use Rattle.writes.proofs.Carries.{masked, entries}
 use Rattle.writes.proofs.Image.{image-at}
 use Rattle.plan.specs.Wanted.{wanted, SoundFits, Fits}
 use Rattle.plan.proofs.Accepted.{fits}
-use Rattle.promises.specs.Finished.{Place, place, bitsOf, NeverThree, inM, inC, places, Shows, Each, Finished, Paired}
+use Rattle.promises.specs.Finished.{Place, place, bitsIn, NeverThree, inM, inC, places, Shows, Each, Finished, Paired}
 use Rattle.promises.proofs.Bits.{same-bits}
 use Rattle.promises.proofs.Named.{field, ordered}
 use Rattle.promises.proofs.Places.{Ranges, stand}
@@ -166,7 +166,7 @@ requested-bit j h = eqb-true _ _ (at-below (λ j. eqb (bit j (requested 0x18)) 1
 -- a write of 0x18 has the wanted mode
 in-entry : (want : ℕ → ℕ) (image : List ℕ) (k : ℕ) → k < length (writeList want image)
     → getD (writeList want image) k (0 gets 0) .address ≡ 0x18
-    → bitsOf 6 5 (getD (writeList want image) k (0 gets 0) .value) ≡ bitsOf 6 5 (want 0x18)
+    → bitsIn 6 5 (getD (writeList want image) k (0 gets 0) .value) ≡ bitsIn 6 5 (want 0x18)
 in-entry want image k h e =
     let w : Write = getD (writeList want image) k (0 gets 0) in
     let c : under (requested 0x18) (w .value) ≡ under (requested 0x18) (want 0x18)
@@ -183,7 +183,7 @@ never-three input image z y k h e =
     let r : Request = readOf input .request in
     let after : List ℕ = finishedImage (wanted r) image in
     let f = filled input image z y after (image-at (wanted r) image) in
-    let m : bitsOf 6 5 (getD after 0x18 0) < 3 = f .mode in
-    let t : bitsOf 6 5 (getD after 0x18 0) ≡ bitsOf 6 5 (wanted r 0x18)
-    = ap (bitsOf 6 5) (image-at (wanted r) image 0x18 (lit< tt)) ∙ field (wanted r) image 0x18 false 6 5 refl in
+    let m : bitsIn 6 5 (getD after 0x18 0) < 3 = f .mode in
+    let t : bitsIn 6 5 (getD after 0x18 0) ≡ bitsIn 6 5 (wanted r 0x18)
+    = ap (bitsIn 6 5) (image-at (wanted r) image 0x18 (lit< tt)) ∙ field (wanted r) image 0x18 false 6 5 refl in
     rw (in-entry (wanted r) image k h e ∙ sym t) m

@@ -18,7 +18,7 @@ use Rattle.registers.proofs.Apart.{by-rule}
 use Rattle.writes.specs.Steps.{_raising_}
 use Rattle.writes.specs.List.{decided, byte, written, isWritten, leftUp, finished}
 use Rattle.writes.proofs.Carries.{masked}
-use Rattle.promises.specs.Finished.{bitsOf}
+use Rattle.promises.specs.Finished.{bitsIn}
 use Rattle.promises.proofs.Bits.{same-bits}
 
 -- count bits of a mask from j on are d
@@ -73,7 +73,7 @@ module _ (want : ℕ → ℕ) (image : List ℕ) (a : ℕ) where
   chosen false j l e = merge-bit 8 j (decided a) (leftUp a) (want a) l ∙ rw e
 
   pub field : (stepped : Bool) (high low : ℕ) → isField stepped a high low ≡ true
-      → bitsOf high low (finished want image a) ≡ bitsOf high low (cond stepped (leftUp a) (want a))
+      → bitsIn high low (finished want image a) ≡ bitsIn high low (cond stepped (leftUp a) (want a))
   field stepped high low t =
       let count : ℕ = high + 1 - low in
       let ours : Bool = all 1 (named a) low count in

@@ -27,7 +27,7 @@ use Rattle.writes.specs.List.{decided, isWritten, leftUp, finished}
 use Rattle.plan.specs.Wanted.{laid, audioBytes, wanted, clockBytes, inputBytes, cscBytes, enableBytes}
 use Rattle.plan.specs.Wanted.{inputs, rateCode, ctsSelect, withAudio, SoundFits, MatrixFits}
 use Rattle.decode.proofs.Stored.{look, stored}
-use Rattle.promises.specs.Finished.{Place, bitsOf, places, Shows, Each}
+use Rattle.promises.specs.Finished.{Place, bitsIn, places, Shows, Each}
 use Rattle.promises.specs.Finished.{withSound, eightChannels, manualCts, codeOf, inC, inM, inCC, inCA, audioSum}
 use Rattle.promises.proofs.Named.{isField, field}
 
@@ -60,14 +60,14 @@ looked-up r a h =
 
 -- whether a place is a step's
 abbrev stepped : Place → Bool
-stepped f = not (eqb (bitsOf (f .high) (f .low) (decided (f .address))) 0)
+stepped f = not (eqb (bitsIn (f .high) (f .low) (decided (f .address))) 0)
 
 abbrev ours : Place → Bool
 ours f = isField (stepped f) (f .address) (f .high) (f .low) && ltb (f .address) 256
 
 module _ (r : Request) (image after : List ℕ) (ends : (a : ℕ) → a < 256 → getD after a 0 ≡ finished (wanted r) image a) where
   abbrev Source : Place → Type 0
-  Source f = bitsOf (f .high) (f .low) (cond (stepped f) (leftUp (f .address)) (look (f .address) (bytes r) 0)) ≡ f .number
+  Source f = bitsIn (f .high) (f .low) (cond (stepped f) (leftUp (f .address)) (look (f .address) (bytes r) 0)) ≡ f .number
 
   each : (fs : List Place) → every ours fs ≡ true → Each Source fs → Each (Shows after) fs
   each [] t s = tt
@@ -75,8 +75,8 @@ module _ (r : Request) (image after : List ℕ) (ends : (a : ℕ) → a < 256 �
       let o : ours f ≡ true = both-left (ours f) (every ours fs) t in
       let h : f .address < 256 = ltb-true _ _ (both-right (isField (stepped f) (f .address) (f .high) (f .low)) _ o) in
       let k = field (wanted r) image (f .address) (stepped f) (f .high) (f .low) (both-left _ (ltb (f .address) 256) o) in (
-        ap (bitsOf (f .high) (f .low)) (ends (f .address) h) ∙ k
-            ∙ ap (λ (x : ℕ). bitsOf (f .high) (f .low) (cond (stepped f) (leftUp (f .address)) x)) (looked-up r (f .address) h) ∙ s .0,
+        ap (bitsIn (f .high) (f .low)) (ends (f .address) h) ∙ k
+            ∙ ap (λ (x : ℕ). bitsIn (f .high) (f .low) (cond (stepped f) (leftUp (f .address)) x)) (looked-up r (f .address) h) ∙ s .0,
         each fs (both-right (ours f) (every ours fs) t) (s .1),
       )
 
@@ -100,10 +100,10 @@ pub record Ranges (r : Request) (p : Pair) : Type 0 where
   pub matrix : MatrixFits (r .matrix)
 
 -- a byte, and the low five bits of one
-byte-whole : (x : ℕ) → x < 256 → bitsOf 7 0 x ≡ x
+byte-whole : (x : ℕ) → x < 256 → bitsIn 7 0 x ≡ x
 byte-whole x h = omega arith
 
-five-whole : (x : ℕ) → x < 32 → bitsOf 4 0 x ≡ x
+five-whole : (x : ℕ) → x < 32 → bitsIn 4 0 x ≡ x
 five-whole x h = omega arith
 
 -- the high half of a coefficient
@@ -113,7 +113,7 @@ five-small x h = omega arith
 -- I2S inputs
 abbrev Inputs : ℕ → ℕ → ℕ → Type 0
 Inputs x e a =
-    (bitsOf 5 5 (x * 4) ≡ e) × (bitsOf 4 4 (x * 4) ≡ e) × (bitsOf 3 3 (x * 4) ≡ e) × (bitsOf 2 2 (x * 4) ≡ a) × (bitsOf 1 0 (x * 4) ≡ 0)
+    (bitsIn 5 5 (x * 4) ≡ e) × (bitsIn 4 4 (x * 4) ≡ e) × (bitsIn 3 3 (x * 4) ≡ e) × (bitsIn 2 2 (x * 4) ≡ a) × (bitsIn 1 0 (x * 4) ≡ 0)
 
 enabled : (s : Sound) → Inputs (inputs s) (eightChannels s) (withSound s)
 enabled Off = (refl, refl, refl, refl, refl)
@@ -124,22 +124,22 @@ enabled (On rate channels coherent) = go (eqb channels 8)
     go false = (refl, refl, refl, refl, refl)
 
 -- the rate's code
-coded : (s : Sound) → SoundFits s → (bitsOf 7 4 (rateCode s * 16) ≡ codeOf s) × (bitsOf 3 0 (rateCode s * 16) ≡ 0)
+coded : (s : Sound) → SoundFits s → (bitsIn 7 4 (rateCode s * 16) ≡ codeOf s) × (bitsIn 3 0 (rateCode s * 16) ≡ 0)
 coded Off h = (refl, refl)
 coded (On rate channels coherent) h =
     let k : rate < 7 = omega (arith, h .0) in
-    let right : ℕ → Bool = λ n. eqb (bitsOf 7 4 (rateCode (On n channels coherent) * 16)) (codeOf (On n channels coherent)) in
+    let right : ℕ → Bool = λ n. eqb (bitsIn 7 4 (rateCode (On n channels coherent) * 16)) (codeOf (On n channels coherent)) in
     (eqb-true _ _ (at-below right 7 rate refl k), omega arith)
 
 -- CTS select, with the two fields below it
 selected : (s : Sound) → SoundFits s
-    → (bitsOf 7 7 (ctsSelect s * 128) ≡ manualCts s) × (bitsOf 6 4 (ctsSelect s * 128) ≡ 0) × (bitsOf 3 2 (ctsSelect s * 128) ≡ 0)
+    → (bitsIn 7 7 (ctsSelect s * 128) ≡ manualCts s) × (bitsIn 6 4 (ctsSelect s * 128) ≡ 0) × (bitsIn 3 2 (ctsSelect s * 128) ≡ 0)
 selected Off h = (refl, refl, refl)
 selected (On rate channels coherent) h = let k : coherent ≤ 1 = h .2 in (omega arith, omega arith, omega arith)
 
 -- the four enables of 0x44
 abbrev Enables : ℕ → ℕ → ℕ → Type 0
-Enables x a link = (bitsOf 6 6 x ≡ a) × (bitsOf 5 5 x ≡ a) × (bitsOf 4 4 x ≡ link) × (bitsOf 3 3 x ≡ a)
+Enables x a link = (bitsIn 6 6 x ≡ a) × (bitsIn 5 5 x ≡ a) × (bitsIn 4 4 x ≡ link) × (bitsIn 3 3 x ≡ a)
 
 enables : (s : Sound) (link : ℕ) → link ≤ 1 → Enables (withAudio s * 104 + link * 16) (withSound s) link
 enables Off link h = (omega arith, omega arith, omega arith, omega arith)
@@ -147,27 +147,27 @@ enables (On rate channels coherent) link h = (omega arith, omega arith, omega ar
 
 -- the first register of the converter
 abbrev First : ℕ → ℕ → ℕ → ℕ → Type 0
-First x on mode h = (bitsOf 7 7 x ≡ on) × (bitsOf 6 5 x ≡ mode) × (bitsOf 4 0 x ≡ h)
+First x on mode h = (bitsIn 7 7 x ≡ on) × (bitsIn 6 5 x ≡ mode) × (bitsIn 4 0 x ≡ h)
 
 first : (on mode h : ℕ) → on ≤ 1 → mode ≤ 2 → h < 32 → First (on * 128 + mode * 32 + h) on mode h
 first on mode h a b c = (omega arith, omega arith, omega arith)
 
 -- data bytes 1 and 2 of the AVI InfoFrame
 abbrev Byte1 : ℕ → ℕ → Type 0
-Byte1 x y = (bitsOf 7 7 x ≡ 0) × (bitsOf 6 5 x ≡ y) × (bitsOf 4 4 x ≡ 1) × (bitsOf 3 0 x ≡ 0)
+Byte1 x y = (bitsIn 7 7 x ≡ 0) × (bitsIn 6 5 x ≡ y) × (bitsIn 4 4 x ≡ 1) × (bitsIn 3 0 x ≡ 0)
 
 byte1 : (y : ℕ) → y ≤ 2 → Byte1 (y * 32 + 16) y
 byte1 y h = (omega arith, omega arith, omega arith, omega arith)
 
 abbrev Byte2 : ℕ → ℕ → ℕ → Type 0
-Byte2 x c m = (bitsOf 7 6 x ≡ c) × (bitsOf 5 4 x ≡ m) × (bitsOf 3 0 x ≡ 8)
+Byte2 x c m = (bitsIn 7 6 x ≡ c) × (bitsIn 5 4 x ≡ m) × (bitsIn 3 0 x ≡ 8)
 
 byte2 : (x y c m : ℕ) → x ≡ c → y ≡ m → c ≤ 2 → m ≤ 2 → Byte2 (x * 64 + y * 16 + 8) c m
 byte2 x y c m e f h k = (omega arith, omega arith, omega arith)
 
 -- 20 bits in three registers
 abbrev Twenty : ℕ → Type 0
-Twenty n = (bitsOf 3 0 (n / 65536 % 256) ≡ n / 65536) × (bitsOf 7 0 (n / 256 % 256) ≡ n / 256 % 256) × (bitsOf 7 0 (n % 256) ≡ n % 256)
+Twenty n = (bitsIn 3 0 (n / 65536 % 256) ≡ n / 65536) × (bitsIn 7 0 (n / 256 % 256) ≡ n / 256 % 256) × (bitsIn 7 0 (n % 256) ≡ n % 256)
 
 twenty : (n : ℕ) → n < 1048576 → Twenty n
 twenty n h = (omega arith, omega arith, omega arith)
@@ -196,7 +196,7 @@ color-small vic encoding = go (eqb encoding 0) (among vic (1 ∷ 2 ∷ 3 ∷ 17 
     go false c = small-if c
 
 -- Output Format, a checksum, and the two fields of the audio InfoFrame
-format : (b : Bool) → bitsOf 7 7 (cond b 128 0) ≡ cond b 1 0
+format : (b : Bool) → bitsIn 7 7 (cond b 128 0) ≡ cond b 1 0
 format true = refl
 format false = refl
 

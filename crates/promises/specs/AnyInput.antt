@@ -25,8 +25,8 @@ use Rattle.station.specs.declared.machine.StateOut.{StateOut}
 use Rattle.station.specs.Face.{StationPlan, StationDecode, StationNcts, StationPreview}
 use Rattle.station.specs.Machine.{StationWrite, StationSent, StationMute, StationMatrix}
 
--- "A bad request gets a numbered refusal from the list in document 01, a count of zero, and every lent buffer unchanged." Each of these says
--- that the number given is that of the first row that applies (`Given`), and what is left beside it. `Bytes` is true of every slice.
+-- "A bad request gets a numbered refusal from the list in document 01, a count of zero, and every lent buffer unchanged." Each of these
+-- says that the number given is that of the first row that applies (`Given`), and what is left beside it. `Bytes` is true of every slice.
 pub record Demand1 : Type 0 where
   -- planning, 1 to 10; decoding, 7, 10 and 11: a count of zero, and the lent buffer as it was
   pub planning : (request image buffer : List ℕ) → Bytes request → PlanRefusals request image buffer

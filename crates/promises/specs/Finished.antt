@@ -24,8 +24,8 @@ use Rattle.request.specs.declared.Sound.the-variants.{Off, On}
 use Rattle.request.specs.declared.Request.{Request}
 
 -- the bits [high:low] of a byte, as a number
-abbrev pub bitsOf : ℕ → ℕ → ℕ → ℕ
-bitsOf high low byte = byte / 2 ^ low % 2 ^ (high + 1 - low)
+abbrev pub bitsIn : ℕ → ℕ → ℕ → ℕ
+bitsIn high low byte = byte / 2 ^ low % 2 ^ (high + 1 - low)
 
 -- the bits [high:low] of a register, and the number that stands there
 pub record Place : Type 0 where
@@ -95,12 +95,12 @@ places r p =
     place 0x07 3 0 (p .cts / 65536) ∷ place 0x08 7 0 (p .cts / 256 % 256) ∷ place 0x09 7 0 (p .cts % 256) ∷
     -- "CTS select": "Coherent audio sets 0x0A[7] to 1"; "audio select and mode". "A named field for which this document gives no value
     -- holds the map's default": these two, and below the I2S format and the input format; "standard I2S" and "input ID 0" say the same
-    place 0x0A 7 7 (manualCts (r .sound)) ∷ place 0x0A 6 4 (bitsOf 6 4 audioSelectDefault) ∷ place 0x0A 3 2 (bitsOf 3 2 audioModeDefault) ∷
+    place 0x0A 7 7 (manualCts (r .sound)) ∷ place 0x0A 6 4 (bitsIn 6 4 audioSelectDefault) ∷ place 0x0A 3 2 (bitsIn 3 2 audioModeDefault) ∷
     -- "I2S enables": "one I2S input is enabled for 2 channels, all four for 8, none when off"; "and format"
     place 0x0C 5 5 (eightChannels (r .sound)) ∷ place 0x0C 4 4 (eightChannels (r .sound)) ∷ place 0x0C 3 3 (eightChannels (r .sound)) ∷
-    place 0x0C 2 2 (withSound (r .sound)) ∷ place 0x0C 1 0 (bitsOf 1 0 i2sFormatDefault) ∷
+    place 0x0C 2 2 (withSound (r .sound)) ∷ place 0x0C 1 0 (bitsIn 1 0 i2sFormatDefault) ∷
     -- "rate, input format, output format", which is 1 for 4:2:2
-    place 0x15 7 4 (codeOf (r .sound)) ∷ place 0x15 3 0 (bitsOf 3 0 inputIdDefault) ∷
+    place 0x15 7 4 (codeOf (r .sound)) ∷ place 0x15 3 0 (bitsIn 3 0 inputIdDefault) ∷
     place 0x16 7 7 (cond (eqb (r .video .encoding) 1) 1 0) ∷
     -- "CSC with its hold"
     place 0x18 7 7 (r .matrix .on) ∷ place 0x18 6 5 (r .matrix .mode) ∷ place 0x1A 5 5 0 ∷ [] ++
@@ -127,7 +127,7 @@ places r p =
 
 -- a number stands in its place of an image
 abbrev pub Shows : List ℕ → Place → Type 0
-Shows image f = bitsOf (f .high) (f .low) (getD image (f .address) 0) ≡ f .number
+Shows image f = bitsIn (f .high) (f .low) (getD image (f .address) 0) ≡ f .number
 
 -- each does
 abbrev pub Each : (Place → Type 0) → List Place → Type 0
@@ -136,20 +136,20 @@ Each P (f ∷ fs) = P f × Each P fs
 
 -- a number of 20 bits in three registers: 0x01[3:0]·65536 + 0x02·256 + 0x03
 abbrev pub twentyAt : ℕ → List ℕ → ℕ
-twentyAt a image = bitsOf 3 0 (getD image a 0) * 65536 + bitsOf 7 0 (getD image (a + 1) 0) * 256 + bitsOf 7 0 (getD image (a + 2) 0)
+twentyAt a image = bitsIn 3 0 (getD image a 0) * 65536 + bitsIn 7 0 (getD image (a + 1) 0) * 256 + bitsIn 7 0 (getD image (a + 2) 0)
 
 -- the finished image of a request whose N and CTS are those of p
 pub record Finished (r : Request) (p : Pair) (image : List ℕ) : Type 0 where
   pub fields : Each (Shows image) (places r p)
   pub n : twentyAt 0x01 image ≡ p .n
   pub cts : twentyAt 0x07 image ≡ p .cts
-  pub mode : bitsOf 6 5 (getD image 0x18 0) < 3
+  pub mode : bitsIn 6 5 (getD image 0x18 0) < 3
   -- the mandated bits of each register that is written are those of the class table
   pub ordered : (a : ℕ) → a < 256 → isWritten a ≡ true → under (mandated a) (getD image a 0) ≡ under (mandated a) (bits a)
 
 -- "Mode 3 is never written"
 abbrev pub NeverThree : List Write → Type 0
-NeverThree list = (k : ℕ) → k < length list → getD list k (0 gets 0) .address ≡ 0x18 → bitsOf 6 5 (getD list k (0 gets 0) .value) < 3
+NeverThree list = (k : ℕ) → k < length list → getD list k (0 gets 0) .address ≡ 0x18 → bitsIn 6 5 (getD list k (0 gets 0) .value) < 3
 
 -- the mask of the places in a register
 abbrev pub maskAt : ℕ → List Place → ℕ

@@ -51,7 +51,8 @@ pub record SaidBetween (old new t : Chip) : Type 0 where
   pub muted : muteSaid t ≡ record { refusal = 0; mute = 1 }
   pub avi : Either (aviSent old) (aviSent new) (aviSent t)
   pub audio : Either (audioSent old) (audioSent new) (audioSent t)
-  pub matrix : (out : List ℕ) → 25 ≤ length out → Either (drop 1 (matrixSaid out old)) (drop 1 (matrixSaid out new)) (drop 1 (matrixSaid out t))
+  pub matrix : (out : List ℕ) → 25 ≤ length out
+      → Either (drop 1 (matrixSaid out old)) (drop 1 (matrixSaid out new)) (drop 1 (matrixSaid out t))
 
 -- "all are new and the picture is open", by the calls
 pub record SaidAfter (r : Request) (t : Chip) : Type 0 where

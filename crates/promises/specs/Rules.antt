@@ -33,7 +33,8 @@ Permitted rules = (i : ℕ) → i < length rules → at rules i .When → ⊥
 -- the list of a request on an image stands at the front of the lent buffer, with its count; "buffer bytes after the list stay"
 pub record Listed (input image buffer : List ℕ) : Type 0 where
   pub count : planOf input image buffer .count ≡ length (writeList (asked input) image)
-  pub list : planBuffer input image buffer ≡ flat (writeList (asked input) image) ++ drop (length (flat (writeList (asked input) image))) buffer
+  pub list : let bytes : List ℕ = flat (writeList (asked input) image) in
+      planBuffer input image buffer ≡ bytes ++ drop (length bytes) buffer
 
 pub record Demand2 (input buffer : List ℕ) (s : Chip) : Type 0 where
   -- "A request is accepted exactly when document 01's rules .. permit it."

@@ -49,8 +49,8 @@ Settles {A} Allows = (x y : A) → Allows x → Allows y → x ≡ y
 abbrev pub Is : {A : Type 0} → A → A → Type 0
 Is a x = x ≡ a
 
--- What the contract of each entry point allows: the result and, where a lent buffer may change, what is left in it. `Plans`, `Decodes`, `Writes`
--- and `Shows` are the contracts' own words; the others are one equation each.
+-- What the contract of each entry point allows: the result and, where a lent buffer may change, what is left in it. Each predicate is the
+-- one that the function's own `ensures` has, so a weaker contract makes its line false.
 pub record Settled : Type 0 where
   pub plan : (request image writes : List ℕ) → Settles {A = Planned × List ℕ} (λ o. Plans request image writes (o .0) (o .1))
   pub decode : (image request : List ℕ) → Settles {A = Decoded × List ℕ} (λ o. Decodes image request (o .0) (o .1))

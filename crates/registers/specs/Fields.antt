@@ -13,7 +13,7 @@ use Rattle.map.specs.Map.{pixelRepetition, prModeMask, prPllManualMask, prValue
 use Rattle.map.specs.Map.{packetEnable0, gcPacketEnableMask, packetEnable1, nCtsPacketEnableMask, audioSamplePacketEnableMask}
 use Rattle.map.specs.Map.{aviInfoframeEnableMask, audioInfoframeEnableMask}
 use Rattle.map.specs.Map.{infoframeUpdate, autoChecksumEnableMask, aviPacketUpdateMask, audioInfoframePacketUpdateMask}
-use Rattle.map.specs.Map.{gc, clearAvMuteMask, setAvMuteMask, hdcpHdmiCfg, hdmiDviModeSelectMask}
+use Rattle.map.specs.Map.{avMute, clearAvMuteMask, setAvMuteMask, hdcpHdmiCfg, hdmiDviModeSelectMask}
 use Rattle.map.specs.Map.{aviInfoframeVersion, aviInfoframeVersionMask, aviInfoframeLength, aviInfoframeLengthMask}
 use Rattle.map.specs.Map.{aviInfoframeChecksum, aviInfoframeByte1}
 use Rattle.map.specs.Map.{audioInfoframeVersion, audioInfoframeVersionMask, audioInfoframeLength, audioInfoframeLengthMask}
@@ -69,7 +69,7 @@ namedFields =
     field infoframeUpdate autoChecksumEnableMask ∷ field infoframeUpdate aviPacketUpdateMask ∷
     field infoframeUpdate audioInfoframePacketUpdateMask ∷
     -- "AV mute, HDMI/DVI"
-    field gc clearAvMuteMask ∷ field gc setAvMuteMask ∷ field hdcpHdmiCfg hdmiDviModeSelectMask ∷
+    field avMute clearAvMuteMask ∷ field avMute setAvMuteMask ∷ field hdcpHdmiCfg hdmiDviModeSelectMask ∷
     -- "the AVI version, length, checksum and data bytes 1 to 13"
     field aviInfoframeVersion aviInfoframeVersionMask ∷ field aviInfoframeLength aviInfoframeLengthMask ∷
     field aviInfoframeChecksum whole ∷ [] ++

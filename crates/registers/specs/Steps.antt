@@ -5,7 +5,7 @@ use Prim.Native.Nat.{ℕ, _+_}
 use lib.Dec.{eqb, leb, ltb}
 use Rattle.lists.specs.Among.{among}
 use Rattle.map.specs.Map.{n0, n1, n2, ctsManual0, ctsManual1, ctsManual2, audioSource, i2sConfig, i2sFreqIdCfg, videoInputCfg1}
-use Rattle.map.specs.Map.{pixelRepetition, vicManual, packetEnable0, packetEnable1, hdcpHdmiCfg, gc, infoframeUpdate}
+use Rattle.map.specs.Map.{pixelRepetition, vicManual, packetEnable0, packetEnable1, hdcpHdmiCfg, avMute, infoframeUpdate}
 use Rattle.map.specs.Map.{csc, cscCount, aviInfoframeVersion, aviInfoframeCount, audioInfoframeVersion, audioInfoframeCount}
 use Rattle.map.specs.Map.{fixed98, fixed9a, fixed9c, fixed9d, fixedA2, fixedA3, fixedE0, fixedI2cAddress}
 use Rattle.registers.specs.Classes.{named}
@@ -31,5 +31,5 @@ inRun first count a = leb first a && ltb a (first + count)
 -- in another step: mute and open, Table 14, the coefficients, or a packet with its hold
 abbrev pub elsewhere : ℕ → Bool
 elsewhere a =
-    among a (gc ∷ infoframeUpdate ∷ table14) || inRun csc cscCount a || inRun aviInfoframeVersion aviInfoframeCount a ||
+    among a (avMute ∷ infoframeUpdate ∷ table14) || inRun csc cscCount a || inRun aviInfoframeVersion aviInfoframeCount a ||
     inRun audioInfoframeVersion audioInfoframeCount a

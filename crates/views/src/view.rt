@@ -123,6 +123,6 @@ pub fn mute_of(image: &[u8], packet: &[u8]) -> Mute
     }
     Mute {
         refusal: Refusal::NONE,
-        mute: image[Map::GC as usize] / Map::SET_AV_MUTE_MASK % 4,
+        mute: image[Map::AV_MUTE as usize] / Map::SET_AV_MUTE_MASK % 4,
     }
 }

@@ -162,24 +162,24 @@ module _ (want : ℕ → ℕ) (image : List ℕ) where
       let q : Proper w = subst Proper e (step-proper p h) in
       rw (address-at p rs e, raised-at p xs e, each (w .register) (q .small)) (raised-written w q)
 
-  unraised : (a : ℕ) → eqb a reg.gc ≡ false → closed want image a ≡ merge 8 (leftUp a) (leftUp a) (closed want image a)
+  unraised : (a : ℕ) → eqb a reg.avMute ≡ false → closed want image a ≡ merge 8 (leftUp a) (leftUp a) (closed want image a)
   unfolding closed
   unraised a t = rw t (sym (none-raised _ _ _))
 
   -- the closed image with the picture opened is the finished one
   pub opened-finished : (bytes : List ℕ) (v : ℕ) → length bytes ≡ 256 → ((a : ℕ) → a < 256 → getD bytes a 0 ≡ closed want image a)
-      → v ≡ merge 8 reg.clearAvMuteMask reg.clearAvMuteMask (getD bytes reg.gc 0) → ((a : ℕ) → a < 256 → getD image a 0 < 256)
-      → (a : ℕ) → a < 256 → getD (set bytes reg.gc v) a 0 ≡ finished want image a
-  opened-finished bytes v l each e small a h = go (eqb a reg.gc) refl
+      → v ≡ merge 8 reg.clearAvMuteMask reg.clearAvMuteMask (getD bytes reg.avMute 0) → ((a : ℕ) → a < 256 → getD image a 0 < 256)
+      → (a : ℕ) → a < 256 → getD (set bytes reg.avMute v) a 0 ≡ finished want image a
+  opened-finished bytes v l each e small a h = go (eqb a reg.avMute) refl
     where
-      go : (t : Bool) → eqb a reg.gc ≡ t → getD (set bytes reg.gc v) a 0 ≡ finished want image a
+      go : (t : Bool) → eqb a reg.avMute ≡ t → getD (set bytes reg.avMute v) a 0 ≡ finished want image a
       go true t =
-          let q : a ≡ reg.gc = eqb-true a reg.gc t in
-          subst (λ (x : ℕ). getD (set bytes reg.gc v) x 0 ≡ finished want image x) (sym q)
-          (getD-set-same bytes reg.gc v 0 (rw l (lit< tt)) ∙ e
-          ∙ rw (each reg.gc (lit< tt)) (raised-finished reg.gc (lit< tt) (small reg.gc (lit< tt))))
+          let q : a ≡ reg.avMute = eqb-true a reg.avMute t in
+          subst (λ (x : ℕ). getD (set bytes reg.avMute v) x 0 ≡ finished want image x) (sym q)
+          (getD-set-same bytes reg.avMute v 0 (rw l (lit< tt)) ∙ e
+          ∙ rw (each reg.avMute (lit< tt)) (raised-finished reg.avMute (lit< tt) (small reg.avMute (lit< tt))))
       go false t =
-          getD-set-other bytes reg.gc a v 0 (eqb-false a reg.gc t) ∙ each a h ∙ unraised a t ∙ raised-finished a h (small a h)
+          getD-set-other bytes reg.avMute a v 0 (eqb-false a reg.avMute t) ∙ each a h ∙ unraised a t ∙ raised-finished a h (small a h)
 
 pub address-small : (p : ℕ) {rs : List ℕ} → p < stepCount → rs ≡ stepAddresses → getD rs p 0 < 256
 address-small p h rs = rw (address-at p rs refl) (step-proper p h .small)

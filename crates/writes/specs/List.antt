@@ -17,7 +17,7 @@ use Rattle.writes.specs.Steps.{Step, from, _raising_, middle, steps}
 unfoldable pub decided : ℕ → ℕ
 decided a =
     cond (eqb a reg.infoframeUpdate) (reg.aviPacketUpdateMask + reg.audioInfoframePacketUpdateMask)
-    (cond (eqb a reg.coefficientUpdate) reg.coefficientUpdateMask (cond (eqb a reg.gc) (reg.clearAvMuteMask + reg.setAvMuteMask) 0))
+    (cond (eqb a reg.coefficientUpdate) reg.coefficientUpdateMask (cond (eqb a reg.avMute) (reg.clearAvMuteMask + reg.setAvMuteMask) 0))
 
 -- "Each written byte carries its mandated bits, the image's free and read-only bits and the wanted named bits"; in these words: `Carrying`
 unfoldable pub byte : ℕ → ℕ → ℕ → ℕ
@@ -58,7 +58,7 @@ isWritten a = hasNamed a || covers avi a || covers audio a || among a table14
 
 -- what a register's last step raises: holds down, and the picture open
 abbrev pub leftUp : ℕ → ℕ
-leftUp a = cond (eqb a reg.gc) reg.clearAvMuteMask 0
+leftUp a = cond (eqb a reg.avMute) reg.clearAvMuteMask 0
 
 -- the finished image, register by register: each of these with its mandated and wanted bits, holds down and the picture open;
 -- every other as it was. (In the document's notation, field by field: `Finished` of promises. That the list ends so: `Demand3`.)

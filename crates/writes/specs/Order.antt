@@ -23,8 +23,8 @@ audioStep = (reg.infoframeUpdate ∷ []) ∷ from reg.audioInfoframeVersion reg.
 -- the other named registers ..; open." "If the audio hold is up at the start, audio goes before AVI."
 abbrev pub inSteps : Bool → List (List ℕ)
 inSteps audioFirst =
-    (reg.gc ∷ []) ∷ table14 ∷ (reg.coefficientUpdate ∷ []) ∷ from reg.csc reg.cscCount ∷ (reg.coefficientUpdate ∷ []) ∷
-    cond audioFirst (audioStep ++ aviStep) (aviStep ++ audioStep) ++ others ∷ (reg.gc ∷ []) ∷ []
+    (reg.avMute ∷ []) ∷ table14 ∷ (reg.coefficientUpdate ∷ []) ∷ from reg.csc reg.cscCount ∷ (reg.coefficientUpdate ∷ []) ∷
+    cond audioFirst (audioStep ++ aviStep) (aviStep ++ audioStep) ++ others ∷ (reg.avMute ∷ []) ∷ []
 
 abbrev pub joined : List (List ℕ) → List ℕ
 joined [] = []

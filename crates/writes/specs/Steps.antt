@@ -52,7 +52,7 @@ middle audioFirst = each table14 ++ coefficientSteps ++ cond audioFirst (audioSt
 
 -- "Order: mute; ..; open"
 abbrev pub steps : List Step → List Step
-steps between = reg.gc raising reg.setAvMuteMask ∷ between ++ reg.gc raising reg.clearAvMuteMask ∷ []
+steps between = reg.avMute raising reg.setAvMuteMask ∷ between ++ reg.avMute raising reg.clearAvMuteMask ∷ []
 
 -- the step at a place of the list
 abbrev pub stepAt : Bool → ℕ → Step

@@ -129,7 +129,7 @@ pub fn stands(image: &[u8], wanted: &[u8; 256]) -> bool
         return false;
     }
     let mut bytes = closed(image, wanted);
-    bytes[Map::GC as usize] = raise(Map::CLEAR_AV_MUTE_MASK, bytes[Map::GC as usize]);
+    bytes[Map::AV_MUTE as usize] = raise(Map::CLEAR_AV_MUTE_MASK, bytes[Map::AV_MUTE as usize]);
     let mut standing = true;
     let mut a: usize = 0;
     while a < 256 {

@@ -14,7 +14,7 @@ pub const STEPS: usize = PACKETS + AVI + AUDIO + 15 + 1;
 #[rattlefmt::skip]
 pub const ADDRESSES: [u8; STEPS] = [
     // mute
-    Map::GC,
+    Map::AV_MUTE,
     // Table 14
     Map::FIXED_98, Map::FIXED_9A, Map::FIXED_9C, Map::FIXED_9D,
     Map::FIXED_A2, Map::FIXED_A3, Map::FIXED_E0, Map::FIXED_I2C_ADDRESS,
@@ -45,7 +45,7 @@ pub const ADDRESSES: [u8; STEPS] = [
     Map::I2S_FREQ_ID_CFG, Map::VIDEO_INPUT_CFG1, Map::PIXEL_REPETITION, Map::VIC_MANUAL,
     Map::PACKET_ENABLE0, Map::PACKET_ENABLE1, Map::HDCP_HDMI_CFG,
     // open
-    Map::GC,
+    Map::AV_MUTE,
 ];
 
 // .. and the bits that it raises.
