@@ -1,36 +1,56 @@
-# The C programs beside the library. tools/setup finds the compiler and, on Arm, the emulator, and installs what is missing.
+# The C programs beside the library, and its package. tools/setup finds the compiler and, on Arm, the emulator, and installs what is missing.
+#   make           the library's archive and everything below that is built of it
 #   make programs  accident, listing and vectors, over the exported library: then tools/listing 04 10 00 00 01 03 02 02 01 00
 #   make host      the example host: then host/run --cut 40 --brief
 #   make bench     planning and decoding, the library against plain C: times, instructions, and whether the bars are met
 #   make tests     tests/run
 #   make peers     Linux's reader of InfoFrames on every packet that we finish; fetches its source (Debian's linux-source), no part of the gate
+#   make install   the archive, the headers and a pkg-config file, into PREFIX (/usr/local), below DESTDIR where that is given
+#   make clean     takes away what make has built of C; what rt has proved and built (the rest of target/) stays
+#   make help      this list
 LIB      = target/staticlib/libstation.a
 FLAGS    = -std=c99 -D_GNU_SOURCE -Wall -Wextra -O2 -Iinclude
-HEADERS  = include/station.h $(wildcard programs/*.h tests/*.h tests/*/*.h bench/*.h)
+HEADERS  = $(wildcard include/*.h programs/*.h tests/*.h tests/*/*.h bench/*.h)
 PROGRAMS = $(addprefix target/c/,accident listing vectors)
-BINARIES = $(PROGRAMS) $(addprefix target/c/,host bench tests)
+BINARIES = $(PROGRAMS) $(addprefix target/c/,example host bench tests)
+PREFIX   = /usr/local
+TO       = $(DESTDIR)$(PREFIX)
+VERSION  = $(shell sed -n 's/^.define STATION_VERSION "\(.*\)"/\1/p' include/station.h)
 
-.PHONY: all programs host bench tests peers
+.PHONY: all programs host bench tests peers install clean help
 all: $(BINARIES)
 programs: $(PROGRAMS)
 host: target/c/host
-	@echo "target/c/host is built; run it by host/run [--cut K] [--brief] [BYTE...]"
+	@echo "target/c/host is built; run it by host/run [--chip FILE] [--cut K] [--brief] [BYTES..]"
 bench:
 	@bench/run
 peers:
 	@tests/peers/run
 tests:
 	@tests/run
+install: $(LIB)
+	install -d $(TO)/include $(TO)/lib/pkgconfig $(TO)/share/doc/station
+	install -m 644 include/station.h include/station_text.h $(TO)/include
+	install -m 644 $(LIB) $(TO)/lib
+	sed -e 's|@PREFIX@|$(PREFIX)|' -e 's|@VERSION@|$(VERSION)|' include/station.pc.in >$(TO)/lib/pkgconfig/station.pc
+	install -m 644 LICENSE CHANGELOG.md $(TO)/share/doc/station
+clean:
+	rm -rf target/c
+help:
+	@sed -n 's/^#   //p' Makefile
 
 target/c/accident: programs/accident.c programs/chip.c
 target/c/listing: programs/listing.c programs/chip.c programs/words.c
 target/c/vectors: programs/vectors.c
-target/c/host: host/host.c programs/chip.c
+target/c/example: host/example.c
+target/c/host: host/host.c programs/chip.c programs/words.c
 target/c/bench: bench/bench.c bench/plain.c
 target/c/tests: $(wildcard tests/*.c tests/model/*.c tests/wrong/*.c) bench/plain.c
+target/c/tests: FLAGS += -pthread
 $(BINARIES): $(HEADERS) $(LIB) Makefile
 	@mkdir -p target/c
 	@setup=$$(tools/setup) && eval "$$setup" && $$CC $(FLAGS) $(filter %.c,$^) $(LIB) -o $@
 
 $(LIB):
+	$(if $(shell command -v rt 2>/dev/null),,$(error The command rt is missing: install the Rattle kit that README.md names, and put its bin folder on the PATH))
 	rt staticlib station

@@ -2,7 +2,6 @@
  * keeps its best round. A round is short, so that some are not disturbed on a busy machine, and its time is the processor's.
  *   bench                      the times, and whether the bars are met: the status is 1 where they are not
  *   bench check                only compares the answers
- *   bench stack                only measures the stack that the library uses
  *   bench count SIDE CALL N    N calls and nothing else, for a tool that counts instructions: SIDE library, plain or rule, CALL plan,
  *                              decode or refused */
 #include "plain.h"
@@ -10,12 +9,14 @@
 #include <stdlib.h>
 #include <string.h>
 #include <time.h>
-#include <ucontext.h>
 
-enum { INPUTS = 64, CALLS = 10 * INPUTS, ROUNDS = 400, IMAGE = 256, WRITES = 256, LONGEST = 35 };
+enum { INPUTS = 64, CALLS = 10 * INPUTS, ROUNDS = 400 };
 
-static struct { uint8_t request[LONGEST], start[IMAGE], finished[IMAGE], damaged[IMAGE]; size_t length; } in[INPUTS];
-static uint8_t room[WRITES];
+static struct {
+    uint8_t request[STATION_REQUEST], start[STATION_IMAGE], finished[STATION_IMAGE], damaged[STATION_IMAGE];
+    size_t length;
+} in[INPUTS];
+static uint8_t room[STATION_WRITES];
 static uint32_t sum;    /* keeps the calls alive */
 
 static uint32_t noise(void) {
@@ -29,7 +30,7 @@ static uint32_t noise(void) {
 static void make_inputs(void) {
     static const uint8_t vics[] = { 1, 2, 3, 4, 5, 16, 17, 18, 19, 20, 31, 32, 34, 60, 62 };
     for (int i = 0; i < INPUTS; ) {
-        uint8_t list[WRITES], *r = in[i].request;
+        uint8_t list[STATION_WRITES], *r = in[i].request;
         size_t n = 0;
         int matrix = noise() % 2;
         r[n++] = 4, r[n++] = vics[noise() % sizeof vics], r[n++] = noise() % 2, r[n++] = matrix ? noise() % 3 : 0, r[n++] = 1;
@@ -44,13 +45,13 @@ static void make_inputs(void) {
             }
         }
         in[i].length = n;
-        for (int a = 0; a < IMAGE; a++) in[i].start[a] = (uint8_t)noise();
+        for (int a = 0; a < STATION_IMAGE; a++) in[i].start[a] = (uint8_t)noise();
         in[i].start[0x4A] &= noise() % 2 ? 0xCF : 0xAF;
-        struct station_count c = plain_plan(r, n, in[i].start, IMAGE, list, WRITES);
+        struct station_count c = plain_plan(r, n, in[i].start, STATION_IMAGE, list, STATION_WRITES);
         if (c.refusal) continue;
-        memcpy(in[i].finished, in[i].start, IMAGE);
+        memcpy(in[i].finished, in[i].start, STATION_IMAGE);
         for (uint32_t w = 0; w < c.count; w++) in[i].finished[list[2 * w]] = list[2 * w + 1];
-        memcpy(in[i].damaged, in[i].finished, IMAGE);
+        memcpy(in[i].damaged, in[i].finished, STATION_IMAGE);
         in[i].damaged[0xE0] ^= 1;
         i++;
     }
@@ -75,8 +76,8 @@ static const struct { const char *name, *title; double bar; } whats[WHATS] = {
 };
 
 static inline struct station_count call(int side, int what, int i) {
-    if (what == PLAN) return sides[side].plan(in[i].request, in[i].length, in[i].start, IMAGE, room, sizeof room);
-    return sides[side].decode(what == REFUSED ? in[i].damaged : in[i].finished, IMAGE, room, sizeof room);
+    if (what == PLAN) return sides[side].plan(in[i].request, in[i].length, in[i].start, STATION_IMAGE, room, sizeof room);
+    return sides[side].decode(what == REFUSED ? in[i].damaged : in[i].finished, STATION_IMAGE, room, sizeof room);
 }
 
 static double now(void) {
@@ -96,7 +97,7 @@ static double time_of(int side, int what, int clear) {
 
 /* The sides must answer alike before their times are worth anything. */
 static int alike(void) {
-    uint8_t kept[WRITES];
+    uint8_t kept[STATION_WRITES];
     for (int i = 0; i < INPUTS; i++)
         for (int what = 0; what < WHATS; what++) {
             memset(room, 0x5A, sizeof room);
@@ -109,32 +110,6 @@ static int alike(void) {
             }
         }
     return 1;
-}
-
-/* The library's calls on a painted stack: how many bytes of it are no longer as they were painted, over all inputs. */
-static uint8_t stack[1 << 16];
-static ucontext_t here, there;
-static int at, what_now;
-
-static void call_now(void) { sum += call(LIBRARY, what_now, at).count; }
-
-static void call_there(void) {
-    memset(stack, 0xA5, sizeof stack);
-    getcontext(&there);
-    there.uc_stack.ss_sp = stack, there.uc_stack.ss_size = sizeof stack, there.uc_link = &here;
-    makecontext(&there, call_now, 0);
-    swapcontext(&here, &there);
-}
-
-static size_t deepest(int what) {
-    size_t most = 0;
-    for (at = 0, what_now = what; at < INPUTS; at++) {
-        size_t clean = 0;
-        call_there();
-        while (clean < sizeof stack && stack[clean] == 0xA5) clean++;
-        if (sizeof stack - clean > most) most = sizeof stack - clean;
-    }
-    return most;
 }
 
 /* Times, in rounds by turns; the ratios are to plain C, and to plain C that finds N and CTS by the rule. */
@@ -180,11 +155,9 @@ int main(int count, char **words) {
         return 1;
     }
     if (count == 2 && !strcmp(words[1], "check")) return 0;
-    if (count > 2 || (count == 2 && strcmp(words[1], "stack"))) {
-        fputs("bench [check | stack | count SIDE CALL N]\n", stderr);
+    if (count > 1) {
+        fputs("bench [check | count SIDE CALL N]\n", stderr);
         return 2;
     }
-    printf("stack: planning %zu bytes, decoding %zu bytes\n", deepest(PLAN), deepest(DECODE));
-    if (count == 2) return 0;
     return measured() ? 0 : 1;
 }

@@ -1,128 +1,158 @@
-/* An example host: it plans a request, sends the list to a simulated chip write by write, may be killed after any write, plans again and
- * finishes. After each write it shows whether the picture is muted and whether each group in use is old or new.
- *
- *   host [--cut K] [--brief] [BYTE...]     bytes of a request in hex; --brief shows only the writes after which something differs
- *
- * The exit status is the number of the refusal, 0 for none. */
+/* An example host. It reads the chip's registers back, plans a request on them and sends the list, write by write. The chip is simulated,
+ * in a file: its registers and buffers outlive the host, as a chip's do. A host that is killed after any write and started again reads
+ * back, plans again and finishes. After each write it shows whether the picture is muted, and whether each group in use is as it was
+ * when this host started (old) or as the list ends (new). */
+#include "../programs/chip.h"
+#include "../programs/words.h"
+#include "station_text.h"
+#include <fcntl.h>
+#include <signal.h>
 #include <stdio.h>
 #include <stdlib.h>
 #include <string.h>
-#include "../programs/chip.h"
+#include <unistd.h>
 
-static void write_chip(struct chip *c, const uint8_t *pair) {
-    uint32_t refusal = chip_write(c, pair);
-    if (refusal) {
-        printf("the chip refused %02x = %02x: %u\n", pair[0], pair[1], (unsigned)refusal);
-        exit((int)refusal);
+const char *program = "host/run";
+
+static const char help[] =
+    "host/run [--chip FILE] [--cut K] [--brief] [BYTES..]\n"
+    "\n"
+    "Sends a request to a simulated chip, write by write. BYTES is the request: a byte is exactly two hex digits, with or without blanks\n"
+    "between. Without BYTES it is 1080p, YCbCr 4:2:2, eight channels at 48 kHz, with a matrix.\n"
+    "\n"
+    "  --chip FILE  the chip's registers and buffers; where FILE is not there it is made, and shows 720p. Without it the chip is new\n"
+    "  --cut K      the host is killed (SIGKILL) after its write K, from 0 to the last, and then started again without --cut\n"
+    "  --brief      only the writes after which something differs\n"
+    "\n"
+    "The status is 0 for a request that is on show, 1 for one that is refused, 2 for a command that is not as above.\n"
+    "\n"
+    "  host/run --cut 40 --brief\n";
+
+/* ---- The chip. On a real one, `read_back` is a read of 256 registers and `write_register` a write of one, over the bus. */
+
+static struct chip chip;
+static int chip_file;
+
+static void open_chip(const char *name) {
+    static const uint8_t first[] = { 4, 4, 0, 0, 1, 3, 2, 2, 1, 0 };        /* a new chip shows 720p, stereo at 48 kHz */
+    uint8_t list[STATION_WRITES];
+    chip_file = open(name, O_RDWR | O_CREAT, 0666);
+    if (chip_file < 0) misuse("%s cannot be opened", name);
+    off_t length = lseek(chip_file, 0, SEEK_END);
+    if (length == 0) {
+        struct station_count n = station_plan(first, sizeof first, chip.image, STATION_IMAGE, list, sizeof list);
+        for (uint32_t w = 0; w < n.count; w++) chip_write(&chip, list + 2 * w);
+    } else if (length != (off_t)sizeof chip || pread(chip_file, &chip, sizeof chip, 0) != (ssize_t)sizeof chip)
+        misuse("%s is no chip: that is a file of %u bytes", name, (unsigned)sizeof chip);
+}
+
+static void read_back(uint8_t *image) { memcpy(image, chip.image, STATION_IMAGE); }
+
+/* The number of the chip's refusal. A write that is not refused has reached the file, as a whole, when this returns. */
+static uint32_t write_register(const uint8_t *pair) {
+    uint32_t refusal = chip_write(&chip, pair);
+    if (pwrite(chip_file, &chip, sizeof chip, 0) != (ssize_t)sizeof chip) {
+        perror(program);
+        exit(MISUSE);
     }
+    return refusal;
 }
 
-/* The list, or the end of the program. */
-static uint32_t plan(const uint8_t *request, size_t length, const struct chip *c, uint8_t *list) {
-    struct station_count n = station_plan(request, length, c->image, IMAGE, list, WRITES);
-    if (n.refusal) {
-        printf("refused %u: %s\n", (unsigned)n.refusal, refusal_text(n.refusal));
-        exit((int)n.refusal);
-    }
-    return n.count;
-}
+/* ---- What a person sees. */
 
-static const char *name(uint8_t a) {
-    static const struct { uint8_t first, last; const char *name; } names[] = {
-        { 0x01, 0x03, "N" },                { 0x07, 0x09, "CTS" },              { 0x0A, 0x0A, "CTS and audio select" },
-        { 0x0C, 0x0C, "I2S enables" },      { 0x15, 0x15, "rate, input format" }, { 0x16, 0x16, "output format" },
-        { 0x18, 0x18, "matrix on, mode, A1" }, { 0x1A, 0x1A, "coefficient hold, A2" }, { 0x19, 0x2F, "coefficient" },
-        { 0x3B, 0x3B, "pixel repetition" }, { 0x3C, 0x3C, "VIC" },              { 0x40, 0x40, "GC enable" },
-        { 0x44, 0x44, "packet enables" },   { 0x4A, 0x4A, "packet holds" },     { 0x4B, 0x4B, "AV mute" },
-        { 0x52, 0x61, "AVI InfoFrame" },    { 0x70, 0x7C, "audio InfoFrame" },  { 0xAF, 0xAF, "HDMI or DVI" },
-    };
-    for (size_t i = 0; i < sizeof names / sizeof names[0]; i++)
-        if (a >= names[i].first && a <= names[i].last) return names[i].name;
-    return "fixed (Table 14)";
-}
-
-static const char *const ages[] = { [NEITHER] = "MIXED", [OLD] = "old", [NEW] = "new", [BOTH] = "same" };
-
-/* One line: what was written, and how the picture stands after it. */
-static void show(uint32_t number, const uint8_t *pair, uint8_t before, const struct chip *c, const struct sent *old,
-                 const struct sent *new, int brief) {
-    static const char *const mutes[4] = { "neither", "muted", "open", "both" };
+static void show(uint32_t number, const uint8_t *pair, const struct sent *old, const struct sent *new, int brief) {
+    static const char *const mutes[4] = { "neither", "muted", "open", "neither" };
+    static const char *const ages[] = { [NEITHER] = "MIXED", [OLD] = "old", [NEW] = "new", [BOTH] = "same" };
     static char last[64];
-    char state[64], write[40] = "";
-    struct sent s = chip_sent(c);
+    char state[64], write[16] = "";
+    struct sent s = chip_sent(&chip);
     snprintf(state, sizeof state, "%-8s %-6s %-6s %s", mutes[s.mute & 3], ages[age(AVI, &s, old, new)], ages[age(AUDIO, &s, old, new)],
              ages[age(MATRIX, &s, old, new)]);
     if (brief && pair && !strcmp(state, last)) return;
     strcpy(last, state);
-    if (pair) snprintf(write, sizeof write, "%02x: %02x -> %02x", pair[0], before, pair[1]);
-    printf("%5u  %-13s %-24s %s\n", (unsigned)number, write, pair ? name(pair[0]) : "", state);
-}
-
-static void heading(void) { printf("    #  %-13s %-24s %-8s %-6s %-6s %s\n", "write", "register", "picture", "AVI", "audio", "matrix"); }
-
-/* Sends the first writes of a list. */
-static void send(struct chip *c, const uint8_t *list, uint32_t writes, const struct sent *old, const struct sent *new, int brief) {
-    heading();
-    show(0, NULL, 0, c, old, new, brief);
-    for (uint32_t w = 0; w < writes; w++) {
-        uint8_t before = c->image[list[2 * w]];
-        write_chip(c, list + 2 * w);
-        show(w + 1, list + 2 * w, before, c, old, new, brief);
-    }
+    if (pair) snprintf(write, sizeof write, "%02x = %02x", pair[0], pair[1]);
+    printf("%5u  %-9s %s\n", (unsigned)number, write, state);
 }
 
 static void show_request(const char *what, const uint8_t *request, size_t length) {
     printf("%-12s", what);
     for (size_t i = 0; i < length; i++) {
-        if (i > 0 && i % 26 == 0) printf("\n%12s", "");
+        if (i > 0 && i % 20 == 0) printf("\n%12s", "");
         printf(" %02x", request[i]);
     }
-    printf("\n");
+    printf("%s\n", length ? "" : " no request");
 }
 
-int main(int count, char **arguments) {
-    static const uint8_t first[] = { 4, 4, 0, 0, 1, 3, 2, 2, 1, 0 };            /* what the chip shows before: 720p, stereo at 48 kHz */
+/* ---- The host. */
+
+int main(int count, char **words) {
     static const uint8_t usual[] = { 4, 16, 0, 1, 1, 3, 2, 8, 1, 25, 1, 0x0C, 0x53, 0x08, 0x00, 0x00, 0x00, 0xF9, 0xD6, 0xFC, 0x56, 0x08,
                                      0x00, 0xFE, 0x88, 0x02, 0x91, 0xFF, 0xFF, 0x08, 0x00, 0x0E, 0x85, 0xF8, 0xBE };
-    uint8_t request[64], list[WRITES], back[LONGEST];
-    size_t length = 0;
+    uint8_t image[STATION_IMAGE], list[STATION_WRITES], back[STATION_REQUEST];
+    const char *file = NULL;
+    size_t length = 0, letters = 0;
     long cut = -1;
     int brief = 0;
+    setvbuf(stdout, NULL, _IOLBF, 0);                       /* what was said before a kill is seen */
     for (int i = 1; i < count; i++) {
-        if (!strcmp(arguments[i], "--cut") && i + 1 < count) cut = strtol(arguments[++i], NULL, 10);
-        else if (!strcmp(arguments[i], "--brief")) brief = 1;
-        else if (length < sizeof request) request[length++] = (uint8_t)strtoul(arguments[i], NULL, 16);
+        if (!strcmp(words[i], "--help")) return printf("%s", help) < 0;
+        letters += strlen(words[i]);
     }
+    uint8_t *request = malloc(letters + sizeof usual);
+    if (!request) misuse("no memory");
+    for (int i = 1; i < count; i++) {
+        if (!strcmp(words[i], "--brief")) brief = 1;
+        else if (!strcmp(words[i], "--chip") && !file && i + 1 < count) file = words[++i];
+        else if (!strcmp(words[i], "--cut") && cut < 0 && i + 1 < count) {
+            const char *number = words[++i];
+            if (!*number || strlen(number) > 3 || number[strspn(number, "0123456789")]) misuse("--cut %s: no number of a write", number);
+            cut = atol(number);
+        } else if (words[i][0] == '-') misuse("%s is no option, or it is there twice or has nothing after it", words[i]);
+        else length += bytes_of_word(words[i], request + length);
+    }
+    if (!file) misuse("--chip FILE is missing");
+    if (length > STATION_REQUEST) misuse("%u bytes, and the longest request has %u", (unsigned)length, STATION_REQUEST);
     if (length == 0) memcpy(request, usual, length = sizeof usual);
+    open_chip(file);
 
-    struct chip c = { { 0 }, { 0 }, { 0 } };
-    uint32_t writes = plan(first, sizeof first, &c, list);
-    for (uint32_t w = 0; w < writes; w++) write_chip(&c, list + 2 * w);
-    show_request("on show:", first, sizeof first);
+    /* Read back, ask the library, and keep the list until the last write or the first that fails. */
+    read_back(image);
+    struct station_count n = station_plan(request, length, image, sizeof image, list, sizeof list);
+    if (n.refusal) {
+        printf("refused %u: %s\n", (unsigned)n.refusal, station_text(n.refusal));
+        return REFUSED;
+    }
+    if (cut > (long)n.count) misuse("--cut %ld: the list has %u writes", cut, (unsigned)n.count);
+
+    struct station_count shown = station_decode(image, sizeof image, back, sizeof back);
+    show_request("on show:", back, shown.count);
     show_request("asked for:", request, length);
+    printf("planned: %u writes\n", (unsigned)n.count);
 
     /* Old is what is in use now; new is what will be, found on a copy of the chip. */
-    writes = plan(request, length, &c, list);
-    struct chip copy = c;
-    for (uint32_t w = 0; w < writes; w++) write_chip(&copy, list + 2 * w);
-    struct sent old = chip_sent(&c), new = chip_sent(&copy);
+    struct chip copy = chip;
+    for (uint32_t w = 0; w < n.count; w++) chip_write(&copy, list + 2 * w);
+    struct sent old = chip_sent(&chip), new = chip_sent(&copy);
 
-    printf("planned: %u writes\n", (unsigned)writes);
-    if (cut >= 0 && (uint32_t)cut < writes) {
-        send(&c, list, (uint32_t)cut, &old, &new, brief);
-        printf("killed after write %ld; the chip keeps its registers and buffers\n", cut);
-        memset(list, 0, sizeof list);                                           /* the host's memory is gone */
-        writes = plan(request, length, &c, list);
-        printf("planned again: %u writes\n", (unsigned)writes);
+    printf("    #  %-9s %-8s %-6s %-6s %s\n", "write", "picture", "AVI", "audio", "matrix");
+    show(0, NULL, &old, &new, brief);
+    for (uint32_t w = 0; ; w++) {
+        if (cut == (long)w) kill(getpid(), SIGKILL);
+        if (w == n.count) break;
+        uint32_t refusal = write_register(list + 2 * w);
+        if (refusal) {                                      /* never seen: the machine takes every write of a list */
+            printf("the chip refused %02x = %02x: %s\n", list[2 * w], list[2 * w + 1], station_text(refusal));
+            return REFUSED;
+        }
+        show(w + 1, list + 2 * w, &old, &new, brief);
     }
-    send(&c, list, writes, &old, &new, brief);
 
-    struct sent end = chip_sent(&c);
-    struct station_count d = station_decode(c.image, IMAGE, back, sizeof back);
-    if (d.refusal) printf("the finished image decodes to no request: %u\n", (unsigned)d.refusal);
-    else show_request("reads back:", back, d.count);
-    request[2] = 0;                                                             /* no register names the family */
-    int good = !memcmp(&end, &new, sizeof end) && !memcmp(c.image, copy.image, IMAGE) && d.count == length && !memcmp(back, request, length);
-    printf("%s\n", good ? "finished: as without a cut, and the request reads back" : "FAILED: not the end of a run without a cut");
-    return good ? 0 : 64;
+    /* The finished image reads back as the request; no register names the family, which is answered as 0. */
+    read_back(image);
+    shown = station_decode(image, sizeof image, back, sizeof back);
+    show_request("reads back:", back, shown.count);
+    request[2] = 0;
+    int good = shown.count == length && !memcmp(back, request, length);
+    printf("%s\n", good ? "finished, and the request reads back" : "FAILED: another request reads back");
+    return good ? ACCEPTED : REFUSED;
 }

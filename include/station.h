@@ -1,8 +1,17 @@
-/* Durokwanyi: the C face. C99, usable from C++.
+/* Durokwanyi: the C face. C99, usable from C++. docs/HOST.md says what a host must do, docs/REQUEST.md what a request is, docs/ABI.md what
+ * may change from version to version.
  *
  * A slice is a pointer and a size_t. Every call takes any bytes as it finds them, ends, and touches nothing outside what it was lent.
  * Not promised: slices that overlap, and pointers that do not point to as many bytes as the length beside them says. A null pointer with
  * length 0 was tried and behaves as an empty slice; it is not promised.
+ *
+ * A request is three sections in this order, each after a byte that counts its bytes:
+ *   video   4        VIC (1 to 5, 16 to 20, 31, 32, 34, 60, 62); family (0 whole frame rate, 1 divided by 1.001, which VIC 17 to 20 and 31
+ *                    do not offer); encoding (0 RGB, 1 YCbCr 4:2:2, 2 YCbCr 4:4:4); link (0 DVI, 1 HDMI)
+ *   audio   0 or 3   rate (0 to 6 for 32, 44.1, 48, 88.2, 96, 176.4, 192 kHz); channels (2 or 8); coherent (0 or 1)
+ *   matrix  0 or 25  mode (0 to 2); coefficients A1 to A4, B1 to B4, C1 to C4, two bytes each, high byte first, two's complement, from
+ *                    -4096 to 4095
+ * So 04 10 00 00 01 03 02 02 01 00 is 1080p at 60 Hz, RGB over HDMI, coherent stereo at 48 kHz, no matrix.
  */
 #ifndef STATION_H
 #define STATION_H
@@ -10,31 +19,49 @@
 #include <stddef.h>
 #include <stdint.h>
 
+/* The version of this header, one for each landing; CHANGELOG.md says what came with it. */
+#define STATION_VERSION "1.1.0"
+#define STATION_MAJOR 1
+#define STATION_MINOR 1
+#define STATION_PATCH 0
+
+/* Lengths in bytes. */
+#define STATION_IMAGE 256       /* a register image, the bytes of registers 0x00 to 0xFF */
+#define STATION_PACKET 32       /* the chip machine's packet buffer */
+#define STATION_COEFFICIENTS 24 /* its coefficient buffer */
+#define STATION_WRITES 256      /* the least room for a write list */
+#define STATION_REQUEST 35      /* the longest request, and the least room for one */
+#define STATION_MATRIX 25       /* a matrix as a request has it: its mode and twelve coefficients */
+
 #ifdef __cplusplus
 extern "C" {
 #endif
 
-/* The number of a refusal is 0 for none; every other field is 0 where it is not, and no lent byte is changed.
- *   1  input ends before a count or inside a section
- *   2  a count the section does not allow
- *   3  bytes after the matrix section
- *   4  VIC not listed, or family not offered by it
- *   5  any other field outside its range (matrix mode above 2)
- *   6  encoding not 0 without a matrix; DVI with audio or with encoding not 0
- *   7  image not of 256 bytes; in the chip machine also packet buffer not of 32, coefficient buffer not of 24
- *   8  GC hold up, or AVI and audio holds both up
- *   9  coherent audio, and no exact pair exists
- *  10  write buffer shorter than 256 bytes; request buffer shorter than the longest request, 35; matrix buffer shorter than 25
- *  11  no request ends in this image
- *  12  an input above 4095
- *  13  two packet holds are up, or the write would leave two up
- */
+/* Why a call refuses. Of those that a call gives, the lowest that applies, in this order, is given; then every other field of the answer
+ * is 0, and no lent byte is changed. station_text.h has these lines as strings. */
+enum station_refusal {
+    STATION_ACCEPTED = 0,           /* none */
+    STATION_INPUT_ENDS = 1,         /* input ends before a count or inside a section */
+    STATION_COUNT_NOT_ALLOWED = 2,  /* a count the section does not allow */
+    STATION_BYTES_AFTER = 3,        /* bytes after the matrix section */
+    STATION_MODE_NOT_OFFERED = 4,   /* VIC not listed, or family not offered by it */
+    STATION_FIELD_OUT_OF_RANGE = 5, /* any other field outside its range (matrix mode above 2) */
+    STATION_COMBINATION = 6,        /* encoding not 0 without a matrix; DVI with audio or with encoding not 0 */
+    STATION_IMAGE_LENGTH = 7,       /* image not of 256 bytes; in the machine also packet buffer not of 32, coefficient buffer not of 24 */
+    STATION_HOLDS_UP = 8,           /* GC hold up, or AVI and audio holds both up */
+    STATION_NO_EXACT_PAIR = 9,      /* coherent audio, and no exact pair exists */
+    STATION_BUFFER_SHORT = 10,      /* write buffer shorter than 256 bytes; request buffer shorter than 35; matrix buffer shorter than 25 */
+    STATION_NO_REQUEST = 11,        /* no request ends in this image */
+    STATION_INPUT_ABOVE = 12,       /* an input above 4095 */
+    STATION_TWO_HOLDS = 13          /* two packet holds are up, or the write would leave two up */
+};
+
 struct station_count { uint32_t refusal, count; };
 struct station_pair { uint32_t refusal, n, cts; };
 struct station_part { uint32_t refusal, held, start, len; };
 struct station_pixel { uint32_t refusal, a, b, c; };
 struct station_state { uint32_t refusal, mute; };
-struct station_class { uint32_t read_only, mandated, named, free, bits; };
+struct station_masks { uint32_t read_only, mandated, named, free_bits, value; };
 
 /* The write list of a request on a register image of 256 bytes: `count` pairs of address and value at the front of `writes`, which has at
  * least 256 bytes; the bytes after them stay. Refusals 1 to 10. */
@@ -52,18 +79,23 @@ struct station_pair station_ncts(const uint8_t *request, size_t length);
  * length other than 25) and 12. */
 struct station_pixel station_preview(const uint8_t *matrix, size_t length, uint32_t a, uint32_t b, uint32_t c);
 
-/* The chip machine: a register image of 256 bytes, a packet buffer of 32 and a coefficient buffer of 24, all three the host's. */
+/* The chip machine: a register image of 256 bytes, a packet buffer of 32 and a coefficient buffer of 24, all three the host's. It stands
+ * for the chip in tests and simulations. Planning and decoding need the image alone. */
 
 /* One write: the byte at `address` takes the value, but for its read-only bits, and a buffer is filled where a hold rises. Returns the
  * number of the refusal, 7 or 13, or 0; a refused write changes no byte. */
 uint32_t station_write(uint8_t *image, size_t image_length, uint8_t *packet, size_t packet_length, uint8_t *coefficients,
                        size_t coefficients_length, uint8_t address, uint8_t value);
 
-/* The packet that is sent, `which` 0 for AVI and 1 for audio: `len` bytes from `start` on, of the image where `held` is 0, of the packet
- * buffer where it is 1. Refusals 5 (another number), 7 and 13. */
+/* The packet that is sent, by its number: `len` bytes from `start` on, of the image where `held` is 0, of the packet buffer where it is 1.
+ * Refusals 5 (another number), 7 and 13. */
+#define STATION_AVI 0
+#define STATION_AUDIO 1
 struct station_part station_sent(const uint8_t *image, size_t image_length, const uint8_t *packet, size_t packet_length, uint32_t which);
 
 /* The mute bits in use: `mute` 1 for muted, 2 for open, 0 and 3 for neither. Refusals 7 and 13. */
+#define STATION_MUTED 1
+#define STATION_OPEN 2
 struct station_state station_mute(const uint8_t *image, size_t image_length, const uint8_t *packet, size_t packet_length);
 
 /* The mode and the twelve coefficients in use, as a request has them: `count` 25 bytes at the front of `matrix`; the bytes after them
@@ -71,8 +103,8 @@ struct station_state station_mute(const uint8_t *image, size_t image_length, con
 struct station_count station_matrix(const uint8_t *image, size_t image_length, const uint8_t *coefficients, size_t coefficients_length,
                                     uint8_t *matrix, size_t matrix_length);
 
-/* The class of a register's bits: the masks of read-only, mandated, named and free bits, and the mandated bits. */
-struct station_class station_class(uint8_t address);
+/* The class of a register's bits: the masks of read-only, mandated, named and free bits, and the value of the mandated ones. */
+struct station_masks station_class(uint8_t address);
 
 #ifdef __cplusplus
 }

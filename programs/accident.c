@@ -1,6 +1,7 @@
 /* Replays the May accident on the chip machine: a new colour matrix, cut after its fifth coefficient. And our list, cut everywhere.
  * It takes no argument. What it prints is compared with accident.out. */
 #include "chip.h"
+#include "station_text.h"
 #include <stdio.h>
 #include <string.h>
 
@@ -26,12 +27,12 @@ static const uint8_t asked[] = {
 
 enum { FIRST_COEFFICIENT = 0x18, FIVE = 10 };          /* a register address; the registers of five coefficients */
 
-struct list { uint32_t count; uint8_t pairs[WRITES]; };
+struct list { uint32_t count; uint8_t pairs[STATION_WRITES]; };
 
 static int plan(struct list *l, const uint8_t *request, size_t length, const struct chip *c) {
-    struct station_count n = station_plan(request, length, c->image, IMAGE, l->pairs, WRITES);
+    struct station_count n = station_plan(request, length, c->image, STATION_IMAGE, l->pairs, STATION_WRITES);
     l->count = n.count;
-    if (n.refusal) printf("refused %u: %s\n", (unsigned)n.refusal, refusal_text(n.refusal));
+    if (n.refusal) printf("refused %u: %s\n", (unsigned)n.refusal, station_text(n.refusal));
     return n.refusal == 0;
 }
 

@@ -1,6 +1,7 @@
 /* A reader's listing: the write list of a request as a table, with the chip after each write. What it prints is compared with listing.out.
  * The request and the registers may be a stranger's: they go through the exported calls and nowhere else. */
 #include "chip.h"
+#include "station_text.h"
 #include "words.h"
 #include <stdio.h>
 #include <stdlib.h>
@@ -132,7 +133,7 @@ static void add(char *text, const char *first, const char *second) {
 
 /* What a write sets, in short words: a hold or the mute with its value, the other named fields, and whether there are mandated bits. */
 static void sets(char *text, uint8_t address, uint8_t old, uint8_t new) {
-    struct station_class c = station_class(address);
+    struct station_masks c = station_class(address);
     *text = 0;
     if (c.named) {
         size_t last = sizeof holds / sizeof holds[0], hold = last;
@@ -166,16 +167,16 @@ static void print_list(struct chip c, const uint8_t *pairs, uint32_t count) {
 int main(int count, char **words) {
     struct chip c = { { 0 }, { 0 }, { 0 } };
     struct { const char *option; uint8_t *bytes; size_t length; int given; } files[] = {
-        { "--image", c.image, IMAGE, 0 },
-        { "--packet", c.packet, PACKET, 0 },
-        { "--coefficients", c.coefficients, COEFFICIENTS, 0 },
+        { "--image", c.image, STATION_IMAGE, 0 },
+        { "--packet", c.packet, STATION_PACKET, 0 },
+        { "--coefficients", c.coefficients, STATION_COEFFICIENTS, 0 },
     };
     size_t letters = 1, length = 0;
     for (int i = 1; i < count; i++) {
         if (!strcmp(words[i], "--help")) return printf("%s", help) < 0;
         letters += strlen(words[i]);
     }
-    uint8_t *request = malloc(letters), writes[WRITES];
+    uint8_t *request = malloc(letters), writes[STATION_WRITES];
     if (!request) misuse("no memory");
     for (int i = 1; i < count; i++) {
         size_t f = 0, last = sizeof files / sizeof files[0];
@@ -189,10 +190,10 @@ int main(int count, char **words) {
         if (++i == count) misuse("%s has no file after it", files[f].option);
         bytes_of_file(words[i], files[f].bytes, files[f].length);
     }
-    struct station_count n = station_plan(request, length, c.image, IMAGE, writes, WRITES);
+    struct station_count n = station_plan(request, length, c.image, STATION_IMAGE, writes, STATION_WRITES);
     free(request);
     if (n.refusal) {
-        printf("refused %u: %s\n", (unsigned)n.refusal, refusal_text(n.refusal));
+        printf("refused %u: %s\n", (unsigned)n.refusal, station_text(n.refusal));
         return REFUSED;
     }
     print_list(c, writes, n.count);

@@ -156,9 +156,9 @@ static void check_preview(const uint8_t *matrix, size_t ml, uint32_t a, uint32_t
 /* All 1,280 numbers, and the one rule of the table. */
 static void classes(void) {
     for (int a = 0; a < 256; a++) {
-        struct station_class want = model_class((uint8_t)a), got = run.f->class_of((uint8_t)a);
-        const uint32_t w[5] = { want.read_only, want.mandated, want.named, want.free, want.bits };
-        const uint32_t g[5] = { got.read_only, got.mandated, got.named, got.free, got.bits };
+        struct station_masks want = model_class((uint8_t)a), got = run.f->class_of((uint8_t)a);
+        const uint32_t w[5] = { want.read_only, want.mandated, want.named, want.free_bits, want.value };
+        const uint32_t g[5] = { got.read_only, got.mandated, got.named, got.free_bits, got.value };
         static const char *const names[5] = { "read-only", "mandated", "named", "free", "mandated bits" };
         for (int i = 0; i < 5; i++) {
             run.now->cases++;

@@ -1,7 +1,9 @@
 /* tests: `tests lib` compares the library with the model; `tests self` the model with itself, which tries the harness; `tests wrong` runs
  * every wrong library of tests/wrong and says how many were caught, after three right ones (the model, and the two plain ones of bench/).
- * Each ends with 'N passed, M failed'. `tests line` prints what the small program should print. */
+ * `tests facts` is what station.h says of sizes, alignment, threads and stack. Each ends with 'N passed, M failed'. `tests line` prints
+ * what the small program should print. */
 #include "../bench/plain.h"
+#include "facts.h"
 #include "harness.h"
 #include "model/model.h"
 #include "wrong/wrong.h"
@@ -84,7 +86,8 @@ int main(int count, char **words) {
     if (count >= 2 && !strcmp(words[1], "lib")) return compared("the library", &library, share);
     if (count >= 2 && !strcmp(words[1], "self")) return compared("the model", &model, share);
     if (count == 2 && !strcmp(words[1], "wrong")) return caught();
+    if (count == 2 && !strcmp(words[1], "facts")) return facts();
     if (count == 2 && !strcmp(words[1], "line")) return line();
-    fprintf(stderr, "usage: tests lib|self [SHARE OF THE RANDOM CASES IN 1/1000]\n       tests wrong\n       tests line <REQUEST\n");
+    fprintf(stderr, "usage: tests lib|self [SHARE OF THE RANDOM CASES IN 1/1000]\n       tests wrong\n       tests facts\n       tests line <REQUEST\n");
     return 2;
 }

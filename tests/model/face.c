@@ -76,7 +76,7 @@ struct station_count model_matrix(const uint8_t *image, size_t image_length, con
     return (struct station_count){ 0, MATRIX_BYTES };
 }
 
-struct station_class model_class(uint8_t address) {
+struct station_masks model_class(uint8_t address) {
     const struct model_class *c = &model_classes[address];
-    return (struct station_class){ c->read_only, c->mandated, c->named, c->free, c->bits };
+    return (struct station_masks){ c->read_only, c->mandated, c->named, c->free, c->bits };
 }

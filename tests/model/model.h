@@ -81,6 +81,6 @@ struct station_part  model_sent(const uint8_t *, size_t, const uint8_t *, size_t
 struct station_state model_mute(const uint8_t *, size_t, const uint8_t *, size_t);
 struct station_count model_matrix(const uint8_t *, size_t, const uint8_t *, size_t, uint8_t *, size_t);
 struct station_pixel model_preview(const uint8_t *, size_t, uint32_t, uint32_t, uint32_t);
-struct station_class model_class(uint8_t);
+struct station_masks model_class(uint8_t);
 
 #endif

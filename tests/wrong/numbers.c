@@ -93,9 +93,9 @@ PREVIEW(twelve_before_five) {
 }
 PUT(preview, twelve_before_five)
 
-static struct station_class class_off(uint8_t address) {
-    struct station_class c = model_class(address);
-    if (address == 0xDE) c.mandated = 0xF7, c.free = 0x08;
+static struct station_masks class_off(uint8_t address) {
+    struct station_masks c = model_class(address);
+    if (address == 0xDE) c.mandated = 0xF7, c.free_bits = 0x08;
     return c;
 }
 PUT(class_of, class_off)

@@ -1,0 +1,27 @@
+/* The refusals of station.h in words, for a program that tells a person. C99, usable from C++. */
+#ifndef STATION_TEXT_H
+#define STATION_TEXT_H
+
+#include "station.h"
+
+static inline const char *station_text(uint32_t refusal) {
+    static const char *const texts[] = {
+        "none",
+        "input ends before a count or inside a section",
+        "a count the section does not allow",
+        "bytes after the matrix section",
+        "VIC not listed, or family not offered by it",
+        "any other field outside its range (matrix mode above 2)",
+        "encoding not 0 without a matrix; DVI with audio or with encoding not 0",
+        "image not of 256 bytes; in the machine also packet buffer not of 32, coefficient buffer not of 24",
+        "GC hold up, or AVI and audio holds both up",
+        "coherent audio, and no exact pair exists",
+        "write buffer shorter than 256 bytes; request buffer shorter than 35; matrix buffer shorter than 25",
+        "no request ends in this image",
+        "an input above 4095",
+        "two packet holds are up, or the write would leave two up"
+    };
+    return refusal < sizeof texts / sizeof texts[0] ? texts[refusal] : "a number that this header does not know";
+}
+
+#endif

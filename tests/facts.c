@@ -1,0 +1,234 @@
+/* The library's nine calls at every alignment, in threads at a time, and on a painted stack; and the sizes and names of station.h against
+ * what the calls take. */
+#include "facts.h"
+#include "gen.h"
+#include "station_text.h"
+#include <pthread.h>
+#include <stdio.h>
+#include <stdlib.h>
+#include <string.h>
+#include <ucontext.h>
+
+/* ---- The calls, each on slices of one kind of input; an answer is its bytes. */
+
+struct slices { uint8_t *request, *image, *packet, *coefficients, *matrix, *writes, *back; size_t length; uint8_t address, value; };
+struct answer { uint8_t bytes[32]; };
+#define ANSWER(type, call) do { type t = call; memcpy(a->bytes, &t, sizeof t); } while (0)
+
+static void plan(const struct slices *s, struct answer *a) {
+    ANSWER(struct station_count, station_plan(s->request, s->length, s->image, STATION_IMAGE, s->writes, STATION_WRITES));
+}
+static void decode(const struct slices *s, struct answer *a) {
+    ANSWER(struct station_count, station_decode(s->image, STATION_IMAGE, s->back, STATION_REQUEST));
+}
+static void ncts(const struct slices *s, struct answer *a) { ANSWER(struct station_pair, station_ncts(s->request, s->length)); }
+static void preview(const struct slices *s, struct answer *a) {
+    ANSWER(struct station_pixel, station_preview(s->matrix, STATION_MATRIX, s->value * 16u, s->address * 16u, 4095));
+}
+static void write_one(const struct slices *s, struct answer *a) {
+    ANSWER(uint32_t, station_write(s->image, STATION_IMAGE, s->packet, STATION_PACKET, s->coefficients, STATION_COEFFICIENTS, s->address,
+                                   s->value));
+}
+static void sent(const struct slices *s, struct answer *a) {
+    ANSWER(struct station_part, station_sent(s->image, STATION_IMAGE, s->packet, STATION_PACKET, s->value % 2));
+}
+static void mute(const struct slices *s, struct answer *a) {
+    ANSWER(struct station_state, station_mute(s->image, STATION_IMAGE, s->packet, STATION_PACKET));
+}
+static void matrix(const struct slices *s, struct answer *a) {
+    ANSWER(struct station_count, station_matrix(s->image, STATION_IMAGE, s->coefficients, STATION_COEFFICIENTS, s->matrix, STATION_MATRIX));
+}
+static void class_of(const struct slices *s, struct answer *a) { ANSWER(struct station_masks, station_class(s->address)); }
+
+static const struct { const char *name; void (*call)(const struct slices *, struct answer *); } calls[] = {
+    { "station_plan", plan },       { "station_decode", decode }, { "station_ncts", ncts },
+    { "station_preview", preview }, { "station_write", write_one }, { "station_sent", sent },
+    { "station_mute", mute },       { "station_matrix", matrix }, { "station_class", class_of },
+};
+enum { CALLS = sizeof calls / sizeof calls[0], INPUTS = 300, OFFSETS = 16 };
+
+/* ---- Inputs, and the slices of one, each at an offset of its own. */
+
+static struct input {
+    uint8_t request[64], image[STATION_IMAGE], packet[STATION_PACKET], coefficients[STATION_COEFFICIENTS], matrix[STATION_MATRIX];
+    size_t length;
+    uint8_t address, value;
+} inputs[INPUTS];
+
+static void make_inputs(void) {
+    seed(11);
+    for (int i = 0; i < INPUTS; i++) {
+        struct input *n = &inputs[i];
+        any_start(n->image, n->packet, n->coefficients);
+        if (i % 2) any_image(n->image);                     /* finished ones, for decoding, among them */
+        if (i % 3) {
+            struct fields f;
+            any_fields(&f);
+            n->length = model_bytes(&f, n->request);
+        } else n->length = any_request(n->request, sizeof n->request);
+        memcpy(n->matrix, table_39, sizeof n->matrix);
+        if (i % 4 == 0) any_bytes(n->matrix + 1, sizeof n->matrix - 1);
+        n->address = (uint8_t)any(256), n->value = (uint8_t)any(256);
+    }
+}
+
+struct room { uint8_t bytes[7][STATION_IMAGE + 64]; } __attribute__((aligned(16)));
+
+static struct slices lay(struct room *r, const struct input *n, int offset) {
+    memset(r, 0x5A, sizeof *r);
+    struct slices s = { NULL, NULL, NULL, NULL, NULL, NULL, NULL, n->length, n->address, n->value };
+    uint8_t **const at[7] = { &s.request, &s.image, &s.packet, &s.coefficients, &s.matrix, &s.writes, &s.back };
+    for (int k = 0; k < 7; k++) *at[k] = r->bytes[k] + (offset ? (offset + k) % OFFSETS : 0);
+    memcpy(s.request, n->request, n->length);
+    memcpy(s.image, n->image, sizeof n->image);
+    memcpy(s.packet, n->packet, sizeof n->packet);
+    memcpy(s.coefficients, n->coefficients, sizeof n->coefficients);
+    memcpy(s.matrix, n->matrix, sizeof n->matrix);
+    return s;
+}
+
+/* One call on one input: its answer, and what it left in the slices, brought to one place. */
+struct outcome { struct answer a; uint8_t left[7][STATION_IMAGE]; };
+static void run_one(int call, const struct input *n, int offset, struct outcome *o) {
+    struct room r;
+    struct slices s = lay(&r, n, offset);
+    const uint8_t *const at[7] = { s.request, s.image, s.packet, s.coefficients, s.matrix, s.writes, s.back };
+    memset(o, 0, sizeof *o);
+    calls[call].call(&s, &o->a);
+    for (int k = 0; k < 7; k++) memcpy(o->left[k], at[k], STATION_IMAGE);
+}
+
+static struct outcome aligned[CALLS][INPUTS];
+
+static int passed, failed;
+static void tell(int good, const char *what) {
+    if (good) passed++;
+    else failed++, printf("  NOT SO: %s\n", what);
+}
+
+/* ---- Alignment, threads, stack. */
+
+static int any_alignment(void) {
+    struct outcome o;
+    for (int c = 0; c < CALLS; c++)
+        for (int i = 0; i < INPUTS; i++)
+            for (int offset = 1; offset < OFFSETS; offset++) {
+                run_one(c, &inputs[i], offset, &o);
+                if (memcmp(&o, &aligned[c][i], sizeof o)) return 0;
+            }
+    return 1;
+}
+
+enum { THREADS = 4, TURNS = 3 };
+static void *thread(void *start) {
+    struct outcome o;
+    for (int turn = 0; turn < TURNS; turn++)
+        for (int k = 0; k < CALLS * INPUTS; k++) {
+            int at = (k + (int)(size_t)start * 677) % (CALLS * INPUTS), c = at % CALLS, i = at / CALLS;
+            run_one(c, &inputs[i], 0, &o);
+            if (memcmp(&o, &aligned[c][i], sizeof o)) return NULL;
+        }
+    return aligned;
+}
+
+static int in_threads(void) {
+    pthread_t t[THREADS];
+    int good = 1;
+    for (size_t k = 0; k < THREADS; k++)
+        if (pthread_create(&t[k], NULL, thread, (void *)k)) return 0;
+    for (int k = 0; k < THREADS; k++) {
+        void *answer;
+        pthread_join(t[k], &answer);
+        good &= answer != NULL;
+    }
+    return good;
+}
+
+/* The bytes of a painted stack that a call moves, below the frame of its caller. */
+static uint8_t stack[1 << 16];
+static ucontext_t here, there;
+static int call_at;
+static struct slices slices_at;
+static struct answer answer_at;
+static uint8_t *frame;
+
+static void call_there(void) {
+    frame = __builtin_frame_address(0);
+    calls[call_at].call(&slices_at, &answer_at);
+}
+
+static void call_on_paint(void) {
+    memset(stack, 0xA5, sizeof stack);
+    getcontext(&there);
+    there.uc_stack.ss_sp = stack, there.uc_stack.ss_size = sizeof stack, there.uc_link = &here;
+    makecontext(&there, call_there, 0);
+    swapcontext(&here, &there);
+}
+
+static unsigned stack_of(int call) {
+    static struct room r;
+    size_t most = 0;
+    call_at = call;
+    for (int i = 0; i < INPUTS; i++) {
+        size_t clean = 0;
+        slices_at = lay(&r, &inputs[i], 0);
+        call_on_paint();
+        while (clean < sizeof stack && stack[clean] == 0xA5) clean++;
+        size_t moved = (size_t)(frame - (stack + clean));
+        if (moved > most) most = moved;
+    }
+    return (unsigned)most;
+}
+
+/* ---- The names of station.h. */
+
+static void names(void) {
+    static const uint8_t request[] = { 4, 16, 0, 0, 1, 3, 2, 2, 1, 0 };
+    uint8_t image[STATION_IMAGE] = { 0 }, packet[STATION_PACKET] = { 0 }, coefficients[STATION_COEFFICIENTS] = { 0 };
+    uint8_t writes[STATION_WRITES], back[STATION_REQUEST], m[STATION_MATRIX];
+    char version[32];
+    struct station_count c = station_plan(request, sizeof request, image, sizeof image, writes, sizeof writes);
+    tell(c.refusal == STATION_ACCEPTED && 2 * c.count <= STATION_WRITES, "a list fits into STATION_WRITES");
+    tell(station_plan(request, sizeof request, image, sizeof image, writes, STATION_WRITES - 1).refusal == STATION_BUFFER_SHORT,
+         "STATION_WRITES is the least room");
+    tell(station_plan(request, sizeof request, image, STATION_IMAGE - 1, writes, sizeof writes).refusal == STATION_IMAGE_LENGTH,
+         "STATION_IMAGE is an image's length");
+    tell(station_write(image, STATION_IMAGE, packet, STATION_PACKET - 1, coefficients, STATION_COEFFICIENTS, 0, 0) == STATION_IMAGE_LENGTH,
+         "STATION_PACKET is the packet buffer's length");
+    tell(station_write(image, STATION_IMAGE, packet, STATION_PACKET, coefficients, STATION_COEFFICIENTS - 1, 0, 0) == STATION_IMAGE_LENGTH,
+         "STATION_COEFFICIENTS is the coefficient buffer's length");
+    for (uint32_t w = 0; w < c.count; w++) {
+        uint32_t refusal = station_write(image, sizeof image, packet, sizeof packet, coefficients, sizeof coefficients, writes[2 * w],
+                                         writes[2 * w + 1]);
+        struct station_state s = station_mute(image, sizeof image, packet, sizeof packet);
+        if (refusal || s.mute != (w + 1 < c.count ? STATION_MUTED : STATION_OPEN)) {
+            tell(0, "STATION_MUTED from the first write, STATION_OPEN after the last");
+            break;
+        }
+    }
+    c = station_decode(image, sizeof image, back, sizeof back);
+    tell(c.count == sizeof request && !memcmp(back, request, sizeof request), "the request reads back");
+    tell(station_decode(image, sizeof image, back, STATION_REQUEST - 1).refusal == STATION_BUFFER_SHORT, "STATION_REQUEST is the least room");
+    tell(STATION_REQUEST == LONGEST, "STATION_REQUEST is the longest request");
+    tell(station_sent(image, sizeof image, packet, sizeof packet, STATION_AVI).len == AVI_BYTES, "STATION_AVI is the AVI packet");
+    tell(station_sent(image, sizeof image, packet, sizeof packet, STATION_AUDIO).len == AUDIO_BYTES, "STATION_AUDIO is the audio packet");
+    tell(station_matrix(image, sizeof image, coefficients, sizeof coefficients, m, sizeof m).count == STATION_MATRIX, "STATION_MATRIX");
+    tell(station_preview(m, STATION_MATRIX - 1, 0, 0, 0).refusal == STATION_FIELD_OUT_OF_RANGE, "STATION_MATRIX is a matrix's length");
+    snprintf(version, sizeof version, "%d.%d.%d", STATION_MAJOR, STATION_MINOR, STATION_PATCH);
+    tell(!strcmp(version, STATION_VERSION), "STATION_VERSION is of its three numbers");
+    tell(strcmp(station_text(STATION_TWO_HOLDS), station_text(STATION_TWO_HOLDS + 1)) != 0, "station_text knows its last number");
+}
+
+int facts(void) {
+    make_inputs();
+    for (int c = 0; c < CALLS; c++)
+        for (int i = 0; i < INPUTS; i++) run_one(c, &inputs[i], 0, &aligned[c][i]);
+    names();
+    tell(any_alignment(), "any alignment");
+    printf("alignment: %d calls on %d inputs, each slice at each offset of %d\n", CALLS, INPUTS, OFFSETS);
+    tell(in_threads(), "threads at a time");
+    printf("threads: %d at a time, %d times the same calls\n", THREADS, TURNS);
+    for (int c = 0; c < CALLS; c++) printf("stack: %s %u\n", calls[c].name, stack_of(c));
+    printf("%d passed, %d failed\n", passed, failed);
+    return failed != 0;
+}
