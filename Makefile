@@ -12,7 +12,7 @@ LIB      = target/staticlib/libstation.a
 FLAGS    = -std=c99 -D_GNU_SOURCE -Wall -Wextra -O2 -Iinclude
 HEADERS  = $(wildcard include/*.h programs/*.h tests/*.h tests/*/*.h bench/*.h)
 PROGRAMS = $(addprefix target/c/,accident listing vectors)
-BINARIES = $(PROGRAMS) $(addprefix target/c/,example host bench tests)
+BINARIES = $(PROGRAMS) $(addprefix target/c/,example host i2c i2c_fake bench tests)
 PREFIX   = /usr/local
 TO       = $(DESTDIR)$(PREFIX)
 VERSION  = $(shell sed -n 's/^.define STATION_VERSION "\(.*\)"/\1/p' include/station.h)
@@ -44,6 +44,8 @@ target/c/listing: programs/listing.c programs/chip.c programs/words.c
 target/c/vectors: programs/vectors.c
 target/c/example: host/example.c
 target/c/host: host/host.c programs/chip.c programs/words.c
+target/c/i2c: host/i2c.c programs/words.c
+target/c/i2c_fake: tests/i2c/fake.c programs/chip.c programs/words.c | host/i2c.c
 target/c/bench: bench/bench.c bench/plain.c
 target/c/tests: $(wildcard tests/*.c tests/model/*.c tests/wrong/*.c) bench/plain.c
 target/c/tests: FLAGS += -pthread

@@ -1,0 +1,230 @@
+/* The example host for a real bus, host/i2c.c, on a fake one: its own text, with the system calls that reach a bus replaced by a chip in
+ * memory, which reads the messages as an adapter would. Writes are lost or their acknowledgement is, once or for good, at each place; the
+ * chip is reset at each place. Prints the numbers that docs/HOST.md has (tests/i2c/run compares), then 'N passed, M failed'. */
+#include <fcntl.h>
+#include <sys/file.h>
+#include <sys/ioctl.h>
+#include <unistd.h>
+
+static int fake_open(const char *device, int flags);
+static int fake_ioctl(int bus, unsigned long what, void *data);
+static int fake_lock(int bus, int how);
+#define open(device, flags) fake_open(device, flags)
+#define ioctl(bus, what, data) fake_ioctl(bus, what, (void *)(data))
+#define flock(bus, how) fake_lock(bus, how)
+#define close(bus) ((void)(bus))
+#define main example_main
+#include "../../host/i2c.c"
+#undef main
+#include "../../programs/chip.h"
+
+/* ---- The fake bus. */
+
+enum { BUS = 7, NOT_TAKEN = 1, NOT_HEARD = 2 };
+static struct chip chip;
+static struct {
+    long sent, fails, resets;                           /* writes sent; the one that fails or meets a reset, from 1; 0: none */
+    int how, for_good, dead, locked;                    /* how it fails, and whether all after it do; no read either; the lock is held */
+} bus;
+static long wrong;                                      /* messages that a real chip would not understand, and writes without the lock */
+
+/* A chip after bring-up: powered, with free bits here and there. */
+static const struct chip fresh = { .image = { [0x0B] = 0x0E, [0x16] = 0x38, [0x41] = 0x10, [0x42] = 0x70, [0xAF] = 0x14, [0xE4] = 0x5A } };
+
+static int fake_open(const char *device, int flags) {
+    (void)device, (void)flags;
+    return BUS;
+}
+
+static int fake_lock(int b, int how) {
+    bus.locked = b == BUS && how == LOCK_EX;
+    return 0;
+}
+
+static int fake_write(const uint8_t *pair) {
+    bus.sent++;
+    if (bus.resets == bus.sent) {
+        chip = fresh;
+        chip.image[0x41] |= 0x40;                       /* as after a hot plug */
+    }
+    int fails = bus.fails && (bus.sent == bus.fails || (bus.for_good && bus.sent > bus.fails));
+    if (!fails || (bus.how == NOT_HEARD && bus.sent == bus.fails)) wrong += chip_write(&chip, pair) != 0;
+    if (fails) errno = EREMOTEIO;
+    return fails ? -1 : 1;
+}
+
+static int fake_ioctl(int b, unsigned long what, void *data) {
+    if (what == I2C_SLAVE) return data == (void *)0x39 ? 0 : -1;
+    struct i2c_rdwr_ioctl_data *d = data;
+    struct i2c_msg *m = d->msgs;
+    wrong += b != BUS || what != I2C_RDWR || !bus.locked;
+    for (uint32_t i = 0; i < d->nmsgs; i++) wrong += m[i].addr != 0x39;
+    if (d->nmsgs == 1 && m[0].flags == 0 && m[0].len == 2) return fake_write(m[0].buf);
+    if (d->nmsgs == 2 && m[0].flags == 0 && m[0].len == 1 && m[1].flags == I2C_M_RD && m[0].buf[0] + m[1].len <= STATION_IMAGE) {
+        if (bus.dead) return -1;
+        memcpy(m[1].buf, chip.image + m[0].buf[0], m[1].len);
+        return 2;
+    }
+    wrong++;
+    return -1;
+}
+
+/* ---- The tests. */
+
+static const uint8_t before[] = { 4, 16, 0, 0, 1, 3, 2, 2, 1, 25, 1, 0x0C, 0x53, 0x08, 0x00, 0x00, 0x00, 0xF9, 0xD6, 0xFC, 0x56, 0x08,
+                                  0x00, 0xFE, 0x88, 0x02, 0x91, 0xFF, 0xFF, 0x08, 0x00, 0x0E, 0x85, 0xF8, 0xBE };
+static const uint8_t asked[] = { 4, 4, 0, 2, 1, 3, 2, 8, 0, 25, 0, 0x08, 0x2E, 0xF8, 0x93, 0xFF, 0x3F, 0x08, 0x00, 0x03, 0x67, 0x0B,
+                                 0x71, 0x01, 0x28, 0x00, 0x00, 0xFE, 0x21, 0xF9, 0xB2, 0x08, 0x2D, 0x08, 0x00 };
+static long passed, lost;
+
+static void tell(int good, const char *what, long place) {
+    if (good) passed++;
+    else printf("%s, at %ld\n", what, place), lost++;
+}
+
+static uint8_t list[STATION_WRITES];
+static long writes;
+static struct chip start, end;
+static struct sent old, new;
+
+/* The end is that of a run without a cut: the registers and all three groups in use. */
+static int ended(void) {
+    struct sent s = chip_sent(&chip);
+    return !memcmp(chip.image, end.image, sizeof end.image) && !memcmp(&s, &new, sizeof s);
+}
+
+/* Each group in use is all old or all new. */
+static int whole(const struct chip *c) {
+    struct sent s = chip_sent(c);
+    for (int g = 0; g < GROUPS; g++)
+        if (age((enum group)g, &s, &old, &new) == NEITHER) return 0;
+    return 1;
+}
+
+static int careful(const struct chip *c) { return whole(c) && chip_sent(c).mute == STATION_MUTED; }
+
+/* A new run of the program on the bus as it is: opened, locked, closed. */
+static int again(const uint8_t *request, size_t length) {
+    bus.sent = bus.locked = 0;
+    int b = bus_open("/dev/i2c-1"), status = show(b, request, length).status;
+    close(b);
+    return status;
+}
+
+static void heal(void) { bus.fails = bus.resets = bus.how = bus.for_good = bus.dead = 0; }
+
+static void on_the_bus(void) {
+    heal();
+    tell(again(asked, sizeof asked) == ACCEPTED && bus.sent == writes && ended(), "a run", 0);
+    tell(again(asked, sizeof asked) == ACCEPTED && bus.sent == 0 && ended(), "what is on show is written again", 0);
+    for (int how = NOT_TAKEN; how <= NOT_HEARD; how++)
+        for (long k = 1; k <= writes; k++) {
+            chip = start;
+            heal();
+            bus.fails = k, bus.how = how;
+            tell(again(asked, sizeof asked) == ACCEPTED && bus.sent == writes + 1 && ended(), "a repeated write", k);
+            chip = start;
+            bus.for_good = 1;
+            tell(again(asked, sizeof asked) == FAILED && bus.sent == k - 1 + TRIES, "a failed write", k);
+            if (k > 1 && k < writes) tell(careful(&chip), "muted, old or new, where a write failed", k);
+            heal();
+            tell(again(asked, sizeof asked) == ACCEPTED && ended(), "started again", k);
+        }
+    for (long k = 1; k <= writes; k++) {
+        chip = start;
+        bus.resets = k;
+        tell(again(asked, sizeof asked) == FAILED && bus.sent == writes, "a reset", k);
+        heal();
+        chip.image[0x41] &= 0xBF;
+        tell(again(asked, sizeof asked) == ACCEPTED && ended(), "after a reset and bring-up", k);
+    }
+}
+
+/* Refusals, holds left up, a bus that cannot be read, another family. */
+static void on_states(void) {
+    static const uint8_t bad[] = { 4, 16, 0, 1, 1, 0, 0 }, none[] = { 4, 4, 1, 0, 1, 3, 0, 2, 1, 0 };
+    static const uint8_t family_0[] = { 4, 16, 0, 0, 1, 3, 2, 2, 1, 0 }, family_1[] = { 4, 16, 1, 0, 1, 3, 2, 2, 1, 0 };
+    uint8_t back[STATION_REQUEST];
+    heal();
+    chip = start;
+    chip.image[0x4A] |= 0x10;
+    tell(again(bad, sizeof bad) == REFUSED && again(none, sizeof none) == REFUSED && bus.sent == 0, "a refused request", 0);
+    tell(again(asked, sizeof asked) == ACCEPTED && bus.sent == writes + 1 && ended(), "the GC hold left up", 0);
+    for (int holds = 0x30; holds <= 0x70; holds += 0x10) {
+        if (holds == 0x40) continue;
+        chip = start;
+        chip.image[0x4A] |= (uint8_t)holds;
+        tell(again(asked, sizeof asked) == FAILED && bus.sent == 0, "two holds left up", holds);
+    }
+    chip = start;
+    bus.dead = 1;
+    tell(again(asked, sizeof asked) == FAILED && bus.sent == 0, "a bus that cannot be read", 0);
+    heal();
+    /* The families of one mode with coherent sound differ in N and CTS, and decoding answers the same for both. */
+    tell(again(family_0, sizeof family_0) == ACCEPTED && again(family_1, sizeof family_1) == ACCEPTED && bus.sent == writes &&
+         station_decode(chip.image, STATION_IMAGE, back, sizeof back).count == sizeof family_0 &&
+         !memcmp(back, family_0, sizeof family_0), "another family", 1);
+}
+
+/* A host that goes on past one lost write: at how many places a group in use is torn at some moment, at how many at the end, open. */
+static void gone_on(void) {
+    long torn = 0, open_and_torn = 0;
+    for (long k = 0; k < writes; k++) {
+        struct chip c = start;
+        int seen = 0;
+        for (long w = 0; w < writes; w++) {
+            if (w == k) continue;
+            chip_write(&c, list + 2 * w);
+            seen |= !whole(&c);
+        }
+        torn += seen;
+        open_and_torn += !whole(&c) && chip_sent(&c).mute == STATION_OPEN;
+    }
+    printf("past a lost write: %ld of %ld, open %ld\n", torn, writes, open_and_torn);
+}
+
+/* Neighbours of rising address sent as one transfer, of which the chip takes any number of bytes; then the whole transfer again. */
+static void in_bursts(void) {
+    long transfers = 0;
+    for (long from = 0, to; from < writes; from = to) {
+        for (to = from + 1; to < writes && list[2 * to] == list[2 * to - 2] + 1; to++) {}
+        transfers++;
+        for (long taken = from; to - from > 1 && taken <= to; taken++) {
+            struct chip c = start;
+            int good = 1;
+            for (long w = 0; w < taken; w++) chip_write(&c, list + 2 * w);
+            for (long w = from; w < writes; w++) {
+                good &= chip_write(&c, list + 2 * w) == 0 && (w == writes - 1 || careful(&c));
+            }
+            struct sent s = chip_sent(&c);
+            tell(good && !memcmp(c.image, end.image, sizeof end.image) && !memcmp(&s, &new, sizeof s), "a burst sent again", taken);
+        }
+    }
+    printf("bursts: %ld\n", transfers);
+}
+
+/* Registers with mandated bits that no list writes. */
+static void bring_up(void) {
+    uint8_t written[STATION_IMAGE] = { 0 };
+    int count = 0;
+    for (long w = 0; w < writes; w++) written[list[2 * w]] = 1;
+    for (int a = 0; a < STATION_IMAGE; a++) count += !written[a] && station_class((uint8_t)a).mandated != 0;
+    printf("bring-up: %d\n", count);
+}
+
+int main(void) {
+    chip = fresh;
+    tell(again(before, sizeof before) == ACCEPTED, "the first request", 0);
+    start = end = chip;
+    writes = station_plan(asked, sizeof asked, start.image, STATION_IMAGE, list, sizeof list).count;
+    for (long w = 0; w < writes; w++) tell(chip_write(&end, list + 2 * w) == 0, "the list", w);
+    old = chip_sent(&start), new = chip_sent(&end);
+    on_the_bus();
+    on_states();
+    gone_on();
+    in_bursts();
+    bring_up();
+    tell(wrong == 0, "messages that a chip does not understand, or writes without the lock", wrong);
+    printf("%ld passed, %ld failed\n", passed, lost);
+    return lost != 0;
+}
