@@ -23,7 +23,8 @@ use Rattle.request.specs.declared.Request.{Request}
 use Rattle.request.specs.declared.Checked.{Checked}
 use Rattle.request.specs.Sections.{longest}
 use Rattle.request.specs.Read.{readOf, pairFor}
-use Rattle.request.specs.Bytes.{asBytes, inFamily, answeredAs, answeredBytes, Shaped}
+use Rattle.request.specs.Bytes.{asBytes, inFamily, answeredAs, answeredBytes}
+use Rattle.request.specs.Theorems.{Shaped}
 use Rattle.plan.specs.Wanted.{wanted}
 use Rattle.writes.specs.List.{byte, decided, written, isWritten, finished}
 use Rattle.decode.specs.declared.Decoded.{Decoded}

@@ -24,7 +24,8 @@ use Rattle.decode.specs.Ends.{Stands}
 use Rattle.decode.specs.Extract.{byteIn, rateOf, soundIn, matrixIn, extract}
 use Rattle.decode.proofs.Stored.{each, window, cc, Wants, wants}
 use Rattle.decode.proofs.Standing.{clear, is-written, reads, small-byte}
-use Rattle.request.specs.Bytes.{Filled, Shaped, answeredAs}
+use Rattle.request.specs.Bytes.{answeredAs}
+use Rattle.request.specs.Theorems.{Filled, Shaped}
 use Rattle.request.proofs.Ranged.{InRange, Ranged}
 
 -- ---- coefficients

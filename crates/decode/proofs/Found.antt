@@ -12,7 +12,8 @@ use Rattle.matrix.proofs.Pairs.{none-small}
 use Rattle.request.specs.declared.Request.{Request}
 use Rattle.request.specs.Sections.{longest}
 use Rattle.request.specs.Read.{readOf, pairFor}
-use Rattle.request.specs.Bytes.{asBytes, inFamily, Shaped}
+use Rattle.request.specs.Bytes.{asBytes, inFamily}
+use Rattle.request.specs.Theorems.{Shaped}
 use Rattle.request.proofs.Said.{said}
 use Rattle.writes.specs.List.{standsBelow}
 use Rattle.plan.specs.Wanted.{wanted}

@@ -26,7 +26,7 @@ use Rattle.writes.specs.List.{isWritten, decided, byte}
 use Rattle.decode.specs.Ends.{Stands}
 use Rattle.decode.proofs.Stored.{each, window, wants}
 use Rattle.decode.proofs.Standing.{clear, is-written, reads, small-byte, there}
-use Rattle.request.specs.Bytes.{Filled, Shaped}
+use Rattle.request.specs.Theorems.{Filled, Shaped}
 use Rattle.request.proofs.Ranged.{InRange, Ranged}
 use Rattle.decode.proofs.Extracted.{coefficients-read}
 

@@ -16,7 +16,7 @@ use Rattle.matrix.specs.Matrix.{noMatrix}
 use Rattle.request.specs.declared.Sound.{Sound}
 use Rattle.request.specs.declared.Sound.the-variants.{Off, On}
 use Rattle.request.specs.declared.Request.{Request}
-use Rattle.request.specs.Bytes.{Filled}
+use Rattle.request.specs.Theorems.{Filled}
 use Rattle.request.proofs.Ranged.{Ranged}
 use Rattle.chip.specs.Machine.{Group, avi, audio, registersOf}
 use Rattle.writes.specs.List.{decided, isWritten}

@@ -9,7 +9,8 @@ use Rattle.matrix.specs.Matrix.{Bytes}
 use Rattle.matrix.specs.Preview.{PreviewRefusals}
 use Rattle.request.specs.Sections.{walked}
 use Rattle.request.specs.Request.{nctsRules}
-use Rattle.request.specs.Read.{Rows, nctsOf}
+use Rattle.request.specs.Read.{nctsOf}
+use Rattle.request.specs.Theorems.{Rows}
 use Rattle.line.specs.Line.{lineOf}
 use Rattle.chip.specs.declared.Chip.{Chip}
 use Rattle.views.specs.View.{ViewRefusals}

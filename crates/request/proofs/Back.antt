@@ -21,7 +21,8 @@ use Rattle.request.specs.declared.Checked.{Checked}
 use Rattle.request.specs.Sections.{Walk, ends, notAllowed, whole, walk, walked, sections, bodyOf, laid, fits, Sectioned}
 use Rattle.request.specs.Request.{present, encoding, link, soundOf, requestIn}
 use Rattle.request.specs.Read.{audioOutside, outside, emptied, judged, checked, readOf}
-use Rattle.request.specs.Bytes.{audioBody, matrixBody, bodiesOf, asBytes, answeredAs, answeredBytes, ThereAndBack}
+use Rattle.request.specs.Bytes.{audioBody, matrixBody, bodiesOf, asBytes, answeredAs, answeredBytes}
+use Rattle.request.specs.Theorems.{ThereAndBack}
 use Rattle.request.proofs.Opened.{sectioned, request-walks}
 use Rattle.request.proofs.Ordered.{Judged, passed}
 use Rattle.request.proofs.Said.{said}

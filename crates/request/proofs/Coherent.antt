@@ -21,7 +21,8 @@ use Rattle.matrix.specs.Matrix.{Bytes}
 use Rattle.request.specs.declared.Request.{Request}
 use Rattle.request.specs.Sections.{Walk, ends, notAllowed, whole, after, walk, walked, sections, bodyOf, videoSection, audioSection, matrixSection}
 use Rattle.request.specs.Request.{Present, present, rate, channels, coherent, Outside, requestIn, NoPair, readRules, nctsRules}
-use Rattle.request.specs.Read.{checked, pairIn, pairFor, readOf, nctsOf, Rows}
+use Rattle.request.specs.Read.{checked, pairIn, pairFor, readOf, nctsOf}
+use Rattle.request.specs.Theorems.{Rows}
 use Rattle.request.proofs.Ordered.{tried-read, Judged, passed, full, is-outside}
 
 -- where row 5 does not apply, the rate and the coherent byte of an audio section are in range
@@ -107,4 +108,5 @@ rows input =
     record {
       read = λ b. tried (readRules w) _ refl (tried-read w (bytes b));
       ncts = both;
+      said = λ z. passed w z .request;
     }

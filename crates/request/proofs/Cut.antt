@@ -13,7 +13,8 @@ use borrow.Author.Tests.{leb-true, leb-false, le-leb, lt-leb, eqb-true}
 use Rattle.lists.specs.Among.{among}
 use Rattle.refusals.specs.Rows.{answer}
 use Rattle.request.specs.Sections.{Walk, ends, notAllowed, whole, after, walk, walked, sections, longestOf}
-use Rattle.request.specs.Read.{emptied, judged, checked, readOf, nctsOf, Lengths}
+use Rattle.request.specs.Read.{emptied, judged, checked, readOf, nctsOf}
+use Rattle.request.specs.Theorems.{Lengths}
 use Rattle.request.proofs.Counted.{span, Counted, counted, spans, spanned, at-most, within}
 
 -- what is left of a walk where the input is cut after n bytes: of the bytes after the sections, those that are not cut off

@@ -24,7 +24,7 @@ use Rattle.request.specs.Sections.{walked, bodyOf}
 use Rattle.request.specs.Request.{present, encoding, link, rate, channels, coherent, requestIn}
 use Rattle.request.specs.Read.{audioOutside, outside, readOf}
 use Rattle.request.proofs.Ordered.{passed}
-use Rattle.request.specs.Bytes.{Filled, Shaped}
+use Rattle.request.specs.Theorems.{Filled, Shaped}
 
 abbrev pub InRange : Sound → Type 0
 InRange Off = Unit

@@ -20,7 +20,8 @@ use Rattle.request.specs.declared.Checked.{Checked}
 use Rattle.request.specs.Sections.{whole, walked, sections, fits}
 use Rattle.request.specs.Request.{present, soundOf, requestIn}
 use Rattle.request.specs.Read.{judged, checked, readOf}
-use Rattle.request.specs.Bytes.{audioBody, matrixBody, bodiesOf, asBytes, Shaped}
+use Rattle.request.specs.Bytes.{audioBody, matrixBody, bodiesOf, asBytes}
+use Rattle.request.specs.Theorems.{Shaped}
 use Rattle.request.proofs.Walks.{walks}
 use Rattle.request.proofs.Ordered.{accepted}
 

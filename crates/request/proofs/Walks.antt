@@ -16,7 +16,7 @@ use lib.Seq.{length-take-le, take-append-seam, drop-append-seam, drop-cons, take
 use borrow.Author.Tests.{leb-true, leb-false, le-leb, lt-leb}
 use Rattle.lists.specs.Among.{among}
 use Rattle.lists.proofs.Both.{both-left, both-right}
-use Rattle.request.specs.Sections.{Walk, ends, notAllowed, whole, after, walk, laid, fits, Begun, Ends, NotAllowed, Walks}
+use Rattle.request.specs.Sections.{Walk, ends, notAllowed, whole, after, walk, laid, fits, Begun, InputEnds, NotAllowed, Walks}
 
 abbrev pub joined : List (List ℕ) → Walk → Walk
 joined [] w = w
@@ -88,7 +88,7 @@ module _ (table : List (List ℕ)) (input : List ℕ) where
       ap (walk table) (b .made) ∙ begun table (b .bodies) (b .left) (omega (arith, b .some)) (b .fitting)
       ∙ ap (λ (t : List (List ℕ)). joined (b .bodies) (walk t (b .left))) (drop-cons table (length (b .bodies)) [] (b .some))
 
-  ends-there : Ends table input → walk table input ≡ ends
+  ends-there : InputEnds table input → walk table input ≡ ends
   ends-there e = from-next (e .begun) ∙ go (e .begun .bodies) (e .begun .left) (e .there)
     where
       go : (bodies : List (List ℕ)) (left : List ℕ)
@@ -116,7 +116,7 @@ module _ (table : List (List ℕ)) (input : List ℕ) where
 
 -- what stands in the input, by what the walk finds
 abbrev pub Found : List (List ℕ) → List ℕ → Walk → Type 0
-Found table input ends = Ends table input
+Found table input ends = InputEnds table input
 Found table input notAllowed = NotAllowed table input
 Found table input (whole bodies rest) = (fits table bodies ≡ true) × (input ≡ laid bodies rest)
 

@@ -1,16 +1,13 @@
--- Document 01, "The request": the bytes of a request, section by section; and the request as decoding answers it.
-use mathlib.Core.Path.{_≡_}
-use mathlib.Core.Logic.{_⊎_}
+-- Document 01, "The request": the bytes of a request, section by section; and the request as decoding answers it. `ThereAndBack`
+-- (Theorems) ties them to what is read.
 use mathlib.Core.Bool.{cond}
 use mathlib.Core.List.{List, [], _∷_}
-use Prim.Native.Nat.{ℕ, _≤_, _<_}
+use Prim.Native.Nat.{ℕ}
 use lib.Dec.{eqb}
-use lib.ListN.{length, getD, set}
 use Rattle.video.specs.Video.{videoBody, answered}
 use Rattle.video.specs.Video as video
 use Rattle.matrix.specs.declared.Matrix.{Matrix}
 use Rattle.matrix.specs.Coefficient.{coefficientBytes}
-use Rattle.matrix.specs.Matrix.{noMatrix, Bytes}
 use Rattle.request.specs.declared.Sound.{Sound}
 use Rattle.request.specs.declared.Sound.the-variants.{Off, On}
 use Rattle.request.specs.declared.Request.{Request}
@@ -45,21 +42,3 @@ answeredAs r = record { video = answered (r .video); sound = r .sound; matrix = 
 
 abbrev pub answeredBytes : List ℕ → List ℕ
 answeredBytes input = asBytes (answeredAs (readOf input .request))
-
--- no matrix, or twelve fields of 13 bits
-pub record Filled (m : Matrix) : Type 0 where
-  pub on : m .on ≡ 1
-  pub mode : m .mode < 4
-  pub twelve : length (m .coefficients) ≡ 12
-  pub small : (i : ℕ) → getD (m .coefficients) i 0 < 8192
-
-abbrev pub Shaped : Matrix → Type 0
-Shaped m = (m ≡ noMatrix) ⊎ Filled m
-
-pub record ThereAndBack : Type 0 where
-  -- the bytes of a request, where no row refuses them, are read as that request
-  pub there : (r : Request) → Shaped (r .matrix) → readOf (asBytes r) .refusal ≡ 0 → readOf (asBytes r) .request ≡ r
-  -- the bytes of the request that is read from an input are the input
-  pub back : (input : List ℕ) → Bytes input → readOf input .refusal ≡ 0 → asBytes (readOf input .request) ≡ input
-  -- the bytes that are answered for an input are the input's, its family 0
-  pub answered : (input : List ℕ) → Bytes input → readOf input .refusal ≡ 0 → answeredBytes input ≡ set input 2 0

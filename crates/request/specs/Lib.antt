@@ -3,3 +3,4 @@ pub mod Places
 pub mod Request
 pub mod Read
 pub mod Bytes
+pub mod Theorems

@@ -1,4 +1,4 @@
--- How the code walks: where the body of each section ends in the input.
+-- How the code walks: where the body of each section ends in the input. The contract of `sections::walk` alone: no promise rests on it.
 use mathlib.Core.List.{List, [], _∷_}
 use Prim.Native.Nat.{ℕ, suc, _+_}
 use lib.ListN.{length, replicate}

@@ -1,24 +1,23 @@
--- What the calls on a request answer, as the code finds it.
+-- What the calls on a request answer, as the code finds it. `Rows` and `ThereAndBack` (Theorems) tie it to document 01's rows and bytes.
 use mathlib.Core.Path.{_≡_}
 use mathlib.Core.Bool.{Bool, true, false, not, _&&_, _||_}
 use mathlib.Core.List.{List, [], _∷_}
-use Prim.Native.Nat.{ℕ, _<_}
+use Prim.Native.Nat.{ℕ}
 use lib.Dec.{eqb, ltb}
-use lib.ListN.{getD, length, take}
-use Rattle.lists.specs.Among.{among}
+use lib.ListN.{length}
 use Rattle.clock.specs.declared.Pair.{Pair}
 use Rattle.video.specs.Video.{videoIn, noVideo}
 use Rattle.video.specs.Modes.{offered}
 use Rattle.clock.specs.Pairs.{noPair, audioOff}
 use Rattle.clock.specs.Found.{pairOf}
-use Rattle.matrix.specs.Matrix.{isAllowed, noMatrix, Bytes}
+use Rattle.matrix.specs.Matrix.{isAllowed, noMatrix}
 use Rattle.request.specs.declared.Sound.{Sound}
 use Rattle.request.specs.declared.Sound.the-variants.{Off, On}
 use Rattle.request.specs.declared.Request.{Request}
 use Rattle.request.specs.declared.Checked.{Checked}
-use Rattle.request.specs.Sections.{longest, Walk, ends, notAllowed, whole, walked, videoSection, audioSection, matrixSection, restOf}
-use Rattle.request.specs.Request.{present, encoding, link, rate, channels, coherent, requestIn, readRules, nctsRules}
-use Rattle.refusals.specs.Rows.{Given, Test, _if_, lowest, answer}
+use Rattle.request.specs.Sections.{Walk, ends, notAllowed, whole, walked, videoSection, audioSection, matrixSection, restOf}
+use Rattle.request.specs.Request.{present, encoding, link, rate, channels, coherent, requestIn}
+use Rattle.refusals.specs.Rows.{Test, _if_, lowest, answer}
 use Rattle.refusals.specs.Rows.{inputEnds, countNotAllowed, bytesAfter, modeNotOffered, fieldOutOfRange, combination}
 
 -- a refusal stands beside an empty request: fields 0, audio off, no matrix
@@ -37,7 +36,7 @@ unfoldable pub combined : List ℕ → List ℕ → List ℕ → Bool
 combined video audio matrix =
     (not (eqb (encoding video) 0) && eqb (length matrix) 0) || (eqb (link video) 0 && (present audio || not (eqb (encoding video) 0)))
 
--- rows 4 to 6 of the bodies, and rows 1 to 3 before them: a line for each row. They decide the conditions of `readRules` (`Rows`, below).
+-- rows 4 to 6 of the bodies, and rows 1 to 3 before them: a line for each row. They decide the conditions of `readRules` (`Rows`).
 abbrev pub bodyTests : List ℕ → List ℕ → List ℕ → List Test
 bodyTests video audio matrix =
     modeNotOffered if not (offered (videoIn video)) ∷
@@ -92,16 +91,3 @@ nctsOf input = answer (readOf input .refusal) noPair (pairFor (readOf input .req
 
 abbrev pub PairsInput : List ℕ → Pair → Type 0
 PairsInput input given = given ≡ nctsOf input
-
--- of the rows that a call checks, the lowest that applies is given, and none is given otherwise
-pub record Rows (input : List ℕ) : Type 0 where
-  pub read : Bytes input → Given (readRules (walked input)) (readOf input .refusal)
-  pub ncts : Bytes input → Given (nctsRules (walked input)) (nctsOf input .refusal)
-
--- "Lengths are therefore 7, 10, 32 or 35"
-pub record Lengths (input : List ℕ) : Type 0 where
-  pub accepted : readOf input .refusal ≡ 0 → among (length input) (7 ∷ 10 ∷ 32 ∷ 35 ∷ []) ≡ true
-  pub most : longest ≡ 35
-  -- so one byte more than the longest decides: cut there, or later, an input is answered as it is whole
-  pub read : (n : ℕ) → longest < n → readOf (take n input) ≡ readOf input
-  pub ncts : (n : ℕ) → longest < n → nctsOf (take n input) ≡ nctsOf input

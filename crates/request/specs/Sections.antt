@@ -1,4 +1,5 @@
--- Document 01, "The request": three sections in this order, each after a one-byte count; and "Refusal numbers": how they are walked.
+-- Document 01, "The request": three sections in this order, each after a one-byte count; and "Refusal numbers": how they are walked. `walk`
+-- follows the code; `Walks`, below, ties it to what stands in the input.
 use mathlib.Core.Path.{_≡_}
 use mathlib.Core.Logic.{_↔_, _⊎_}
 use mathlib.Core.Bool.{Bool, true, false, cond, _&&_}
@@ -32,7 +33,7 @@ after body ends = ends
 after body notAllowed = notAllowed
 after body (whole bodies rest) = whole (body ∷ bodies) rest
 
--- "the sections are walked in order: count present, count allowed, body present". What each outcome says of the input is `Walks`, below.
+-- "the sections are walked in order: count present, count allowed, body present".
 unfoldable pub walk : List (List ℕ) → List ℕ → Walk
 walk [] input = whole [] input
 walk (counts ∷ more) [] = ends
@@ -100,7 +101,7 @@ abbrev pub next : {table : List (List ℕ)} {input : List ℕ} → Begun table i
 next {table} b = getD table (length (b .bodies)) []
 
 -- row 1, "input ends before a count or inside a section"
-pub record Ends (table : List (List ℕ)) (input : List ℕ) : Type 0 where
+pub record InputEnds (table : List (List ℕ)) (input : List ℕ) : Type 0 where
   pub begun : Begun table input
   pub there : (length (begun .left) ≡ 0)
       ⊎ ((among (getD (begun .left) 0 0) (next begun) ≡ true) × (length (begun .left) ≤ getD (begun .left) 0 0))
@@ -115,7 +116,7 @@ pub record NotAllowed (table : List (List ℕ)) (input : List ℕ) : Type 0 wher
 pub record Walks (table : List (List ℕ)) (input : List ℕ) : Type 0 where
   pub whole : (bodies : List (List ℕ)) (rest : List ℕ)
       → (walk table input ≡ whole bodies rest) ↔ ((fits table bodies ≡ true) × (input ≡ laid bodies rest))
-  pub ends : (walk table input ≡ ends) ↔ Ends table input
+  pub ends : (walk table input ≡ ends) ↔ InputEnds table input
   pub notAllowed : (walk table input ≡ notAllowed) ↔ NotAllowed table input
 
 -- the same of a request, section by section

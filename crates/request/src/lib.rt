@@ -6,8 +6,8 @@ ghost use lib.ListN.{length};
 ghost use Rattle.matrix.specs.Matrix.{isAllowed};
 ghost use Rattle.request.specs.Sections.{Walks, RequestWalks};
 ghost use Rattle.request.specs.Request.{present, soundOf};
-ghost use Rattle.request.specs.Read.{audioOutside, outside, combined, judged, Reads, Pairs, PairsInput, emptied, Rows, Lengths};
-ghost use Rattle.request.specs.Bytes.{ThereAndBack};
+ghost use Rattle.request.specs.Read.{audioOutside, outside, combined, judged, Reads, Pairs, PairsInput, emptied};
+ghost use Rattle.request.specs.Theorems.{Rows, Lengths, ThereAndBack};
 ghost use mathlib.Core.List.{List};
 use clock::Pair;
 use matrix::Matrix;
@@ -206,7 +206,7 @@ pub fn there_and_back()
     ensures { λ _. ⌜ ThereAndBack ⌝ }
 {}
 
-// The rows of a request, in document 01's order.
+// The rows of a request, in document 01's order, and the request that is read.
 pub fn rows()
     ensures { λ _. ⌜ ((input : List ℕ) → Rows input) ⌝ }
 {}

@@ -1,0 +1,50 @@
+-- What is proved of a request: document 01, "The request" and "Refusal numbers".
+use mathlib.Core.Path.{_≡_}
+use mathlib.Core.Logic.{_⊎_}
+use mathlib.Core.Bool.{true}
+use mathlib.Core.List.{List, [], _∷_}
+use Prim.Native.Nat.{ℕ, _<_}
+use lib.ListN.{length, getD, take, set}
+use Rattle.lists.specs.Among.{among}
+use Rattle.refusals.specs.Rows.{Given}
+use Rattle.matrix.specs.declared.Matrix.{Matrix}
+use Rattle.matrix.specs.Matrix.{noMatrix, Bytes}
+use Rattle.request.specs.declared.Request.{Request}
+use Rattle.request.specs.Sections.{longest, walked, videoSection, audioSection, matrixSection}
+use Rattle.request.specs.Request.{requestIn, readRules, nctsRules}
+use Rattle.request.specs.Read.{readOf, nctsOf}
+use Rattle.request.specs.Bytes.{asBytes, answeredBytes}
+
+pub record Rows (input : List ℕ) : Type 0 where
+  -- of the rows that a call checks, the lowest that applies is given, and none is given otherwise
+  pub read : Bytes input → Given (readRules (walked input)) (readOf input .refusal)
+  pub ncts : Bytes input → Given (nctsRules (walked input)) (nctsOf input .refusal)
+  -- the request that is read is what the three bodies say
+  pub said : readOf input .refusal ≡ 0
+      → readOf input .request ≡ requestIn (videoSection (walked input)) (audioSection (walked input)) (matrixSection (walked input))
+
+-- "Lengths are therefore 7, 10, 32 or 35"
+pub record Lengths (input : List ℕ) : Type 0 where
+  pub accepted : readOf input .refusal ≡ 0 → among (length input) (7 ∷ 10 ∷ 32 ∷ 35 ∷ []) ≡ true
+  pub most : longest ≡ 35
+  -- so one byte more than the longest decides: cut there, or later, an input is answered as it is whole
+  pub read : (n : ℕ) → longest < n → readOf (take n input) ≡ readOf input
+  pub ncts : (n : ℕ) → longest < n → nctsOf (take n input) ≡ nctsOf input
+
+-- no matrix, or twelve fields of 13 bits
+pub record Filled (m : Matrix) : Type 0 where
+  pub on : m .on ≡ 1
+  pub mode : m .mode < 4
+  pub twelve : length (m .coefficients) ≡ 12
+  pub small : (i : ℕ) → getD (m .coefficients) i 0 < 8192
+
+abbrev pub Shaped : Matrix → Type 0
+Shaped m = (m ≡ noMatrix) ⊎ Filled m
+
+pub record ThereAndBack : Type 0 where
+  -- the bytes of a request, where no row refuses them, are read as that request
+  pub there : (r : Request) → Shaped (r .matrix) → readOf (asBytes r) .refusal ≡ 0 → readOf (asBytes r) .request ≡ r
+  -- the bytes of the request that is read from an input are the input
+  pub back : (input : List ℕ) → Bytes input → readOf input .refusal ≡ 0 → asBytes (readOf input .request) ≡ input
+  -- the bytes that are answered for an input are the input's, its family 0
+  pub answered : (input : List ℕ) → Bytes input → readOf input .refusal ≡ 0 → answeredBytes input ≡ set input 2 0
