@@ -1,12 +1,14 @@
 -- Demands 2 and 3, tied to the planning entry. Assumes nothing.
 use mathlib.Core.Path.{_≡_, refl, sym, ap, ap₂, subst, _∙_}
-use mathlib.Core.List.{List}
-use Prim.Native.Nat.{ℕ}
-use lib.ListN.{length, getD, drop, replicate}
+use mathlib.Core.Bool.{true}
+use mathlib.Core.List.{List, [], _∷_}
+use Prim.Native.Nat.{ℕ, suc, _≤_}
+use lib.ListN.{length, getD, take, drop, replicate}
 use borrow.Author.Tests.{eqb-true, eq-eqb, le-ltb}
 use Rattle.matrix.specs.Matrix.{Bytes}
 use Rattle.chip.specs.declared.Chip.{Chip}
-use Rattle.chip.specs.Machine.{Write}
+use Rattle.chip.specs.Machine.{Write, avi, audio, packets, inUse}
+use Rattle.views.specs.Faces.{Sized}
 use Rattle.request.specs.declared.Request.{Request}
 use Rattle.request.specs.declared.Checked.{Checked}
 use Rattle.request.specs.Read.{readOf, pairFor}
@@ -14,12 +16,13 @@ use Rattle.request.specs.Bytes.{asBytes}
 use Rattle.request.proofs.Ranged.{Ranged, read-ranged}
 use Rattle.plan.specs.Wanted.{wanted}
 use Rattle.plan.specs.declared.Planned.{Planned}
-use Rattle.writes.specs.List.{finishedImage}
+use Rattle.writes.specs.List.{finishedImage, writeList, ready}
 use Rattle.writes.proofs.Image.{image-length, image-at}
 use Rattle.plan.specs.Plan.{planOf}
 use Rattle.plan.proofs.Fine.{Fine, fine, accepts, leaves}
 use Rattle.plan.proofs.Ordered.{refusals}
-use Rattle.cut.specs.Demand.{toItsEnd, cuts, Demand3}
+use Rattle.cut.specs.Run.{cut}
+use Rattle.cut.specs.Demand.{sent, toItsEnd, cuts, Same, Demand3}
 use Rattle.cut.proofs.WriteList.{holds}
 use Rattle.writes.proofs.InOrder.{in-order}
 use Rattle.writes.proofs.Carries.{entries}
@@ -30,15 +33,39 @@ use Rattle.decode.proofs.Answers.{finished-again, read-back}
 use Rattle.promises.specs.Rules.{asked, Listed, Demand2, Accepted, OnSomeImage}
 use Rattle.promises.proofs.Ended.{avi-head, audio-head, enable-in, mode-in}
 use Rattle.promises.proofs.Filled.{filled, paired, never-three}
-use Rattle.promises.specs.LentBytes.{Followed}
-use Rattle.promises.proofs.LentBytes.{left, followed}
+use Rattle.promises.proofs.Places.{audio-frame}
+use Rattle.promises.specs.LentBytes.{pairsLeft, entered, enteredCuts, Headed, Followed}
+use Rattle.promises.proofs.LentBytes.{left, sized-entered, sized-cuts, entered-cut, entered-run, followed}
 use Rattle.promises.specs.AnyCut.{listOf, Again, AnyCut}
 
 listed : (input image buffer : List ℕ) → Fine input image buffer → Listed input image buffer
-listed input image buffer f = record { count = ap (λ (p : Planned). p .count) (accepts input image buffer f); list = leaves input image buffer f }
+listed input image buffer f =
+    let count = ap (λ (p : Planned). p .count) (accepts input image buffer f) in
+    let list = leaves input image buffer f in
+    record { count = count; list = list; pairs = left input image buffer count list }
 
 pub accepted : (input image buffer : List ℕ) → Fine input image buffer → planOf input image buffer .refusal ≡ 0
 accepted input image buffer f = ap (λ (p : Planned). p .refusal) (accepts input image buffer f)
+
+-- planned again: what is asked of the registers and of the buffer is all that moves
+again-fine : (input image buffer : List ℕ) → Fine input image buffer → (after room : List ℕ) → length after ≡ 256 → ready after ≡ true
+    → 256 ≤ length room → Fine input after room
+again-fine input image buffer f after room whole clear long =
+    record { read = f .read; whole = whole; clear = clear; paired = f .paired; long = le-ltb (length room) 256 long }
+
+-- the bytes written up to each of some cuts are the lists cut there
+cut-bytes : (input image buffer : List ℕ) → Fine input image buffer → (ks : List ℕ) (buffers : ℕ → List ℕ)
+    → ((i : ℕ) → 256 ≤ length (buffers i)) → (s : Chip) → Sized s → ready (s .image) ≡ true → enteredCuts input ks buffers s ≡ cuts (listOf input) ks s
+cut-bytes input image buffer f [] buffers long s z c = refl
+cut-bytes input image buffer f (k ∷ ks) buffers long s z c =
+    let l = listed input (s .image) (buffers 0) (again-fine input image buffer f (s .image) (buffers 0) (z .image) c (long 0)) in
+    let ws : List Write = writeList (asked input) (s .image) in
+    let d : Demand3 (listOf input) (asked input) s = holds (asked input) s (z .image) c in
+    let e = entered-cut ws s k z in
+    ap (λ (ps : List Write). enteredCuts input ks (λ i. buffers (suc i)) (entered (take k ps) s)) (l .pairs)
+    ∙ ap (enteredCuts input ks (λ i. buffers (suc i))) e
+    ∙ cut-bytes input image buffer f ks (λ i. buffers (suc i)) (λ i. long (suc i)) (cut (sent ws) s k)
+    (subst Sized e (sized-entered (take k ws) s z)) (d .ready (k ∷ []))
 
 pub any-cut : (input buffer : List ℕ) (s : Chip) → planOf input (s .image) buffer .refusal ≡ 0 → AnyCut input buffer s
 any-cut input buffer s z =
@@ -52,7 +79,9 @@ any-cut input buffer s z =
     let g : Ranged q = read-ranged input (f .read) in
     let l : Listed input (s .image) buffer = listed input (s .image) buffer f in
     let newAvi = ap (drop 2) (d .ended .avi) ∙ avi-in q (e .image) sized g stands in
-    let newAudio = ap (drop 2) (d .ended .audio) ∙ audio-in q (e .image) sized g stands in
+    let newAudio = ap (drop 2) (d .ended .audio) ∙ audio-in q (e .image) sized g stands ∙ ap (drop 3) (audio-frame (q .sound)) in
+    let headAvi : Headed 0x02 0x0D (inUse packets avi e) = rw (d .ended .avi) (avi-head q (e .image) g stands) in
+    let headAudio : Headed 0x01 0x0A (inUse packets audio e) = rw (d .ended .audio) (audio-head q (e .image) g stands) in
     let newMatrix = d .ended .matrix ∙ matrix-in q (e .image) sized g stands in
     let newMode = mode-in q (e .image) g stands in
     record {
@@ -61,15 +90,26 @@ any-cut input buffer s z =
       newAvi = newAvi;
       newAudio = newAudio;
       newMatrix = newMatrix;
-      headAvi = rw (d .ended .avi) (avi-head q (e .image) g stands);
-      headAudio = rw (d .ended .audio) (audio-head q (e .image) g stands);
+      headAvi = headAvi;
+      headAudio = headAudio;
       newEnable = enable-in q (e .image) g stands;
       newMode = newMode;
-      bytes = λ z. subst (λ (ws : List Write). Followed q ws s) (sym (left input (s .image) buffer l)) (followed input s z d newAvi newAudio newMatrix newMode);
+      bytes = λ z. subst (λ (ws : List Write). Followed q ws s) (sym (l .pairs))
+          (followed input s z d newAvi newAudio headAvi headAudio newMatrix newMode);
+      bytesAgain = λ z ks buffers room many long.
+          let u : Chip = cuts (listOf input) ks s in
+          let there : enteredCuts input ks buffers s ≡ u = cut-bytes input (s .image) buffer f ks buffers many s z (f .clear) in
+          let zu : Sized u = subst Sized there (sized-cuts input ks buffers s z) in
+          let y : Fine input (u .image) room = again-fine input (s .image) buffer f (u .image) room (d .whole ks) (d .ready ks) long in
+          let m : Listed input (u .image) room = listed input (u .image) room y in
+          let first = ap (λ (ps : List Write). entered ps s) (l .pairs) ∙ entered-run (writeList (asked input) (s .image)) s z in
+          let second = ap (λ (ps : List Write). entered ps u) (m .pairs) ∙ entered-run (writeList (asked input) (u .image)) u zu in
+          let end : Chip = entered (pairsLeft input (s .image) buffer) s in
+          subst (λ (t : Chip). Again input (t .image) room × Same end (entered (pairsLeft input (t .image) room) t)) (sym there)
+          (record { accepted = accepted input (u .image) room y; listed = m }, rw (first, second) (d .again ks));
       again = λ ks room long.
           let image : List ℕ = cuts (listOf input) ks s .image in
-          let y : Fine input image room =
-          record { read = f .read; whole = d .whole ks; clear = d .ready ks; paired = f .paired; long = le-ltb (length room) 256 long } in
+          let y : Fine input image room = again-fine input (s .image) buffer f image room (d .whole ks) (d .ready ks) long in
           record { accepted = accepted input image room y; listed = listed input image room y };
     }
 
@@ -80,7 +120,9 @@ rules input buffer s = record {
   order = in-order (asked input) (s .image);
   entries = entries (asked input) (s .image);
   finished = λ z. any-cut input buffer s z .demand .registers;
-  fields = λ z. let f = fits z in filled input (s .image) (f .read) (eqb-true _ _ (f .paired)) _ (image-at (asked input) (s .image));
+  fields = λ z. let f = fits z in
+      filled input (s .image) (f .read) (eqb-true _ _ (f .paired)) _ (image-length (asked input) (s .image))
+      (image-at (asked input) (s .image));
   pair = paired input;
   neverThree = λ z. let f = fits z in never-three input (s .image) (f .read) (eqb-true _ _ (f .paired));
   readBack = λ b z room h. read-back input (s .image) (finishedImage (asked input) (s .image)) .answered (ran b z) room h;

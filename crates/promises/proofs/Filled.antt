@@ -6,7 +6,7 @@ use Prim.Native.Nat.{ℕ, zero, suc, _+_, _*_, _/_, _%_, _<_, _≤_}
 use native.Mathlib.Nat.{not-suc-le-zero, le-of-suc-le-suc}
 use native.Mathlib.Omega.{arith}
 use lib.Dec.{eqb, ltb, lit<}
-use lib.ListN.{length, getD}
+use lib.ListN.{length, getD, take, drop}
 use borrow.Author.Tests.{eqb-true, eqb-false, eq-eqb, ne-eqb, le-ltb, ltb-true}
 use Rattle.lists.proofs.Both.{both-left, both-right}
 use Rattle.bits.proofs.Below.{at-below}
@@ -19,6 +19,8 @@ use Rattle.clock.specs.Pairs.{Coherent, other}
 use Rattle.clock.specs.Found.{coherentOf, pairOf}
 use Rattle.clock.proofs.Rates.{reference-most}
 use Rattle.clock.proofs.Coherence.{in-mode}
+use Rattle.frames.specs.Frames.{total, frame, aviFrame}
+use Rattle.frames.proofs.Sealed as frames
 use Rattle.request.specs.declared.Sound.{Sound}
 use Rattle.request.specs.declared.Sound.the-variants.{Off, On}
 use Rattle.request.specs.declared.Request.{Request}
@@ -32,13 +34,17 @@ use Rattle.chip.specs.Machine.{Write, _gets_}
 use Rattle.writes.specs.List.{decided, isWritten, finished, finishedImage, writeList}
 use Rattle.writes.specs.Carried.{requested}
 use Rattle.writes.proofs.Carries.{masked, entries}
-use Rattle.writes.proofs.Image.{image-at}
+use Rattle.writes.proofs.Image.{image-length, image-at}
 use Rattle.plan.specs.Wanted.{wanted, SoundFits, Fits}
 use Rattle.plan.proofs.Accepted.{fits}
-use Rattle.promises.specs.Finished.{Place, place, bitsIn, NeverThree, inM, inC, places, Shows, Each, Finished, Paired}
+use Rattle.decode.specs.Ends.{Stands}
+use Rattle.decode.proofs.Stored.{window}
+use Rattle.decode.proofs.Groups.{avi-in, audio-in}
+use Rattle.decode.proofs.Answers.{finished-again}
+use Rattle.promises.specs.Finished.{Place, place, bitsIn, NeverThree, inM, inC, audioPacket, places, Shows, Each, Finished, Paired}
 use Rattle.promises.proofs.Bits.{same-bits}
 use Rattle.promises.proofs.Named.{field, ordered}
-use Rattle.promises.proofs.Places.{Ranges, stand}
+use Rattle.promises.proofs.Places.{audio-frame, Ranges, stand}
 
 -- ---- N and CTS
 
@@ -141,18 +147,46 @@ pick P (f ∷ fs) e (suc k) h = pick P fs (e .1) k (le-of-suc-le-suc h)
 twenty : (x y z n : ℕ) → x ≡ n / 65536 → y ≡ n / 256 % 256 → z ≡ n % 256 → x * 65536 + y * 256 + z ≡ n
 twenty x y z n e f g = omega arith
 
+-- the registers of a packet after its version and its length
+after-two : (image : List ℕ) (a count : ℕ) → a + suc (suc count) ≤ length image
+    → take count (drop (suc (suc a)) image) ≡ drop 2 (take (suc (suc count)) (drop a image))
+after-two image a count h = window image (suc (suc a)) count (omega arith) ∙ sym (ap (drop 2) (window image a (suc (suc count)) h))
+
+-- the sums of the two frames
+sum-zero : (type version count : ℕ) (payload : List ℕ) → let header : List ℕ = type ∷ version ∷ count ∷ [] in
+    (type + version + count + total (drop 3 (frame header payload))) % 256 ≡ 0
+unfolding total
+sum-zero type version count payload = omega (arith, frames.holds .zero (type ∷ version ∷ count ∷ []) payload)
+
+avi-zero : (video : Video) → (0x82 + 0x02 + 0x0D + total (drop 3 (aviFrame video))) % 256 ≡ 0
+unfolding aviFrame
+avi-zero video = sum-zero 0x82 0x02 0x0D _
+
+audio-zero : (s : Sound) → (0x84 + 0x01 + 0x0A + total (drop 3 (audioPacket s))) % 256 ≡ 0
+audio-zero s = sum-zero 0x84 0x01 0x0A _
+
 pub filled : (input image : List ℕ) → readOf input .refusal ≡ 0 → pairFor (readOf input .request) .refusal ≡ 0
-    → (after : List ℕ) → ((a : ℕ) → a < 256 → getD after a 0 ≡ finished (wanted (readOf input .request)) image a)
+    → (after : List ℕ) → length after ≡ 256 → ((a : ℕ) → a < 256 → getD after a 0 ≡ finished (wanted (readOf input .request)) image a)
     → Finished (readOf input .request) (nctsOf input) after
-filled input image z y after ends =
+filled input image z y after sized ends =
     let r : Request = readOf input .request in
     let p : Pair = pairFor r in
     let e = stand r image after ends (ranges input z y) in
     let at = pick (Shows after) (places r p) e in
+    let stands : Stands r after = λ a h. finished-again (wanted r) image after a (ends a h) in
+    let g = read-ranged input z in
+    let v : bitsIn 2 0 (getD after 0x52 0) ≡ 0x02 = at 57 (lit< tt) in
+    let l : bitsIn 4 0 (getD after 0x53 0) ≡ 0x0D = at 58 (lit< tt) in
+    let va : bitsIn 2 0 (getD after 0x70 0) ≡ 0x01 = at 78 (lit< tt) in
+    let la : bitsIn 4 0 (getD after 0x71 0) ≡ 0x0A = at 79 (lit< tt) in
+    let d = after-two after 0x52 14 (omega arith) ∙ avi-in r after sized g stands in
+    let da = after-two after 0x70 11 (omega arith) ∙ audio-in r after sized g stands ∙ ap (drop 3) (audio-frame (r .sound)) in
     subst (λ (q : Pair). Finished r q after) (sym (asked-pair input z)) (record {
       fields = e;
       n = twenty _ _ _ (p .n) (at 0 (lit< tt)) (at 1 (lit< tt)) (at 2 (lit< tt));
       cts = twenty _ _ _ (p .cts) (at 3 (lit< tt)) (at 4 (lit< tt)) (at 5 (lit< tt));
+      aviSum = rw (v, l, d) (avi-zero (r .video));
+      audioSum = rw (va, la, da) (audio-zero (r .sound));
       mode = omega (arith, at 18 (lit< tt), fits input z .matrix .mode);
       ordered = λ a h w. rw (ends a h) (ordered (wanted r) image a h w);
     })
@@ -182,7 +216,7 @@ unfolding classAt decided isWritten
 never-three input image z y k h e =
     let r : Request = readOf input .request in
     let after : List ℕ = finishedImage (wanted r) image in
-    let f = filled input image z y after (image-at (wanted r) image) in
+    let f = filled input image z y after (image-length (wanted r) image) (image-at (wanted r) image) in
     let m : bitsIn 6 5 (getD after 0x18 0) < 3 = f .mode in
     let t : bitsIn 6 5 (getD after 0x18 0) ≡ bitsIn 6 5 (wanted r 0x18)
     = ap (bitsIn 6 5) (image-at (wanted r) image 0x18 (lit< tt)) ∙ field (wanted r) image 0x18 false 6 5 refl in

@@ -20,15 +20,15 @@ use Rattle.views.specs.Entry.{enterOf}
 use Rattle.views.specs.Faces.{Sized, Faces, Entered}
 use Rattle.views.proofs.Shown as views
 use Rattle.writes.specs.List.{flat, writeList}
-use Rattle.plan.specs.Wanted.{audioBytes}
 use Rattle.plan.specs.Plan.{planOf, planBuffer}
 use Rattle.writes.proofs.Pairs.{length-flat}
 use Rattle.cut.specs.Run.{Event, write, run, cut, event, happens}
 use Rattle.cut.specs.Demand.{sent, toItsEnd, Demand3}
 use Rattle.cut.proofs.Taken.{neat-two}
-use Rattle.promises.specs.Rules.{asked, Listed}
+use Rattle.promises.specs.Finished.{audioPacket}
+use Rattle.promises.specs.Rules.{asked}
 use Rattle.promises.specs.AnyCut.{listOf}
-use Rattle.promises.specs.LentBytes.{pairsOf, pairsLeft, entered, matrixSaid, Followed}
+use Rattle.promises.specs.LentBytes.{pairsOf, pairsLeft, entered, enteredCuts, matrixSaid, Headed, Followed}
 
 -- the pairs of a list's bytes are the list
 pairs-flat : (ws : List Write) → pairsOf (flat ws) ≡ ws
@@ -36,10 +36,12 @@ unfolding flat
 pairs-flat [] = refl
 pairs-flat (w ∷ ws) = ap (λ (l : List Write). w ∷ l) (pairs-flat ws)
 
-pub left : (input image buffer : List ℕ) → Listed input image buffer → pairsLeft input image buffer ≡ writeList (asked input) image
-left input image buffer l =
+pub left : (input image buffer : List ℕ) → let ws : List Write = writeList (asked input) image in
+    planOf input image buffer .count ≡ length ws → planBuffer input image buffer ≡ flat ws ++ drop (length (flat ws)) buffer
+    → pairsLeft input image buffer ≡ ws
+left input image buffer count list =
     let ws : List Write = writeList (asked input) image in
-    rw (l .count, l .list) (ap pairsOf (take-at (flat ws) _ (2 * length ws) (length-flat ws)) ∙ pairs-flat ws)
+    rw (count, list) (ap pairsOf (take-at (flat ws) _ (2 * length ws) (length-flat ws)) ∙ pairs-flat ws)
 
 -- the numbers of muted and open
 one : (t : Chip) → Muted t → mute t ≡ 1
@@ -49,18 +51,24 @@ two-of : (t : Chip) → Open t → mute t ≡ 2
 two-of t m = let set : bit 6 (gcInUse t) ≡ 0 = m .0 in let clear : bit 7 (gcInUse t) ≡ 1 = m .1 in omega arith
 
 -- over slices of the machine's lengths the entry is the machine's own write
-sized-entered : (ws : List Write) (s : Chip) → Sized s → Sized (entered ws s)
+pub sized-entered : (ws : List Write) (s : Chip) → Sized s → Sized (entered ws s)
 sized-entered [] s z = z
 sized-entered (w ∷ ws) s z = sized-entered ws (enterOf s (w .address) (w .value) .chip) (views.entered s z (w .address) (w .value) .sized)
 
-entered-cut : (ws : List Write) (s : Chip) (k : ℕ) → Sized s → entered (take k ws) s ≡ cut (sent ws) s k
+pub sized-cuts : (input ks : List ℕ) (buffers : ℕ → List ℕ) (s : Chip) → Sized s → Sized (enteredCuts input ks buffers s)
+sized-cuts input [] buffers s z = z
+sized-cuts input (k ∷ ks) buffers s z =
+    let ws : List Write = take k (pairsLeft input (s .image) (buffers 0)) in
+    sized-cuts input ks (λ i. buffers (suc i)) (entered ws s) (sized-entered ws s z)
+
+pub entered-cut : (ws : List Write) (s : Chip) (k : ℕ) → Sized s → entered (take k ws) s ≡ cut (sent ws) s k
 entered-cut ws s zero z = refl
 entered-cut [] s (suc k) z = refl
 entered-cut (w ∷ ws) s (suc k) z =
     let e : Entered s (w .address) (w .value) = views.entered s z (w .address) (w .value) in
     entered-cut ws (enterOf s (w .address) (w .value) .chip) k (e .sized) ∙ ap (λ (x : Wrote). cut (sent ws) (x .chip) k) (e .same)
 
-entered-run : (ws : List Write) (s : Chip) → Sized s → entered ws s ≡ run (sent ws) s
+pub entered-run : (ws : List Write) (s : Chip) → Sized s → entered ws s ≡ run (sent ws) s
 entered-run [] s z = refl
 entered-run (w ∷ ws) s z =
     let e : Entered s (w .address) (w .value) = views.entered s z (w .address) (w .value) in
@@ -95,7 +103,8 @@ module _ (input : List ℕ) (s : Chip) (z : Sized s) (d : Demand3 (listOf input)
   twelve t f out h = ap (drop 1) (f .matrix out h)
 
   module _ (newAvi : drop 2 (inUse packets avi end) ≡ drop 3 (aviFrame (r .video)))
-      (newAudio : drop 2 (inUse packets audio end) ≡ drop 3 (audioBytes (r .sound)))
+      (newAudio : drop 2 (inUse packets audio end) ≡ drop 3 (audioPacket (r .sound)))
+      (headAvi : Headed 0x02 0x0D (inUse packets avi end)) (headAudio : Headed 0x01 0x0A (inUse packets audio end))
       (newMatrix : coefficients end ≡ r .matrix .coefficients) (newMode : modeInUse end ≡ r .matrix .mode) where
     pub followed : Followed r ws s
     followed = record {
@@ -120,6 +129,8 @@ module _ (input : List ℕ) (s : Chip) (z : Sized s) (d : Demand3 (listOf input)
           });
       ended = rw (entered-run ws s z) (record {
         opened = faces-end .mute ∙ ap (λ (m : ℕ). record { refusal = 0; mute = m }) (two-of end (d .ended .opened));
+        headAvi = rw (faces-end .avi) headAvi;
+        headAudio = rw (faces-end .audio) headAudio;
         avi = ap (drop 2) (faces-end .avi) ∙ newAvi;
         audio = ap (drop 2) (faces-end .audio) ∙ newAudio;
         matrix = λ out h. faces-end .matrix out h ∙ rw (newMatrix, newMode);

@@ -17,7 +17,7 @@ use Rattle.registers.specs.Classes.{classAt}
 use Rattle.video.specs.Modes.{modeOf}
 use Rattle.clock.specs.declared.Pair.{Pair}
 use Rattle.frames.specs.Frames as F
-use Rattle.frames.specs.Frames.{checksumOf, frame, aviFrame, audioHeader, audioPayload, audioFrame, audioOffFrame}
+use Rattle.frames.specs.Frames.{checksumOf, aviFrame, audioFrame, audioOffFrame}
 use Rattle.chip.specs.Machine.{Write}
 use Rattle.request.specs.declared.Sound.{Sound}
 use Rattle.request.specs.declared.Sound.the-variants.{Off, On}
@@ -28,27 +28,21 @@ use Rattle.plan.specs.Wanted.{laid, audioBytes, wanted, clockBytes, inputBytes,
 use Rattle.plan.specs.Wanted.{inputs, rateCode, ctsSelect, withAudio, SoundFits, MatrixFits}
 use Rattle.decode.proofs.Stored.{look, stored}
 use Rattle.promises.specs.Finished.{Place, bitsIn, places, Shows, Each}
-use Rattle.promises.specs.Finished.{withSound, eightChannels, manualCts, codeOf, inC, inM, inCC, inCA, audioSum}
+use Rattle.promises.specs.Finished.{withSound, eightChannels, manualCts, rateCodeOf, inC, inM, inCC, inCA, audioPacket}
 use Rattle.promises.proofs.Named.{isField, field}
 
 -- ---- the byte that is wanted at an address
 
--- the frames as lists of bytes, whatever the sound
-audio-frame : (s : Sound) → audioBytes s ≡ frame audioHeader (audioPayload (inCC s) (inCA s))
+-- the audio packet, whatever the sound
+pub audio-frame : (s : Sound) → audioBytes s ≡ audioPacket s
 unfolding audioFrame audioOffFrame
 audio-frame Off = refl
 audio-frame (On rate channels coherent) = refl
 
-audio-sum : (s : Sound) → checksumOf (audioHeader ++ audioPayload (inCC s) (inCA s)) ≡ audioSum s
-unfolding audioFrame audioOffFrame
-audio-sum Off = refl
-audio-sum (On rate channels coherent) = refl
-
 abbrev bytes : Request → List Write
 bytes r =
     clockBytes (pairFor r) ++ inputBytes r ++ laid 0x18 (cscBytes (r .matrix)) ++ enableBytes r ++
-    (laid 0x52 (drop 1 (aviFrame (r .video))) ++
-    laid 0x70 (drop 1 (frame audioHeader (audioPayload (inCC (r .sound)) (inCA (r .sound))))))
+    (laid 0x52 (drop 1 (aviFrame (r .video))) ++ laid 0x70 (drop 1 (audioPacket (r .sound))))
 
 looked-up : (r : Request) (a : ℕ) → a < 256 → wanted r a ≡ look a (bytes r) 0
 looked-up r a h =
@@ -124,11 +118,11 @@ enabled (On rate channels coherent) = go (eqb channels 8)
     go false = (refl, refl, refl, refl, refl)
 
 -- the rate's code
-coded : (s : Sound) → SoundFits s → (bitsIn 7 4 (rateCode s * 16) ≡ codeOf s) × (bitsIn 3 0 (rateCode s * 16) ≡ 0)
+coded : (s : Sound) → SoundFits s → (bitsIn 7 4 (rateCode s * 16) ≡ rateCodeOf s) × (bitsIn 3 0 (rateCode s * 16) ≡ 0)
 coded Off h = (refl, refl)
 coded (On rate channels coherent) h =
     let k : rate < 7 = omega (arith, h .0) in
-    let right : ℕ → Bool = λ n. eqb (bitsIn 7 4 (rateCode (On n channels coherent) * 16)) (codeOf (On n channels coherent)) in
+    let right : ℕ → Bool = λ n. eqb (bitsIn 7 4 (rateCode (On n channels coherent) * 16)) (rateCodeOf (On n channels coherent)) in
     (eqb-true _ _ (at-below right 7 rate refl k), omega arith)
 
 -- CTS select, with the two fields below it
@@ -261,7 +255,7 @@ sources r image after ends g =
     z .0 ▸ z .1 ▸ z .2 ▸
     refl ▸ byte-whole _ (omega (arith, g .vic)) ▸
     refl ▸ refl ▸ refl ▸ refl ▸ refl ▸ refl ▸ refl ▸ refl ▸ refl ▸
-    refl ▸ refl ▸ (byte-whole _ (sum-small _) ∙ audio-sum (r .sound)) ▸
+    refl ▸ refl ▸ byte-whole _ (sum-small _) ▸
     omega arith ▸ omega arith ▸ refl ▸ refl ▸ byte-whole _ (ca-small (r .sound)) ▸ refl ▸ tt
 
 -- the finished image of a request whose fields are in range

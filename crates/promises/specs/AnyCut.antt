@@ -1,20 +1,20 @@
 -- Demand 3, of the planning entry: "Take an accepted request, a chip in a state from which it was accepted, and a cut after any write".
 use mathlib.Core.Path.{_≡_}
 use mathlib.Core.List.{List}
-use Prim.Native.Nat.{ℕ, _%_, _≤_}
-use lib.ListN.{length, getD, drop}
+use Prim.Native.Nat.{ℕ, _≤_}
+use lib.ListN.{length, drop}
 use Rattle.frames.specs.Frames.{aviFrame}
 use Rattle.request.specs.Read.{readOf}
 use Rattle.chip.specs.declared.Chip.{Chip}
 use Rattle.chip.specs.Machine.{avi, audio, packets, inUse, coefficients, enableInUse, modeInUse}
-use Rattle.plan.specs.Wanted.{audioBytes}
 use Rattle.writes.specs.List.{writeList}
 use Rattle.plan.specs.Plan.{planOf}
 use Rattle.cut.specs.Run.{Event}
-use Rattle.cut.specs.Demand.{sent, toItsEnd, cuts, Demand3}
+use Rattle.cut.specs.Demand.{sent, toItsEnd, cuts, Same, Demand3}
 use Rattle.views.specs.Faces.{Sized}
+use Rattle.promises.specs.Finished.{audioPacket}
 use Rattle.promises.specs.Rules.{asked, Listed}
-use Rattle.promises.specs.LentBytes.{pairsLeft, Followed}
+use Rattle.promises.specs.LentBytes.{pairsLeft, entered, enteredCuts, Headed, Followed}
 
 -- the list of a request on an image, sent write by write
 abbrev pub listOf : List ℕ → List ℕ → List Event
@@ -24,10 +24,6 @@ listOf input image = sent (writeList (asked input) image)
 pub record Again (input image buffer : List ℕ) : Type 0 where
   pub accepted : planOf input image buffer .refusal ≡ 0
   pub listed : Listed input image buffer
-
--- a packet's version and length, whose named bits are [2:0] and [4:0]; the bits beside them are free, and the image's
-abbrev pub Headed : ℕ → ℕ → List ℕ → Type 0
-Headed version count registers = (getD registers 0 0 % 8 ≡ version) × (getD registers 1 0 % 32 ≡ count)
 
 pub record AnyCut (input buffer : List ℕ) (s : Chip) : Type 0 where
   -- the list that planning leaves in the lent buffer, with its count, is the one that the demand is about
@@ -40,10 +36,16 @@ pub record AnyCut (input buffer : List ℕ) (s : Chip) : Type 0 where
   pub headAvi : Headed 0x02 0x0D (inUse packets avi (toItsEnd (listOf input) s))
   pub headAudio : Headed 0x01 0x0A (inUse packets audio (toItsEnd (listOf input) s))
   pub newAvi : drop 2 (inUse packets avi (toItsEnd (listOf input) s)) ≡ drop 3 (aviFrame (readOf input .request .video))
-  pub newAudio : drop 2 (inUse packets audio (toItsEnd (listOf input) s)) ≡ drop 3 (audioBytes (readOf input .request .sound))
+  pub newAudio : drop 2 (inUse packets audio (toItsEnd (listOf input) s)) ≡ drop 3 (audioPacket (readOf input .request .sound))
   pub newMatrix : coefficients (toItsEnd (listOf input) s) ≡ readOf input .request .matrix .coefficients
   -- "Enable and mode in 0x18[7:5] act at once." "With a matrix: converter on. No matrix: converter off, mode 1"
   pub newEnable : enableInUse (toItsEnd (listOf input) s) ≡ readOf input .request .matrix .on
   pub newMode : modeInUse (toItsEnd (listOf input) s) ≡ readOf input .request .matrix .mode
   -- the bytes in the lent buffer, written over slices of the machine's lengths: the calls' answers at every cut
   pub bytes : Sized s → Followed (readOf input .request) (pairsLeft input (s .image) buffer) s
+  -- after one cut of them, two, or any number, each time planned with any buffer: the request is accepted, and the bytes then planned end
+  -- as those of the run without a cut
+  pub bytesAgain : Sized s → (ks : List ℕ) (buffers : ℕ → List ℕ) (room : List ℕ)
+      → ((i : ℕ) → 256 ≤ length (buffers i)) → 256 ≤ length room
+      → let t : Chip = enteredCuts input ks buffers s in
+      Again input (t .image) room × Same (entered (pairsLeft input (s .image) buffer) s) (entered (pairsLeft input (t .image) room) t)

@@ -1,12 +1,13 @@
 -- Demand 2, "the finished image", field by field: the number that stands in each named field, in document 01's notation and in the order of
--- its sentence "Named: N, CTS, ..". Nothing here speaks of writes, of steps or of wanted bytes.
+-- its sentence "Named: N, CTS, ..". No number of `places` comes from writes, from steps or from wanted bytes; `ordered` asks which
+-- registers are written, and `NeverThree` is about the writes.
 use mathlib.Core.Path.{_≡_}
 use mathlib.Core.Logic.{_≢_}
 use mathlib.Core.Bool.{true, cond}
 use mathlib.Core.List.{List, [], _∷_, _++_}
 use Prim.Native.Nat.{ℕ, zero, suc, _+_, _-_, _*_, _/_, _%_, _^_, _<_}
 use lib.Dec.{eqb}
-use lib.ListN.{length, getD}
+use lib.ListN.{length, getD, take, drop, replicate}
 use Rattle.lists.specs.Among.{among}
 use Rattle.bits.specs.Merge.{under}
 use Rattle.map.specs.Map.{audioSelectDefault, audioModeDefault, i2sFormatDefault, inputIdDefault}
@@ -16,7 +17,7 @@ use Rattle.clock.specs.declared.Pair.{Pair}
 use Rattle.clock.specs.Clocks.{clockOf}
 use Rattle.clock.specs.Tables.{otherRow}
 use Rattle.clock.specs.Pairs.{Coherent}
-use Rattle.frames.specs.Frames.{aviFrame, audioFrame, audioOffFrame}
+use Rattle.frames.specs.Frames.{total, frame, aviFrame}
 use Rattle.chip.specs.Machine.{Write, _gets_}
 use Rattle.writes.specs.List.{isWritten}
 use Rattle.request.specs.declared.Sound.{Sound}
@@ -51,9 +52,9 @@ manualCts Off = 0
 manualCts (On rate channels coherent) = coherent
 
 -- the map's codes for 32, 44.1, 48, 88.2, 96, 176.4, 192 kHz; "Audio off: .. the 48 kHz rate code"
-abbrev pub codeOf : Sound → ℕ
-codeOf Off = 0b0010
-codeOf (On rate channels coherent) = getD (0b0011 ∷ 0b0000 ∷ 0b0010 ∷ 0b1000 ∷ 0b1010 ∷ 0b1100 ∷ 0b1110 ∷ []) rate 0
+abbrev pub rateCodeOf : Sound → ℕ
+rateCodeOf Off = 0b0010
+rateCodeOf (On rate channels coherent) = getD (0b0011 ∷ 0b0000 ∷ 0b0010 ∷ 0b1000 ∷ 0b1010 ∷ 0b1100 ∷ 0b1110 ∷ []) rate 0
 
 -- "C is 0 for RGB, else 1 for VIC 1, 2, 3, 17, 18 and 2 for the rest"; "M from the aspect", which is 4:3, M 1, for VIC 1, 2, 17 and
 -- 16:9, M 2, for the others
@@ -72,10 +73,9 @@ abbrev pub inCA : Sound → ℕ
 inCA Off = 0x00
 inCA (On rate channels coherent) = cond (eqb channels 8) 0x13 0x00
 
--- the checksums: byte 3 of a frame, of which crate frames proves that it makes the sum of all bytes zero modulo 256
-abbrev pub audioSum : Sound → ℕ
-audioSum Off = getD audioOffFrame 3 0
-audioSum (On rate channels coherent) = getD (audioFrame channels) 3 0
+-- the audio packet: "audio header 0x84, 0x01, 0x0A", the checksum, and ten data bytes, of which 1 is CT 0 CC, and 4 CA
+abbrev pub audioPacket : Sound → List ℕ
+audioPacket s = frame (0x84 ∷ 0x01 ∷ 0x0A ∷ []) (inCC s ∷ 0 ∷ 0 ∷ inCA s ∷ replicate 6 0)
 
 -- count coefficients of a list from the i-th on, each in two registers: its high five bits, its low eight
 abbrev pub coefficientPlaces : ℕ → List ℕ → ℕ → ℕ → List Place
@@ -100,7 +100,7 @@ places r p =
     place 0x0C 5 5 (eightChannels (r .sound)) ∷ place 0x0C 4 4 (eightChannels (r .sound)) ∷ place 0x0C 3 3 (eightChannels (r .sound)) ∷
     place 0x0C 2 2 (withSound (r .sound)) ∷ place 0x0C 1 0 (bitsIn 1 0 i2sFormatDefault) ∷
     -- "rate, input format, output format", which is 1 for 4:2:2
-    place 0x15 7 4 (codeOf (r .sound)) ∷ place 0x15 3 0 (bitsIn 3 0 inputIdDefault) ∷
+    place 0x15 7 4 (rateCodeOf (r .sound)) ∷ place 0x15 3 0 (bitsIn 3 0 inputIdDefault) ∷
     place 0x16 7 7 (cond (eqb (r .video .encoding) 1) 1 0) ∷
     -- "CSC with its hold"
     place 0x18 7 7 (r .matrix .on) ∷ place 0x18 6 5 (r .matrix .mode) ∷ place 0x1A 5 5 0 ∷ [] ++
@@ -121,7 +121,7 @@ places r p =
     place 0x57 7 0 0 ∷ place 0x58 7 0 (r .video .vic) ∷ [] ++
     zeroPlaces 0x59 9 ++
     -- "the audio InfoFrame": byte 1 is CT 0 CC, byte 4 CA
-    place 0x70 2 0 0x01 ∷ place 0x71 4 0 0x0A ∷ place 0x72 7 0 (audioSum (r .sound)) ∷
+    place 0x70 2 0 0x01 ∷ place 0x71 4 0 0x0A ∷ place 0x72 7 0 (getD (audioPacket (r .sound)) 3 0) ∷
     place 0x73 7 3 0 ∷ place 0x73 2 0 (inCC (r .sound)) ∷ place 0x74 7 0 0 ∷ place 0x75 7 0 0 ∷ place 0x76 7 0 (inCA (r .sound)) ∷
     place 0x77 7 0 0 ∷ []
 
@@ -138,12 +138,20 @@ Each P (f ∷ fs) = P f × Each P fs
 abbrev pub twentyAt : ℕ → List ℕ → ℕ
 twentyAt a image = bitsIn 3 0 (getD image a 0) * 65536 + bitsIn 7 0 (getD image (a + 1) 0) * 256 + bitsIn 7 0 (getD image (a + 2) 0)
 
+-- the sum of an InfoFrame's bytes: its type, which has no register, its version in [2:0], its length in [4:0], and count registers more
+abbrev pub sumAt : ℕ → ℕ → ℕ → List ℕ → ℕ
+sumAt type a count image =
+    type + bitsIn 2 0 (getD image a 0) + bitsIn 4 0 (getD image (a + 1) 0) + total (take count (drop (a + 2) image))
+
 -- the finished image of a request whose N and CTS are those of p
 pub record Finished (r : Request) (p : Pair) (image : List ℕ) : Type 0 where
   pub fields : Each (Shows image) (places r p)
   pub n : twentyAt 0x01 image ≡ p .n
   pub cts : twentyAt 0x07 image ≡ p .cts
   pub mode : bitsIn 6 5 (getD image 0x18 0) < 3
+  -- "The checksum byte makes the sum of all bytes zero modulo 256": AVI, the checksum and 13 data bytes; audio, the checksum and 10
+  pub aviSum : sumAt 0x82 0x52 14 image % 256 ≡ 0
+  pub audioSum : sumAt 0x84 0x70 11 image % 256 ≡ 0
   -- the mandated bits of each register that is written are those of the class table
   pub ordered : (a : ℕ) → a < 256 → isWritten a ≡ true → under (mandated a) (getD image a 0) ≡ under (mandated a) (bits a)
 

@@ -2,7 +2,7 @@
 -- host lends, and what the calls answer at each cut.
 use mathlib.Core.Path.{_≡_}
 use mathlib.Core.List.{List, [], _∷_, _++_}
-use Prim.Native.Nat.{ℕ, _*_, _<_, _≤_}
+use Prim.Native.Nat.{ℕ, suc, _*_, _%_, _<_, _≤_}
 use lib.ListN.{length, getD, take, drop}
 use Rattle.matrix.specs.Coefficient.{coefficientBytes}
 use Rattle.frames.specs.Frames.{aviFrame}
@@ -14,9 +14,9 @@ use Rattle.views.specs.Entry.{enterOf}
 use Rattle.views.specs.View.{sentOf, muteOf}
 use Rattle.views.specs.Converter.{matrixOut}
 use Rattle.views.specs.Faces.{Sized}
-use Rattle.plan.specs.Wanted.{audioBytes}
 use Rattle.plan.specs.Plan.{planOf, planBuffer}
 use Rattle.cut.specs.Run.{Either}
+use Rattle.promises.specs.Finished.{audioPacket}
 
 -- "Pairs of address and value"
 abbrev pub pairsOf : List ℕ → List Write
@@ -32,6 +32,13 @@ pairsLeft input image buffer = pairsOf (take (2 * planOf input image buffer .cou
 abbrev pub entered : List Write → Chip → Chip
 entered [] s = s
 entered (w ∷ ws) s = entered ws (enterOf s (w .address) (w .value) .chip)
+
+-- cut after so many pairs, planned again with another buffer "on the registers as the cut left them", cut again, and so on: the slices as
+-- the last cut leaves them
+abbrev pub enteredCuts : List ℕ → List ℕ → (ℕ → List ℕ) → Chip → Chip
+enteredCuts input [] buffers s = s
+enteredCuts input (k ∷ ks) buffers s =
+    enteredCuts input ks (λ i. buffers (suc i)) (entered (take k (pairsLeft input (s .image) (buffers 0))) s)
 
 -- what the calls answer of the slices: the packets, the mute, and the matrix in any lent bytes that have room for mode and coefficients
 abbrev pub aviSent : Chip → List ℕ
@@ -54,11 +61,17 @@ pub record SaidBetween (old new t : Chip) : Type 0 where
   pub matrix : (out : List ℕ) → 25 ≤ length out
       → Either (drop 1 (matrixSaid out old)) (drop 1 (matrixSaid out new)) (drop 1 (matrixSaid out t))
 
--- "all are new and the picture is open", by the calls
+-- a packet's version and length, whose named bits are [2:0] and [4:0]; the bits beside them are free, and the image's
+abbrev pub Headed : ℕ → ℕ → List ℕ → Type 0
+Headed version count registers = (getD registers 0 0 % 8 ≡ version) × (getD registers 1 0 % 32 ≡ count)
+
+-- "all are new and the picture is open", by the calls. "AVI header 0x82, 0x02, 0x0D; audio header 0x84, 0x01, 0x0A"
 pub record SaidAfter (r : Request) (t : Chip) : Type 0 where
   pub opened : muteSaid t ≡ record { refusal = 0; mute = 2 }
+  pub headAvi : Headed 0x02 0x0D (aviSent t)
+  pub headAudio : Headed 0x01 0x0A (audioSent t)
   pub avi : drop 2 (aviSent t) ≡ drop 3 (aviFrame (r .video))
-  pub audio : drop 2 (audioSent t) ≡ drop 3 (audioBytes (r .sound))
+  pub audio : drop 2 (audioSent t) ≡ drop 3 (audioPacket (r .sound))
   pub matrix : (out : List ℕ) → 25 ≤ length out
       → matrixSaid out t ≡ (r .matrix .mode ∷ coefficientBytes (r .matrix .coefficients)) ++ drop 25 out
 

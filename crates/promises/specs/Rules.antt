@@ -21,6 +21,7 @@ use Rattle.cut.specs.Demand.{sent}
 use Rattle.writes.specs.Order.{Order}
 use Rattle.writes.specs.Carried.{Entries}
 use Rattle.promises.specs.Finished.{Finished, Paired, NeverThree}
+use Rattle.promises.specs.LentBytes.{pairsLeft}
 
 -- what the request wants in each register
 abbrev pub asked : List ℕ → ℕ → ℕ
@@ -35,6 +36,8 @@ pub record Listed (input image buffer : List ℕ) : Type 0 where
   pub count : planOf input image buffer .count ≡ length (writeList (asked input) image)
   pub list : let bytes : List ℕ = flat (writeList (asked input) image) in
       planBuffer input image buffer ≡ bytes ++ drop (length bytes) buffer
+  -- so the pairs in it, by that count, are the list
+  pub pairs : pairsLeft input image buffer ≡ writeList (asked input) image
 
 pub record Demand2 (input buffer : List ℕ) (s : Chip) : Type 0 where
   -- "A request is accepted exactly when document 01's rules .. permit it."
