@@ -11,6 +11,7 @@
 LIB      = target/staticlib/libstation.a
 FLAGS    = -std=c99 -D_GNU_SOURCE -Wall -Wextra -O2 -Iinclude
 HEADERS  = $(wildcard include/*.h programs/*.h tests/*.h tests/*/*.h bench/*.h)
+PROVED   = crates.txt $(wildcard crates/*/src/*.rt crates/*/specs/*.antt crates/*/proofs/*.antt)
 PROGRAMS = $(addprefix target/c/,accident listing vectors)
 BINARIES = $(PROGRAMS) $(addprefix target/c/,example host i2c i2c_fake bench tests)
 PREFIX   = /usr/local
@@ -53,6 +54,7 @@ $(BINARIES): $(HEADERS) $(LIB) Makefile
 	@mkdir -p target/c
 	@setup=$$(tools/setup) && eval "$$setup" && $$CC $(FLAGS) $(filter %.c,$^) $(LIB) -o $@
 
-$(LIB):
+# An archive that is older than a source is proved and built anew.
+$(LIB): $(PROVED)
 	$(if $(shell command -v rt 2>/dev/null),,$(error The command rt is missing: install the Rattle kit that README.md names, and put its bin folder on the PATH))
 	rt staticlib station
