@@ -31,8 +31,8 @@ use Rattle.decode.specs.declared.Decoded.{Decoded}
 use Rattle.decode.specs.Ends.{Acceptable, Stands, Ends}
 use Rattle.decode.specs.Extract.{byteIn, matrixIn, extract}
 use Rattle.writes.specs.List.{standsBelow}
-use Rattle.decode.specs.Decode.{endsIn, someEnds, decodeRules, decodeTests, decodeRefusal, notDecoded, decodeOf, inFront, decodedBuffer}
-use Rattle.decode.specs.Theorems.{Answered, ExactlyWhen, AtMostOne, Refusals, Ran, ReadBack}
+use Rattle.decode.specs.Decode.{endsIn, someEnds, decodeTests, decodeRefusal, notDecoded, decodeOf, inFront, decodedBuffer}
+use Rattle.decode.specs.Theorems.{Answered, ExactlyWhen, AtMostOne, decodeRules, Refusals, Ran, ReadBack}
 use Rattle.request.proofs.Ranged.{Ranged, read-ranged}
 use Rattle.request.proofs.Said.{said}
 use Rattle.request.proofs.Back.{back}

@@ -1,12 +1,11 @@
--- What decoding answers: refusals 7, 10 and 11.
+-- What decoding answers, as the code finds it: refusals 7, 10 and 11. `ExactlyWhen` and `Refusals` (Theorems) tie it to document 01.
 use mathlib.Core.Path.{_≡_}
-use mathlib.Core.Logic.{_≢_}
 use mathlib.Core.Bool.{Bool, not, _&&_, _||_}
 use mathlib.Core.List.{List, [], _∷_, _++_}
-use Prim.Native.Nat.{ℕ, _<_}
+use Prim.Native.Nat.{ℕ}
 use lib.Dec.{eqb, ltb}
 use lib.ListN.{length, drop}
-use Rattle.refusals.specs.Rows.{imageLength, bufferShort, noRequest, Condition, _when_, Test, _if_, lowest, answer}
+use Rattle.refusals.specs.Rows.{imageLength, bufferShort, noRequest, Test, _if_, lowest, answer}
 use Rattle.request.specs.declared.Request.{Request}
 use Rattle.request.specs.Sections.{longest}
 use Rattle.request.specs.Read.{readOf, pairFor}
@@ -14,10 +13,9 @@ use Rattle.request.specs.Bytes.{asBytes, inFamily}
 use Rattle.plan.specs.Wanted.{wanted}
 use Rattle.writes.specs.List.{standsBelow}
 use Rattle.decode.specs.declared.Decoded.{Decoded}
-use Rattle.decode.specs.Ends.{Ends}
 use Rattle.decode.specs.Extract.{extract}
 
--- the request in a family is acceptable, and stands in the image; and so in one of the two. `ExactlyWhen` ties them to `Ends`.
+-- the request in a family is acceptable, and stands in the image; and so in one of the two
 unfoldable pub endsIn : Request → ℕ → List ℕ → Bool
 endsIn r family image =
     let q : Request = inFamily family r in
@@ -26,13 +24,7 @@ endsIn r family image =
 unfoldable pub someEnds : List ℕ → Bool
 someEnds image = endsIn (extract image) 0 image || endsIn (extract image) 1 image
 
--- "decoding 7, 10 and 11": when each applies, and how it is tested
-abbrev pub decodeRules : List ℕ → List ℕ → List Condition
-decodeRules image buffer =
-    imageLength when (length image ≢ 256) ∷
-    bufferShort when (length buffer < longest) ∷
-    noRequest when ((r : Request) → Ends r image → ⊥) ∷ []
-
+-- the tests of rows 7, 10 and 11
 abbrev pub decodeTests : List ℕ → List ℕ → List Test
 decodeTests image buffer =
     imageLength if not (eqb (length image) 256) ∷

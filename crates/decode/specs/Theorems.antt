@@ -2,10 +2,10 @@
 use mathlib.Core.Path.{_≡_}
 use mathlib.Core.Logic.{_↔_, _≢_, _⊎_}
 use mathlib.Core.Bool.{true}
-use mathlib.Core.List.{List}
+use mathlib.Core.List.{List, [], _∷_, _++_}
 use Prim.Native.Nat.{ℕ, _<_, _≤_}
-use lib.ListN.{length, getD}
-use Rattle.refusals.specs.Rows.{Given}
+use lib.ListN.{length, getD, drop}
+use Rattle.refusals.specs.Rows.{imageLength, bufferShort, noRequest, Condition, _when_, Given}
 use Rattle.bits.specs.Merge.{bit}
 use Rattle.registers.specs.Classes.{named, mandated}
 use Rattle.matrix.specs.Matrix.{Bytes}
@@ -16,12 +16,12 @@ use Rattle.request.specs.Bytes.{asBytes, answeredAs, answeredBytes}
 use Rattle.plan.specs.Wanted.{wanted}
 use Rattle.writes.specs.List.{isWritten, finished}
 use Rattle.decode.specs.Ends.{Stands, Ends}
-use Rattle.decode.specs.Decode.{decodeRules, decodeOf, inFront, decodedBuffer}
+use Rattle.decode.specs.Decode.{decodeOf, decodedBuffer}
 
 -- a request, by its bytes, is answered: their count, and the bytes at the buffer's front; "Buffer bytes after the request stay"
 pub record Answered (bytes image buffer : List ℕ) : Type 0 where
   pub counted : decodeOf image buffer ≡ record { refusal = 0; count = length bytes }
-  pub left : decodedBuffer image buffer ≡ inFront bytes buffer
+  pub left : decodedBuffer image buffer ≡ bytes ++ drop (length bytes) buffer
 
 pub record Answer (image buffer : List ℕ) : Type 0 where
   pub request : Request
@@ -52,7 +52,14 @@ BitByBit r before image = Bytes image → Stands r image ↔ AsLeft r before ima
 abbrev pub AtMostOne : List ℕ → Type 0
 AtMostOne image = length image ≡ 256 → (r q : Request) → Ends r image → Ends q image → r ≡ q
 
--- "decoding 7, 10 and 11": "the lowest that applies is given"; it "returns its number and count 0 and changes no lent byte"
+-- "decoding 7, 10 and 11": when each applies
+abbrev pub decodeRules : List ℕ → List ℕ → List Condition
+decodeRules image buffer =
+    imageLength when (length image ≢ 256) ∷
+    bufferShort when (length buffer < longest) ∷
+    noRequest when ((r : Request) → Ends r image → ⊥) ∷ []
+
+-- "the lowest that applies is given"; it "returns its number and count 0 and changes no lent byte"
 pub record Refusals (image buffer : List ℕ) : Type 0 where
   pub given : Given (decodeRules image buffer) (decodeOf image buffer .refusal)
   pub unchanged : decodeOf image buffer .refusal ≢ 0 → (decodeOf image buffer .count ≡ 0) × (decodedBuffer image buffer ≡ buffer)

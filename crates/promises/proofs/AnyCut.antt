@@ -8,7 +8,7 @@ use borrow.Author.Tests.{eqb-true, eq-eqb, le-ltb}
 use Rattle.matrix.specs.Matrix.{Bytes}
 use Rattle.chip.specs.declared.Chip.{Chip}
 use Rattle.chip.specs.Machine.{Write, avi, audio, packets, inUse}
-use Rattle.views.specs.Faces.{Sized}
+use Rattle.views.specs.Theorems.{Sized}
 use Rattle.request.specs.declared.Request.{Request}
 use Rattle.request.specs.declared.Checked.{Checked}
 use Rattle.request.specs.Read.{readOf, pairFor}

@@ -17,7 +17,7 @@ use Rattle.chip.specs.declared.Wrote.{Wrote}
 use Rattle.chip.specs.Machine.{Write, _gets_, avi, audio, packets, holdsOf, two, inUse, coefficients, modeInUse, gcInUse, Muted, Open, mute}
 use Rattle.views.specs.declared.view.Mute.{Mute}
 use Rattle.views.specs.Entry.{enterOf}
-use Rattle.views.specs.Faces.{Sized, Faces, Entered}
+use Rattle.views.specs.Theorems.{Sized, Faces, Entered}
 use Rattle.views.proofs.Shown as views
 use Rattle.writes.specs.List.{flat, writeList}
 use Rattle.plan.specs.Plan.{planOf, planBuffer}

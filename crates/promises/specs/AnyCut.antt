@@ -11,7 +11,7 @@ use Rattle.writes.specs.List.{writeList}
 use Rattle.plan.specs.Plan.{planOf}
 use Rattle.cut.specs.Run.{Event}
 use Rattle.cut.specs.Demand.{sent, toItsEnd, cuts, Same, Demand3}
-use Rattle.views.specs.Faces.{Sized}
+use Rattle.views.specs.Theorems.{Sized}
 use Rattle.promises.specs.Finished.{audioPacket}
 use Rattle.promises.specs.Rules.{asked, Listed}
 use Rattle.promises.specs.LentBytes.{pairsLeft, entered, enteredCuts, Headed, Followed}

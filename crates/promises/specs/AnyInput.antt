@@ -13,9 +13,7 @@ use Rattle.request.specs.Read.{nctsOf}
 use Rattle.request.specs.Theorems.{Rows}
 use Rattle.line.specs.Line.{lineOf}
 use Rattle.chip.specs.declared.Chip.{Chip}
-use Rattle.views.specs.View.{ViewRefusals}
-use Rattle.views.specs.Entry.{WriteRefusals}
-use Rattle.views.specs.Converter.{MatrixRefusals}
+use Rattle.views.specs.Theorems.{ViewRefusals, WriteRefusals, MatrixRefusals}
 use Rattle.plan.specs.Plan.{PlanRefusals}
 use Rattle.decode.specs.Theorems.{Refusals}
 use Rattle.station.specs.declared.CountOut.{CountOut}

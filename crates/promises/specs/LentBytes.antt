@@ -13,7 +13,7 @@ use Rattle.views.specs.declared.view.Mute.{Mute}
 use Rattle.views.specs.Entry.{enterOf}
 use Rattle.views.specs.View.{sentOf, muteOf}
 use Rattle.views.specs.Converter.{matrixOut}
-use Rattle.views.specs.Faces.{Sized}
+use Rattle.views.specs.Theorems.{Sized}
 use Rattle.plan.specs.Plan.{planOf, planBuffer}
 use Rattle.cut.specs.Run.{Either}
 use Rattle.promises.specs.Finished.{audioPacket}

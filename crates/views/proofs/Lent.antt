@@ -15,8 +15,8 @@ use Rattle.chip.specs.declared.Chip.{Chip}
 use Rattle.chip.specs.declared.Wrote.{Wrote}
 use Rattle.chip.specs.Machine.{writeOf}
 use Rattle.chip.specs.Step.{writeRules}
-use Rattle.views.specs.Entry.{isSized, enterOf, enterRules, WriteRefusals}
-use Rattle.views.specs.Faces.{Sized}
+use Rattle.views.specs.Entry.{isSized, enterOf}
+use Rattle.views.specs.Theorems.{enterRules, WriteRefusals, Sized}
 use Rattle.chip.proofs.Writes.{stepped}
 use Rattle.views.proofs.Seen.{unlike}
 

@@ -16,7 +16,7 @@ use Rattle.chip.proofs.Writes.{stepped}
 use Rattle.views.specs.declared.view.Mute.{Mute}
 use Rattle.views.specs.Entry.{isSized, enterOf}
 use Rattle.views.specs.View.{lentRefusal, viewRefusal, sentOf, muteOf}
-use Rattle.views.specs.Faces.{Sized, Faces, Entered}
+use Rattle.views.specs.Theorems.{Sized, Faces, Entered}
 use Rattle.views.proofs.Seen.{cleared, later}
 use Rattle.views.proofs.Used as used
 use Rattle.views.proofs.Lent.{let-in}

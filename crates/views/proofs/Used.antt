@@ -19,7 +19,8 @@ use Rattle.matrix.proofs.Pairs.{two-left, fields-small, length-fields, length-b
 use Rattle.chip.specs.declared.Chip.{Chip}
 use Rattle.views.specs.declared.converter.Count.{Count}
 use Rattle.chip.specs.Machine.{matrix, converter, registersOf, up, holdsOf, inUse, coefficients, modeInUse}
-use Rattle.views.specs.Converter.{matrixBytes, matrixTests, matrixRefusal, noCount, matrixCount, matrixOut, matrixRules, MatrixRefusals}
+use Rattle.views.specs.Converter.{matrixBytes, matrixTests, matrixRefusal, noCount, matrixCount, matrixOut}
+use Rattle.views.specs.Theorems.{matrixRules, MatrixRefusals}
 use Rattle.views.specs.Entry.{lentAs}
 use Rattle.bits.proofs.Laws.{bit-code, two-bits-code}
 use Rattle.views.proofs.Seen.{unlike}

@@ -1,23 +1,22 @@
--- Document 01, "The chip machine": what the converter goes by, asked for over slices, as the request has a matrix.
+-- What the converter goes by, asked for over slices, as the code finds it. `MatrixRefusals` and `Faces` (Theorems) tie it to document 01,
+-- "The chip machine".
 use mathlib.Core.Path.{_≡_}
-use mathlib.Core.Logic.{_≢_, _⊎_}
 use mathlib.Core.Bool.{cond, not, _&&_}
 use mathlib.Core.List.{List, [], _∷_, _++_}
-use Prim.Native.Nat.{ℕ, _<_}
+use Prim.Native.Nat.{ℕ}
 use lib.Dec.{eqb, ltb}
 use lib.ListN.{length, drop}
-use Rattle.refusals.specs.Rows.{imageLength, bufferShort, Condition, _when_, Given, Test, _if_, lowest, answer}
+use Rattle.refusals.specs.Rows.{imageLength, bufferShort, Test, _if_, lowest, answer}
 use Rattle.matrix.specs.Coefficient.{coefficientBytes}
 use Rattle.chip.specs.Machine.{coefficients, modeInUse}
 use Rattle.views.specs.declared.converter.Count.{Count}
 use Rattle.views.specs.Entry.{lentAs}
 
--- mode and the twelve in use, 25 bytes as the request has them. The packet buffer is not lent, and plays no part. `Faces` ties them to
--- the machine.
+-- mode and the twelve in use, 25 bytes as the request has them. The packet buffer is not lent, and plays no part.
 unfoldable pub matrixBytes : List ℕ → List ℕ → List ℕ
 matrixBytes image buffer = modeInUse (lentAs image [] buffer) ∷ coefficientBytes (coefficients (lentAs image [] buffer))
 
--- the tests of rows 7 and 10; `MatrixRefusals` ties them to document 01's rows
+-- the tests of rows 7 and 10
 abbrev pub matrixTests : List ℕ → List ℕ → List ℕ → List Test
 matrixTests image buffer out =
     imageLength if not (eqb (length image) 256 && eqb (length buffer) 24) ∷ bufferShort if ltb (length out) 25 ∷ []
@@ -39,12 +38,3 @@ matrixOut image buffer out = answer (matrixRefusal image buffer out) (λ number.
 -- what is promised: the answer, and what is left in the lent bytes
 abbrev pub ShowsMatrix : List ℕ → List ℕ → List ℕ → Count → List ℕ → Type 0
 ShowsMatrix image buffer out given left = (given ≡ matrixCount image buffer out) × (left ≡ matrixOut image buffer out)
-
--- when each row applies, on the slices as they are lent
-abbrev pub matrixRules : List ℕ → List ℕ → List ℕ → List Condition
-matrixRules image buffer out = imageLength when ((length image ≢ 256) ⊎ (length buffer ≢ 24)) ∷ bufferShort when (length out < 25) ∷ []
-
--- what is refused, on any slices: a count of zero, and the lent buffer as it was
-pub record MatrixRefusals (image buffer out : List ℕ) : Type 0 where
-  pub given : Given (matrixRules image buffer out) (matrixCount image buffer out .refusal)
-  pub kept : matrixCount image buffer out .refusal ≢ 0 → (matrixCount image buffer out .count ≡ 0) × (matrixOut image buffer out ≡ out)

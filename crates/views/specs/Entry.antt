@@ -1,16 +1,15 @@
--- Document 01, "The chip machine": a write over the slices that the host lends.
+-- A write over the slices that the host lends, as the code does it. `WriteRefusals` and `Entered` (Theorems) tie it to document 01, "The chip
+-- machine".
 use mathlib.Core.Path.{_≡_}
-use mathlib.Core.Logic.{_≢_, _⊎_}
 use mathlib.Core.Bool.{Bool, cond, not, _&&_}
-use mathlib.Core.List.{List, _∷_}
+use mathlib.Core.List.{List}
 use Prim.Native.Nat.{ℕ}
 use lib.Dec.{eqb}
 use lib.ListN.{length}
-use Rattle.refusals.specs.Rows.{imageLength, number, Condition, _when_, Given}
+use Rattle.refusals.specs.Rows.{imageLength, number}
 use Rattle.chip.specs.declared.Chip.{Chip}
 use Rattle.chip.specs.declared.Wrote.{Wrote}
 use Rattle.chip.specs.Machine.{writeOf}
-use Rattle.chip.specs.Step.{writeRules}
 
 -- the three slices as a state
 abbrev pub lentAs : List ℕ → List ℕ → List ℕ → Chip
@@ -19,21 +18,10 @@ lentAs image packet coefficients = record { image = image; packet = packet; coef
 abbrev pub isSized : Chip → Bool
 isSized s = eqb (length (s .image)) 256 && (eqb (length (s .packet)) 32 && eqb (length (s .coefficients)) 24)
 
--- "image not of 256 bytes; in the machine also packet buffer not of 32, coefficient buffer not of 24"; else the machine's own write.
--- `WriteRefusals` ties its refusals to document 01's rows, and `Entered` the rest to the machine.
+-- "image not of 256 bytes; in the machine also packet buffer not of 32, coefficient buffer not of 24"; else the machine's own write
 unfoldable pub enterOf : Chip → ℕ → ℕ → Wrote
 enterOf s address value = cond (not (isSized s)) (record { refusal = number imageLength; chip = s }) (writeOf s address value)
 
 -- what a write over slices promises: its number, and the three slices after it
 abbrev pub Writes : Chip → ℕ → ℕ → ℕ → Chip → Type 0
 Writes s address value given left = (given ≡ enterOf s address value .refusal) × (left ≡ enterOf s address value .chip)
-
--- "a machine write 7 and 13": when each applies, on the slices as they are lent
-abbrev pub enterRules : Chip → ℕ → ℕ → List Condition
-enterRules s address value =
-    imageLength when ((length (s .image) ≢ 256) ⊎ (length (s .packet) ≢ 32) ⊎ (length (s .coefficients) ≢ 24)) ∷ writeRules s address value
-
-pub record WriteRefusals (s : Chip) (address value : ℕ) : Type 0 where
-  pub given : Given (enterRules s address value) (enterOf s address value .refusal)
-  -- a refused write changes no lent byte
-  pub kept : enterOf s address value .refusal ≢ 0 → enterOf s address value .chip ≡ s

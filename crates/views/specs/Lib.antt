@@ -1,4 +1,4 @@
 pub mod Entry
 pub mod View
 pub mod Converter
-pub mod Faces
+pub mod Theorems

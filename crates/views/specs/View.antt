@@ -1,14 +1,13 @@
--- Document 01, "The chip machine": what is sent, asked for over slices, and what a view is refused by.
+-- What is sent and the mute, asked for over slices, as the code finds them. `ViewRefusals` and `Faces` (Theorems) tie them to document 01,
+-- "The chip machine".
 use mathlib.Core.Path.{_≡_}
-use mathlib.Core.Logic.{_≢_, _⊎_}
 use mathlib.Core.Bool.{Bool, cond, not, _&&_}
 use mathlib.Core.List.{List, [], _∷_}
-use Prim.Native.Nat.{ℕ, _+_, _<_}
+use Prim.Native.Nat.{ℕ, _+_}
 use lib.Dec.{eqb, ltb}
-use lib.ListN.{length, take, drop}
-use Rattle.refusals.specs.Rows.{fieldOutOfRange, imageLength, twoHolds, Condition, _when_, Given, Test, _if_, lowest, answer}
+use lib.ListN.{length}
+use Rattle.refusals.specs.Rows.{fieldOutOfRange, imageLength, twoHolds, Test, _if_, lowest, answer}
 use Rattle.chip.specs.Machine.{Group, avi, audio, packets, up, holdsOf, two, inUse, mute}
-use Rattle.chip.specs.Step.{TwoUp}
 use Rattle.views.specs.declared.view.Part.{Part}
 use Rattle.views.specs.declared.view.Mute.{Mute}
 use Rattle.views.specs.Entry.{lentAs}
@@ -17,7 +16,7 @@ use Rattle.views.specs.Entry.{lentAs}
 abbrev pub packetAt : ℕ → Group
 packetAt which = cond (eqb which 0) avi audio
 
--- the tests of rows 7 and 13, and before them row 5 where a packet is asked for; `ViewRefusals` ties them to document 01's rows
+-- the tests of rows 7 and 13, and before them row 5 where a packet is asked for
 abbrev pub lentTests : List ℕ → List ℕ → List Test
 lentTests image packet =
     imageLength if not (eqb (length image) 256 && eqb (length packet) 32) ∷ twoHolds if two (holdsOf packets image) ∷ []
@@ -50,10 +49,7 @@ sentPart image packet which =
 abbrev pub whichever : {A : Type 0} → Part → A → A → A
 whichever p image packet = cond (eqb (p .held) 1) packet image
 
--- the bytes of a part, and where in memory it starts, by where the two slices start
-abbrev pub bytesIn : Part → List ℕ → List ℕ → List ℕ
-bytesIn p image packet = take (p .len) (drop (p .start) (whichever p image packet))
-
+-- where in memory a part starts, by where the two slices start
 abbrev pub startIn : Part → ℕ × ℕ → ℕ × ℕ → ℕ × ℕ
 startIn p image packet = (whichever p image packet .0, p .start + whichever p image packet .1)
 
@@ -64,8 +60,7 @@ noMute number = record { refusal = number; mute = 0 }
 unfoldable pub muteOf : List ℕ → List ℕ → Mute
 muteOf image packet = answer (lentRefusal image packet) noMute (record { refusal = 0; mute = mute (lentAs image packet []) })
 
--- what each call promises: the part, its bytes and where it starts; the same in numbers; its refusal; the mute. `Faces` ties them to the
--- machine.
+-- what each call promises: the part, its bytes and where it starts; the same in numbers; its refusal; the mute
 abbrev pub Sends : List ℕ → List ℕ → ℕ → ℕ × ℕ → ℕ × ℕ → List ℕ → ℕ × ℕ → Type 0
 Sends image packet which imageStart packetStart bytes start =
     (bytes ≡ sentOf image packet which) × (start ≡ startIn (sentPart image packet which) imageStart packetStart)
@@ -78,24 +73,3 @@ Refuses image packet which given = given ≡ viewRefusal image packet which
 
 abbrev pub Mutes : List ℕ → List ℕ → Mute → Type 0
 Mutes image packet given = given ≡ muteOf image packet
-
--- "a view 5, 7 and 13": when each applies, on the slices as they are lent
-abbrev pub lentRules : List ℕ → List ℕ → List Condition
-lentRules image packet = imageLength when ((length image ≢ 256) ⊎ (length packet ≢ 32)) ∷ twoHolds when TwoUp image ∷ []
-
-abbrev pub viewRules : List ℕ → List ℕ → ℕ → List Condition
-viewRules image packet which = fieldOutOfRange when (1 < which) ∷ lentRules image packet
-
--- what is refused, on any slices
-pub record ViewRefusals (image packet : List ℕ) : Type 0 where
-  -- a packet, by "a call beside it" and with its part
-  pub view : (which : ℕ) → Given (viewRules image packet which) (viewRefusal image packet which)
-  pub part : (which : ℕ) → sentPart image packet which .refusal ≡ viewRefusal image packet which
-  -- "a refused view is an empty part": no byte is sent, and zeros stand beside the number
-  pub empty : (which : ℕ) → viewRefusal image packet which ≢ 0
-      → (sentOf image packet which ≡ []) × (sentPart image packet which ≡ noPart (viewRefusal image packet which))
-  -- the mute, and zero beside a refusal
-  pub mute : Given (lentRules image packet) (muteOf image packet .refusal)
-  pub zero : muteOf image packet .refusal ≢ 0 → muteOf image packet .mute ≡ 0
-  -- the numbers of a part name its bytes
-  pub bytes : (which : ℕ) → bytesIn (sentPart image packet which) image packet ≡ sentOf image packet which

@@ -5,10 +5,7 @@ ghost use mathlib.Core.List.{List};
 ghost use Prim.Native.Nat.{ℕ};
 ghost use Rattle.chip.specs.declared.Chip.{Chip};
 ghost use Rattle.chip.specs.Machine.{packets, holdsOf, two};
-ghost use Rattle.views.specs.Entry.{WriteRefusals};
-ghost use Rattle.views.specs.View.{ViewRefusals};
-ghost use Rattle.views.specs.Converter.{MatrixRefusals};
-ghost use Rattle.views.specs.Faces.{Sized, Faces, Entered};
+ghost use Rattle.views.specs.Theorems.{WriteRefusals, ViewRefusals, MatrixRefusals, Sized, Faces, Entered};
 
 mod converter;
 mod entry;

@@ -4,7 +4,7 @@ use Rattle.chip.specs.declared.Chip.{Chip}
 use Rattle.chip.specs.declared.Wrote.{Wrote}
 use Rattle.chip.specs.Machine.{writeOf}
 use Rattle.views.specs.Entry.{lentAs, enterOf}
-use Rattle.views.specs.Faces.{Sized}
+use Rattle.views.specs.Theorems.{Sized}
 use Rattle.views.proofs.Lent.{sized, turned-away, let-in}
 use borrow.Author.Needs.{needs}
 use Rattle.views.proofs.entry.write_into.Statement.{statement}
