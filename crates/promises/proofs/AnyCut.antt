@@ -13,6 +13,7 @@ use Rattle.request.specs.declared.Request.{Request}
 use Rattle.request.specs.declared.Checked.{Checked}
 use Rattle.request.specs.Read.{readOf, pairFor}
 use Rattle.request.specs.Bytes.{asBytes}
+use Rattle.request.proofs.Back.{there-and-back}
 use Rattle.request.proofs.Ranged.{Ranged, read-ranged}
 use Rattle.plan.specs.Wanted.{wanted}
 use Rattle.plan.specs.declared.Planned.{Planned}
@@ -27,7 +28,7 @@ use Rattle.cut.proofs.WriteList.{holds}
 use Rattle.writes.proofs.InOrder.{in-order}
 use Rattle.writes.proofs.Carries.{entries}
 use Rattle.decode.specs.Ends.{Acceptable, Stands}
-use Rattle.decode.specs.Theorems.{Ran}
+use Rattle.decode.specs.Theorems.{Answered, Ran}
 use Rattle.decode.proofs.Groups.{avi-in, audio-in, matrix-in}
 use Rattle.decode.proofs.Answers.{finished-again, read-back}
 use Rattle.promises.specs.Rules.{asked, Listed, Demand2, Accepted, OnSomeImage}
@@ -125,7 +126,9 @@ rules input buffer s = record {
       (image-at (asked input) (s .image));
   pair = paired input;
   neverThree = λ z. let f = fits z in never-three input (s .image) (f .read) (eqb-true _ _ (f .paired));
-  readBack = λ b z room h. read-back input (s .image) (finishedImage (asked input) (s .image)) .answered (ran b z) room h;
+  readBack = λ b z room h.
+      subst (λ (bytes : List ℕ). Answered bytes (finishedImage (asked input) (s .image)) room) (there-and-back .answered input b (fits z .read))
+      (read-back input (s .image) (finishedImage (asked input) (s .image)) .answered (ran b z) room h);
 }
   where
     fits : planOf input (s .image) buffer .refusal ≡ 0 → Fine input (s .image) buffer

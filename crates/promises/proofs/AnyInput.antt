@@ -1,27 +1,21 @@
--- Demand 1, and that each promise settles its outcome. Assumes nothing.
-use mathlib.Core.Path.{_≡_, refl, sym, ap, ap₂, _∙_}
+-- Demand 1: zeros beside each refusal; the rest is cited. Assumes nothing.
+use mathlib.Core.Path.{_≡_, refl, ap, _∙_}
 use mathlib.Core.Logic.{_≢_}
-use mathlib.Core.Bool.{Bool, true, false, cond, not, _||_}
+use mathlib.Core.Bool.{Bool, true, false, cond}
 use mathlib.Core.List.{List}
 use Prim.Native.Nat.{ℕ}
-use lib.Dec.{eqb, ltb}
+use lib.Dec.{eqb}
 use Rattle.clock.specs.declared.Pair.{Pair}
-use Rattle.clock.specs.declared.Clock.{Clock}
-use Rattle.clock.specs.declared.NCts.{NCts}
-use Rattle.video.specs.declared.Video.{Video}
-use Rattle.video.specs.Modes.{offered}
 use Rattle.clock.specs.Pairs.{noPair}
 use Rattle.clock.proofs.Rows as clocks
+use Rattle.frames.proofs.Refused as frames
 use Rattle.matrix.proofs.Codes as preview
 use Rattle.request.specs.declared.Sound.{Sound}
 use Rattle.request.specs.declared.Sound.the-variants.{Off, On}
 use Rattle.request.specs.Read.{readOf, nctsOf, pairIn, pairFor}
 use Rattle.request.proofs.Coherent.{rows}
 use Rattle.line.proofs.Given.{lines}
-use Rattle.chip.specs.declared.Chip.{Chip}
-use Rattle.views.specs.Entry.{enterOf}
-use Rattle.views.specs.View.{viewRefusal, sentPart, noPart, muteOf}
-use Rattle.views.specs.Converter.{matrixCount}
+use Rattle.views.specs.View.{viewRefusal, sentPart, noPart}
 use Rattle.views.specs.declared.view.Part.{Part}
 use Rattle.views.proofs.Lent as entry
 use Rattle.views.proofs.Seen as view
@@ -35,46 +29,6 @@ use Rattle.plan.specs.Plan.{planOf}
 use Rattle.plan.proofs.Ordered as planning
 use Rattle.decode.proofs.Answers as decoding
 use Rattle.promises.specs.AnyInput.{Demand1}
-use Rattle.promises.specs.Settled.{Settles, Is, Settled}
-
--- the one law: an equation settles
-one : {A : Type 0} (a : A) → Settles (Is a)
-one a x y e f = e ∙ sym f
-
-two : {A B : Type 0} (a : A) (b : B) → Settles {A = A × B} (λ o. (o .0 ≡ a) × (o .1 ≡ b))
-two a b x y e f = ap₂ (λ u v. (u, v)) (e .0 ∙ sym (f .0)) (e .1 ∙ sym (f .1))
-
-pub settled : Settled
-settled = record {
-  plan = λ request image writes. two _ _;
-  decode = λ image request. two _ _;
-  read = λ request. one _;
-  ncts = λ request. one _;
-  pairs = λ r. one _;
-  line = λ request. two _ _;
-  preview = λ matrix a b c. one _;
-  clock = λ video. one _;
-  pair = λ video rate coherent. one _;
-  avi = λ video. one _;
-  audio = λ channels. one _;
-  write = λ s address value. one _;
-  enter = λ s address value. two _ _;
-  sent = λ image packet which i p. two _ _;
-  part = λ image packet which. one _;
-  refusal = λ image packet which. one _;
-  mute = λ image packet. one _;
-  matrix = λ image buffer out. two _ _;
-  class = λ address. one _;
-  stationPlan = λ request image writes. two _ _;
-  stationDecode = λ image request. two _ _;
-  stationNcts = λ request. one _;
-  stationPreview = λ matrix a b c. one _;
-  stationWrite = λ s address value. two _ _;
-  stationSent = λ image packet which. one _;
-  stationMute = λ image packet. one _;
-  stationMatrix = λ image coefficients matrix. two _ _;
-  stationClass = λ address. one _;
-}
 
 -- ---- zeros beside a refusal
 
@@ -103,6 +57,8 @@ any-input = record {
   request = rows;
   line = λ request. lines request .given;
   pair = ncts-zeroed;
+  clock = clocks.refusals;
+  frames = frames.refusals;
   preview = preview.refusals;
   write = entry.refusals;
   view = view.refusals;

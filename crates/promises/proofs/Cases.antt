@@ -17,9 +17,9 @@ use Rattle.request.specs.Sections.{walk, walked}
 use Rattle.request.specs.Read.{outside, combined, judged, readOf, pairFor, nctsOf}
 use Rattle.line.specs.Line.{lineOf}
 use Rattle.line.specs.Words.{digits, acceptedText, refusedText}
-use Rattle.promises.specs.Cases.{mode, MarkedCases}
+use Rattle.promises.specs.Cases.{rgbOverHdmi, MarkedCases}
 
-multiple : (n cts : ℕ) → reference 0 * cts * clockOf (mode 4 1) .den ≡ clockOf (mode 4 1) .num * n → 23296 ∣ n
+multiple : (n cts : ℕ) → reference 0 * cts * clockOf (rgbOverHdmi 4 1) .den ≡ clockOf (rgbOverHdmi 4 1) .num * n → 23296 ∣ n
 unfolding reference clockOf modeOf divisorOf steps
 multiple n cts e = divides 74250000000 4100096000 (lit< tt) n cts (omega arith)
 

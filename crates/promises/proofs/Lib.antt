@@ -3,6 +3,7 @@ pub mod Ended
 pub mod LentBytes
 pub mod AnyCut
 pub mod AnyInput
+pub mod Outcomes
 pub mod Example
 pub mod Bits
 pub mod Named

@@ -5,6 +5,8 @@ use mathlib.Core.Logic.{_≢_}
 use mathlib.Core.List.{List}
 use Prim.Native.Nat.{ℕ}
 use Rattle.refusals.specs.Rows.{Given}
+use Rattle.clock.specs.Theorems.{ClockRefusals}
+use Rattle.frames.specs.Theorems.{FrameRefusals}
 use Rattle.matrix.specs.Matrix.{Bytes}
 use Rattle.matrix.specs.Preview.{PreviewRefusals}
 use Rattle.request.specs.Sections.{walked}
@@ -34,6 +36,9 @@ pub record Demand1 : Type 0 where
   pub request : (request : List ℕ) → Rows request
   pub line : (request : List ℕ) → Bytes request → Given (nctsRules (walked request)) (lineOf request .refusal)
   pub pair : (request : List ℕ) → nctsOf request .refusal ≢ 0 → (nctsOf request .n ≡ 0) × (nctsOf request .cts ≡ 0)
+  -- the calls on single fields: a clock 4, a pair 4, 5 and 9; the AVI InfoFrame 4 and 5, the audio InfoFrame 5
+  pub clock : ClockRefusals
+  pub frames : FrameRefusals
   -- the preview, 5 and 12
   pub preview : (matrix : List ℕ) → Bytes matrix → (a b c : ℕ) → PreviewRefusals matrix a b c
   -- a machine write, 7 and 13: a refused one changes nothing

@@ -22,8 +22,8 @@ table39 =
     0xFF ∷ 0xFF ∷ 0x08 ∷ 0x00 ∷ 0x0E ∷ 0x85 ∷ 0xF8 ∷ 0xBE ∷ []
 
 -- a VIC in a family, RGB over HDMI
-abbrev pub mode : ℕ → ℕ → Video
-mode vic family = record { vic = vic; family = family; encoding = 0; link = 1 }
+abbrev pub rgbOverHdmi : ℕ → ℕ → Video
+rgbOverHdmi vic family = record { vic = vic; family = family; encoding = 0; link = 1 }
 
 pub record MarkedCases : Type 0 where
   -- "For the ten bytes `04 10 00 00 01 03 02 02 01 00` the whole output is `accepted vic 16 n 6144 cts 148500 avi 27 audio 70`"
@@ -38,20 +38,20 @@ pub record MarkedCases : Type 0 where
   -- 3. `04 10 00 00 01 00 00 00`: refused 3
   pub case3 : readOf (0x04 ∷ 0x10 ∷ 0x00 ∷ 0x00 ∷ 0x01 ∷ 0x00 ∷ 0x00 ∷ 0x00 ∷ []) .refusal ≡ 3
   -- 4. VIC 19, family 1: refused 4
-  pub case4 : (clockOf (mode 19 1) .refusal ≡ 4) × (readOf (0x04 ∷ 19 ∷ 1 ∷ 0x00 ∷ 0x01 ∷ 0x00 ∷ 0x00 ∷ []) .refusal ≡ 4)
+  pub case4 : (clockOf (rgbOverHdmi 19 1) .refusal ≡ 4) × (readOf (0x04 ∷ 19 ∷ 1 ∷ 0x00 ∷ 0x01 ∷ 0x00 ∷ 0x00 ∷ []) .refusal ≡ 4)
   -- 5. `04 10 00 01 01 00 00`: refused 6
   pub case5 : readOf (0x04 ∷ 0x10 ∷ 0x00 ∷ 0x01 ∷ 0x01 ∷ 0x00 ∷ 0x00 ∷ []) .refusal ≡ 6
   -- 6. VIC 16, family 0, 48 kHz, coherent (so are 7 and 8): 6144, 148500. (Rates 0, 1, 2 are 32, 44.1 and 48 kHz.)
-  pub case6 : pairOf (mode 16 0) 2 1 ≡ thePair 6144 148500
+  pub case6 : pairOf (rgbOverHdmi 16 0) 2 1 ≡ thePair 6144 148500
   -- 7. VIC 60, family 0, 44.1 kHz: 5488, 57750
-  pub case7 : pairOf (mode 60 0) 1 1 ≡ thePair 5488 57750
+  pub case7 : pairOf (rgbOverHdmi 60 0) 1 1 ≡ thePair 5488 57750
   -- 8. VIC 60, family 1, 32 kHz: 5824, 84375
-  pub case8 : pairOf (mode 60 1) 0 1 ≡ thePair 5824 84375
+  pub case8 : pairOf (rgbOverHdmi 60 1) 0 1 ≡ thePair 5824 84375
   -- 9. VIC 4, family 1, 32 kHz, coherent: refused 9, for N would have to be a multiple of 23296
-  pub case9 : pairOf (mode 4 1) 0 1 .refusal ≡ 9
-  pub case9For : (n cts : ℕ) → reference 0 * cts * clockOf (mode 4 1) .den ≡ clockOf (mode 4 1) .num * n → 23296 ∣ n
+  pub case9 : pairOf (rgbOverHdmi 4 1) 0 1 .refusal ≡ 9
+  pub case9For : (n cts : ℕ) → reference 0 * cts * clockOf (rgbOverHdmi 4 1) .den ≡ clockOf (rgbOverHdmi 4 1) .num * n → 23296 ∣ n
   -- 10. AVI, VIC 16, RGB: checksum 0x27
-  pub case10 : getD (aviOf (mode 16 0) .bytes) 3 0 ≡ 0x27
+  pub case10 : getD (aviOf (rgbOverHdmi 16 0) .bytes) 3 0 ≡ 0x27
   -- 11. Audio InfoFrame, 8 channels: 0x57; off: 0x71
   pub case11 : (getD (audioOf 8 .bytes) 3 0 ≡ 0x57) × (getD audioOffFrame 3 0 ≡ 0x71)
   -- 12. Table 39's A4 bytes 0x19, 0xD6: -1578; C1 0x1F, 0xFF: -1

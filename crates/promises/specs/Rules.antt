@@ -3,14 +3,14 @@ use mathlib.Core.Path.{_≡_}
 use mathlib.Core.Logic.{_↔_}
 use mathlib.Core.List.{List, _++_}
 use Prim.Native.Nat.{ℕ, _<_, _≤_}
-use lib.ListN.{length, drop}
+use lib.ListN.{length, drop, set}
 use Rattle.refusals.specs.Rows.{Condition, at}
 use Rattle.matrix.specs.Matrix.{Bytes}
 use Rattle.chip.specs.declared.Chip.{Chip}
 use Rattle.request.specs.declared.Request.{Request}
 use Rattle.request.specs.Sections.{longest}
 use Rattle.request.specs.Read.{readOf, nctsOf}
-use Rattle.request.specs.Bytes.{asBytes, answeredBytes}
+use Rattle.request.specs.Bytes.{asBytes}
 use Rattle.plan.specs.Wanted.{wanted}
 use Rattle.writes.specs.List.{writeList, flat, finishedImage}
 use Rattle.plan.specs.Plan.{planRules, planOf, planBuffer}
@@ -55,9 +55,10 @@ pub record Demand2 (input buffer : List ℕ) (s : Chip) : Type 0 where
   pub pair : readOf input .refusal ≡ 0 → Paired (readOf input .request .video) (readOf input .request .sound) (nctsOf input)
   -- "Mode 3 is never written"
   pub neverThree : planOf input (s .image) buffer .refusal ≡ 0 → NeverThree (writeList (asked input) (s .image))
-  -- "and the finished image reads back as the same request, but for the frame-rate family, which no register names": byte for byte
+  -- "and the finished image reads back as the same request, but for the frame-rate family, which no register names": the bytes that were
+  -- asked, byte 2, the family, set to 0
   pub readBack : Bytes input → planOf input (s .image) buffer .refusal ≡ 0
-      → (room : List ℕ) → longest ≤ length room → Answered (answeredBytes input) (finishedImage (asked input) (s .image)) room
+      → (room : List ℕ) → longest ≤ length room → Answered (set input 2 0) (finishedImage (asked input) (s .image)) room
 
 -- "accepted on some image", of a request and its bytes
 pub record Accepted (r : Request) : Type 0 where

@@ -1,37 +1,38 @@
--- Document 01, "What each entry point owes": "For each input, refusals too, the result and each lent byte are settled by the promise: any
--- two outcomes it allows are proved equal".
+-- Document 01, "What each entry point owes": which outcome each entry point's promise allows, and that it allows no other.
 use mathlib.Core.Path.{_≡_}
-use mathlib.Core.List.{List}
+use mathlib.Core.List.{List, _++_}
 use Prim.Native.Nat.{ℕ}
+use lib.ListN.{length, drop, replicate}
 use Rattle.registers.specs.declared.Class.{Class}
-use Rattle.registers.specs.Classes.{Classifies}
+use Rattle.registers.specs.Classes.{classAt, Classifies}
 use Rattle.video.specs.declared.Video.{Video}
 use Rattle.clock.specs.declared.Clock.{Clock}
 use Rattle.clock.specs.declared.Pair.{Pair}
-use Rattle.clock.specs.Clocks.{GivesClock}
-use Rattle.clock.specs.Found.{GivesPair}
+use Rattle.clock.specs.Clocks.{clockOf, GivesClock}
+use Rattle.clock.specs.Found.{pairOf, GivesPair}
 use Rattle.frames.specs.declared.Avi.{Avi}
 use Rattle.frames.specs.declared.Audio.{Audio}
-use Rattle.frames.specs.Answers.{GivesAvi, GivesAudio}
+use Rattle.frames.specs.Answers.{aviOf, audioOf, GivesAvi, GivesAudio}
 use Rattle.matrix.specs.declared.Pixel.{Pixel}
-use Rattle.matrix.specs.Preview.{Previews}
+use Rattle.matrix.specs.Preview.{previewOf, Previews}
 use Rattle.request.specs.declared.Checked.{Checked}
-use Rattle.line.specs.Words.{Prints}
+use Rattle.line.specs.Words.{lineText, Prints}
 use Rattle.request.specs.declared.Request.{Request}
-use Rattle.request.specs.Read.{Reads, Pairs, PairsInput}
+use Rattle.request.specs.Read.{readOf, pairFor, nctsOf, Reads, Pairs, PairsInput}
 use Rattle.chip.specs.declared.Chip.{Chip}
 use Rattle.chip.specs.declared.Wrote.{Wrote}
+use Rattle.chip.specs.Machine.{writeOf}
 use Rattle.chip.specs.Step.{Hands}
 use Rattle.views.specs.declared.view.Part.{Part}
 use Rattle.views.specs.declared.view.Mute.{Mute}
 use Rattle.views.specs.declared.converter.Count.{Count}
-use Rattle.views.specs.Entry.{Writes}
-use Rattle.views.specs.View.{Sends, Places, Refuses, Mutes}
-use Rattle.views.specs.Converter.{ShowsMatrix}
+use Rattle.views.specs.Entry.{enterOf, Writes}
+use Rattle.views.specs.View.{viewRefusal, sentOf, sentPart, startIn, muteOf, Sends, Places, Refuses, Mutes}
+use Rattle.views.specs.Converter.{matrixCount, matrixOut, ShowsMatrix}
 use Rattle.plan.specs.declared.Planned.{Planned}
-use Rattle.plan.specs.Plan.{Plans}
+use Rattle.plan.specs.Plan.{planOf, planBuffer, Plans}
 use Rattle.decode.specs.declared.Decoded.{Decoded}
-use Rattle.decode.specs.Decode.{Decodes}
+use Rattle.decode.specs.Decode.{decodeOf, decodedBuffer, Decodes}
 use Rattle.station.specs.declared.CountOut.{CountOut}
 use Rattle.station.specs.declared.PairOut.{PairOut}
 use Rattle.station.specs.declared.PixelOut.{PixelOut}
@@ -41,47 +42,81 @@ use Rattle.station.specs.declared.machine.ClassOut.{ClassOut}
 use Rattle.station.specs.Face.{StationPlan, StationDecode, StationNcts, StationPreview}
 use Rattle.station.specs.Machine.{StationWrite, StationSent, StationMute, StationMatrix, StationClass}
 
--- any two outcomes that a promise allows are equal
+-- "the result and each lent byte are settled by the promise: any two outcomes it allows are proved equal"
 abbrev pub Settles : {A : Type 0} → (A → Type 0) → Type 0
 Settles {A} Allows = (x y : A) → Allows x → Allows y → x ≡ y
 
--- a promise of one value
-abbrev pub Is : {A : Type 0} → A → A → Type 0
-Is a x = x ≡ a
+-- a promise allows this outcome, and with it no other
+abbrev pub Only : {A : Type 0} → (A → Type 0) → A → Type 0
+Only Allows a = Allows a × Settles Allows
 
 -- What the contract of each entry point allows: the result and, where a lent buffer may change, what is left in it. Each predicate is the
--- one that the function's own `ensures` has, so a weaker contract makes its line false.
+-- one that the function's own `ensures` has; the outcome is said by the definitions that the demands and the theorems speak of. So a weaker
+-- contract makes its line false, and so does one of another answer.
 pub record Settled : Type 0 where
-  pub plan : (request image writes : List ℕ) → Settles {A = Planned × List ℕ} (λ o. Plans request image writes (o .0) (o .1))
-  pub decode : (image request : List ℕ) → Settles {A = Decoded × List ℕ} (λ o. Decodes image request (o .0) (o .1))
-  pub read : (request : List ℕ) → Settles {A = Checked} (Reads request)
-  pub ncts : (request : List ℕ) → Settles {A = Pair} (PairsInput request)
-  pub pairs : (r : Request) → Settles {A = Pair} (Pairs r)
-  pub line : (request : List ℕ) → Settles {A = ℕ × List ℕ} (λ o. Prints request (o .0) (o .1))
-  pub preview : (matrix : List ℕ) (a b c : ℕ) → Settles {A = Pixel} (Previews matrix a b c)
-  pub clock : (video : Video) → Settles {A = Clock} (GivesClock video)
-  pub pair : (video : Video) (rate coherent : ℕ) → Settles {A = Pair} (GivesPair video rate coherent)
-  pub avi : (video : Video) → Settles {A = Avi} (GivesAvi video)
-  pub audio : (channels : ℕ) → Settles {A = Audio} (GivesAudio channels)
-  pub write : (s : Chip) (address value : ℕ) → Settles {A = Wrote} (Hands s address value)
+  pub plan : (request image writes : List ℕ)
+      → Only {A = Planned × List ℕ} (λ o. Plans request image writes (o .0) (o .1))
+      (planOf request image writes, planBuffer request image writes)
+  pub decode : (image request : List ℕ)
+      → Only {A = Decoded × List ℕ} (λ o. Decodes image request (o .0) (o .1)) (decodeOf image request, decodedBuffer image request)
+  pub read : (request : List ℕ) → Only {A = Checked} (Reads request) (readOf request)
+  pub ncts : (request : List ℕ) → Only {A = Pair} (PairsInput request) (nctsOf request)
+  pub pairs : (r : Request) → Only {A = Pair} (Pairs r) (pairFor r)
+  -- the program's line stands at the front of 80 bytes, the others 0
+  pub line : (request : List ℕ)
+      → let text : List ℕ = lineText request in
+      Only {A = ℕ × List ℕ} (λ o. Prints request (o .0) (o .1)) (length text, text ++ drop (length text) (replicate 80 0))
+  pub preview : (matrix : List ℕ) (a b c : ℕ) → Only {A = Pixel} (Previews matrix a b c) (previewOf matrix a b c)
+  pub clock : (video : Video) → Only {A = Clock} (GivesClock video) (clockOf video)
+  pub pair : (video : Video) (rate coherent : ℕ) → Only {A = Pair} (GivesPair video rate coherent) (pairOf video rate coherent)
+  pub avi : (video : Video) → Only {A = Avi} (GivesAvi video) (aviOf video)
+  pub audio : (channels : ℕ) → Only {A = Audio} (GivesAudio channels) (audioOf channels)
+  pub write : (s : Chip) (address value : ℕ) → Only {A = Wrote} (Hands s address value) (writeOf s address value)
   -- over slices: the number, and the three slices as a state
-  pub enter : (s : Chip) (address value : ℕ) → Settles {A = ℕ × Chip} (λ o. Writes s address value (o .0) (o .1))
+  pub enter : (s : Chip) (address value : ℕ)
+      → let wrote : Wrote = enterOf s address value in
+      Only {A = ℕ × Chip} (λ o. Writes s address value (o .0) (o .1)) (wrote .refusal, wrote .chip)
   -- the part: its bytes, and where it starts, by where the two slices start; and the same in numbers
   pub sent : (image packet : List ℕ) (which : ℕ) (i p : ℕ × ℕ)
-      → Settles {A = List ℕ × (ℕ × ℕ)} (λ o. Sends image packet which i p (o .0) (o .1))
-  pub part : (image packet : List ℕ) (which : ℕ) → Settles {A = Part} (Places image packet which)
-  pub refusal : (image packet : List ℕ) (which : ℕ) → Settles {A = ℕ} (Refuses image packet which)
-  pub mute : (image packet : List ℕ) → Settles {A = Mute} (Mutes image packet)
-  pub matrix : (image buffer out : List ℕ) → Settles {A = Count × List ℕ} (λ o. ShowsMatrix image buffer out (o .0) (o .1))
-  pub class : (address : ℕ) → Settles {A = Class} (Classifies address)
-  -- the nine exported calls
-  pub stationPlan : (request image writes : List ℕ) → Settles {A = CountOut × List ℕ} (λ o. StationPlan request image writes (o .0) (o .1))
-  pub stationDecode : (image request : List ℕ) → Settles {A = CountOut × List ℕ} (λ o. StationDecode image request (o .0) (o .1))
-  pub stationNcts : (request : List ℕ) → Settles {A = PairOut} (StationNcts request)
-  pub stationPreview : (matrix : List ℕ) (a b c : ℕ) → Settles {A = PixelOut} (StationPreview matrix a b c)
-  pub stationWrite : (s : Chip) (address value : ℕ) → Settles {A = ℕ × Chip} (λ o. StationWrite s address value (o .0) (o .1))
-  pub stationSent : (image packet : List ℕ) (which : ℕ) → Settles {A = PartOut} (StationSent image packet which)
-  pub stationMute : (image packet : List ℕ) → Settles {A = StateOut} (StationMute image packet)
+      → Only {A = List ℕ × (ℕ × ℕ)} (λ o. Sends image packet which i p (o .0) (o .1))
+      (sentOf image packet which, startIn (sentPart image packet which) i p)
+  pub part : (image packet : List ℕ) (which : ℕ) → Only {A = Part} (Places image packet which) (sentPart image packet which)
+  pub refusal : (image packet : List ℕ) (which : ℕ) → Only {A = ℕ} (Refuses image packet which) (viewRefusal image packet which)
+  pub mute : (image packet : List ℕ) → Only {A = Mute} (Mutes image packet) (muteOf image packet)
+  pub matrix : (image buffer out : List ℕ)
+      → Only {A = Count × List ℕ} (λ o. ShowsMatrix image buffer out (o .0) (o .1))
+      (matrixCount image buffer out, matrixOut image buffer out)
+  pub class : (address : ℕ) → Only {A = Class} (Classifies address) (classAt address)
+  -- the nine exported calls: field by field what the library answers
+  pub stationPlan : (request image writes : List ℕ)
+      → let p : Planned = planOf request image writes in
+      Only {A = CountOut × List ℕ} (λ o. StationPlan request image writes (o .0) (o .1))
+      (record { refusal = p .refusal; count = p .count }, planBuffer request image writes)
+  pub stationDecode : (image request : List ℕ)
+      → let d : Decoded = decodeOf image request in
+      Only {A = CountOut × List ℕ} (λ o. StationDecode image request (o .0) (o .1))
+      (record { refusal = d .refusal; count = d .count }, decodedBuffer image request)
+  pub stationNcts : (request : List ℕ)
+      → let p : Pair = nctsOf request in
+      Only {A = PairOut} (StationNcts request) (record { refusal = p .refusal; n = p .n; cts = p .cts })
+  pub stationPreview : (matrix : List ℕ) (a b c : ℕ)
+      → let p : Pixel = previewOf matrix a b c in
+      Only {A = PixelOut} (StationPreview matrix a b c) (record { refusal = p .refusal; a = p .a; b = p .b; c = p .c })
+  pub stationWrite : (s : Chip) (address value : ℕ)
+      → let wrote : Wrote = enterOf s address value in
+      Only {A = ℕ × Chip} (λ o. StationWrite s address value (o .0) (o .1)) (wrote .refusal, wrote .chip)
+  pub stationSent : (image packet : List ℕ) (which : ℕ)
+      → let p : Part = sentPart image packet which in
+      Only {A = PartOut} (StationSent image packet which)
+      (record { refusal = p .refusal; held = p .held; start = p .start; len = p .len })
+  pub stationMute : (image packet : List ℕ)
+      → let m : Mute = muteOf image packet in
+      Only {A = StateOut} (StationMute image packet) (record { refusal = m .refusal; mute = m .mute })
   pub stationMatrix : (image coefficients matrix : List ℕ)
-      → Settles {A = CountOut × List ℕ} (λ o. StationMatrix image coefficients matrix (o .0) (o .1))
-  pub stationClass : (address : ℕ) → Settles {A = ClassOut} (StationClass address)
+      → let c : Count = matrixCount image coefficients matrix in
+      Only {A = CountOut × List ℕ} (λ o. StationMatrix image coefficients matrix (o .0) (o .1))
+      (record { refusal = c .refusal; count = c .count }, matrixOut image coefficients matrix)
+  pub stationClass : (address : ℕ)
+      → let c : Class = classAt address in
+      Only {A = ClassOut} (StationClass address)
+      (record { «read_only» = c .«read_only»; mandated = c .mandated; named = c .named; free = c .free; bits = c .bits })

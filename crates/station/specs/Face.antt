@@ -1,4 +1,5 @@
--- The C face: what each exported call promises is the library's own answer, field by field, and what it leaves in the lent bytes.
+-- The C face: what each exported call promises is the library's own answer, field by field, and what it leaves in the lent bytes. The
+-- definitions follow the code; `Settled` of the promises says of each call which outcome this is.
 use mathlib.Core.Path.{_≡_}
 use mathlib.Core.List.{List}
 use Prim.Native.Nat.{ℕ}

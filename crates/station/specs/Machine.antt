@@ -1,4 +1,5 @@
--- The C face of the chip machine and of the class table: what each exported call promises, as in `Face`.
+-- The C face of the chip machine and of the class table: what each exported call promises, as in `Face`. `Settled` says which outcome
+-- this is.
 use mathlib.Core.Path.{_≡_}
 use mathlib.Core.List.{List}
 use Prim.Native.Nat.{ℕ}
