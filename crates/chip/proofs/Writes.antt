@@ -1,9 +1,9 @@
 -- What one write does and leaves alone. Assumes nothing.
-use mathlib.Core.Path.{_≡_, refl, sym, ap, _∙_}
+use mathlib.Core.Path.{_≡_, refl, sym, ap, subst, _∙_}
 use mathlib.Core.Logic.{_≢_, _⊎_}
 use mathlib.Core.Bool.{Bool, true, false, false≢true, cond, not, _&&_, _||_}
 use mathlib.Core.List.{List, [], _∷_, _++_}
-use Prim.Native.Nat.{ℕ, _+_, _<_, _≤_}
+use Prim.Native.Nat.{ℕ, _+_, _%_, _<_, _≤_}
 use native.Mathlib.Omega.{arith}
 use lib.Dec.{eqb, leb, ltb, lit<}
 use lib.ListN.{length, getD, set, drop, length-set, length-append, length-take, length-drop}
@@ -15,7 +15,7 @@ use Rattle.lists.proofs.Decides.{Decides, itself, either, together}
 use Rattle.refusals.specs.Rows.{at}
 use Rattle.refusals.proofs.First.{test, tried}
 use Rattle.bits.specs.Merge.{bit}
-use Rattle.bits.proofs.Laws.{merge-bit}
+use Rattle.bits.proofs.Laws.{merge-bit, bit-code}
 use Rattle.registers.specs.Classes.{readOnly}
 use Rattle.chip.specs.declared.Chip.{Chip}
 use Rattle.chip.specs.declared.Wrote.{Wrote}
@@ -74,6 +74,10 @@ alone false true true t = absurd (false≢true (sym t))
 alone false true false t = ((λ e. refl), (λ e. absurd (false≢true e)))
 alone false false c t = ((λ e. refl), (λ e. (refl, refl)))
 
+-- a bit that is not 0
+odd : (n : ℕ) → n % 2 ≢ 0 → n % 2 ≡ 1
+odd n h = omega arith
+
 module _ (s : Chip) (address value : ℕ) where
   -- a refused write, and one that is taken
   abbrev answer : Bool → Wrote
@@ -82,6 +86,22 @@ module _ (s : Chip) (address value : ℕ) where
   written-as : (b : Bool) → refuses s address value ≡ b → writeOf s address value ≡ answer b
   unfolding writeOf
   written-as b e = rw e
+
+  -- a write that has no refusal is taken, and leaves the image that it would leave
+  allowed : writeOf s address value .refusal ≡ 0 → refuses s address value ≡ false
+  allowed z = go (refuses s address value) refl
+    where
+      go : (b : Bool) → refuses s address value ≡ b → b ≡ false
+      go true e = let n : writeOf s address value .refusal ≡ 13 = ap (λ (w : Wrote). w .refusal) (written-as true e) in absurd (omega arith)
+      go false e = refl
+
+  image-after : refuses s address value ≡ false → writeOf s address value .chip .image ≡ imageAfter s address value
+  unfolding put
+  image-after e = ap (λ (w : Wrote). w .chip .image) (written-as false e)
+
+  risen : (b : Buffer) (g : Group) → refuses s address value ≡ false → up g (holdsOf b (writeOf s address value .chip .image)) ≡ true
+      → up g (holdsOf b (imageAfter s address value)) ≡ true
+  risen b g e u = rw (image-after e) at u
 
   -- the byte at the address, in and out of the image
   same-bit : (j : ℕ) → j < 8 → bit j (readOnly address) ≡ 1 → bit j (stored address value (s .image)) ≡ bit j (getD (s .image) address 0)
@@ -101,6 +121,23 @@ module _ (s : Chip) (address value : ℕ) where
           → bit j (getD (set (s .image) address (stored address value (s .image))) address 0) ≡ bit j (getD (s .image) address 0)
       go true e = ap (bit j) (getD-set-same (s .image) address _ 0 (ltb-true _ _ e)) ∙ same-bit j h r
       go false e = ap (λ (l : _). bit j (getD l address 0)) (set-out (s .image) address _ (ltb-false _ _ e))
+
+  would-bit : (a j : ℕ) → a < length (s .image) → j < 8 → bit j (getD (imageAfter s address value) a 0)
+      ≡ cond (eqb a address && eqb (bit j (readOnly a)) 0) (bit j value) (bit j (getD (s .image) a 0))
+  would-bit a j l h = go (eqb a address) refl
+    where
+      there : (t : Bool) → eqb (bit j (readOnly address)) 0 ≡ t
+          → bit j (stored address value (s .image)) ≡ cond t (bit j value) (bit j (getD (s .image) address 0))
+      there true e = new-bit j h (eqb-true _ _ e)
+      there false e = let c = bit-code j (readOnly address) in same-bit j h (c ∙ odd _ (λ n. eqb-false _ _ e (c ∙ n)))
+
+      go : (t : Bool) → eqb a address ≡ t → bit j (getD (imageAfter s address value) a 0)
+          ≡ cond (t && eqb (bit j (readOnly a)) 0) (bit j value) (bit j (getD (s .image) a 0))
+      go true e =
+          let q : a ≡ address = eqb-true a address e in
+          rw q (ap (bit j) (getD-set-same (s .image) address _ 0 (subst (λ (x : ℕ). x < length (s .image)) q l))
+          ∙ there (eqb (bit j (readOnly address)) 0) refl)
+      go false e = ap (bit j) (getD-set-other (s .image) address a _ 0 (eqb-false a address e))
 
   other-byte : (a : ℕ) → a ≢ address → (b : Bool) → getD (answer b .chip .image) a 0 ≡ getD (s .image) a 0
   unfolding put
@@ -170,14 +207,20 @@ module _ (s : Chip) (address value : ℕ) where
       where
         go : (b : Bool) → refuses s address value ≡ b → writeOf s address value .chip .packet ≡ s .packet
         go true e = ap (λ (w : Wrote). w .chip .packet) (written-as true e)
-        go false e = packet-after e ∙ filled-none (packets .groups) (holdsOf packets (s .image)) (holdsOf packets (imageAfter s address value)) (s .image) (s .packet) t
+        go false e =
+            packet-after e
+            ∙ filled-none (packets .groups) (holdsOf packets (s .image)) (holdsOf packets (imageAfter s address value)) (s .image) (s .packet)
+            (rw (image-after e) at t)
 
     coefficients-stay : Keeps converter s address value
     coefficients-stay t = go (refuses s address value) refl
       where
         go : (b : Bool) → refuses s address value ≡ b → writeOf s address value .chip .coefficients ≡ s .coefficients
         go true e = ap (λ (w : Wrote). w .chip .coefficients) (written-as true e)
-        go false e = coefficients-after e ∙ filled-none (converter .groups) (holdsOf converter (s .image)) (holdsOf converter (imageAfter s address value)) (s .image) (s .coefficients) t
+        go false e =
+            coefficients-after e
+            ∙ filled-none (converter .groups) (holdsOf converter (s .image)) (holdsOf converter (imageAfter s address value)) (s .image)
+            (s .coefficients) (rw (image-after e) at t)
 
     packet-long : length (s .packet) ≡ 32 → length (writeOf s address value .chip .packet) ≡ 32
     packet-long l = go (refuses s address value) refl
@@ -218,15 +261,24 @@ module _ (s : Chip) (address value : ℕ) where
               (test (λ (w : Wrote). w .refusal) (at (writeRules s address value) 0) [] (refuses s address value) _ _ refl decided (λ f. refl)));
           refused = rw (written-as (refuses s address value) refl) (unchanged (refuses s address value));
           kept = λ j h r. rw (written-as (refuses s address value) refl) (kept-bit j h r (refuses s address value));
-          written = λ e l j h r. rw (written-as false e) (taken-bit l j h r);
+          would = would-bit;
+          after = λ z. image-after (allowed z);
+          written = λ z l j h r. rw (written-as false (allowed z)) (taken-bit l j h r);
           elsewhere = λ a h. rw (written-as (refuses s address value) refl) (other-byte a h (refuses s address value));
           sized = rw (written-as (refuses s address value) refl) (image-sized (refuses s address value));
           packetSized = packet-long;
           coefficientsSized = coefficients-long;
-          avi = λ e d u. packet-after e ∙ rw (u, d);
-          audio = λ e d u. packet-after e ∙ rw (alone (up avi n) (up audio n) (up gc n) (lone e) .0 u, u, d);
-          gc = λ e d u. let o = alone (up avi n) (up audio n) (up gc n) (lone e) .1 u in packet-after e ∙ rw (o .0, o .1, u, d);
+          avi = λ z d u. let e = allowed z in packet-after e ∙ rw (risen packets avi e u, d);
+          audio = λ z d u.
+              let e = allowed z in
+              let v = risen packets audio e u in
+              packet-after e ∙ rw (alone (up avi n) (up audio n) (up gc n) (lone e) .0 v, v, d);
+          gc = λ z d u.
+              let e = allowed z in
+              let v = risen packets gc e u in
+              let o = alone (up avi n) (up audio n) (up gc n) (lone e) .1 v in
+              packet-after e ∙ rw (o .0, o .1, v, d);
           packet = packet-stays;
-          matrix = λ e d u. coefficients-after e ∙ rw (u, d);
+          matrix = λ z d u. let e = allowed z in coefficients-after e ∙ rw (risen converter matrix e u, d);
           coefficients = coefficients-stay;
         }

@@ -1,9 +1,10 @@
 -- What one write does, as a reader of document 01 would check it: `step` proves it of `writeOf`, which is what `Chip::write` promises.
 use mathlib.Core.Path.{_≡_}
 use mathlib.Core.Logic.{_≢_, _⊎_}
-use mathlib.Core.Bool.{true, false, not, _&&_}
+use mathlib.Core.Bool.{true, false, cond, not, _&&_}
 use mathlib.Core.List.{List, [], _∷_, _++_}
 use Prim.Native.Nat.{ℕ, _<_}
+use lib.Dec.{eqb}
 use lib.ListN.{length, getD, drop}
 use Rattle.lists.specs.Find.{every}
 use Rattle.bits.specs.Merge.{bit}
@@ -12,7 +13,7 @@ use Rattle.registers.specs.Classes.{readOnly}
 use Rattle.chip.specs.declared.Chip.{Chip}
 use Rattle.chip.specs.declared.Wrote.{Wrote}
 use Rattle.chip.specs.Machine.{Group, Buffer, avi, audio, gc, matrix, packets, converter, up, registersOf, holdsOf}
-use Rattle.chip.specs.Machine.{imageAfter, refuses, writeOf}
+use Rattle.chip.specs.Machine.{imageAfter, writeOf}
 
 -- "(machine) two packet holds are up, or the write would leave two up"
 abbrev pub TwoUp : List ℕ → Type 0
@@ -26,13 +27,14 @@ writeRules s address value = twoHolds when (TwoUp (s .image) ⊎ TwoUp (imageAft
 -- "A hold going 0 to 1 copies that packet's registers, as they stood before the write, to the .. buffer": its front, "the rest stays"
 abbrev pub Copies : Buffer → Group → Chip → ℕ → ℕ → Type 0
 Copies b g s address value =
-    refuses s address value ≡ false → up g (holdsOf b (s .image)) ≡ false → up g (holdsOf b (imageAfter s address value)) ≡ true
+    writeOf s address value .refusal ≡ 0
+    → up g (holdsOf b (s .image)) ≡ false → up g (holdsOf b (writeOf s address value .chip .image)) ≡ true
     → b .bytes (writeOf s address value .chip) ≡ registersOf g (s .image) ++ drop (g .count) (b .bytes s)
 
 -- where none of a buffer's holds rises, its bytes stay
 abbrev pub Keeps : Buffer → Chip → ℕ → ℕ → Type 0
 Keeps b s address value =
-    every (λ g. not (up g (holdsOf b (imageAfter s address value)) && not (up g (holdsOf b (s .image))))) (b .groups) ≡ true
+    every (λ g. not (up g (holdsOf b (writeOf s address value .chip .image)) && not (up g (holdsOf b (s .image))))) (b .groups) ≡ true
     → b .bytes (writeOf s address value .chip) ≡ b .bytes s
 
 -- what a write promises: the state that it hands back, and the number of its refusal; `Step` ties it to document 01
@@ -43,11 +45,16 @@ pub record Step (s : Chip) (address value : ℕ) : Type 0 where
   -- a write is refused by 13 alone, and a refused one changes nothing
   pub refusals : Given (writeRules s address value) (writeOf s address value .refusal)
   pub refused : writeOf s address value .refusal ≢ 0 → writeOf s address value .chip ≡ s
+  -- what "the write would leave", refused or not: the value's bits at the address, but for read-only ones, and else the image's
+  pub would : (a j : ℕ) → a < length (s .image) → j < 8 → bit j (getD (imageAfter s address value) a 0)
+      ≡ cond (eqb a address && eqb (bit j (readOnly a)) 0) (bit j value) (bit j (getD (s .image) a 0))
+  -- that is what a write that is not refused leaves
+  pub after : writeOf s address value .refusal ≡ 0 → writeOf s address value .chip .image ≡ imageAfter s address value
   -- "Read-only bits never change"
   pub kept : (j : ℕ) → j < 8 → bit j (readOnly address) ≡ 1
       → bit j (getD (writeOf s address value .chip .image) address 0) ≡ bit j (getD (s .image) address 0)
   -- every other bit of the byte is the value's
-  pub written : refuses s address value ≡ false → address < length (s .image) → (j : ℕ) → j < 8 → bit j (readOnly address) ≡ 0
+  pub written : writeOf s address value .refusal ≡ 0 → address < length (s .image) → (j : ℕ) → j < 8 → bit j (readOnly address) ≡ 0
       → bit j (getD (writeOf s address value .chip .image) address 0) ≡ bit j value
   -- "one byte changed in the image"
   pub elsewhere : (a : ℕ) → a ≢ address → getD (writeOf s address value .chip .image) a 0 ≡ getD (s .image) a 0

@@ -64,8 +64,7 @@ module _ (s : Chip) (a v : ℕ) (z : length (s .image) ≡ 256) (taken : writeOf
   t = writeOf s a v .chip
 
   left : t .image ≡ imageAfter s a v
-  unfolding put
-  left = ap (λ (w : Wrote). w .chip .image) (took s a v kept-up)
+  left = stepped s a v z .after taken
 
   stays : imageAfter t a v ≡ t .image
   unfolding stored
@@ -80,16 +79,16 @@ module _ (s : Chip) (a v : ℕ) (z : length (s .image) ≡ 256) (taken : writeOf
       twice false false e = refl
       twice false true e = absurd (false≢true (sym e))
 
-  packet-stays : writeOf t a v .chip .packet ≡ t .packet
-  packet-stays = stepped t a v (sized-after s a v z) .packet (rw stays (none-rises (holdsOf packets (t .image)) (packets .groups)))
-
-  coefficients-stay : writeOf t a v .chip .coefficients ≡ t .coefficients
-  coefficients-stay =
-      stepped t a v (sized-after s a v z) .coefficients (rw stays (none-rises (holdsOf converter (t .image)) (converter .groups)))
-
   image-stays : writeOf t a v .chip .image ≡ t .image
   unfolding put
   image-stays = ap (λ (w : Wrote). w .chip .image) (took t a v let-in) ∙ stays
+
+  packet-stays : writeOf t a v .chip .packet ≡ t .packet
+  packet-stays = stepped t a v (sized-after s a v z) .packet (rw image-stays (none-rises (holdsOf packets (t .image)) (packets .groups)))
+
+  coefficients-stay : writeOf t a v .chip .coefficients ≡ t .coefficients
+  coefficients-stay =
+      stepped t a v (sized-after s a v z) .coefficients (rw image-stays (none-rises (holdsOf converter (t .image)) (converter .groups)))
 
   pub sent-again : writeOf t a v ≡ record { refusal = 0; chip = t }
   sent-again =
