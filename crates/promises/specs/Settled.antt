@@ -1,7 +1,9 @@
 -- Document 01, "What each entry point owes": which outcome each entry point's promise allows, and that it allows no other.
 use mathlib.Core.Path.{_≡_}
+use mathlib.Core.Bool.{cond}
 use mathlib.Core.List.{List, _++_}
-use Prim.Native.Nat.{ℕ}
+use Prim.Native.Nat.{ℕ, _+_}
+use lib.Dec.{eqb}
 use lib.ListN.{length, drop, replicate}
 use Rattle.registers.specs.declared.Class.{Class}
 use Rattle.registers.specs.Classes.{classAt, Classifies}
@@ -27,7 +29,7 @@ use Rattle.views.specs.declared.view.Part.{Part}
 use Rattle.views.specs.declared.view.Mute.{Mute}
 use Rattle.views.specs.declared.converter.Count.{Count}
 use Rattle.views.specs.Entry.{enterOf, Writes}
-use Rattle.views.specs.View.{viewRefusal, sentOf, sentPart, startIn, muteOf, Sends, Places, Refuses, Mutes}
+use Rattle.views.specs.View.{viewRefusal, sentOf, sentPart, muteOf, Sends, Places, Refuses, Mutes}
 use Rattle.views.specs.Converter.{matrixCount, matrixOut, ShowsMatrix}
 use Rattle.plan.specs.declared.Planned.{Planned}
 use Rattle.plan.specs.Plan.{planOf, planBuffer, Plans}
@@ -76,10 +78,12 @@ pub record Settled : Type 0 where
   pub enter : (s : Chip) (address value : ℕ)
       → let wrote : Wrote = enterOf s address value in
       Only {A = ℕ × Chip} (λ o. Writes s address value (o .0) (o .1)) (wrote .refusal, wrote .chip)
-  -- the part: its bytes, and where it starts, by where the two slices start; and the same in numbers
+  -- the part: its bytes, and where it starts, by where the two slices start, "whichever the chip reads"; and the same in numbers
   pub sent : (image packet : List ℕ) (which : ℕ) (i p : ℕ × ℕ)
-      → Only {A = List ℕ × (ℕ × ℕ)} (λ o. Sends image packet which i p (o .0) (o .1))
-      (sentOf image packet which, startIn (sentPart image packet which) i p)
+      → let part : Part = sentPart image packet which in
+      let slice : ℕ × ℕ = cond (eqb (part .held) 1) p i in
+      Only {A = List ℕ × (ℕ × ℕ)} (λ o. Sends image packet which i p (o .0) (o .1))
+      (sentOf image packet which, (slice .0, part .start + slice .1))
   pub part : (image packet : List ℕ) (which : ℕ) → Only {A = Part} (Places image packet which) (sentPart image packet which)
   pub refusal : (image packet : List ℕ) (which : ℕ) → Only {A = ℕ} (Refuses image packet which) (viewRefusal image packet which)
   pub mute : (image packet : List ℕ) → Only {A = Mute} (Mutes image packet) (muteOf image packet)

@@ -23,7 +23,7 @@ pub fn demand_1()
     ensures { λ _. ⌜ Demand1 ⌝ }
 {}
 
-// Document 01, "What each entry point owes": any two outcomes that a promise allows are equal.
+// Document 01, "What each entry point owes": each promise allows its outcome, and no other.
 pub fn settled()
     ensures { λ _. ⌜ Settled ⌝ }
 {}
