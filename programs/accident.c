@@ -1,31 +1,10 @@
 /* Replays the May accident on the chip machine: a new colour matrix, cut after its fifth coefficient. And our list, cut everywhere.
  * It takes no argument. What it prints is compared with accident.out. */
 #include "chip.h"
+#include "may.h"
 #include "station_text.h"
 #include <stdio.h>
 #include <string.h>
-
-/* What was shown: VIC 16, RGB, two channels, and the matrix of Table 39. */
-static const uint8_t before[] = {
-    4, 16, 0, 0, 1,
-    3, 2, 2, 1,
-    25, 1,
-    0x0C, 0x53, 0x08, 0x00, 0x00, 0x00, 0xF9, 0xD6,
-    0xFC, 0x56, 0x08, 0x00, 0xFE, 0x88, 0x02, 0x91,
-    0xFF, 0xFF, 0x08, 0x00, 0x0E, 0x85, 0xF8, 0xBE,
-};
-
-/* What was asked for: VIC 4, YCbCr 4:4:4, eight channels, and the matrix of Table 43. Each of its twelve coefficients is another. */
-static const uint8_t asked[] = {
-    4, 4, 0, 2, 1,
-    3, 2, 8, 0,
-    25, 0,
-    0x08, 0x2E, 0xF8, 0x93, 0xFF, 0x3F, 0x08, 0x00,
-    0x03, 0x67, 0x0B, 0x71, 0x01, 0x28, 0x00, 0x00,
-    0xFE, 0x21, 0xF9, 0xB2, 0x08, 0x2D, 0x08, 0x00,
-};
-
-enum { FIRST_COEFFICIENT = 0x18, FIVE = 10 };          /* a register address; the registers of five coefficients */
 
 struct list { uint32_t count; uint8_t pairs[STATION_WRITES]; };
 
@@ -93,9 +72,9 @@ int main(void) {
     struct chip start = { { 0 }, { 0 }, { 0 } };
     struct list first, list;
     uint32_t refused;
-    if (!plan(&first, before, sizeof before, &start)) return 1;
+    if (!plan(&first, may_before, sizeof may_before, &start)) return 1;
     start = after(start, &first, first.count, &refused);
-    if (!plan(&list, asked, sizeof asked, &start)) return 1;
+    if (!plan(&list, may_asked, sizeof may_asked, &start)) return 1;
     struct chip end = after(start, &list, list.count, &refused);
     struct sent old = chip_sent(&start), new = chip_sent(&end);
 
@@ -103,7 +82,7 @@ int main(void) {
     tell_state("The old way, no hold", without_hold(start, &end, FIVE), &old, &new);
     uint32_t cut = cut_after(&list, FIRST_COEFFICIENT + FIVE - 1), of_cut;
     tell_state("Our list, the same cut", after(start, &list, cut, &of_cut), &old, &new);
-    printf("Our list of %u writes, of which the machine refuses %u, cut after none of them, and after each in turn:\n",
+    printf("Our list of %u writes, of which the machine refuses %u, cut after none of them,\nand after each in turn:\n",
            (unsigned)list.count, (unsigned)refused);
     survey(start, &list, &old, &new);
     return 0;

@@ -3,6 +3,7 @@
 #ifndef GUIDE_H
 #define GUIDE_H
 
+#include <stddef.h>
 #include <stdint.h>
 
 /* ---- N and CTS. */
@@ -142,5 +143,23 @@ static const struct correction { uint8_t table, pair; uint16_t value; } correcti
     { 57, 0, 0xC734 },
     { 59, 0, 0xC669 },
 };
+
+/* A register pair of a table: as printed, or, `again`, as corrected. */
+static inline uint16_t pair_of(const struct table *t, size_t i, int again) {
+    for (size_t k = 0; again && k < sizeof corrections / sizeof corrections[0]; k++)
+        if (corrections[k].table == t->number && corrections[k].pair == i) return corrections[k].value;
+    return t->pairs[i];
+}
+
+/* The matrix body of a request for a table: the mode beside A1, then the low 13 bits of each pair, as 16 bits in two's complement. */
+static inline void body_of(const struct table *t, int again, uint8_t *body) {
+    body[0] = pair_of(t, 0, again) >> 13 & 3;
+    for (size_t i = 0; i < COEFFICIENTS_OF_A_TABLE; i++) {
+        uint16_t pair = pair_of(t, i, again);
+        uint8_t high = pair >> 8 & 0x1F;
+        body[1 + 2 * i] = high & 0x10 ? high | 0xE0 : high;
+        body[2 + 2 * i] = (uint8_t)pair;
+    }
+}
 
 #endif

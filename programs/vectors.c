@@ -72,24 +72,6 @@ static struct tally run_rows(void) {
 /* A table agrees where each code is within one step of an 8-bit code of the expected one. A refusal is farther off than any. */
 enum { STEP = 16, FARTHEST = 4096 };
 
-/* A register pair of a table: as printed, or, `again`, as corrected. */
-static uint16_t pair_of(const struct table *t, size_t i, int again) {
-    for (const struct correction *k = corrections; again && k < corrections + COUNT(corrections); k++)
-        if (k->table == t->number && k->pair == i) return k->value;
-    return t->pairs[i];
-}
-
-/* The matrix body of a request for a table: the mode beside A1, then the low 13 bits of each pair, as 16 bits in two's complement. */
-static void body_of(const struct table *t, int again, uint8_t *body) {
-    body[0] = pair_of(t, 0, again) >> 13 & 3;
-    for (size_t i = 0; i < COEFFICIENTS_OF_A_TABLE; i++) {
-        uint16_t pair = pair_of(t, i, again);
-        uint8_t high = pair >> 8 & 0x1F;
-        body[1 + 2 * i] = high & 0x10 ? high | 0xE0 : high;
-        body[2 + 2 * i] = (uint8_t)pair;
-    }
-}
-
 static uint32_t apart(uint32_t x, uint32_t y) { return x < y ? y - x : x - y; }
 static uint32_t larger(uint32_t x, uint32_t y) { return x < y ? y : x; }
 

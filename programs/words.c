@@ -4,17 +4,20 @@
 #include <stdlib.h>
 #include <string.h>
 
+/* One line, whatever a stranger's word has in it. */
 void misuse(const char *format, ...) {
+    char text[400];
     va_list list;
     va_start(list, format);
-    fprintf(stderr, "%s: ", program);
-    vfprintf(stderr, format, list);
-    fprintf(stderr, " (%s --help)\n", program);
+    vsnprintf(text, sizeof text, format, list);
     va_end(list);
+    for (char *at = text; *at; at++)
+        if (*at < ' ' || *at > '~') *at = '?';
+    fprintf(stderr, "%s: %s (%s --help)\n", program, text, program);
     exit(MISUSE);
 }
 
-static int digit(char c) {
+int hex_digit(int c) {
     static const char digits[] = "0123456789abcdef0123456789ABCDEF";
     const char *at = c ? strchr(digits, c) : NULL;
     return at ? (int)(at - digits) % 16 : -1;
@@ -27,13 +30,21 @@ size_t bytes_of_word(const char *word, uint8_t *bytes) {
             at++;
             continue;
         }
-        int high = digit(at[0]), low = high < 0 ? -1 : digit(at[1]);
-        if (low < 0) misuse("'%s' is no byte: a byte is exactly two hex digits", word);
+        int high = hex_digit(at[0]), low = high < 0 ? -1 : hex_digit(at[1]);
+        if (low < 0) misuse("'%.80s' is no byte: a byte is exactly two hex digits", word);
         bytes[count++] = (uint8_t)(16 * high + low);
         at += 2;
     }
     if (count == 0) misuse("a word with nothing in it");
     return count;
+}
+
+long number_of_word(const char *word, const char *what, long least, long most) {
+    const char *digits = word + (word[0] == '-');
+    size_t length = strlen(digits);
+    long number = length > 0 && length < 10 && strspn(digits, "0123456789") == length ? strtol(word, NULL, 10) : least - 1;
+    if (number < least || number > most) misuse("'%.80s' is no %s: a number from %ld to %ld", word, what, least, most);
+    return number;
 }
 
 void bytes_of_file(const char *name, uint8_t *bytes, size_t length) {
@@ -46,4 +57,33 @@ void bytes_of_file(const char *name, uint8_t *bytes, size_t length) {
     if (got < length) misuse("%s has %u bytes, and not %u", name, (unsigned)got, (unsigned)length);
     if (longer) misuse("%s has more than %u bytes", name, (unsigned)length);
     fclose(f);
+}
+
+void take_file(const char *word, struct option *o) { bytes_of_file(word, o->into, o->length); }
+
+void take_number(const char *word, struct option *o) { *(long *)o->into = number_of_word(word, o->name + 2, 0, (long)o->length); }
+
+uint8_t *request_of_command(int count, char **words, const char *help, struct option *options, size_t number, size_t *length) {
+    size_t letters = 1;
+    for (int i = 1; i < count; i++) {
+        if (!strcmp(words[i], "--help")) exit(printf("%s", help) < 0);
+        letters += strlen(words[i]);
+    }
+    uint8_t *request = malloc(letters);
+    if (!request) misuse("no memory");
+    *length = 0;
+    for (int i = 1; i < count; i++) {
+        size_t o = 0;
+        if (words[i][0] != '-') {
+            *length += bytes_of_word(words[i], request + *length);
+            continue;
+        }
+        while (o < number && strcmp(words[i], options[o].name)) o++;
+        if (o == number) misuse("%.80s is no option", words[i]);
+        if (options[o].given++) misuse("%s is given twice", words[i]);
+        if (!options[o].take) *(int *)options[o].into = 1;
+        else if (++i == count) misuse("%s has nothing after it", options[o].name);
+        else options[o].take(words[i], &options[o]);
+    }
+    return request;
 }

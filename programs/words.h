@@ -10,10 +10,24 @@ enum { ACCEPTED = 0, REFUSED = 1, MISUSE = 2 };
 extern const char *program;     /* its name, for that line */
 void misuse(const char *format, ...);
 
+/* The value of a hex digit, or -1. */
+int hex_digit(int c);
+
 /* The bytes of a word at `bytes`, which has room for half its letters: a byte is exactly two hex digits, and blanks may stand between. */
 size_t bytes_of_word(const char *word, uint8_t *bytes);
 
+/* A word that is a whole number from `least` to `most`, in decimal digits with at most a minus before them; `what` says what it is. */
+long number_of_word(const char *word, const char *what, long least, long most);
+
 /* A file that has exactly so many bytes. */
 void bytes_of_file(const char *name, uint8_t *bytes, size_t length);
+
+/* The options of a command: each with a word after it that `take` reads into `into`, or a mark alone (take is NULL, `into` an int that
+ * becomes 1). Each may be given once, anywhere; "--help" prints the help and ends the program. What is no option is a byte of the
+ * request, which is handed back in memory of its own, its length at `length`. */
+struct option { const char *name; void (*take)(const char *word, struct option *o); void *into; size_t length; int given; };
+uint8_t *request_of_command(int count, char **words, const char *help, struct option *options, size_t number, size_t *length);
+void take_file(const char *word, struct option *o);             /* exactly `length` bytes */
+void take_number(const char *word, struct option *o);           /* a long, from 0 to `length` */
 
 #endif

@@ -1,0 +1,327 @@
+#include "fields.h"
+#include "guide.h"
+#include "words.h"
+#include <stdarg.h>
+#include <string.h>
+#include <strings.h>
+
+#define COUNT(a) (sizeof (a) / sizeof (a)[0])
+
+/* ---- The tables. */
+
+const struct mode modes[] = {
+    { 1, 60, "640x480p", "4:3" },
+    { 2, 60, "720x480p", "4:3" },
+    { 3, 60, "720x480p", "16:9" },
+    { 4, 60, "1280x720p", "16:9" },
+    { 5, 60, "1920x1080i", "16:9" },
+    { 16, 60, "1920x1080p", "16:9" },
+    { 17, 50, "720x576p", "4:3" },
+    { 18, 50, "720x576p", "16:9" },
+    { 19, 50, "1280x720p", "16:9" },
+    { 20, 50, "1920x1080i", "16:9" },
+    { 31, 50, "1920x1080p", "16:9" },
+    { 32, 24, "1920x1080p", "16:9" },
+    { 34, 30, "1920x1080p", "16:9" },
+    { 60, 24, "1280x720p", "16:9" },
+    { 62, 30, "1280x720p", "16:9" },
+};
+const size_t number_of_modes = COUNT(modes);
+
+double frame_rate(const struct mode *m, uint8_t family) { return family == 1 ? m->rate / 1.001 : m->rate; }
+
+/* The sections in their order. One that is opened by a word may be left out. Its count is that of its fields' bytes, and of the numbers
+ * after them, two bytes each. */
+enum { IN_VIDEO, IN_AUDIO, IN_MATRIX, SECTIONS };
+static const struct { const char *name; int may_be_left_out; size_t numbers; } sections[SECTIONS] = {
+    [IN_VIDEO] = { "video", 0, 0 },
+    [IN_AUDIO] = { "audio", 1, 0 },
+    [IN_MATRIX] = { "matrix", 1, COEFFICIENTS_OF_A_TABLE },
+};
+
+/* A field: its section, its byte there and its bits in that byte; its name; the word that it has where none is given, or NULL where it must
+ * be given; its words. A field with no words is its name and a number. NAME=NUMBER gives any field any number. */
+static const struct field {
+    uint8_t section, at, shift, bits;
+    const char *name, *usual;
+    struct { const char *word; uint8_t value; const char *says; } words[8];
+} fields[] = {
+    { IN_VIDEO, 0, 0, 8, "vic", NULL, { { NULL, 0, NULL } } },
+    { IN_VIDEO, 1, 0, 8, "family", "whole", { { "whole", 0, "whole frame rate" }, { "/1.001", 1, "frame rate divided by 1.001" } } },
+    { IN_VIDEO, 2, 0, 8, "encoding", NULL, { { "rgb", 0, "RGB" }, { "ycbcr422", 1, "YCbCr 4:2:2" }, { "ycbcr444", 2, "YCbCr 4:4:4" } } },
+    { IN_VIDEO, 3, 0, 8, "link", NULL, { { "dvi", 0, "DVI" }, { "hdmi", 1, "HDMI" } } },
+    { IN_AUDIO, 0, 0, 8, "rate", NULL,
+      { { "32kHz", 0, "32 kHz" }, { "44.1kHz", 1, "44.1 kHz" }, { "48kHz", 2, "48 kHz" }, { "88.2kHz", 3, "88.2 kHz" },
+        { "96kHz", 4, "96 kHz" }, { "176.4kHz", 5, "176.4 kHz" }, { "192kHz", 6, "192 kHz" } } },
+    { IN_AUDIO, 1, 0, 8, "channels", NULL, { { "2", 2, "two channels" }, { "8", 8, "eight channels" } } },
+    { IN_AUDIO, 2, 0, 8, "coherent", "not-coherent",
+      { { "not-coherent", 0, "not coherent with the picture's clock: the chip measures CTS" },
+        { "coherent", 1, "coherent with the picture's clock: N and CTS are exact" } } },
+    { IN_MATRIX, 0, 0, 8, "mode", NULL,
+      { { "0", 0, "factors below 1" }, { "1", 1, "factors below 2" }, { "2", 2, "factors below 4" } } },
+};
+enum { FIELDS = COUNT(fields), WORDS_OF_A_FIELD = COUNT(fields[0].words), BYTE = 255 };
+
+static size_t bytes_of_fields(int section) {
+    size_t bytes = 0;
+    for (size_t f = 0; f < FIELDS; f++)
+        if (fields[f].section == section && fields[f].at >= bytes) bytes = fields[f].at + 1u;
+    return bytes;
+}
+
+static size_t count_of(int section) { return bytes_of_fields(section) + 2 * sections[section].numbers; }
+
+/* ---- Words to bytes. */
+
+/* The words of a field, for a message. */
+static const char *words_of_field(const struct field *f, char *text, size_t room) {
+    size_t used = 0;
+    *text = 0;
+    for (size_t w = 0; w < WORDS_OF_A_FIELD && f->words[w].word && used < room; w++)
+        used += (size_t)snprintf(text + used, room - used, "%s%s", w ? ", " : "", f->words[w].word);
+    if (!f->words[0].word) snprintf(text, room, "%s and a number", f->name);
+    return text;
+}
+
+/* The value that a word, or two, gives a field, and at `used` how many it took; -1 where they are not for it. */
+static int value_of(const struct field *f, int count, char **words, int *used) {
+    size_t name = strlen(f->name);
+    long most = (1L << f->bits) - 1;
+    *used = 1;
+    if (!strncmp(words[0], f->name, name) && words[0][name] == '=')
+        return (int)number_of_word(words[0] + name + 1, f->name, 0, most);
+    for (size_t w = 0; w < WORDS_OF_A_FIELD && f->words[w].word; w++)
+        if (!strcasecmp(words[0], f->words[w].word)) return f->words[w].value;
+    if (f->words[0].word || strcmp(words[0], f->name)) return -1;
+    if (count < 2) misuse("%s has no number after it", f->name);
+    *used = 2;
+    return (int)number_of_word(words[1], f->name, 0, most);
+}
+
+/* Words that are being read: in which section we are, what was given so far, the numbers as bytes. */
+struct reading {
+    int section, given[SECTIONS], value[FIELDS], set[FIELDS];
+    size_t numbers;
+    uint8_t number[2 * COEFFICIENTS_OF_A_TABLE];
+};
+
+/* The section is over: its fields that nobody gave have their usual value. */
+static void close_section(struct reading *r) {
+    char text[TEXT_OF_A_REQUEST], *usual;
+    for (size_t f = 0; f < FIELDS; f++) {
+        int used;
+        if (fields[f].section != r->section || r->set[f]) continue;
+        usual = (char *)fields[f].usual;
+        if (!usual) misuse("the %s is missing: %s", fields[f].name, words_of_field(&fields[f], text, sizeof text));
+        r->value[f] = value_of(&fields[f], 1, &usual, &used);
+        r->set[f] = 1;
+    }
+    if (r->numbers < sections[r->section].numbers)
+        misuse("the %s has %u numbers, and not %u", sections[r->section].name, (unsigned)r->numbers,
+               (unsigned)sections[r->section].numbers);
+}
+
+/* "tableNN": the matrix of a table of the guide, its misprints corrected. */
+static int take_table(struct reading *r, const char *word) {
+    uint8_t body[1 + 2 * COEFFICIENTS_OF_A_TABLE];
+    if (r->section != IN_MATRIX || strncasecmp(word, "table", 5)) return 0;
+    long number = number_of_word(word + 5, "table of the guide", tables[0].number, tables[COUNT(tables) - 1].number);
+    for (size_t t = 0; t < COUNT(tables); t++) {
+        if (tables[t].number != number) continue;
+        body_of(&tables[t], 1, body);
+        for (size_t f = 0; f < FIELDS; f++) {
+            if (fields[f].section != IN_MATRIX) continue;
+            if (r->set[f] || r->numbers) misuse("'%s' stands beside another matrix", word);
+            r->value[f] = body[0];
+            r->set[f] = 1;
+        }
+        memcpy(r->number, body + 1, sizeof r->number);
+        r->numbers = COEFFICIENTS_OF_A_TABLE;
+        return 1;
+    }
+    misuse("table %ld of the guide is not at hand", number);
+    return 0;
+}
+
+/* Reads a field, or a number after the last field: how many words that took. */
+static int take(struct reading *r, int count, char **words) {
+    int whole = 1, used, twice = 0;
+    for (size_t f = 0; f < FIELDS; f++) {
+        if (fields[f].section != r->section) continue;
+        whole = whole && r->set[f];
+        if (r->set[f] && r->numbers < sections[r->section].numbers) continue;
+        int value = value_of(&fields[f], count, words, &used);
+        if (value < 0) continue;
+        if (r->set[f]) {
+            twice = 1;
+            continue;
+        }
+        r->value[f] = value;
+        r->set[f] = 1;
+        return used;
+    }
+    if (whole && r->numbers < sections[r->section].numbers) {
+        long number = number_of_word(words[0], "coefficient", -32768, 32767);
+        r->number[2 * r->numbers] = (uint8_t)(((unsigned long)number & 0xFFFF) >> 8);
+        r->number[2 * r->numbers + 1] = (uint8_t)((unsigned long)number & 0xFF);
+        r->numbers++;
+        return 1;
+    }
+    if (twice) misuse("'%.80s': that field is given twice", words[0]);
+    misuse("'%.80s' is no word of the %s section", words[0], sections[r->section].name);
+    return 0;
+}
+
+size_t request_of_words(int count, char **words, uint8_t *request) {
+    struct reading r;
+    size_t length = 0;
+    memset(&r, 0, sizeof r);
+    r.given[IN_VIDEO] = 1;
+    for (int w = 0; w < count; ) {
+        int opens = 0;
+        for (int s = 0; s < SECTIONS; s++)
+            if (sections[s].may_be_left_out && !strcasecmp(words[w], sections[s].name)) opens = s;
+        if (opens) {
+            if (opens <= r.section) misuse("'%s' stands twice, or behind a later section", words[w]);
+            close_section(&r);
+            r.section = opens;
+            r.given[opens] = 1;
+            w++;
+        } else if (take_table(&r, words[w])) w++;
+        else w += take(&r, count - w, words + w);
+    }
+    close_section(&r);
+    for (int s = 0; s < SECTIONS; s++) {
+        size_t bytes = bytes_of_fields(s);
+        request[length++] = r.given[s] ? (uint8_t)count_of(s) : 0;
+        if (!r.given[s]) continue;
+        memset(request + length, 0, bytes);
+        for (size_t f = 0; f < FIELDS; f++)
+            if (fields[f].section == s) request[length + fields[f].at] |= (uint8_t)(r.value[f] << fields[f].shift);
+        length += bytes;
+        memcpy(request + length, r.number, 2 * sections[s].numbers);
+        length += 2 * sections[s].numbers;
+    }
+    return length;
+}
+
+/* ---- Bytes to words. */
+
+static int value_in(const struct field *f, const uint8_t *body) { return body[f->at] >> f->shift & ((1 << f->bits) - 1); }
+
+static int number_in(const uint8_t *bytes) {
+    int value = 256 * bytes[0] + bytes[1];
+    return value < 32768 ? value : value - 65536;
+}
+
+/* Which table of the guide a matrix is: its number, or 0. */
+static unsigned table_of(const uint8_t *matrix) {
+    uint8_t body[1 + 2 * COEFFICIENTS_OF_A_TABLE];
+    for (size_t t = 0; t < COUNT(tables); t++) {
+        body_of(&tables[t], 1, body);
+        if (!memcmp(body, matrix, sizeof body)) return tables[t].number;
+    }
+    return 0;
+}
+
+static void add(char *text, const char *format, ...) {
+    size_t used = strlen(text);
+    va_list list;
+    va_start(list, format);
+    vsnprintf(text + used, TEXT_OF_A_REQUEST - used, format, list);
+    va_end(list);
+}
+
+int words_of_request(const uint8_t *request, size_t length, char text[TEXT_OF_A_REQUEST]) {
+    size_t at = 0;
+    *text = 0;
+    for (int s = 0; s < SECTIONS; s++) {
+        if (at == length) return 0;
+        size_t count = request[at++];
+        const uint8_t *body = request + at;
+        if (count == 0 && sections[s].may_be_left_out) continue;
+        if (count != count_of(s) || length - at < count) return 0;
+        if (s) add(text, " %s", sections[s].name);
+        at += count;
+        if (s == IN_MATRIX && table_of(body)) {
+            add(text, " table%u", table_of(body));
+            continue;
+        }
+        for (size_t f = 0; f < FIELDS; f++) {
+            if (fields[f].section != s) continue;
+            int value = value_in(&fields[f], body);
+            const char *word = NULL;
+            for (size_t w = 0; w < WORDS_OF_A_FIELD && fields[f].words[w].word; w++)
+                if (fields[f].words[w].value == value) word = fields[f].words[w].word;
+            if (word && fields[f].usual && !strcmp(word, fields[f].usual)) continue;
+            if (word) add(text, " %s", word);
+            else add(text, fields[f].words[0].word ? " %s=%d" : " %s %d", fields[f].name, value);
+        }
+        for (size_t n = 0; n < sections[s].numbers; n++) add(text, " %d", number_in(body + bytes_of_fields(s) + 2 * n));
+    }
+    memmove(text, text + 1, strlen(text));
+    return at == length;
+}
+
+void text_of_mode(uint8_t vic, uint8_t family, char *text, size_t room) {
+    snprintf(text, room, "no mode that is listed");
+    for (size_t m = 0; m < COUNT(modes); m++)
+        if (modes[m].vic == vic) snprintf(text, room, "%s %.5g Hz, %s", modes[m].lines, frame_rate(&modes[m], family), modes[m].aspect);
+}
+
+/* What a field's value means. */
+static void meaning(const struct field *f, const uint8_t *body, size_t there, char *text, size_t room) {
+    int value = value_in(f, body);
+    snprintf(text, room, "%d, outside its range", value);
+    for (size_t w = 0; w < WORDS_OF_A_FIELD && f->words[w].word; w++)
+        if (f->words[w].value == value) snprintf(text, room, "%s", f->words[w].says);
+    if (f == &fields[0]) {
+        char mode[64];
+        text_of_mode((uint8_t)value, there > 1 ? body[1] : 0, mode, sizeof mode);
+        snprintf(text, room, "%d: %s", value, mode);
+    }
+}
+
+void explain_request(FILE *to, const uint8_t *request, size_t length) {
+    size_t at = 0;
+    char text[128];
+    for (int s = 0; s < SECTIONS; s++) {
+        if (at == length) {
+            fprintf(to, "  %-8s  --     no count: the bytes end here\n", sections[s].name);
+            return;
+        }
+        size_t count = request[at], want = count_of(s), there = length - at - 1;
+        int left_out = count == 0 && sections[s].may_be_left_out;
+        fprintf(to, "  %-8s  %02x     %s\n", sections[s].name, request[at],
+                left_out ? "none" : count == want ? "its count" : "a count that is not allowed");
+        at++;
+        if (left_out) continue;
+        if (count != want) return;
+        if (there > want) there = want;
+        for (size_t f = 0; f < FIELDS; f++) {
+            if (fields[f].section != s || fields[f].at >= there) continue;
+            meaning(&fields[f], request + at, there, text, sizeof text);
+            fprintf(to, "  %-8s  %02x     %s\n", fields[f].name, request[at + fields[f].at], text);
+        }
+        for (size_t n = 0, first = bytes_of_fields(s); n < sections[s].numbers && first + 2 * n + 1 < there; n++) {
+            const uint8_t *bytes = request + at + first + 2 * n;
+            int value = number_in(bytes);
+            fprintf(to, "  %c%u        %02x %02x  %d%s\n", "ABC"[n / 4], (unsigned)n % 4 + 1, bytes[0], bytes[1], value,
+                    value < -4096 || value > 4095 ? ", outside its range" : "");
+        }
+        if (there < want) {
+            fprintf(to, "  the bytes end inside the %s section: %u of %u\n", sections[s].name, (unsigned)there, (unsigned)want);
+            return;
+        }
+        at += want;
+    }
+    if (at < length) fprintf(to, "  and %u bytes more\n", (unsigned)(length - at));
+}
+
+void explain_words(FILE *to) {
+    char text[TEXT_OF_A_REQUEST];
+    for (size_t f = 0; f < FIELDS; f++)
+        fprintf(to, "  %-7s %-9s %s%s%s%s\n", f == 0 || fields[f].section != fields[f - 1].section ? sections[fields[f].section].name : "",
+                fields[f].name, words_of_field(&fields[f], text, sizeof text), fields[f].usual ? " (" : "",
+                fields[f].usual ? fields[f].usual : "", fields[f].usual ? " where none is given)" : "");
+}

@@ -1,0 +1,32 @@
+/* A request in words and in bytes, both by one table of its fields. */
+#ifndef FIELDS_H
+#define FIELDS_H
+
+#include <stddef.h>
+#include <stdint.h>
+#include <stdio.h>
+
+enum { TEXT_OF_A_REQUEST = 400 };
+
+/* The bytes of a request in words, at `request`, which has room for the longest: their number. Words that are none end the program. */
+size_t request_of_words(int count, char **words, uint8_t *request);
+
+/* A request in words, as request_of_words reads them: 0 where its sections are not whole. */
+int words_of_request(const uint8_t *request, size_t length, char text[TEXT_OF_A_REQUEST]);
+
+/* A line for each byte, as far as there are sections. */
+void explain_request(FILE *to, const uint8_t *request, size_t length);
+
+/* The words that there are, a line for each field. */
+void explain_words(FILE *to);
+
+/* The mode of a VIC in words ("1920x1080p 60 Hz, 16:9"), with the frame rate of a family. */
+void text_of_mode(uint8_t vic, uint8_t family, char *text, size_t room);
+
+/* The modes of CEA-861 that a request may name, in the order of their numbers. */
+struct mode { uint8_t vic, rate; const char *lines, *aspect; };
+extern const struct mode modes[];
+extern const size_t number_of_modes;
+double frame_rate(const struct mode *m, uint8_t family);
+
+#endif

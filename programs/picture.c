@@ -1,0 +1,416 @@
+/* A page that shows a run, write by write: what the chip machine has in use after each. Plain HTML with its drawings in it; no script, no
+ * file beside it. The request and the registers may be a stranger's: they go through the exported calls and nowhere else. */
+#include "chip.h"
+#include "fields.h"
+#include "may.h"
+#include "registers.h"
+#include "station_text.h"
+#include "words.h"
+#include <stdio.h>
+#include <stdlib.h>
+#include <string.h>
+
+const char *program = "tools/picture";
+
+static const char help[] =
+    "tools/picture [OPTIONS] BYTES.. >run.html\n"
+    "tools/picture --accident >run.html\n"
+    "\n"
+    "Writes a page that shows a run: time goes from the first write to the last, with\n"
+    "a lane each for the picture, the AVI InfoFrame, the audio InfoFrame, the matrix\n"
+    "and the holds, and the step that each write belongs to. BYTES is the request: a\n"
+    "byte is exactly two hex digits, with or without blanks between.\n"
+    "\n"
+    "  --cut K              also the run that is cut after K writes and planned again\n"
+    "  --before BYTES       the request that the chip shows before, in one word;\n"
+    "                       where none is given, 720p YCbCr 4:4:4 with eight\n"
+    "                       channels and the matrix of Table 43\n"
+    "  --image FILE         the chip's registers as they stand, 256 bytes\n"
+    "  --packet FILE        its packet buffer, 32 bytes\n"
+    "  --coefficients FILE  its coefficient buffer, 24 bytes\n"
+    "  --accident           the accident of last May: a new matrix with no hold and\n"
+    "                       no mute, cut after five coefficients; and our list, cut\n"
+    "                       at the same register\n"
+    "\n"
+    "The status is 0 for a page, 1 for a request that is refused (it is said on the\n"
+    "error stream), 2 for a command that is not as above.\n"
+    "\n"
+    "  tools/picture --cut 40 04 10 00 00 01 03 02 02 01 00 >run.html\n";
+
+/* ---- A run: a moment for the beginning, for each write, and for what stays. */
+
+enum lane { PICTURE, LANE_AVI, LANE_AUDIO, LANE_MATRIX, HOLD_MATRIX, HOLD_AVI, HOLD_AUDIO, LANES };
+
+/* How a value of a lane looks: its word, its fill and the colour of the word. What is light or hatched stays so without colour. */
+struct look { const char *word, *fill, *ink; };
+static const struct look
+    of_picture[] = { { "neither", "url(#dots)", "#000" }, { "muted", "#333", "#fff" }, { "open", "#fff", "#000" },
+                     { "neither", "url(#dots)", "#000" } },
+    of_group[] = { [NEITHER] = { "TORN", "url(#torn)", "#000" }, [OLD] = { "old", "url(#old)", "#000" },
+                   [NEW] = { "new", "#0072b2", "#fff" }, [BOTH] = { "same as before", "#e4e4e4", "#000" } },
+    of_hold[] = { { "", "none", "#000" }, { "up", "#5d3a9b", "#fff" } };
+
+static const struct { const char *name; int height; const struct look *looks; uint8_t address, mask; } lanes[LANES] = {
+    [PICTURE] = { "picture", 26, of_picture, 0, 0 },
+    [LANE_AVI] = { "AVI in use", 26, of_group, 0, 0 },
+    [LANE_AUDIO] = { "audio in use", 26, of_group, 0, 0 },
+    [LANE_MATRIX] = { "matrix in use", 26, of_group, 0, 0 },
+    [HOLD_MATRIX] = { "hold: matrix", 15, of_hold, 0x1A, 0x20 },
+    [HOLD_AVI] = { "hold: AVI", 15, of_hold, 0x4A, 0x40 },
+    [HOLD_AUDIO] = { "hold: audio", 15, of_hold, 0x4A, 0x20 },
+};
+
+enum { REST = 8, MOMENTS = 2 * STATION_WRITES + 8, NO_STEP = STEPS };
+struct moment { int width, number, step, value[LANES]; uint8_t address, before, after; };
+struct run { struct chip chip; struct sent old, new; int count, cut; struct moment moments[MOMENTS]; };
+
+/* One more moment: the chip as it stands. */
+static struct moment *look(struct run *r, int width) {
+    struct moment *m = &r->moments[r->count++];
+    struct sent s = chip_sent(&r->chip);
+    memset(m, 0, sizeof *m);
+    m->width = width;
+    m->step = NO_STEP;
+    m->value[PICTURE] = (int)(s.mute & 3);
+    m->value[LANE_AVI] = age(AVI, &s, &r->old, &r->new);
+    m->value[LANE_AUDIO] = age(AUDIO, &s, &r->old, &r->new);
+    m->value[LANE_MATRIX] = age(MATRIX, &s, &r->old, &r->new);
+    for (int l = HOLD_MATRIX; l < LANES; l++) m->value[l] = (r->chip.image[lanes[l].address] & lanes[l].mask) != 0;
+    return m;
+}
+
+static void begin(struct run *r, const struct chip *c, const struct sent *old, const struct sent *new) {
+    r->chip = *c;
+    r->old = *old;
+    r->new = *new;
+    r->count = 0;
+    r->cut = -1;
+    look(r, REST);
+}
+
+/* The first writes of a list; what is in use after the last of them stays for a while. */
+static void play(struct run *r, const uint8_t *pairs, uint32_t count, uint32_t writes) {
+    for (uint32_t w = 0; w < writes; w++) {
+        uint8_t address = pairs[2 * w], before = r->chip.image[address];
+        chip_write(&r->chip, pairs + 2 * w);
+        struct moment *m = look(r, w + 1 == writes ? REST : 1);
+        m->number = (int)w + 1;
+        m->step = step_of(pairs, count, w);
+        m->address = address;
+        m->before = before;
+        m->after = r->chip.image[address];
+    }
+}
+
+/* The run is cut here, and the chip stays for a while as it is. */
+static void cut(struct run *r) {
+    r->moments[r->count - 1].width = REST / 2;
+    r->cut = r->count;
+    look(r, REST / 2);
+}
+
+/* ---- The drawing. */
+
+enum { LEFT = 118, WIDE = 1160, RIGHT = 8, STEPS_TOP = 46, STEPS_HIGH = 40, GAP = 8, LETTER = 8 };
+
+static double unit(const struct run *r) {
+    int units = 0;
+    for (int m = 0; m < r->count; m++) units += r->moments[m].width;
+    return (double)(WIDE - LEFT - RIGHT) / units;
+}
+
+/* Where a moment begins; the one after the last is where the last ends. */
+static double at(const struct run *r, int moment) {
+    int units = 0;
+    for (int m = 0; m < moment; m++) units += r->moments[m].width;
+    return LEFT + units * unit(r);
+}
+
+static int fits(const char *word, double width) { return (double)strlen(word) * LETTER <= width; }
+
+static void draw_box(double x, double width, int y, int height, const struct look *k) {
+    if (!strcmp(k->fill, "none")) return;
+    printf("<rect x='%.1f' y='%d' width='%.1f' height='%d' fill='%s' stroke='#000'/>", x, y, width, height, k->fill);
+    if (fits(k->word, width)) {
+        int plain = k->fill[0] == '#';
+        double half = (double)strlen(k->word) * LETTER / 2 + 5;
+        if (!plain)
+            printf("<rect x='%.1f' y='%d' width='%.1f' height='%d' fill='#fff'/>", x + width / 2 - half, y + 3, 2 * half, height - 6);
+        printf("<text x='%.1f' y='%d' fill='%s' class='in'>%s</text>", x + width / 2, y + height / 2 + 4, k->ink, k->word);
+    }
+    printf("\n");
+}
+
+/* A lane: a box for each stretch of moments that have the same value. */
+static void draw_lane(const struct run *r, enum lane l, int y) {
+    printf("<text x='%d' y='%d' class='lane'>%s</text><path d='M%d %dH%d' stroke='#aaa'/>\n", LEFT - 8, y + lanes[l].height / 2 + 4,
+           lanes[l].name, LEFT, y + lanes[l].height / 2, WIDE - RIGHT);
+    for (int m = 0; m < r->count; ) {
+        int end = m + 1, value = r->moments[m].value[l];
+        while (end < r->count && end != r->cut && r->moments[end].value[l] == value) end++;
+        draw_box(at(r, m), at(r, end) - at(r, m), y, lanes[l].height, &lanes[l].looks[value]);
+        m = end;
+    }
+}
+
+static const char *name_of(uint8_t address) { return registers[address].name ? registers[address].name : ""; }
+
+/* The steps, with a tick for each write that says the write where one points at it. */
+static void draw_steps(const struct run *r) {
+    int middle = STEPS_TOP + STEPS_HIGH / 2 + 4;
+    printf("<text x='%d' y='%d' class='lane'>step</text>\n", LEFT - 8, middle);
+    printf("<text x='%d' y='%d' class='lane'>write</text>\n", LEFT - 8, STEPS_TOP - 8);
+    for (int m = 0; m < r->count; ) {
+        int end = m + 1, step = r->moments[m].step;
+        while (end < r->count && r->moments[end].step == step && end != r->cut) end++;
+        double x = at(r, m), last = at(r, end - 1) + unit(r), width = last - x;
+        if (step != NO_STEP) {
+            printf("<rect x='%.1f' y='%d' width='%.1f' height='%d' fill='%s' stroke='#000'/>\n", x, STEPS_TOP, width, STEPS_HIGH,
+                   step % 2 ? "#fff" : "#ddd");
+            for (int w = m; w < end; w++) {
+                const struct moment *n = &r->moments[w];
+                printf("<rect x='%.1f' y='%d' width='%.1f' height='%d' fill='%s' fill-opacity='.25'>", at(r, w), STEPS_TOP + STEPS_HIGH - 7,
+                       unit(r), 7, n->number % 2 ? "#000" : "#fff");
+                printf("<title>write %d (%s): 0x%02X %s, %02X to %02X</title></rect>\n", n->number, step_words[step], n->address,
+                       name_of(n->address), n->before, n->after);
+            }
+            const char *word = step_words[step];
+            if (fits(word, width)) printf("<text x='%.1f' y='%d' class='in'>%s</text>\n", x + width / 2, middle - 4, word);
+            else printf("<text transform='translate(%.1f %d) rotate(-90)' class='up'>%s</text>\n", x + width / 2 + 3.5,
+                        STEPS_TOP + STEPS_HIGH - 9, word);
+        }
+        m = end;
+    }
+    for (int m = 0; m < r->count; m++) {
+        const struct moment *n = &r->moments[m];
+        int last = m + 1 == r->count || m + 1 == r->cut, near = r->count - m <= 4 || (r->cut > m && r->cut - m <= 4);
+        if (n->number && (n->number == 1 || last || (n->number % 10 == 0 && !near)))
+            printf("<text x='%.1f' y='%d' class='in'>%d</text>\n", at(r, m) + unit(r) / 2, STEPS_TOP - 8, n->number);
+    }
+}
+
+/* What is in use at a moment, in words. */
+static void say(const struct moment *m) {
+    for (int l = PICTURE; l <= LANE_MATRIX; l++)
+        printf("%s%s <b>%s</b>", l == PICTURE ? "" : l == LANE_MATRIX ? " and " : ", ", lanes[l].name, lanes[l].looks[m->value[l]].word);
+    printf(".");
+}
+
+/* The places where a run may be cut, before its first write and after each; at how many of them something is torn; and at how many from the
+ * first write on and before the last the picture is not muted. */
+struct places { int all, torn, shown; };
+static struct places places_of(const struct run *r) {
+    struct places p = { 0, 0, 0 };
+    for (int m = 0; m < r->count; m++) {
+        const int *value = r->moments[m].value;
+        if (m > 0 && r->moments[m].number == 0) continue;
+        p.all++;
+        p.torn += value[LANE_AVI] == NEITHER || value[LANE_AUDIO] == NEITHER || value[LANE_MATRIX] == NEITHER;
+        p.shown += m > 0 && m + 1 < r->count && value[PICTURE] != 1;
+    }
+    return p;
+}
+
+static void draw(const struct run *r, const char *title, const char *of_cut) {
+    int y = STEPS_TOP + STEPS_HIGH + GAP, bottom = y;
+    for (int l = 0; l < LANES; l++) bottom += lanes[l].height + GAP;
+    printf("<h2>%s</h2>\n<svg viewBox='0 0 %d %d' role='img' aria-label='%s'>\n", title, WIDE, bottom + 4, title);
+    draw_steps(r);
+    for (int l = 0; l < LANES; l++) {
+        draw_lane(r, (enum lane)l, y);
+        y += lanes[l].height + GAP;
+    }
+    if (r->cut > 0) {
+        double x = at(r, r->cut);
+        printf("<path d='M%.1f 17V%d' stroke='#fff' stroke-width='8'/>", x, bottom);
+        printf("<path d='M%.1f 17V%d' stroke='#000' stroke-width='3' stroke-dasharray='9 5'/>", x, bottom);
+        printf("<text x='%.1f' y='13' class='cut'>%s</text>\n", x, of_cut);
+    }
+    struct places p = places_of(r);
+    printf("</svg>\n<p>Of %d places where this run may be cut, something in use is torn at <b>%d</b>; from the first write on and before "
+           "the last the picture is not muted at <b>%d</b>.</p>\n", p.all, p.torn, p.shown);
+}
+
+/* Every write, for who wants to read them. */
+static void table(const struct run *r) {
+    printf("<details><summary>Every write</summary>\n<table><tr><th>write<th>step<th>address<th>register<th>old<th>new");
+    for (int l = 0; l < LANES; l++) printf("<th>%s", lanes[l].name);
+    printf("</tr>\n");
+    for (int m = 0; m < r->count; m++) {
+        const struct moment *n = &r->moments[m];
+        if (m == r->cut) printf("<tr><td colspan=%d><b>cut; planned again</b></tr>\n", 6 + LANES);
+        if (n->number == 0) continue;
+        printf("<tr><td>%d<td>%s<td>0x%02X<td>%s<td>%02X<td>%02X", n->number, step_words[n->step], n->address,
+               name_of(n->address), n->before, n->after);
+        for (int l = 0; l < LANES; l++) printf("<td>%s", lanes[l].looks[n->value[l]].word);
+        printf("</tr>\n");
+    }
+    printf("</table></details>\n");
+}
+
+static const char head[] =
+    "<!DOCTYPE html>\n<html lang='en'><head><meta charset='utf-8'><meta name='viewport' content='width=device-width'>\n"
+    "<title>A run, write by write</title>\n<style>\n"
+    "body { font: 15px/1.45 sans-serif; color: #000; background: #fff; max-width: 1160px; margin: 18px auto; padding: 0 16px }\n"
+    "h1 { font-size: 22px; margin: 0 0 6px } h2 { font-size: 17px; margin: 26px 0 4px } p { margin: 4px 0 }\n"
+    "svg { width: 100%; height: auto; display: block } svg text { font: 13px sans-serif }\n"
+    ".in { text-anchor: middle } .lane { text-anchor: end } svg .up { font-size: 11px }\n"
+    "svg .cut { text-anchor: middle; font-weight: bold }\n"
+    "table { border-collapse: collapse; font-size: 13px } td, th { border: 1px solid #999; padding: 1px 6px; text-align: left }\n"
+    "code { font-size: 14px }\n"
+    "</style></head><body>\n"
+    "<svg width='0' height='0' style='position:absolute;width:0;height:0' aria-hidden='true'><defs>\n"
+    "<pattern id='old' width='8' height='8' patternUnits='userSpaceOnUse'><rect width='8' height='8' fill='#fff1d0'/>"
+    "<path d='M-2 10L10 -2M-2 2L2 -2M6 10L10 6' stroke='#b36b00' stroke-width='1.6'/></pattern>\n"
+    "<pattern id='torn' width='10' height='10' patternUnits='userSpaceOnUse'><rect width='10' height='10' fill='#d55e00'/>"
+    "<path d='M0 0L10 10M10 0L0 10' stroke='#000' stroke-width='2.6'/></pattern>\n"
+    "<pattern id='dots' width='6' height='6' patternUnits='userSpaceOnUse'><rect width='6' height='6' fill='#fff'/>"
+    "<circle cx='3' cy='3' r='1.2' fill='#000'/></pattern>\n"
+    "</defs></svg>\n";
+
+/* The looks and what they mean. */
+static void key(void) {
+    static const struct { const struct look *look; const char *says; } looks[] = {
+        { &of_group[OLD], "as before" },      { &of_group[NEW], "as asked" },    { &of_group[NEITHER], "a mix of both" },
+        { &of_picture[1], "nothing shown" },  { &of_picture[2], "shown" },       { &of_hold[1], "the chip uses its copy" },
+    };
+    int x = 1;
+    printf("<svg viewBox='0 0 %d 28' role='img' aria-label='the key'>\n", WIDE);
+    for (size_t k = 0; k < sizeof looks / sizeof looks[0]; k++) {
+        draw_box(x, 64, 3, 22, looks[k].look);
+        printf("<text x='%d' y='18'>%s</text>\n", x + 70, looks[k].says);
+        x += 64 + 30 + LETTER * (int)strlen(looks[k].says);
+    }
+    printf("</svg>\n");
+}
+
+static void say_request(const char *what, const uint8_t *request, size_t length) {
+    char text[TEXT_OF_A_REQUEST], mode[64];
+    printf("<p>%s ", what);
+    if (!words_of_request(request, length, text)) return;
+    text_of_mode(request[1], request[2], mode, sizeof mode);
+    printf("<code>%s</code> (%s)</p>\n", text, mode);
+}
+
+/* ---- The pages. */
+
+static uint32_t plan(const uint8_t *request, size_t length, const struct chip *c, uint8_t *pairs) {
+    struct station_count n = station_plan(request, length, c->image, STATION_IMAGE, pairs, STATION_WRITES);
+    if (n.refusal) {
+        fprintf(stderr, "refused %u: %s\n", (unsigned)n.refusal, station_text(n.refusal));
+        exit(REFUSED);
+    }
+    return n.count;
+}
+
+static struct chip finished(struct chip c, const uint8_t *pairs, uint32_t count) {
+    for (uint32_t w = 0; w < count; w++) chip_write(&c, pairs + 2 * w);
+    return c;
+}
+
+/* Our list cut after so many writes, and the second run; and whether that ends as a run without a cut. */
+static void draw_cut(struct run *r, const struct chip *start, const uint8_t *request, size_t length, const uint8_t *pairs, uint32_t count,
+                     uint32_t writes, const struct sent *old, const struct sent *new) {
+    char of_cut[48];
+    uint8_t again[STATION_WRITES];
+    struct chip end = finished(*start, pairs, count);
+    begin(r, start, old, new);
+    play(r, pairs, count, writes);
+    cut(r);
+    int at_cut = r->cut;
+    uint32_t more = plan(request, length, &r->chip, again);
+    play(r, again, more, more);
+    snprintf(of_cut, sizeof of_cut, "cut after write %u", (unsigned)writes);
+    draw(r, "Our list, cut, and planned again from what the chip then had", of_cut);
+    printf("<p>At the cut: ");
+    say(&r->moments[at_cut]);
+    printf(" The second list has %u writes; after it the registers are %s.</p>\n", (unsigned)more,
+           memcmp(end.image, r->chip.image, STATION_IMAGE) ? "<b>NOT</b> those of a run without a cut" : "those of a run without a cut");
+    table(r);
+}
+
+static void page_of_accident(void) {
+    static struct run r;
+    struct chip none = { { 0 }, { 0 }, { 0 } };
+    uint8_t pairs[STATION_WRITES], old_way[STATION_WRITES];
+    uint32_t count = plan(may_before, sizeof may_before, &none, pairs), cut_at = 0;
+    struct chip start = finished(none, pairs, count);
+    count = plan(may_asked, sizeof may_asked, &start, pairs);
+    struct chip end = finished(start, pairs, count);
+    struct sent old = chip_sent(&start), new = chip_sent(&end);
+    uint32_t registers_of_it = 0;
+    for (int a = FIRST_COEFFICIENT; a <= LAST_COEFFICIENT; a++, registers_of_it++) {
+        old_way[2 * registers_of_it] = (uint8_t)a;
+        old_way[2 * registers_of_it + 1] = end.image[a];
+    }
+    while (cut_at < count && pairs[2 * cut_at] != FIRST_COEFFICIENT + FIVE - 1) cut_at++;
+    cut_at++;
+
+    printf("%s<h1>The accident of last May, and the same change by our list</h1>\n", head);
+    say_request("On show before:", may_before, sizeof may_before);
+    say_request("Asked for:", may_asked, sizeof may_asked);
+    key();
+    begin(&r, &start, &old, &new);
+    play(&r, old_way, registers_of_it, FIVE);
+    cut(&r);
+    look(&r, 4 * REST);
+    draw(&r, "The old way: the new coefficients with no hold and no mute; the host dies after the fifth", "the host dies here");
+    printf("<p>From the cut on, until somebody comes: ");
+    say(&r.moments[r.cut]);
+    printf("</p>\n");
+    draw_cut(&r, &start, may_asked, sizeof may_asked, pairs, count, cut_at, &old, &new);
+    printf("</body></html>\n");
+}
+
+static void take_bytes(const char *word, struct option *o) {
+    o->into = malloc(strlen(word) + 1);
+    if (!o->into) misuse("no memory");
+    o->length = bytes_of_word(word, o->into);
+}
+
+int main(int count, char **words) {
+    static struct run r;
+    struct chip c = { { 0 }, { 0 }, { 0 } };
+    long cut_at = -1;
+    int accident = 0;
+    struct option options[] = {
+        { "--image", take_file, c.image, STATION_IMAGE, 0 },
+        { "--packet", take_file, c.packet, STATION_PACKET, 0 },
+        { "--coefficients", take_file, c.coefficients, STATION_COEFFICIENTS, 0 },
+        { "--before", take_bytes, (void *)may_asked, sizeof may_asked, 0 },
+        { "--cut", take_number, &cut_at, STATION_WRITES, 0 },
+        { "--accident", NULL, &accident, 0, 0 },
+    };
+    enum { BY_IMAGE, BY_PACKET, BY_COEFFICIENTS, BY_BEFORE, BY_CUT, BY_ACCIDENT, OPTIONS };
+    size_t length;
+    uint8_t *request = request_of_command(count, words, help, options, OPTIONS, &length), pairs[STATION_WRITES];
+    if (accident) {
+        if (count > 2) misuse("--accident stands alone");
+        page_of_accident();
+        return ACCEPTED;
+    }
+    if (options[BY_IMAGE].given && options[BY_BEFORE].given) misuse("--image and --before exclude each other");
+    if (!options[BY_IMAGE].given && (options[BY_PACKET].given || options[BY_COEFFICIENTS].given))
+        misuse("a buffer is given, and no --image");
+    uint32_t writes;
+    if (!options[BY_IMAGE].given) {
+        writes = plan(options[BY_BEFORE].into, options[BY_BEFORE].length, &c, pairs);
+        c = finished(c, pairs, writes);
+    }
+    writes = plan(request, length, &c, pairs);
+    if (cut_at > (long)writes) misuse("--cut %ld: the list has %u writes", cut_at, (unsigned)writes);
+    struct chip end = finished(c, pairs, writes);
+    struct sent old = chip_sent(&c), new = chip_sent(&end);
+
+    printf("%s<h1>A run, write by write</h1>\n", head);
+    if (!options[BY_IMAGE].given) say_request("On show before:", options[BY_BEFORE].into, options[BY_BEFORE].length);
+    say_request("Asked for:", request, length);
+    key();
+    begin(&r, &c, &old, &new);
+    play(&r, pairs, writes, writes);
+    draw(&r, "Our list, from the first write to the last", "");
+    table(&r);
+    if (cut_at >= 0) draw_cut(&r, &c, request, length, pairs, writes, (uint32_t)cut_at, &old, &new);
+    printf("</body></html>\n");
+    return ACCEPTED;
+}

@@ -1,0 +1,112 @@
+#include "registers.h"
+#include <stddef.h>
+
+const struct register_words registers[256] = {
+    [0x01] = { "N[19:16]", "N" },
+    [0x02] = { "N[15:8]", "N" },
+    [0x03] = { "N[7:0]", "N" },
+    [0x07] = { "CTS[19:16]", "CTS" },
+    [0x08] = { "CTS[15:8]", "CTS" },
+    [0x09] = { "CTS[7:0]", "CTS" },
+    [0x0A] = { "audio source", "selects, audio mode" },
+    [0x0C] = { "I2S inputs", "I2S enables, format" },
+    [0x15] = { "rate, input ID", "rate, input format" },
+    [0x16] = { "video format", "output" },
+    [0x18] = { "CSC A1 high", "enable, mode, A1" },
+    [0x19] = { "CSC A1 low", "A1" },
+    [0x1A] = { "CSC A2 high", "A2" },
+    [0x1B] = { "CSC A2 low", "A2" },
+    [0x1C] = { "CSC A3 high", "A3" },
+    [0x1D] = { "CSC A3 low", "A3" },
+    [0x1E] = { "CSC A4 high", "A4" },
+    [0x1F] = { "CSC A4 low", "A4" },
+    [0x20] = { "CSC B1 high", "B1" },
+    [0x21] = { "CSC B1 low", "B1" },
+    [0x22] = { "CSC B2 high", "B2" },
+    [0x23] = { "CSC B2 low", "B2" },
+    [0x24] = { "CSC B3 high", "B3" },
+    [0x25] = { "CSC B3 low", "B3" },
+    [0x26] = { "CSC B4 high", "B4" },
+    [0x27] = { "CSC B4 low", "B4" },
+    [0x28] = { "CSC C1 high", "C1" },
+    [0x29] = { "CSC C1 low", "C1" },
+    [0x2A] = { "CSC C2 high", "C2" },
+    [0x2B] = { "CSC C2 low", "C2" },
+    [0x2C] = { "CSC C3 high", "C3" },
+    [0x2D] = { "CSC C3 low", "C3" },
+    [0x2E] = { "CSC C4 high", "C4" },
+    [0x2F] = { "CSC C4 low", "C4" },
+    [0x3B] = { "pixel repetition", "repetition" },
+    [0x3C] = { "VIC", "VIC" },
+    [0x40] = { "GC enable", "GC enable" },
+    [0x44] = { "packet enables", "enables" },
+    [0x4A] = { "packet holds", "auto sum" },
+    [0x4B] = { "general control", "" },
+    [0x52] = { "AVI version", "version" },
+    [0x53] = { "AVI length", "length" },
+    [0x54] = { "AVI checksum", "checksum" },
+    [0x55] = { "AVI byte 1", "Y, A, B, S" },
+    [0x56] = { "AVI byte 2", "C, M, R" },
+    [0x57] = { "AVI byte 3", "ITC, EC, Q, SC" },
+    [0x58] = { "AVI byte 4", "VIC" },
+    [0x59] = { "AVI byte 5", "PR" },
+    [0x5A] = { "AVI byte 6", "bars" },
+    [0x5B] = { "AVI byte 7", "bars" },
+    [0x5C] = { "AVI byte 8", "bars" },
+    [0x5D] = { "AVI byte 9", "bars" },
+    [0x5E] = { "AVI byte 10", "bars" },
+    [0x5F] = { "AVI byte 11", "bars" },
+    [0x60] = { "AVI byte 12", "bars" },
+    [0x61] = { "AVI byte 13", "bars" },
+    [0x70] = { "audio version", "version" },
+    [0x71] = { "audio length", "length" },
+    [0x72] = { "audio checksum", "checksum" },
+    [0x73] = { "audio byte 1", "coding type, CC" },
+    [0x74] = { "audio byte 2", "frequency, size" },
+    [0x75] = { "audio byte 3", "byte 3" },
+    [0x76] = { "audio byte 4", "CA" },
+    [0x77] = { "audio byte 5", "down-mix, level" },
+    [0x78] = { "audio byte 6", "" },
+    [0x79] = { "audio byte 7", "" },
+    [0x7A] = { "audio byte 8", "" },
+    [0x7B] = { "audio byte 9", "" },
+    [0x7C] = { "audio byte 10", "" },
+    [0x98] = { "fixed", "" },
+    [0x9A] = { "fixed", "" },
+    [0x9C] = { "fixed", "" },
+    [0x9D] = { "fixed", "" },
+    [0xA2] = { "fixed", "" },
+    [0xA3] = { "fixed", "" },
+    [0xAF] = { "HDMI/DVI mode", "HDMI/DVI" },
+    [0xE0] = { "fixed", "" },
+    [0xF9] = { "fixed address", "" },
+};
+
+const char *const step_words[STEPS] = {
+    [TO_MUTE] = "mute",
+    [TO_FIX] = "fixed",
+    [TO_MATRIX] = "matrix",
+    [TO_AVI] = "AVI",
+    [TO_AUDIO] = "audio",
+    [TO_OTHERS] = "others",
+    [TO_OPEN] = "open",
+};
+
+/* The steps by their addresses; a register of none is one of the others. */
+static const struct { uint8_t first, last; enum step step; } places[] = {
+    { 0x18, 0x2F, TO_MATRIX }, { 0x4B, 0x4B, TO_MUTE },   { 0x52, 0x61, TO_AVI }, { 0x70, 0x7C, TO_AUDIO },
+    { 0x98, 0x9D, TO_FIX },    { 0xA2, 0xA3, TO_FIX },    { 0xE0, 0xE0, TO_FIX }, { 0xF9, 0xF9, TO_FIX },
+};
+
+/* A hold belongs to what it holds: where it goes up, to the step after it, and where it goes down, to the step before it. */
+enum { HOLDS = 0x4A, UP = 0x60 };
+
+enum step step_of(const uint8_t *pairs, uint32_t count, uint32_t write) {
+    uint8_t address = pairs[2 * write];
+    if (address == HOLDS && (pairs[2 * write + 1] & UP) && write + 1 < count) return step_of(pairs, count, write + 1);
+    if (address == HOLDS && write > 0) return step_of(pairs, count, write - 1);
+    for (size_t p = 0; p < sizeof places / sizeof places[0]; p++)
+        if (address >= places[p].first && address <= places[p].last)
+            return places[p].step == TO_MUTE && write + 1 == count ? TO_OPEN : places[p].step;
+    return TO_OTHERS;
+}

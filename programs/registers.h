@@ -1,0 +1,16 @@
+/* The registers that a write list writes, in words. */
+#ifndef REGISTERS_H
+#define REGISTERS_H
+
+#include <stdint.h>
+
+/* The name of each, and its named fields; NULL for a register of no list. Source document 000, section 5. */
+struct register_words { const char *name, *fields; };
+extern const struct register_words registers[256];
+
+/* The steps of a list, in their order but for AVI and audio, which may change places. */
+enum step { TO_MUTE, TO_FIX, TO_MATRIX, TO_AVI, TO_AUDIO, TO_OTHERS, TO_OPEN, STEPS };
+extern const char *const step_words[STEPS];
+enum step step_of(const uint8_t *pairs, uint32_t count, uint32_t write);        /* `write` is counted from 0 */
+
+#endif
