@@ -1,4 +1,5 @@
--- Document 01, "What the station's library does": the numbers of the line that the small program prints of an input.
+-- Document 01, "What the station's library does": the numbers of the line that the small program prints of an input. `Lines` ties the
+-- refusals to document 01's rows, `MarkedCases` (promises) the numbers to its example.
 use mathlib.Core.Path.{_≡_}
 use mathlib.Core.List.{List}
 use Prim.Native.Nat.{ℕ, _<_}

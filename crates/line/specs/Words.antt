@@ -1,4 +1,5 @@
--- Document 01, "What the station's library does": the line that the small program prints, as bytes.
+-- Document 01, "What the station's library does": the line that the small program prints, as bytes. `Numeral` ties `decimal` to the number,
+-- `MarkedCases` (promises) the text to the document's two lines.
 use mathlib.Core.Path.{_≡_}
 use mathlib.Core.Bool.{cond}
 use mathlib.Core.List.{List, [], _∷_, _++_, map}

@@ -1,4 +1,5 @@
--- Document 01, "The request" (Matrix) and "Matrix": CSC mode, then A1 to A4, B1 to B4, C1 to C4.
+-- Document 01, "The request" (Matrix) and "Matrix": CSC mode, then A1 to A4, B1 to B4, C1 to C4. The code reads a body by `isAllowed` and
+-- `fields`; `Numbers` ties both to the document's words, `Allowed` and `numberAt`.
 use mathlib.Core.Path.{_≡_}
 use mathlib.Core.Logic.{_↔_}
 use mathlib.Core.Bool.{Bool, true, cond, _&&_}

@@ -1,4 +1,5 @@
--- Document 01, "Matrix": the preview.
+-- Document 01, "Matrix": the preview. `previewOf` follows the code: `PreviewRefusals` ties its refusals to document 01's rows, and
+-- `RoundedDown` and `Clamped` its codes, which are the formula (`rounded`, `held`).
 use mathlib.Core.Path.{_≡_}
 use mathlib.Core.Bool.{Bool, cond, _||_, not}
 use mathlib.Core.Logic.{_⊎_, _≢_}
@@ -46,7 +47,7 @@ previewTests body a b c = fieldOutOfRange if not (isAllowed body) ∷ inputAbove
 abbrev pub noPixel : ℕ → Pixel
 noPixel number = record { refusal = number; a = 0; b = 0; c = 0 }
 
--- what the preview answers; `PreviewRefusals` ties its refusals to document 01's rows, `RoundedDown` and `Clamped` its codes
+-- what the preview answers
 unfoldable pub previewOf : List ℕ → ℕ → ℕ → ℕ → Pixel
 previewOf body a b c =
     answer (lowest (previewTests body a b c)) noPixel

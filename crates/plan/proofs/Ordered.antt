@@ -20,7 +20,8 @@ use Rattle.chip.specs.Machine.{up, avi, audio, gc, packets, holdsOf}
 use Rattle.writes.specs.List.{ready}
 use Rattle.refusals.proofs.Tests.{Decided, lowest-given, numbered}
 use Rattle.plan.specs.declared.Planned.{Planned}
-use Rattle.plan.specs.Plan.{HoldsUp, planRules, nothing, laterTests, laterRefusal, planWith, bufferWith, planOf, planBuffer, PlanRefusals}
+use Rattle.plan.specs.Plan.{nothing, laterTests, laterRefusal, planWith, bufferWith, planOf, planBuffer}
+use Rattle.plan.specs.Rules.{HoldsUp, planRules, PlanRefusals}
 use Rattle.refusals.proofs.Again.{again, past}
 
 -- row 8

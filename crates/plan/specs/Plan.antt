@@ -1,34 +1,17 @@
--- Document 01, "Refusal numbers" (planning checks 1 to 10) and "The write list": what planning answers, and what it leaves in the buffer.
+-- What planning answers and leaves in the buffer, as the code makes it. `PlanRefusals` (Rules) ties the refusals to document 01's rows,
+-- `Demand2.listed` (promises) the count and the buffer to the list, `ExactlyWhen` (decode) `standsIn`.
 use mathlib.Core.Path.{_≡_}
-use mathlib.Core.Logic.{_≢_, _⊎_}
-use mathlib.Core.Bool.{Bool, true, not, _&&_}
-use mathlib.Core.List.{List, [], _∷_, _++_}
-use Prim.Native.Nat.{ℕ, _<_}
+use mathlib.Core.Bool.{Bool, not, _&&_}
+use mathlib.Core.List.{List, [], _∷_}
+use Prim.Native.Nat.{ℕ}
 use lib.Dec.{eqb, ltb}
 use lib.ListN.{length}
-use Rattle.refusals.specs.Rows.{imageLength, holdsUp, noExactPair, bufferShort, Condition, _when_, Given, Test, _if_, lowest, answer}
+use Rattle.refusals.specs.Rows.{imageLength, holdsUp, noExactPair, bufferShort, Test, _if_, lowest, answer}
 use Rattle.request.specs.declared.Request.{Request}
-use Rattle.request.specs.Sections.{walked}
-use Rattle.request.specs.Request.{readRules, NoPair}
 use Rattle.request.specs.Read.{readOf, pairFor}
-use Rattle.chip.specs.Machine.{up, avi, audio, gc, packets, holdsOf}
 use Rattle.writes.specs.List.{writeList, fronted, standsBelow, ready}
 use Rattle.plan.specs.declared.Planned.{Planned}
 use Rattle.plan.specs.Wanted.{wanted}
-
--- row 8, "GC hold up, or AVI and audio holds both up"
-abbrev pub HoldsUp : List ℕ → Type 0
-HoldsUp image =
-    (up gc (holdsOf packets image) ≡ true) ⊎ ((up avi (holdsOf packets image) ≡ true) × (up audio (holdsOf packets image) ≡ true))
-
--- "Planning checks 1 to 10", on the request, the image and the buffer as they are lent
-abbrev pub planRules : List ℕ → List ℕ → List ℕ → List Condition
-planRules input image buffer =
-    readRules (walked input) ++
-    imageLength when (length image ≢ 256) ∷
-    holdsUp when HoldsUp image ∷
-    noExactPair when NoPair (walked input) ∷
-    bufferShort when (length buffer < 256) ∷ []
 
 -- rows 7 to 10 as the code tests them, for a request that was read
 abbrev pub laterTests : Request → List ℕ → List ℕ → List Test
@@ -71,9 +54,3 @@ unfoldable pub standsIn : List ℕ → List ℕ → Bool
 standsIn input image =
     let r : Request = readOf input .request in
     eqb (readOf input .refusal) 0 && eqb (length image) 256 && eqb (pairFor r .refusal) 0 && standsBelow (wanted r) image 256
-
--- "the lowest that applies is given, and none is given otherwise. Each returns its number and count 0 and changes no lent byte."
-pub record PlanRefusals (input image buffer : List ℕ) : Type 0 where
-  pub given : Given (planRules input image buffer) (planOf input image buffer .refusal)
-  pub count : planOf input image buffer .refusal ≢ 0 → planOf input image buffer .count ≡ 0
-  pub kept : planOf input image buffer .refusal ≢ 0 → planBuffer input image buffer ≡ buffer

@@ -1,4 +1,5 @@
--- Document 01, "Register classes" and the sections it draws on: the byte that a request wants in each register. Only its named bits count.
+-- The byte that a request wants in each register, as the code makes it; only its named bits count. `Demand2.fields` (promises) ties them to
+-- document 01's fields and numbers, `places`; that these are all the named bits is `AllNamed`.
 use mathlib.Core.Path.{_≡_}
 use mathlib.Core.Logic.{_≢_, _⊎_}
 use mathlib.Core.Bool.{cond}

@@ -16,7 +16,7 @@ use Rattle.request.specs.Theorems.{Rows}
 use Rattle.line.specs.Line.{lineOf}
 use Rattle.chip.specs.declared.Chip.{Chip}
 use Rattle.views.specs.Theorems.{ViewRefusals, WriteRefusals, MatrixRefusals}
-use Rattle.plan.specs.Plan.{PlanRefusals}
+use Rattle.plan.specs.Rules.{PlanRefusals}
 use Rattle.decode.specs.Theorems.{Refusals}
 use Rattle.station.specs.declared.CountOut.{CountOut}
 use Rattle.station.specs.declared.PairOut.{PairOut}

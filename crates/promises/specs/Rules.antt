@@ -13,7 +13,8 @@ use Rattle.request.specs.Read.{readOf, nctsOf}
 use Rattle.request.specs.Bytes.{asBytes}
 use Rattle.plan.specs.Wanted.{wanted}
 use Rattle.writes.specs.List.{writeList, flat, finishedImage}
-use Rattle.plan.specs.Plan.{planRules, planOf, planBuffer}
+use Rattle.plan.specs.Plan.{planOf, planBuffer}
+use Rattle.plan.specs.Rules.{planRules}
 use Rattle.decode.specs.Ends.{Acceptable}
 use Rattle.decode.specs.Theorems.{Answered}
 use Rattle.cut.specs.Run.{run}

@@ -1,4 +1,5 @@
--- Document 01, "N and CTS": "Each clock ratio is brought to lowest terms by Euclid's rule, each call on a smaller remainder."
+-- Document 01, "N and CTS": "Each clock ratio is brought to lowest terms by Euclid's rule, each call on a smaller remainder." `Lowest` is
+-- to be believed; `steps` follows the code, and `LowestTerms` ties it to `Lowest`.
 use mathlib.Core.Path.{_≡_}
 use Prim.Native.Nat.{ℕ, zero, suc, _*_, _/_, _%_, _<_, _∣_}
 use Rattle.ratio.specs.declared.Ratio.{Ratio}
@@ -14,7 +15,7 @@ pub record Reduces (num den : ℕ) (r : Ratio) : Type 0 where
   pub none : den ≡ 0 → (r .u ≡ 0) × (r .v ≡ 0)
 
 -- Euclid's rule, by which definitions compute: the divisor of (a, 0) is a, and that of (a, b) is that of (b, a % b). At most b steps are
--- taken. `LowestTerms` says that any other way finds the same.
+-- taken; any other way finds the same.
 unfoldable pub steps : ℕ → ℕ → ℕ → ℕ
 steps zero a b = a
 steps (suc n) a zero = a

@@ -1,5 +1,5 @@
 -- Document 01, "Register classes": the class of each bit of the 256 registers of the main map, and the table's rule.
--- The register map (section 5) and Table 14 of source document 000 fill it.
+-- The register map (section 5) and Table 14 of source document 000 fill it, by `byPrecedence`. `registers::rule` is `Rule` of each row.
 use mathlib.Core.Path.{_≡_}
 use mathlib.Core.List.{List, [], _∷_}
 use Prim.Native.Nat.{ℕ, zero, suc, _+_, _<_, _≤_}

@@ -1,4 +1,5 @@
--- Document 01, "Register classes": the fields that are named, in the order of its sentence "Named: N, CTS, ..".
+-- Document 01, "Register classes": the fields that are named, in the order of its sentence "Named: N, CTS, ..". `registers::fields` says
+-- that the class table names their bits, and `AllNamed` (promises) that the document's places cover these and no others.
 use mathlib.Core.Bool.{cond}
 use mathlib.Core.List.{List, [], _∷_, _++_}
 use Prim.Native.Nat.{ℕ, zero, suc, _+_}

@@ -1,4 +1,5 @@
--- Document 01, "The write list": the registers of the two steps that are no run of addresses.
+-- Document 01, "The write list": the registers of the two steps that are no run of addresses. `registers::table14` says that the first are
+-- Table 14's, `registers::others` that the second are the named ones in no other step.
 use mathlib.Core.Bool.{Bool, not, _&&_, _||_}
 use mathlib.Core.List.{List, [], _∷_}
 use Prim.Native.Nat.{ℕ, _+_}

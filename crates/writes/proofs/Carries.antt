@@ -70,17 +70,17 @@ module _ (a : ℕ) (h : a < 256) (old wanted x : ℕ) where
   entry-decided = asked-law (part (var 7) merged) (part (var 7) (var 8)) refl
 
 -- what holds of every step: its register, that it says no more than it decides, and one of the two holds at most
-abbrev fits : Step → Bool
+abbrev pub fits : Step → Bool
 fits i =
     ltb (i .register) 256 && (eqb (under (decided (i .register)) (i .raised)) (i .raised) && ltb (bit 6 (i .raised) + bit 5 (i .raised)) 2)
 
-every-step : (b : Bool) → every fits (steps (middle b)) ≡ true
+pub every-step : (b : Bool) → every fits (steps (middle b)) ≡ true
 unfolding middle decided merge
 every-step true = refl
 every-step false = refl
 
 module _ (want : ℕ → ℕ) (image : List ℕ) where
-  entry : (i : Step) → fits i ≡ true → Entry want image i (written want image i)
+  pub entry : (i : Step) → fits i ≡ true → Entry want image i (written want image i)
   unfolding written decided
   entry i t =
       let a : ℕ = i .register in

@@ -1,4 +1,5 @@
--- The list as the code has it: two columns of the steps, three of the registers. proofs/Columns ties them to `written` and `finished`.
+-- The columns of the code: two of the steps, three of the registers. No theorem speaks of them: `Lists` and `standsWhole`, the contracts of
+-- `write_list` and `stands`, speak of `written` and `finished`, to which proofs/Columns ties them.
 use mathlib.Core.Bool.{false, cond}
 use mathlib.Core.List.{List, map}
 use Prim.Native.Nat.{ℕ}

@@ -1,4 +1,5 @@
--- Document 01, "The write list". `want a` is the byte whose named bits are wanted in register a.
+-- Document 01, "The write list": the list and the finished image, as the code makes them; `want a` is the byte whose named bits are wanted
+-- in register a. `Order` and `Entries` tie the list to the document's words, `Demand3.registers` (cut) and `BitByBit` (decode) the image.
 use mathlib.Core.Path.{_≡_}
 use mathlib.Core.Bool.{Bool, true, cond, not, _&&_, _||_}
 use mathlib.Core.List.{List, [], _∷_, _++_, map}

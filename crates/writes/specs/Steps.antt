@@ -1,4 +1,5 @@
--- Document 01, "The write list": the steps, in order. That their registers are those that the document lists, in its order, is `Order`.
+-- Document 01, "The write list": the steps, as the code has them. `Order` ties them to the document's words: `order` their registers and
+-- the order, `holds` what they raise.
 use mathlib.Core.Bool.{Bool, cond}
 use mathlib.Core.List.{List, [], _∷_, _++_}
 use Prim.Native.Nat.{ℕ, zero, suc, _+_, _-_}
