@@ -85,34 +85,28 @@ static void show_request(const char *what, const uint8_t *request, size_t length
 
 /* ---- The host. */
 
+static void take_name(const char *word, struct option *o) { *(const char **)o->into = word; }
+
 int main(int count, char **words) {
     static const uint8_t usual[] = { 4, 16, 0, 1, 1, 3, 2, 8, 1, 25, 1, 0x0C, 0x53, 0x08, 0x00, 0x00, 0x00, 0xF9, 0xD6, 0xFC, 0x56, 0x08,
                                      0x00, 0xFE, 0x88, 0x02, 0x91, 0xFF, 0xFF, 0x08, 0x00, 0x0E, 0x85, 0xF8, 0xBE };
-    uint8_t image[STATION_IMAGE], list[STATION_WRITES], back[STATION_REQUEST];
+    uint8_t request[STATION_REQUEST], image[STATION_IMAGE], list[STATION_WRITES], back[STATION_REQUEST];
     const char *file = NULL;
-    size_t length = 0, letters = 0;
+    size_t length;
     long cut = -1;
     int brief = 0;
+    struct option options[] = {
+        { "--chip", take_name, &file, 0, 0 },
+        { "--cut", take_number, &cut, STATION_WRITES / 2, 0 },
+        { "--brief", NULL, &brief, 0, 0 },
+    };
     setvbuf(stdout, NULL, _IOLBF, 0);                       /* what was said before a kill is seen */
-    for (int i = 1; i < count; i++) {
-        if (!strcmp(words[i], "--help")) return printf("%s", help) < 0;
-        letters += strlen(words[i]);
-    }
-    uint8_t *request = malloc(letters + sizeof usual);
-    if (!request) misuse("no memory");
-    for (int i = 1; i < count; i++) {
-        if (!strcmp(words[i], "--brief")) brief = 1;
-        else if (!strcmp(words[i], "--chip") && !file && i + 1 < count) file = words[++i];
-        else if (!strcmp(words[i], "--cut") && cut < 0 && i + 1 < count) {
-            const char *number = words[++i];
-            if (!*number || strlen(number) > 3 || number[strspn(number, "0123456789")]) misuse("--cut %s: no number of a write", number);
-            cut = atol(number);
-        } else if (words[i][0] == '-') misuse("%s is no option, or it is there twice or has nothing after it", words[i]);
-        else length += bytes_of_word(words[i], request + length);
-    }
+    uint8_t *given = request_of_command(count, words, help, options, sizeof options / sizeof options[0], &length);
     if (!file) misuse("--chip FILE is missing");
-    if (length > STATION_REQUEST) misuse("%u bytes, and the longest request has %u", (unsigned)length, STATION_REQUEST);
-    if (length == 0) memcpy(request, usual, length = sizeof usual);
+    if (length > sizeof request) misuse("%u bytes, and the longest request has %u", (unsigned)length, STATION_REQUEST);
+    memcpy(request, length ? given : usual, length ? length : sizeof usual);
+    if (length == 0) length = sizeof usual;
+    free(given);
     open_chip(file);
 
     /* Read back, ask the library, and keep the list until the last write or the first that fails. */
