@@ -19,7 +19,7 @@ pub struct StateOut {
     pub mute: u32,
 }
 
-// struct station_class
+// struct station_masks
 #[repr(C)]
 pub struct ClassOut {
     pub read_only: u32,
