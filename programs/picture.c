@@ -387,7 +387,7 @@ int main(int count, char **words) {
     if (accident) {
         if (count > 2) misuse("--accident stands alone");
         page_of_accident();
-        return ACCEPTED;
+        return printed(ACCEPTED);
     }
     if (options[BY_IMAGE].given && options[BY_BEFORE].given) misuse("--image and --before exclude each other");
     if (!options[BY_IMAGE].given && (options[BY_PACKET].given || options[BY_COEFFICIENTS].given))
@@ -412,5 +412,5 @@ int main(int count, char **words) {
     table(&r);
     if (cut_at >= 0) draw_cut(&r, &c, request, length, pairs, writes, (uint32_t)cut_at, &old, &new);
     printf("</body></html>\n");
-    return ACCEPTED;
+    return printed(ACCEPTED);
 }

@@ -60,12 +60,12 @@ int main(int count, char **words) {
         explain_request(stdout, request, length);
         int status = tell(stdout, station_ncts(request, length), 1);
         free(request);
-        return status;
+        return printed(status);
     }
     if (words[1][0] == '-') misuse("%.80s is no option", words[1]);
     uint8_t request[STATION_REQUEST];
     size_t length = request_of_words(count - 1, words + 1, request);
     for (size_t i = 0; i < length; i++) printf("%s%02x", i ? " " : "", request[i]);
     printf("\n");
-    return tell(stderr, station_ncts(request, length), 0);
+    return printed(tell(stderr, station_ncts(request, length), 0));
 }

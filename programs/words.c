@@ -17,6 +17,11 @@ void misuse(const char *format, ...) {
     exit(MISUSE);
 }
 
+int printed(int status) {
+    if (fflush(stdout) || ferror(stdout)) misuse("the output cannot be written");
+    return status;
+}
+
 int hex_digit(int c) {
     static const char digits[] = "0123456789abcdef0123456789ABCDEF";
     const char *at = c ? strchr(digits, c) : NULL;

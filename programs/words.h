@@ -10,6 +10,9 @@ enum { ACCEPTED = 0, REFUSED = 1, MISUSE = 2 };
 extern const char *program;     /* its name, for that line */
 void misuse(const char *format, ...);
 
+/* The status, where all that was printed is written; a misuse where it is not, on a full disk say. */
+int printed(int status);
+
 /* The value of a hex digit, or -1. */
 int hex_digit(int c);
 
