@@ -203,7 +203,8 @@ fn ends_in(q: Request, family: u8, image: &[u8]) -> bool
 // In one of its families.
 fn ends(q: Request, image: &[u8]) -> bool
     requires { ⌜ ((i : ℕ) → getD (q .matrix .coefficients) i 0 < 8192) ⌝ }
-    ensures { λ r. ⌜ r ≡ (standsIn (asBytes (inFamily 0 q)) (now (image .entry)) || standsIn (asBytes (inFamily 1 q)) (now (image .entry))) ⌝ }
+    ensures { λ r. ⌜ r ≡ (standsIn (asBytes (inFamily 0 q)) (now (image .entry))
+        || standsIn (asBytes (inFamily 1 q)) (now (image .entry))) ⌝ }
 {
     if ends_in(q, 0, image) {
         return true;

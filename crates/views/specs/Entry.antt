@@ -1,5 +1,5 @@
--- A write over the slices that the host lends, as the code does it. `WriteRefusals` and `Entered` (Theorems) tie it to document 01, "The chip
--- machine".
+-- A write over the slices that the host lends, as the code does it. `WriteRefusals` and `Entered` (Theorems) tie it to document 01,
+-- "The chip machine".
 use mathlib.Core.Path.{_≡_}
 use mathlib.Core.Bool.{Bool, cond, not, _&&_}
 use mathlib.Core.List.{List}
