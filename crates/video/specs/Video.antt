@@ -1,9 +1,13 @@
 -- Document 01, "The request": the video section. A later byte of it is a field here.
 use mathlib.Core.Path.{_≡_}
+use mathlib.Core.Logic.{_≢_, _⊎_}
+use mathlib.Core.Bool.{Bool, true, false, not, _&&_, _||_}
 use mathlib.Core.List.{List, [], _∷_}
-use Prim.Native.Nat.{ℕ}
+use Prim.Native.Nat.{ℕ, _<_}
+use lib.Dec.{eqb, ltb}
 use lib.ListN.{getD, length}
 use Rattle.video.specs.declared.Video.{Video}
+use Rattle.video.specs.Modes.{offered}
 
 -- "Video, count 4: VIC; family ..; encoding ..; link .."
 abbrev pub videoCount : ℕ
@@ -33,3 +37,23 @@ pub record Body : Type 0 where
   pub counted : (v : Video) → length (videoBody v) ≡ videoCount
   pub back : (v : Video) → videoIn (videoBody v) ≡ v
   pub whole : (body : List ℕ) → length body ≡ videoCount → videoBody (videoIn body) ≡ body
+
+-- row 5, of this section: "any other field outside its range". The VIC and the family are row 4's (`offered`, Modes).
+abbrev pub VideoOutside : Video → Type 0
+VideoOutside v = (2 < v .encoding) ⊎ (1 < v .link)
+
+-- row 6, of this section alone: "DVI .. with encoding not 0"
+abbrev pub VideoCombined : Video → Type 0
+VideoCombined v = (v .link ≡ 0) × (v .encoding ≢ 0)
+
+-- the tests that decide them
+unfoldable pub videoOutside : Video → Bool
+videoOutside v = ltb 2 (v .encoding) || ltb 1 (v .link)
+
+unfoldable pub videoCombined : Video → Bool
+videoCombined v = eqb (v .link) 0 && not (eqb (v .encoding) 0)
+
+-- what is known of the video of an accepted request
+pub record VideoFits (v : Video) : Type 0 where
+  pub offered : offered v ≡ true
+  pub inside : videoOutside v ≡ false

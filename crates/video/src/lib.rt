@@ -1,8 +1,10 @@
 // The video section of a request and the listed modes: document 01, "The request" and "Modes and clocks".
 ghost use mathlib.Core.Path.{_≡_};
-ghost use lib.ListN.{getD};
 ghost use Rattle.video.specs.Modes.{mode, modeOf};
-ghost use Rattle.video.specs.Video.{videoIn, videoBody, noVideo, Body};
+ghost use Rattle.video.specs.Video.{videoIn, videoBody, noVideo, inFamily, videoOutside, videoCombined, Body};
+
+// The count of the video section.
+pub const VIDEO_COUNT: u8 = 4;
 
 // What the video section asks for.
 pub struct Video {
@@ -58,24 +60,14 @@ pub fn mode_of(vic: u8) -> Mode
     }
 }
 
-// A byte of a slice; 0 past its end.
-fn byte_at(s: &[u8], i: usize) -> u8
-    ensures { λ r. ⌜ r ≡ getD (now (s .entry)) i 0 ⌝ }
-{
-    if s.len() <= i {
-        return 0;
-    }
-    s[i]
-}
-
 // What a body asks for.
 pub fn video_in(body: &[u8]) -> Video
     ensures { λ r. ⌜ r ≡ videoIn (now (body .entry)) ⌝ }
 {
-    let vic = byte_at(body, 0);
-    let family = byte_at(body, 1);
-    let encoding = byte_at(body, 2);
-    let link = byte_at(body, 3);
+    let vic = lists::byte_at(body, 0);
+    let family = lists::byte_at(body, 1);
+    let encoding = lists::byte_at(body, 2);
+    let link = lists::byte_at(body, 3);
     Video {
         vic: vic,
         family: family,
@@ -85,7 +77,7 @@ pub fn video_in(body: &[u8]) -> Video
 }
 
 // The body that asks for it.
-pub fn video_body(v: Video) -> [u8; 4]
+pub fn video_body(v: Video) -> [u8; VIDEO_COUNT as usize]
     ensures { λ r. ⌜ r ≡ videoBody v ⌝ }
 {
     [v.vic, v.family, v.encoding, v.link]
@@ -101,6 +93,32 @@ pub fn no_video() -> Video
         encoding: 0,
         link: 0,
     }
+}
+
+// The same in another family.
+pub fn in_family(v: Video, family: u8) -> Video
+    ensures { λ r. ⌜ r ≡ inFamily family v ⌝ }
+{
+    Video {
+        vic: v.vic,
+        family: family,
+        encoding: v.encoding,
+        link: v.link,
+    }
+}
+
+// Row 5: a field outside its range.
+pub fn outside(v: Video) -> bool
+    ensures { λ r. ⌜ r ≡ videoOutside v ⌝ }
+{
+    (2 < v.encoding) | (1 < v.link)
+}
+
+// Row 6, of this section alone.
+pub fn combined(v: Video) -> bool
+    ensures { λ r. ⌜ r ≡ videoCombined v ⌝ }
+{
+    (v.link == 0) & (v.encoding != 0)
 }
 
 // A body and what it asks for say the same.

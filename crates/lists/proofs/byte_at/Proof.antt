@@ -1,9 +1,9 @@
--- `video::byte_at` meets its contract. Assumes nothing.
+-- `lists::byte_at` meets its contract. Assumes nothing.
 use mathlib.Core.Path.{sym}
 use lib.ListN.{List·getD-eq-default}
 use borrow.Author.Needs.{needs}
-use Rattle.video.proofs.byte_at.Statement.{statement}
-use Rattle.video.proofs.byte_at.Tie as tie
+use Rattle.lists.proofs.byte_at.Statement.{statement}
+use Rattle.lists.proofs.byte_at.Tie as tie
 
 returns : tie.Need-returns
 returns c = sym (List·getD-eq-default (c .before .args .s .now) 0 (c .if1 .taken))

@@ -1,0 +1,65 @@
+-- What the tests of a video decide, and what they say of each field of one that is accepted. Assumes nothing.
+use mathlib.Core.Path.{_≡_, refl}
+use mathlib.Core.Logic.{_≢_}
+use mathlib.Core.Bool.{Bool, true, false, cond, _&&_}
+use mathlib.Core.List.{List, [], _∷_}
+use Prim.Native.Nat.{ℕ, _<_, _≤_}
+use native.Mathlib.Omega.{arith}
+use lib.Dec.{eqb, ltb, leb}
+use borrow.Author.Tests.{eqb-true, ltb-true, ltb-false, leb-true}
+use Rattle.lists.specs.Find.{every}
+use Rattle.lists.proofs.Both.{both-left, both-right, neither-left, neither-right}
+use Rattle.lists.proofs.Decides.{Decides, equal, less, opposite, either, together}
+use Rattle.video.specs.declared.Mode.{Mode}
+use Rattle.video.specs.declared.Video.{Video}
+use Rattle.video.specs.Modes.{modes, rowOf, modeOf, offered}
+use Rattle.video.specs.Video.{VideoOutside, VideoCombined, videoOutside, videoCombined, VideoFits}
+
+pub is-outside : (v : Video) → Decides (videoOutside v) (VideoOutside v)
+unfolding videoOutside
+is-outside v = either (less 2 (v .encoding)) (less 1 (v .link))
+
+pub is-combined : (v : Video) → Decides (videoCombined v) (VideoCombined v)
+unfolding videoCombined
+is-combined v = together (equal (v .link) 0) (opposite (equal (v .encoding) 0))
+
+-- ---- a mode that is offered is one of the table's
+
+abbrev small : Mode → Bool
+small m = ltb (m .vic) 64 && leb (m .families) 2
+
+row-small : (vic family : ℕ) (ms : List Mode) → every small ms ≡ true → family < rowOf vic ms .families → (vic < 64) × (family < 2)
+row-small vic family [] t h = absurd (omega arith)
+row-small vic family (m ∷ ms) t h =
+    go (eqb (m .vic) vic) refl (both-left (small m) (every small ms) t) h (row-small vic family ms (both-right (small m) (every small ms) t))
+  where
+    go : (b : Bool) → eqb (m .vic) vic ≡ b → small m ≡ true → family < cond b m (rowOf vic ms) .families
+        → (family < rowOf vic ms .families → (vic < 64) × (family < 2)) → (vic < 64) × (family < 2)
+    go true e s l ih =
+        let v : m .vic < 64 = ltb-true _ _ (both-left _ (leb (m .families) 2) s) in
+        let f : m .families ≤ 2 = leb-true _ _ (both-right (ltb (m .vic) 64) _ s) in
+        let q : m .vic ≡ vic = eqb-true _ _ e in
+        (omega arith, omega arith)
+    go false e s l ih = ih l
+
+module _ (v : Video) (f : VideoFits v) where
+  in-table : (v .vic < 64) × (v .family < 2)
+  unfolding modeOf
+  in-table = row-small (v .vic) (v .family) modes refl (ltb-true (v .family) (rowOf (v .vic) modes .families) (f .offered))
+
+  pub vic-small : v .vic < 64
+  vic-small = in-table .0
+
+  pub family-small : v .family < 2
+  family-small = in-table .1
+
+  pub is-listed : modeOf (v .vic) .families ≢ 0
+  is-listed e = omega (arith, ltb-true (v .family) (modeOf (v .vic) .families) (f .offered))
+
+  pub encoding-fits : v .encoding ≤ 2
+  unfolding videoOutside
+  encoding-fits = ltb-false 2 (v .encoding) (neither-left (ltb 2 (v .encoding)) (ltb 1 (v .link)) (f .inside))
+
+  pub link-fits : v .link ≤ 1
+  unfolding videoOutside
+  link-fits = ltb-false 1 (v .link) (neither-right (ltb 2 (v .encoding)) (ltb 1 (v .link)) (f .inside))

@@ -1,0 +1,12 @@
+-- `video::combined` meets its contract. Assumes nothing.
+use borrow.Author.Needs.{needs}
+use Rattle.video.specs.Video.{videoCombined}
+use Rattle.video.proofs.combined.Statement.{statement}
+use Rattle.video.proofs.combined.Tie as tie
+
+returns : tie.Need-returns
+unfolding videoCombined
+returns c = search needs
+
+pub combined-spec : {M : Type 1} → statement M
+combined-spec = tie.close (tie.spec returns)
