@@ -1,6 +1,5 @@
 pub mod Stored
 pub mod Frame
-pub mod Accepted
 pub mod Answer
 pub mod Fine
 pub mod Ordered

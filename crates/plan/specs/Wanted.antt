@@ -1,15 +1,12 @@
 -- The byte that a request wants in each register, as the code makes it; only its named bits count. `Demand2.fields` (promises) ties them to
 -- document 01's fields and numbers, `places`; that these are all the named bits is `AllNamed`.
-use mathlib.Core.Path.{_≡_}
-use mathlib.Core.Logic.{_≢_, _⊎_}
 use mathlib.Core.Bool.{cond}
 use mathlib.Core.List.{List, [], _∷_, _++_}
-use Prim.Native.Nat.{ℕ, zero, suc, _+_, _*_, _/_, _%_, _^_, _<_, _≤_}
+use Prim.Native.Nat.{ℕ, zero, suc, _+_, _*_, _/_, _%_, _^_}
 use lib.Dec.{eqb}
 use lib.ListN.{getD, set, drop, replicate}
 use Rattle.map.specs.Map as reg
 use Rattle.clock.specs.declared.Pair.{Pair}
-use Rattle.video.specs.Modes.{modeOf}
 use Rattle.matrix.specs.declared.Matrix.{Matrix}
 use Rattle.frames.specs.Frames.{aviFrame, audioFrame, audioOffFrame}
 use Rattle.chip.specs.Machine.{Write, _gets_}
@@ -114,20 +111,3 @@ wantedImage r = stores (replicate 256 0) (wantedBytes r)
 
 unfoldable pub wanted : Request → ℕ → ℕ
 wanted r a = getD (wantedImage r) a 0
-
--- what holds of each field of an accepted request
-abbrev pub SoundFits : Sound → Type 0
-SoundFits Off = Unit
-SoundFits (On rate channels coherent) = (rate ≤ 6) × ((channels ≡ 2) ⊎ (channels ≡ 8)) × (coherent ≤ 1)
-
-pub record MatrixFits (m : Matrix) : Type 0 where
-  pub on : m .on ≤ 1
-  pub mode : m .mode ≤ 2
-  pub coefficients : (i : ℕ) → getD (m .coefficients) i 0 < 8192
-
-pub record Fits (r : Request) : Type 0 where
-  pub vic : modeOf (r .video .vic) .families ≢ 0
-  pub encoding : r .video .encoding ≤ 2
-  pub link : r .video .link ≤ 1
-  pub sound : SoundFits (r .sound)
-  pub matrix : MatrixFits (r .matrix)

@@ -1,19 +1,20 @@
 // Planning: from a request and a register image to the write list. Document 01, "The write list".
 ghost use mathlib.Core.Path.{_≡_};
-ghost use mathlib.Core.Logic.{_≢_};
 ghost use mathlib.Core.Bool.{cond, not, _&&_};
 ghost use mathlib.Core.List.{List};
 ghost use Prim.Native.Nat.{ℕ, _+_, _/_, _%_, _<_, _≤_};
 ghost use lib.Dec.{eqb};
 ghost use lib.ListN.{getD, length};
 ghost use Rattle.map.specs.Map.{outputFormatMask};
-ghost use Rattle.video.specs.Modes.{modeOf};
+ghost use Rattle.video.specs.Video.{VideoFits};
 ghost use Rattle.frames.specs.Frames.{aviFrame};
 ghost use Rattle.matrix.specs.Matrix.{Bytes};
 ghost use Rattle.request.specs.Read.{pairFor};
+ghost use Rattle.request.specs.Theorems.{Shaped};
+ghost use Rattle.request.specs.Fits.{SoundFits, Fits};
 ghost use Rattle.chip.specs.Machine.{up, avi, audio, gc};
 ghost use Rattle.plan.specs.Wanted.{laid, stores, twenty, ctsSelect, inputs, rateCode, withAudio, audioBytes, halves, cscBytes};
-ghost use Rattle.plan.specs.Wanted.{clockBytes, inputBytes, enableBytes, frameBytes, wantedImage, SoundFits, MatrixFits, Fits};
+ghost use Rattle.plan.specs.Wanted.{clockBytes, inputBytes, enableBytes, frameBytes, wantedImage};
 ghost use Rattle.plan.specs.Plan.{nothing, PlansWith, Plans, standsIn};
 ghost use Rattle.plan.specs.Rules.{PlanRefusals};
 use clock::Pair;
@@ -150,7 +151,7 @@ fn halves(k: [u16; 12]) -> [u8; 24]
 
 // The 24 bytes of the converter.
 fn csc_bytes(m: Matrix) -> [u8; 24]
-    requires { ⌜ MatrixFits m ⌝ }
+    requires { ⌜ Shaped m × (m .mode ≤ 2) ⌝ }
     ensures { λ r. ⌜ r ≡ cscBytes m ⌝ }
 {
     let k = m.coefficients;
@@ -215,9 +216,9 @@ fn with_enables(out: [u8; 256], r: Request) -> [u8; 256]
     next
 }
 
-// The AVI InfoFrame of a video whose VIC is listed.
+// The AVI InfoFrame of the video of an accepted request.
 fn avi_bytes(video: Video) -> [u8; 17]
-    requires { ⌜ (modeOf (video .vic) .families ≢ 0) × (video .encoding ≤ 2) ⌝ }
+    requires { ⌜ VideoFits video ⌝ }
     ensures { λ r. ⌜ r ≡ aviFrame video ⌝ }
 {
     let frame = frames::avi_of(video);

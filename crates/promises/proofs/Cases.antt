@@ -5,6 +5,7 @@ use native.Mathlib.Omega.{arith}
 use lib.Dec.{lit<}
 use Rattle.ratio.specs.Lowest.{steps, divisorOf}
 use Rattle.video.specs.Modes.{modeOf}
+use Rattle.video.specs.Video.{videoOutside, videoCombined}
 use Rattle.clock.specs.Clocks.{clockOf}
 use Rattle.clock.specs.Pairs.{reference, recommendedOf}
 use Rattle.clock.specs.Found.{nearestK, nearestIn, nearestOf, exactly, coherentOf, pairOf}
@@ -24,7 +25,7 @@ unfolding reference clockOf modeOf divisorOf steps
 multiple n cts e = divides 74250000000 4100096000 (lit< tt) n cts (omega arith)
 
 pub cases : MarkedCases
-unfolding steps divisorOf modeOf clockOf reference recommendedOf nearestK nearestIn nearestOf exactly coherentOf pairOf total aviFrame aviOf audioFrame audioOf audioOffFrame fields inRange isAllowed codeOf previewOf walk walked outside combined judged readOf pairFor nctsOf lineOf digits acceptedText refusedText
+unfolding steps divisorOf modeOf clockOf reference recommendedOf nearestK nearestIn nearestOf exactly coherentOf pairOf total aviFrame aviOf audioFrame audioOf audioOffFrame fields inRange isAllowed codeOf previewOf walk walked videoOutside videoCombined outside combined judged readOf pairFor nctsOf lineOf digits acceptedText refusedText
 cases =
     record {
       example = refl;
@@ -43,4 +44,6 @@ cases =
       case11 = (refl, refl);
       case12 = (refl, refl);
       case13 = refl;
+      lengths = refl;
+      longest = refl;
     }

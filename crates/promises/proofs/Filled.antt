@@ -12,6 +12,7 @@ use Rattle.lists.proofs.Both.{both-left, both-right}
 use Rattle.bits.proofs.Below.{at-below}
 use Rattle.video.specs.declared.Video.{Video}
 use Rattle.video.specs.Modes.{modeOf, offered}
+use Rattle.video.proofs.Fits.{vic-small, is-listed}
 use Rattle.clock.specs.declared.Pair.{Pair}
 use Rattle.clock.specs.Clocks.{clockOf}
 use Rattle.clock.specs.Tables.{otherRow}
@@ -24,9 +25,9 @@ use Rattle.frames.proofs.Sealed as frames
 use Rattle.request.specs.declared.Sound.{Sound}
 use Rattle.request.specs.declared.Sound.the-variants.{Off, On}
 use Rattle.request.specs.declared.Request.{Request}
-use Rattle.request.specs.Sections.{walked, bodyOf}
 use Rattle.request.specs.Read.{readOf, pairIn, pairFor, nctsOf}
-use Rattle.request.proofs.Ordered.{passed}
+use Rattle.request.specs.Fits.{SoundFits, Fits}
+use Rattle.request.proofs.Fits.{fits}
 use Rattle.request.proofs.Ranged.{read-ranged}
 use Rattle.bits.specs.Merge.{merge, under, bit}
 use Rattle.registers.specs.Classes.{classAt}
@@ -35,8 +36,7 @@ use Rattle.writes.specs.List.{decided, isWritten, finished, finishedImage, writ
 use Rattle.writes.specs.Carried.{requested}
 use Rattle.writes.proofs.Carries.{masked, entries}
 use Rattle.writes.proofs.Image.{image-length, image-at}
-use Rattle.plan.specs.Wanted.{wanted, SoundFits, Fits}
-use Rattle.plan.proofs.Accepted.{fits}
+use Rattle.plan.specs.Wanted.{wanted}
 use Rattle.decode.specs.Ends.{Stands}
 use Rattle.decode.proofs.Stored.{window}
 use Rattle.decode.proofs.Groups.{avi-in, audio-in}
@@ -65,10 +65,6 @@ paired-in r (On rate channels coherent) o h =
           (ap (λ (p : Pair). p .refusal) f, ap (λ (p : Pair). p .n) f, ap (λ (p : Pair). p .cts) f),
     )
 
-is-offered : (input : List ℕ) → readOf input .refusal ≡ 0 → offered (readOf input .request .video) ≡ true
-unfolding readOf
-is-offered input z = let j = passed (walked input) z in rw (j .request) (j .mode)
-
 asked-pair : (input : List ℕ) → readOf input .refusal ≡ 0 → nctsOf input ≡ pairFor (readOf input .request)
 unfolding nctsOf
 asked-pair input z = rw z
@@ -78,8 +74,8 @@ pub paired : (input : List ℕ) → readOf input .refusal ≡ 0
 unfolding pairFor
 paired input z =
     let r : Request = readOf input .request in
-    subst (λ (p : Pair). Paired (r .video) (r .sound) p) (sym (asked-pair input z))
-    (paired-in r (r .sound) (is-offered input z) (fits input z .sound))
+    let f : Fits r = fits input z in
+    subst (λ (p : Pair). Paired (r .video) (r .sound) p) (sym (asked-pair input z)) (paired-in r (r .sound) (f .video .offered) (f .sound))
 
 -- ---- what is known of an accepted request
 
@@ -119,21 +115,16 @@ ranges : (input : List ℕ) → readOf input .refusal ≡ 0 → pairFor (readOf 
 ranges input z y =
     let r : Request = readOf input .request in
     let f : Fits r = fits input z in
-    let g = read-ranged input z in
     let q = subst (λ (p : Pair). Paired (r .video) (r .sound) p) (asked-pair input z) (paired input z) in
     let two = small (r .video) (r .sound) (pairFor r) (f .sound) q y in
-    let t : right (r .video .vic) ≡ true = all-right (r .video .vic) (g .vic) in
-    let m = rw (ne-eqb _ 0 (f .vic)) at t in
+    let t : right (r .video .vic) ≡ true = all-right (r .video .vic) (vic-small (r .video) (f .video)) in
+    let m = rw (ne-eqb _ 0 (is-listed (r .video) (f .video))) at t in
     record {
       n = two .0;
       cts = two .1;
-      vic = g .vic;
-      encoding = f .encoding;
-      link = f .link;
+      fits = f;
       color = eqb-true _ _ (both-left _ (eqb (modeOf (r .video .vic) .aspect) (inM (r .video .vic))) m);
       shape = eqb-true _ _ (both-right (eqb (modeOf (r .video .vic) .colorimetry) (inC (r .video .vic) 1)) _ m);
-      sound = f .sound;
-      matrix = f .matrix;
     }
 
 -- ---- the finished image
@@ -187,7 +178,7 @@ filled input image z y after sized ends =
       cts = twenty _ _ _ (p .cts) (at 3 (lit< tt)) (at 4 (lit< tt)) (at 5 (lit< tt));
       aviSum = rw (v, l, d) (avi-zero (r .video));
       audioSum = rw (va, la, da) (audio-zero (r .sound));
-      mode = omega (arith, at 18 (lit< tt), fits input z .matrix .mode);
+      mode = omega (arith, at 18 (lit< tt), fits input z .mode);
       ordered = λ a h w. rw (ends a h) (ordered (wanted r) image a h w);
     })
 

@@ -15,6 +15,7 @@ use Rattle.bits.specs.Merge.{merge}
 use Rattle.bits.proofs.Below.{at-below}
 use Rattle.registers.specs.Classes.{classAt}
 use Rattle.video.specs.Modes.{modeOf}
+use Rattle.video.proofs.Fits.{vic-small, encoding-fits, link-fits}
 use Rattle.clock.specs.declared.Pair.{Pair}
 use Rattle.frames.specs.Frames as F
 use Rattle.frames.specs.Frames.{checksumOf, aviFrame, audioFrame, audioOffFrame}
@@ -23,9 +24,11 @@ use Rattle.request.specs.declared.Sound.{Sound}
 use Rattle.request.specs.declared.Sound.the-variants.{Off, On}
 use Rattle.request.specs.declared.Request.{Request}
 use Rattle.request.specs.Read.{pairFor}
+use Rattle.request.specs.Fits.{SoundFits, Fits}
+use Rattle.request.proofs.Fits.{on-small, coefficients-small}
 use Rattle.writes.specs.List.{decided, isWritten, leftUp, finished}
 use Rattle.plan.specs.Wanted.{laid, audioBytes, wanted, clockBytes, inputBytes, cscBytes, enableBytes}
-use Rattle.plan.specs.Wanted.{inputs, rateCode, ctsSelect, withAudio, SoundFits, MatrixFits}
+use Rattle.plan.specs.Wanted.{inputs, rateCode, ctsSelect, withAudio}
 use Rattle.decode.proofs.Stored.{look, stored}
 use Rattle.promises.specs.Finished.{Place, bitsIn, places, Shows, Each}
 use Rattle.promises.specs.Finished.{withSound, eightChannels, manualCts, rateCodeOf, inC, inM, inCC, inCA, audioPacket}
@@ -85,13 +88,9 @@ all-ours r p = refl
 pub record Ranges (r : Request) (p : Pair) : Type 0 where
   pub n : p .n < 1048576
   pub cts : p .cts < 1048576
-  pub vic : r .video .vic < 64
-  pub encoding : r .video .encoding ≤ 2
-  pub link : r .video .link ≤ 1
+  pub fits : Fits r
   pub color : modeOf (r .video .vic) .colorimetry ≡ inC (r .video .vic) 1
   pub shape : modeOf (r .video .vic) .aspect ≡ inM (r .video .vic)
-  pub sound : SoundFits (r .sound)
-  pub matrix : MatrixFits (r .matrix)
 
 -- a byte, and the low five bits of one
 byte-whole : (x : ℕ) → x < 256 → bitsIn 7 0 x ≡ x
@@ -220,15 +219,18 @@ unfolding decided aviFrame
 sources r image after ends g =
     let n = twenty (pairFor r .n) (g .n) in
     let c = twenty (pairFor r .cts) (g .cts) in
-    let select = selected (r .sound) (g .sound) in
+    let f = g .fits in
+    let vic : r .video .vic < 64 = vic-small (r .video) (f .video) in
+    let link : r .video .link ≤ 1 = link-fits (r .video) (f .video) in
+    let select = selected (r .sound) (f .sound) in
     let input = enabled (r .sound) in
-    let rate = coded (r .sound) (g .sound) in
-    let k : (i : ℕ) → getD (r .matrix .coefficients) i 0 < 8192 = g .matrix .coefficients in
-    let start = first (r .matrix .on) (r .matrix .mode) _ (g .matrix .on) (g .matrix .mode) (five-small _ (k 0)) in
-    let on = enables (r .sound) (r .video .link) (g .link) in
-    let y = byte1 (r .video .encoding) (g .encoding) in
+    let rate = coded (r .sound) (f .sound) in
+    let k : (i : ℕ) → getD (r .matrix .coefficients) i 0 < 8192 = coefficients-small (r .matrix) (f .matrix) in
+    let start = first (r .matrix .on) (r .matrix .mode) _ (on-small (r .matrix) (f .matrix)) (f .mode) (five-small _ (k 0)) in
+    let on = enables (r .sound) (r .video .link) link in
+    let y = byte1 (r .video .encoding) (encoding-fits (r .video) (f .video)) in
     let z = byte2 _ _ _ _ (color r (pairFor r) g) (g .shape) (color-small (r .video .vic) (r .video .encoding)) (shape-small (r .video .vic)) in
-    let channels : inCC (r .sound) ≤ 7 = cc-small (r .sound) (g .sound) in
+    let channels : inCC (r .sound) ≤ 7 = cc-small (r .sound) (f .sound) in
     n .0 ▸ n .1 ▸ n .2 ▸ c .0 ▸ c .1 ▸ c .2 ▸
     select .0 ▸ select .1 ▸ select .2 ▸
     input .0 ▸ input .1 ▸ input .2 ▸ input .3 ▸ input .4 ▸
@@ -246,14 +248,14 @@ sources r image after ends g =
     five-whole _ (five-small _ (k 9)) ▸ byte-whole _ (omega arith) ▸
     five-whole _ (five-small _ (k 10)) ▸ byte-whole _ (omega arith) ▸
     five-whole _ (five-small _ (k 11)) ▸ byte-whole _ (omega arith) ▸
-    refl ▸ refl ▸ omega (arith, g .vic) ▸
-    omega (arith, g .link) ▸
+    refl ▸ refl ▸ omega (arith, vic) ▸
+    omega (arith, link) ▸
     on .0 ▸ on .1 ▸ on .3 ▸ on .2 ▸
-    refl ▸ refl ▸ refl ▸ refl ▸ omega (arith, g .link) ▸
+    refl ▸ refl ▸ refl ▸ refl ▸ omega (arith, link) ▸
     refl ▸ refl ▸ byte-whole _ (sum-small _) ▸
     y .0 ▸ y .1 ▸ y .2 ▸ y .3 ▸
     z .0 ▸ z .1 ▸ z .2 ▸
-    refl ▸ byte-whole _ (omega (arith, g .vic)) ▸
+    refl ▸ byte-whole _ (omega (arith, vic)) ▸
     refl ▸ refl ▸ refl ▸ refl ▸ refl ▸ refl ▸ refl ▸ refl ▸ refl ▸
     refl ▸ refl ▸ byte-whole _ (sum-small _) ▸
     omega arith ▸ omega arith ▸ refl ▸ refl ▸ byte-whole _ (ca-small (r .sound)) ▸ refl ▸ tt

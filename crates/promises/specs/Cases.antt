@@ -1,4 +1,5 @@
--- Document 01, "Marked cases, proved together as one table", and the worked example of "What the station's library does".
+-- Document 01, "Marked cases, proved together as one table", the worked example of "What the station's library does", and the lengths that
+-- "The request" says in numbers.
 use mathlib.Core.Path.{_≡_}
 use mathlib.Core.List.{List, [], _∷_}
 use Prim.Native.Nat.{ℕ, _*_, _∣_}
@@ -12,6 +13,7 @@ use Rattle.frames.specs.Frames.{audioOffFrame}
 use Rattle.frames.specs.Answers.{aviOf, audioOf}
 use Rattle.matrix.specs.Coefficient.{word, field, valueOf}
 use Rattle.matrix.specs.Preview.{previewOf}
+use Rattle.request.specs.Sections.{lengths, longest}
 use Rattle.request.specs.Read.{readOf}
 use Rattle.line.specs.Words.{ascii, lineText}
 
@@ -58,3 +60,7 @@ pub record MarkedCases : Type 0 where
   pub case12 : (valueOf (field (word 0x19 0xD6)) ≡ negsuc 1577) × (valueOf (field (word 0x1F 0xFF)) ≡ negsuc 0)
   -- 13. Table 39 on 2048, 3760, 2048: 3759, 3760, 3760
   pub case13 : previewOf table39 2048 3760 2048 ≡ record { refusal = 0; a = 3759; b = 3760; c = 3760 }
+  -- "Lengths are therefore 7, 10, 32 or 35."
+  pub lengths : lengths ≡ 7 ∷ 10 ∷ 32 ∷ 35 ∷ []
+  -- "the longest request, 35"
+  pub longest : longest ≡ 35

@@ -14,12 +14,12 @@ use Rattle.matrix.specs.Coefficient.{word, within, field, highByte, coefficient
 use Rattle.matrix.specs.Matrix.{fields, inRange, isAllowed, matrixOf, noMatrix, Bytes}
 use Rattle.matrix.proofs.Pairs.{ranged}
 use Rattle.refusals.specs.Rows.{answer}
-use Rattle.video.specs.Video.{videoIn, videoBody}
+use Rattle.video.specs.Video.{videoIn, videoOutside}
 use Rattle.video.proofs.Bodies as video
 use Rattle.request.specs.declared.Request.{Request}
 use Rattle.request.specs.declared.Checked.{Checked}
-use Rattle.request.specs.Sections.{Walk, ends, notAllowed, whole, walk, walked, sections, bodyOf, laid, fits, Sectioned}
-use Rattle.request.specs.Request.{present, encoding, link, soundOf, requestIn}
+use Rattle.request.specs.Sections.{audioCount, matrixCount, Walk, ends, notAllowed, whole, walked, audioSection, matrixSection, laid, Sectioned}
+use Rattle.request.specs.Request.{present, videoOf, soundOf, requestIn}
 use Rattle.request.specs.Read.{audioOutside, outside, emptied, judged, checked, readOf}
 use Rattle.request.specs.Bytes.{audioBody, matrixBody, bodiesOf, asBytes, answeredAs, answeredBytes}
 use Rattle.request.specs.Theorems.{ThereAndBack}
@@ -33,7 +33,7 @@ none (x ∷ l) e = absurd (omega arith)
 
 -- ---- each body is that of what it says
 
-audio-back : (a : List ℕ) → (length a ≡ 0) ⊎ (length a ≡ 3) → audioBody (soundOf a) ≡ a
+audio-back : (a : List ℕ) → (length a ≡ 0) ⊎ (length a ≡ audioCount) → audioBody (soundOf a) ≡ a
 audio-back [] h = refl
 audio-back (x ∷ []) (inl e) = absurd (omega arith)
 audio-back (x ∷ []) (inr e) = absurd (omega arith)
@@ -69,7 +69,7 @@ coefficients-back (suc n) (x ∷ y ∷ l) e b t =
     let ih : coefficientBytes (fields l) ≡ l = coefficients-back n l (omega arith) (λ i. b (suc (suc i))) (both-right (within (word x y)) _ t) in
     rw (p .0, p .1, ih)
 
-matrix-back : (m : List ℕ) → Bytes m → (length m ≡ 0) ⊎ (length m ≡ 25) → (present m && not (isAllowed m)) ≡ false
+matrix-back : (m : List ℕ) → Bytes m → (length m ≡ 0) ⊎ (length m ≡ matrixCount) → (present m && not (isAllowed m)) ≡ false
     → matrixBody (cond (present m) (matrixOf m) noMatrix) ≡ m
 matrix-back m b (inl e) x = rw (none m e)
 matrix-back m b (inr e) x =
@@ -98,24 +98,24 @@ nothing-after rest c = go (eqb (length rest) 0) refl
     go false e z = absurd (omega arith)
 
 module _ (input : List ℕ) (b : Bytes input) where
-  bodies : (v a m rest : List ℕ) → Sectioned input v a m rest → rest ≡ [] → outside v a m ≡ false → asBytes (requestIn v a m) ≡ input
+  bodies : (v a m rest : List ℕ) → Sectioned input v a m rest → rest ≡ [] → outside (videoIn v) a m ≡ false → asBytes (requestIn (videoIn v) a m) ≡ input
   unfolding asBytes outside
   bodies v a m rest s n o =
-      let x : (present m && not (isAllowed m)) ≡ false = neither-right (present a && audioOutside a) _ (neither-right (ltb 1 (link v)) _ (neither-right (ltb 2 (encoding v)) _ o)) in
+      let x : (present m && not (isAllowed m)) ≡ false = neither-right (present a && audioOutside a) _ (neither-right (videoOutside (videoIn v)) _ o) in
       let whole : Bytes (length v ∷ (v ++ (length a ∷ (a ++ (length m ∷ (m ++ rest)))))) = subst Bytes (s .made) b in
       let end : Bytes m = front (length m) m rest (past (length a) a _ (past (length v) v _ whole)) in
       let made : matrixBody (cond (present m) (matrixOf m) noMatrix) ≡ m = matrix-back m end (s .matrixCounted) x in
       ap₂ (λ (x y : List ℕ). laid (x ∷ y ∷ matrixBody (cond (present m) (matrixOf m) noMatrix) ∷ []) []) (video.bodies .whole v (s .videoCounted)) (audio-back a (s .audioCounted))
       ∙ ap₂ (λ (z r : List ℕ). laid (v ∷ a ∷ z ∷ []) r) made (sym n) ∙ sym (s .made)
 
-  found : (w : Walk) → walked input ≡ w → checked w .refusal ≡ 0 → Judged (bodyOf 0 w) (bodyOf 1 w) (bodyOf 2 w) (checked w) → asBytes (checked w .request) ≡ input
+  found : (w : Walk) → walked input ≡ w → checked w .refusal ≡ 0 → Judged (videoOf w) (audioSection w) (matrixSection w) (checked w) → asBytes (checked w .request) ≡ input
   found ends e z j = absurd (omega arith)
   found notAllowed e z j = absurd (omega arith)
   found (whole [] rest) e z j = let t = request-walks input .three [] rest e in absurd (omega arith)
   found (whole (v ∷ []) rest) e z j = let t = request-walks input .three (v ∷ []) rest e in absurd (omega arith)
   found (whole (v ∷ a ∷ []) rest) e z j = let t = request-walks input .three (v ∷ a ∷ []) rest e in absurd (omega arith)
   found (whole (v ∷ a ∷ m ∷ []) rest) e z j =
-      ap asBytes (j .request) ∙ bodies v a m rest (sectioned input v a m rest e) (nothing-after rest (judged v a m) z) (j .inside)
+      ap asBytes (j .request) ∙ bodies v a m rest (sectioned input v a m rest e) (nothing-after rest (judged (videoIn v) a m) z) (j .inside)
   found (whole (v ∷ a ∷ m ∷ x ∷ l) rest) e z j = let t = request-walks input .three (v ∷ a ∷ m ∷ x ∷ l) rest e in absurd (omega arith)
 
   pub back : readOf input .refusal ≡ 0 → asBytes (readOf input .request) ≡ input

@@ -11,7 +11,7 @@ use Rattle.lists.specs.Among.{among}
 use Rattle.refusals.specs.Rows.{noExactPair, _when_, Given}
 use Rattle.refusals.proofs.First.{Tried, then, tried}
 use Rattle.clock.specs.declared.Pair.{Pair}
-use Rattle.video.specs.Video.{videoIn}
+use Rattle.video.specs.declared.Video.{Video}
 use Rattle.video.specs.Modes.{offered}
 use Rattle.clock.specs.Pairs.{noPair}
 use Rattle.clock.specs.Theorems.{pairRules}
@@ -19,38 +19,38 @@ use Rattle.clock.proofs.Rows.{in-turn}
 use Rattle.request.specs.declared.Sound.the-variants.{Off, On}
 use Rattle.matrix.specs.Matrix.{Bytes}
 use Rattle.request.specs.declared.Request.{Request}
-use Rattle.request.specs.Sections.{Walk, ends, notAllowed, whole, after, walk, walked, sections, bodyOf, videoSection, audioSection, matrixSection}
-use Rattle.request.specs.Request.{Present, present, rate, channels, coherent, Outside, requestIn, NoPair, readRules, nctsRules}
+use Rattle.request.specs.Sections.{Walk, ends, notAllowed, whole, after, walk, walked, sections, bodyOf, audioSection, matrixSection}
+use Rattle.request.specs.Request.{Present, present, videoOf, rate, channels, coherent, Outside, requestIn, NoPair, readRules, nctsRules}
 use Rattle.request.specs.Read.{checked, pairIn, pairFor, readOf, nctsOf}
 use Rattle.request.specs.Theorems.{Rows}
 use Rattle.request.proofs.Ordered.{tried-read, Judged, passed, full, is-outside}
 
 -- where row 5 does not apply, the rate and the coherent byte of an audio section are in range
-in-range : (v a m : List ℕ) → (Outside v a m → ⊥) → Present a → (6 < rate a) ⊎ (1 < coherent a) → ⊥
-in-range v a m o p (inl h) = o (inr (inr (inl (p, inl h))))
-in-range v a m o p (inr h) = o (inr (inr (inl (p, inr (inr h)))))
+in-range : (v : Video) (a m : List ℕ) → (Outside v a m → ⊥) → Present a → (6 < rate a) ⊎ (1 < coherent a) → ⊥
+in-range v a m o p (inl h) = o (inr (inl (p, inl h)))
+in-range v a m o p (inr h) = o (inr (inl (p, inr (inr h))))
 
 -- the rules of the call on single fields, where the mode is offered and the fields are in range: row 9 is left
-nine : (w : Walk) → offered (videoIn (videoSection w)) ≡ true → ((6 < rate (audioSection w)) ⊎ (1 < coherent (audioSection w)) → ⊥) → Present (audioSection w)
-    → (n : ℕ) → Tried (pairRules (videoIn (videoSection w)) (rate (audioSection w)) (coherent (audioSection w))) n → Tried (noExactPair when (NoPair w) ∷ []) n
+nine : (w : Walk) → offered (videoOf w) ≡ true → ((6 < rate (audioSection w)) ⊎ (1 < coherent (audioSection w)) → ⊥) → Present (audioSection w)
+    → (n : ℕ) → Tried (pairRules (videoOf w) (rate (audioSection w)) (coherent (audioSection w))) n → Tried (noExactPair when (NoPair w) ∷ []) n
 nine w o r p n (inl h) = absurd (false≢true (sym (h .0) ∙ o))
 nine w o r p n (inr (_, inl h)) = absurd (r (h .0))
 nine w o r p n (inr (_, inr (_, inl h))) = inl ((p, h .0 .0, h .0 .1), h .1)
 nine w o r p n (inr (_, inr (_, inr h))) = inr ((λ x. h .0 (x .1, x .2)), h .1)
 
-sounds : (w : Walk) → Bytes (matrixSection w) → Judged (videoSection w) (audioSection w) (matrixSection w) (checked w)
-    → Tried (noExactPair when (NoPair w) ∷ []) (pairFor (requestIn (videoSection w) (audioSection w) (matrixSection w)) .refusal)
+sounds : (w : Walk) → Bytes (matrixSection w) → Judged (videoOf w) (audioSection w) (matrixSection w) (checked w)
+    → Tried (noExactPair when (NoPair w) ∷ []) (pairFor (requestIn (videoOf w) (audioSection w) (matrixSection w)) .refusal)
 unfolding pairFor
 sounds w bytes j = go (present (audioSection w)) refl
   where
     r : Request
-    r = requestIn (videoSection w) (audioSection w) (matrixSection w)
+    r = requestIn (videoOf w) (audioSection w) (matrixSection w)
 
     go : (b : Bool) → present (audioSection w) ≡ b
         → Tried (noExactPair when (NoPair w) ∷ []) (pairIn r (cond b (On (rate (audioSection w)) (channels (audioSection w)) (coherent (audioSection w))) Off) .refusal)
     go true e =
         let p = full (audioSection w) .passes e in
-        nine w (j .mode) (in-range (videoSection w) (audioSection w) (matrixSection w) (is-outside (videoSection w) (audioSection w) (matrixSection w) bytes .fails (j .inside)) p) p _ (in-turn _ _ _)
+        nine w (j .mode) (in-range (videoOf w) (audioSection w) (matrixSection w) (is-outside (videoOf w) (audioSection w) (matrixSection w) bytes .fails (j .inside)) p) p _ (in-turn _ _ _)
     go false e = inr ((λ x. full (audioSection w) .fails e (x .0)), refl)
 
 abbrev numberOf : Pair → ℕ

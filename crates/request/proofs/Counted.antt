@@ -1,7 +1,7 @@
 -- What the bodies that a walk finds say of the input's length, over any sections. Assumes nothing.
 use mathlib.Core.Path.{_≡_, refl, ap, _∙_}
 use mathlib.Core.Bool.{Bool, true, false, false≢true, _||_}
-use mathlib.Core.List.{List, [], _∷_}
+use mathlib.Core.List.{List, [], _∷_, _++_, map}
 use Prim.Native.Nat.{ℕ, suc, _+_, _≤_}
 use native.Mathlib.Omega.{arith}
 use lib.Dec.{eqb}
@@ -9,7 +9,7 @@ use lib.ListN.{length, length-append}
 use borrow.Author.Tests.{eqb-true, eq-eqb}
 use Rattle.lists.specs.Among.{among}
 use Rattle.lists.proofs.Both.{both-left, both-right}
-use Rattle.request.specs.Sections.{Walk, ends, notAllowed, whole, walk, laid, fits, largest, longestOf}
+use Rattle.request.specs.Sections.{Walk, ends, notAllowed, whole, walk, laid, fits, largest, longestOf, eachWith, lengthsOf}
 use Rattle.request.proofs.Walks.{Found, found}
 
 -- the bytes of sections with these bodies, each after its count
@@ -35,19 +35,6 @@ counted cs s = go (walk cs s) (found cs s)
     go notAllowed f = tt
     go (whole bodies rest) f = (ap length (f .1) ∙ length-laid bodies rest, f .0)
 
--- the spans that sections can have: each count of the first with each span of the others
-abbrev counts : List ℕ → ℕ → List ℕ → List ℕ
-counts [] t more = more
-counts (n ∷ c) t more = (suc n + t) ∷ counts c t more
-
-abbrev joined : List ℕ → List ℕ → List ℕ
-joined c [] = []
-joined c (t ∷ ts) = counts c t (joined c ts)
-
-abbrev pub spans : List (List ℕ) → List ℕ
-spans [] = 0 ∷ []
-spans (c ∷ cs) = joined c (spans cs)
-
 -- a number stands in a list: at its head, or after it
 either : (P : Type 0) (n x : ℕ) (l : List ℕ) → (n ≡ x → P) → (among n l ≡ true → P) → among n (x ∷ l) ≡ true → P
 either P n x l f g t = go (eqb n x) refl t
@@ -63,28 +50,35 @@ later n x l t = go (eqb n x)
     go true = refl
     go false = t
 
-counts-here : (n t : ℕ) (c more : List ℕ) → among n c ≡ true → among (suc n + t) (counts c t more) ≡ true
-counts-here n t [] more h = absurd (false≢true h)
-counts-here n t (x ∷ c) more h =
-    either (among (suc n + t) (counts (x ∷ c) t more) ≡ true) n x c
-    (λ e. rw (eq-eqb (suc n + t) (suc x + t) (omega arith))) (λ k. later (suc n + t) (suc x + t) (counts c t more) (counts-here n t c more k)) h
+front : (k : ℕ) (xs ys : List ℕ) → among k xs ≡ true → among k (xs ++ ys) ≡ true
+front k [] ys h = absurd (false≢true h)
+front k (x ∷ xs) ys h =
+    either (among k (x ∷ (xs ++ ys)) ≡ true) k x xs (λ e. rw (eq-eqb k x e)) (λ l. later k x (xs ++ ys) (front k xs ys l)) h
 
-counts-later : (k t : ℕ) (c more : List ℕ) → among k more ≡ true → among k (counts c t more) ≡ true
-counts-later k t [] more h = h
-counts-later k t (x ∷ c) more h = later k (suc x + t) (counts c t more) (counts-later k t c more h)
+back : (k : ℕ) (xs ys : List ℕ) → among k ys ≡ true → among k (xs ++ ys) ≡ true
+back k [] ys h = h
+back k (x ∷ xs) ys h = later k x (xs ++ ys) (back k xs ys h)
 
-joined-both : (n t : ℕ) (c ts : List ℕ) → among n c ≡ true → among t ts ≡ true → among (suc n + t) (joined c ts) ≡ true
-joined-both n t c [] h k = absurd (false≢true k)
-joined-both n t c (x ∷ ts) h k =
-    either (among (suc n + t) (joined c (x ∷ ts)) ≡ true) t x ts (λ e. rw e (counts-here n x c (joined c ts) h))
-    (λ l. counts-later (suc n + t) x c (joined c ts) (joined-both n t c ts h l)) k
+-- each count of the first section with each length of the others
+counted-with : (n t : ℕ) (c : List ℕ) → among n c ≡ true → among (suc n + t) (map (λ m. suc m + t) c) ≡ true
+counted-with n t [] h = absurd (false≢true h)
+counted-with n t (x ∷ c) h =
+    either (among (suc n + t) (map (λ m. suc m + t) (x ∷ c)) ≡ true) n x c (λ e. rw (eq-eqb (suc n + t) (suc x + t) (omega arith)))
+    (λ l. later (suc n + t) (suc x + t) (map (λ m. suc m + t) c) (counted-with n t c l)) h
 
-pub spanned : (cs bodies : List (List ℕ)) → fits cs bodies ≡ true → among (span bodies) (spans cs) ≡ true
+each-with : (n t : ℕ) (c ts : List ℕ) → among n c ≡ true → among t ts ≡ true → among (suc n + t) (eachWith c ts) ≡ true
+each-with n t c [] h k = absurd (false≢true k)
+each-with n t c (x ∷ ts) h k =
+    either (among (suc n + t) (eachWith c (x ∷ ts)) ≡ true) t x ts
+    (λ e. rw e (front (suc n + x) (map (λ m. suc m + x) c) (eachWith c ts) (counted-with n x c h)))
+    (λ l. back (suc n + t) (map (λ m. suc m + x) c) (eachWith c ts) (each-with n t c ts h l)) k
+
+pub spanned : (cs bodies : List (List ℕ)) → fits cs bodies ≡ true → among (span bodies) (lengthsOf cs) ≡ true
 spanned [] [] t = refl
 spanned [] (b ∷ bs) t = absurd (false≢true t)
 spanned (c ∷ cs) [] t = absurd (false≢true t)
 spanned (c ∷ cs) (b ∷ bs) t =
-    joined-both (length b) (span bs) c (spans cs) (both-left (among (length b) c) (fits cs bs) t) (spanned cs bs (both-right (among (length b) c) (fits cs bs) t))
+    each-with (length b) (span bs) c (lengthsOf cs) (both-left (among (length b) c) (fits cs bs) t) (spanned cs bs (both-right (among (length b) c) (fits cs bs) t))
 
 -- a count is at most the largest of its section, and a span at most the longest
 pub at-most : (n : ℕ) (c : List ℕ) → among n c ≡ true → n ≤ largest c

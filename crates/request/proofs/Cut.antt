@@ -1,5 +1,5 @@
 -- The lengths of a request, and what is answered for an input that is cut after the longest. Assumes nothing.
-use mathlib.Core.Path.{_≡_, refl, sym, ap, _∙_}
+use mathlib.Core.Path.{_≡_, refl, sym, ap, subst, _∙_}
 use mathlib.Core.Bool.{Bool, true, false, cond, not}
 use mathlib.Core.List.{List, [], _∷_}
 use Prim.Native.Nat.{ℕ, zero, suc, _+_, _-_, _≤_, _<_}
@@ -12,10 +12,11 @@ use lib.Seq.{length-take-le, take-take, take-nil}
 use borrow.Author.Tests.{leb-true, leb-false, le-leb, lt-leb, eqb-true}
 use Rattle.lists.specs.Among.{among}
 use Rattle.refusals.specs.Rows.{answer}
-use Rattle.request.specs.Sections.{Walk, ends, notAllowed, whole, after, walk, walked, sections, longestOf}
+use Rattle.video.specs.Video.{videoIn}
+use Rattle.request.specs.Sections.{Walk, ends, notAllowed, whole, after, walk, walked, sections, longestOf, lengthsOf}
 use Rattle.request.specs.Read.{emptied, judged, checked, readOf, nctsOf}
 use Rattle.request.specs.Theorems.{Lengths}
-use Rattle.request.proofs.Counted.{span, Counted, counted, spans, spanned, at-most, within}
+use Rattle.request.proofs.Counted.{span, Counted, counted, spanned, at-most, within}
 
 -- what is left of a walk where the input is cut after n bytes: of the bytes after the sections, those that are not cut off
 abbrev cut : ℕ → Walk → Walk
@@ -67,14 +68,20 @@ checked-cut cs n k ends h c = refl
 checked-cut cs n k notAllowed h c = refl
 checked-cut cs n k (whole bodies rest) h c = rw (some-left (n - span bodies) rest (omega (arith, within cs bodies (c .1))))
 
--- an input that is not refused has no bytes after its sections, so its length is one of their spans
-one-of-them : (cs : List (List ℕ)) (k : ℕ) (w : Walk) → Counted cs k w → checked w .refusal ≡ 0 → among k (spans cs) ≡ true
+-- with no byte after the sections the length is one of theirs
+walked-length : (cs : List (List ℕ)) (k : ℕ) (bodies : List (List ℕ)) → Counted cs k (whole bodies []) → among k (lengthsOf cs) ≡ true
+walked-length cs k bodies c = let q : k ≡ span bodies = omega arith in rw q (spanned cs bodies (c .1))
+
+-- an input that is not refused has no bytes after its sections, so its length is one of theirs
+one-of-them : (cs : List (List ℕ)) (k : ℕ) (w : Walk) → Counted cs k w → checked w .refusal ≡ 0 → among k (lengthsOf cs) ≡ true
 one-of-them cs k ends c z = absurd (omega arith)
 one-of-them cs k notAllowed c z = absurd (omega arith)
 one-of-them cs k (whole bodies rest) c z = go (eqb (length rest) 0) refl z
   where
-    go : (b : Bool) → eqb (length rest) 0 ≡ b → answer (cond (not b) 3 0) emptied (judged (getD bodies 0 []) (getD bodies 1 []) (getD bodies 2 [])) .refusal ≡ 0 → among k (spans cs) ≡ true
-    go true e z = let l : length rest ≡ 0 = eqb-true (length rest) 0 e in let q : k ≡ span bodies = omega arith in rw q (spanned cs bodies (c .1))
+    go : (b : Bool) → eqb (length rest) 0 ≡ b → answer (cond (not b) 3 0) emptied (judged (videoIn (getD bodies 0 [])) (getD bodies 1 []) (getD bodies 2 [])) .refusal ≡ 0 → among k (lengthsOf cs) ≡ true
+    go true e z =
+        let l : length rest ≡ 0 = eqb-true (length rest) 0 e in
+        walked-length cs k bodies (omega arith, c .1)
     go false e z = absurd (omega arith)
 
 read-cut : (input : List ℕ) (n : ℕ) → longestOf sections < n → readOf (take n input) ≡ readOf input
@@ -91,7 +98,7 @@ unfolding readOf walked
 lengths input =
     record {
       accepted = one-of-them sections (length input) (walk sections input) (counted sections input);
-      most = refl;
+      walked = λ table bodies e. walked-length table (length input) bodies (subst (Counted table (length input)) e (counted table input));
       read = λ n h. read-cut input n h;
       ncts = λ n h. ncts-cut input n h;
     }

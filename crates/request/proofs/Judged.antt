@@ -3,12 +3,14 @@ use mathlib.Core.Path.{_≡_, refl, sym, _∙_}
 use mathlib.Core.Bool.{Bool, true, false, false≢true, cond, not, _&&_}
 use mathlib.Core.List.{List}
 use Prim.Native.Nat.{ℕ}
-use lib.Dec.{eqb, ltb}
+use lib.Dec.{eqb}
 use lib.ListN.{length}
 use borrow.Author.Tests.{eqb-true}
 use Rattle.lists.proofs.Both.{neither-right}
+use Rattle.video.specs.declared.Video.{Video}
+use Rattle.video.specs.Video.{videoOutside}
 use Rattle.matrix.specs.Matrix.{isAllowed, matrixOf, noMatrix}
-use Rattle.request.specs.Request.{present, encoding, link}
+use Rattle.request.specs.Request.{present}
 use Rattle.request.specs.Read.{audioOutside, outside}
 
 -- where row 5 does not apply, what is read of the matrix's body is what the body says
@@ -20,13 +22,12 @@ absent m e = go (eqb (length m) 0) refl e
     go true q f = rw (eqb-true (length m) 0 q)
     go false q f = absurd (false≢true (sym f))
 
-pub matrix-read : (v a m : List ℕ) → outside v a m ≡ false → cond (isAllowed m) (matrixOf m) noMatrix ≡ cond (present m) (matrixOf m) noMatrix
+pub matrix-read : (v : Video) (a m : List ℕ) → outside v a m ≡ false → cond (isAllowed m) (matrixOf m) noMatrix ≡ cond (present m) (matrixOf m) noMatrix
 unfolding outside
 matrix-read v a m e = go (present m) refl (isAllowed m) refl (last e)
   where
     last : outside v a m ≡ false → (present m && not (isAllowed m)) ≡ false
-    last e =
-        neither-right (present a && audioOutside a) _ (neither-right (ltb 1 (link v)) _ (neither-right (ltb 2 (encoding v)) _ e))
+    last e = neither-right (present a && audioOutside a) _ (neither-right (videoOutside v) _ e)
 
     go : (p : Bool) → present m ≡ p → (q : Bool) → isAllowed m ≡ q → (p && not q) ≡ false → cond q (matrixOf m) noMatrix ≡ cond p (matrixOf m) noMatrix
     go true x true y f = refl

@@ -6,6 +6,7 @@ pub mod Judged
 pub mod Ordered
 pub mod Coherent
 pub mod Cut
+pub mod Fits
 pub mod Ranged
 pub mod Said
 pub mod Back

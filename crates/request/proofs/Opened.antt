@@ -14,8 +14,9 @@ use lib.Seq.{take-append-seam, drop-append-seam, drop-drop}
 use borrow.Author.Tests.{eqb-true, eq-eqb, ne-eqb}
 use Rattle.lists.specs.Among.{among}
 use Rattle.lists.proofs.Both.{both-left, both-right}
+use Rattle.video.specs.Video.{videoCount, videoIn}
 use Rattle.request.specs.declared.sections.Places.{Places}
-use Rattle.request.specs.Sections.{Walk, ends, notAllowed, whole, walk, walked, sections, laid, fits, Sectioned, RequestWalks}
+use Rattle.request.specs.Sections.{Walk, ends, notAllowed, whole, walk, walked, sections, audioCount, matrixCount, laid, fits, Sectioned, RequestWalks}
 use Rattle.request.specs.Places.{endsFrom, placesOf}
 use Rattle.request.specs.Read.{emptied, judged, checked, readOf}
 use Rattle.request.proofs.Walks.{as-many, walks}
@@ -46,22 +47,26 @@ module _ (input video audio matrix rest : List ℕ) where
   apart : fits sections bodies ≡ true → input ≡ laid bodies rest → Sectioned input video audio matrix rest
   unfolding bodies
   apart f e =
-      let v : Bool = among (length video) (4 ∷ []) in
-      let a : Bool = among (length audio) (0 ∷ 3 ∷ []) in
-      let m : Bool = among (length matrix) (0 ∷ 25 ∷ []) in
+      let v : Bool = among (length video) (videoCount ∷ []) in
+      let a : Bool = among (length audio) (0 ∷ audioCount ∷ []) in
+      let m : Bool = among (length matrix) (0 ∷ matrixCount ∷ []) in
       let g : (a && (m && true)) ≡ true = both-right v _ f in
       let h : (m && true) ≡ true = both-right a _ g in
       record {
-        videoCounted = one-of (length video) 4 (both-left v _ f);
-        audioCounted = either-of (length audio) 0 3 (both-left a _ g);
-        matrixCounted = either-of (length matrix) 0 25 (both-left m _ h);
+        videoCounted = one-of (length video) videoCount (both-left v _ f);
+        audioCounted = either-of (length audio) 0 audioCount (both-left a _ g);
+        matrixCounted = either-of (length matrix) 0 matrixCount (both-left m _ h);
         made = e;
       }
 
   together : Sectioned input video audio matrix rest → fits sections bodies ≡ true
   unfolding bodies
   together s =
-      rw (eq-eqb (length video) 4 (s .videoCounted), among-two (length audio) 0 3 (s .audioCounted), among-two (length matrix) 0 25 (s .matrixCounted))
+      rw (
+        eq-eqb (length video) videoCount (s .videoCounted),
+        among-two (length audio) 0 audioCount (s .audioCounted),
+        among-two (length matrix) 0 matrixCount (s .matrixCounted),
+      )
 
   pub sectioned : walked input ≡ whole (video ∷ audio ∷ matrix ∷ []) rest → Sectioned input video audio matrix rest
   unfolding walked bodies
@@ -160,6 +165,6 @@ module _ (s a b c rest : List ℕ) (w : walked s ≡ whole (a ∷ b ∷ c ∷ []
   unfolding readOf
   read-after h = rw (w, ne-eqb (length rest) 0 h)
 
-  pub read-whole : length rest ≡ 0 → judged a b c ≡ readOf s
+  pub read-whole : length rest ≡ 0 → judged (videoIn a) b c ≡ readOf s
   unfolding readOf
   read-whole h = rw (w, eq-eqb (length rest) 0 h)

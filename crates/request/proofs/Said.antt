@@ -12,12 +12,11 @@ use Rattle.matrix.specs.declared.Matrix.{Matrix}
 use Rattle.matrix.specs.Coefficient.{coefficientBytes}
 use Rattle.matrix.specs.Matrix.{matrixOf, noMatrix}
 use Rattle.matrix.proofs.Pairs.{length-bytes, fields-said}
-use Rattle.video.specs.Video.{videoBody}
 use Rattle.request.specs.declared.Sound.{Sound}
 use Rattle.request.specs.declared.Sound.the-variants.{Off, On}
 use Rattle.request.specs.declared.Request.{Request}
 use Rattle.request.specs.declared.Checked.{Checked}
-use Rattle.request.specs.Sections.{whole, walked, sections, fits}
+use Rattle.request.specs.Sections.{audioCount, matrixCount, whole, walked, sections, fits}
 use Rattle.request.specs.Request.{present, soundOf, requestIn}
 use Rattle.request.specs.Read.{judged, checked, readOf}
 use Rattle.request.specs.Bytes.{audioBody, matrixBody, bodiesOf, asBytes}
@@ -27,7 +26,7 @@ use Rattle.request.proofs.Ordered.{accepted}
 
 -- ---- each body has a count that its section allows, and says what it was made of
 
-audio-counted : (s : Sound) → among (length (audioBody s)) (0 ∷ 3 ∷ []) ≡ true
+audio-counted : (s : Sound) → among (length (audioBody s)) (0 ∷ audioCount ∷ []) ≡ true
 audio-counted Off = refl
 audio-counted (On rate channels coherent) = refl
 
@@ -35,10 +34,10 @@ sound-said : (s : Sound) → soundOf (audioBody s) ≡ s
 sound-said Off = refl
 sound-said (On rate channels coherent) = refl
 
-matrix-counted : (m : Matrix) → Shaped m → among (length (matrixBody m)) (0 ∷ 25 ∷ []) ≡ true
+matrix-counted : (m : Matrix) → Shaped m → among (length (matrixBody m)) (0 ∷ matrixCount ∷ []) ≡ true
 matrix-counted m (inl e) = rw e
 matrix-counted m (inr f) =
-    let l : length (m .mode ∷ coefficientBytes (m .coefficients)) ≡ 25 = omega (arith, length-bytes (m .coefficients), f .twelve) in
+    let l : length (m .mode ∷ coefficientBytes (m .coefficients)) ≡ matrixCount = omega (arith, length-bytes (m .coefficients), f .twelve) in
     rw (f .on, l)
 
 matrix-said : (m : Matrix) → Shaped m → cond (present (matrixBody m)) (matrixOf (matrixBody m)) noMatrix ≡ m
@@ -54,17 +53,17 @@ module _ (r : Request) (s : Shaped (r .matrix)) where
       walks sections (asBytes r) .whole (bodiesOf r) [] .1 (f, refl)
 
   -- reading the bytes of a request is judging its bodies
-  pub read-judged : readOf (asBytes r) ≡ judged (videoBody (r .video)) (audioBody (r .sound)) (matrixBody (r .matrix))
+  pub read-judged : readOf (asBytes r) ≡ judged (r .video) (audioBody (r .sound)) (matrixBody (r .matrix))
   unfolding readOf
   read-judged = ap checked bytes-walked
 
   pub said : readOf (asBytes r) .refusal ≡ 0 → readOf (asBytes r) ≡ record { refusal = 0; request = r }
   said z =
-      let j = judged (videoBody (r .video)) (audioBody (r .sound)) (matrixBody (r .matrix)) in
-      let q : requestIn (videoBody (r .video)) (audioBody (r .sound)) (matrixBody (r .matrix)) ≡ r = rw (sound-said (r .sound), matrix-said (r .matrix) s) in
+      let j = judged (r .video) (audioBody (r .sound)) (matrixBody (r .matrix)) in
+      let q : requestIn (r .video) (audioBody (r .sound)) (matrixBody (r .matrix)) ≡ r = rw (sound-said (r .sound), matrix-said (r .matrix) s) in
       let y : j .refusal ≡ 0 = ap (λ (c : Checked). c .refusal) (sym read-judged) ∙ z in
       read-judged
-      ∙ ap₂ (λ (n : ℕ) (x : Request). the (n, x)) y (accepted (videoBody (r .video)) (audioBody (r .sound)) (matrixBody (r .matrix)) y .request ∙ q)
+      ∙ ap₂ (λ (n : ℕ) (x : Request). the (n, x)) y (accepted (r .video) (audioBody (r .sound)) (matrixBody (r .matrix)) y .request ∙ q)
     where
       the : ℕ × Request → Checked
       the p = record { refusal = p .0; request = p .1 }

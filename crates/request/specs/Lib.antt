@@ -4,3 +4,4 @@ pub mod Request
 pub mod Read
 pub mod Bytes
 pub mod Theorems
+pub mod Fits

@@ -6,7 +6,8 @@ use Prim.Native.Nat.{ℕ}
 use lib.Dec.{eqb, ltb}
 use lib.ListN.{length}
 use Rattle.clock.specs.declared.Pair.{Pair}
-use Rattle.video.specs.Video.{videoIn, noVideo}
+use Rattle.video.specs.declared.Video.{Video}
+use Rattle.video.specs.Video.{noVideo, videoOutside, videoCombined}
 use Rattle.video.specs.Modes.{offered}
 use Rattle.clock.specs.Pairs.{noPair, audioOff}
 use Rattle.clock.specs.Found.{pairOf}
@@ -15,8 +16,8 @@ use Rattle.request.specs.declared.Sound.{Sound}
 use Rattle.request.specs.declared.Sound.the-variants.{Off, On}
 use Rattle.request.specs.declared.Request.{Request}
 use Rattle.request.specs.declared.Checked.{Checked}
-use Rattle.request.specs.Sections.{Walk, ends, notAllowed, whole, walked, videoSection, audioSection, matrixSection, restOf}
-use Rattle.request.specs.Request.{present, encoding, link, rate, channels, coherent, requestIn}
+use Rattle.request.specs.Sections.{Walk, ends, notAllowed, whole, walked, audioSection, matrixSection, restOf}
+use Rattle.request.specs.Request.{present, videoOf, rate, channels, coherent, requestIn}
 use Rattle.refusals.specs.Rows.{Test, _if_, lowest, answer}
 use Rattle.refusals.specs.Rows.{inputEnds, countNotAllowed, bytesAfter, modeNotOffered, fieldOutOfRange, combination}
 
@@ -28,22 +29,21 @@ emptied number = record { refusal = number; request = record { video = noVideo; 
 abbrev pub audioOutside : List ℕ → Bool
 audioOutside audio = ltb 6 (rate audio) || ((not (eqb (channels audio) 2) && not (eqb (channels audio) 8)) || ltb 1 (coherent audio))
 
-unfoldable pub outside : List ℕ → List ℕ → List ℕ → Bool
-outside video audio matrix =
-    ltb 2 (encoding video) || (ltb 1 (link video) || ((present audio && audioOutside audio) || (present matrix && not (isAllowed matrix))))
+unfoldable pub outside : Video → List ℕ → List ℕ → Bool
+outside video audio matrix = videoOutside video || ((present audio && audioOutside audio) || (present matrix && not (isAllowed matrix)))
 
-unfoldable pub combined : List ℕ → List ℕ → List ℕ → Bool
+unfoldable pub combined : Video → List ℕ → List ℕ → Bool
 combined video audio matrix =
-    (not (eqb (encoding video) 0) && eqb (length matrix) 0) || (eqb (link video) 0 && (present audio || not (eqb (encoding video) 0)))
+    (not (eqb (video .encoding) 0) && eqb (length matrix) 0) || ((eqb (video .link) 0 && present audio) || videoCombined video)
 
--- rows 4 to 6 of the bodies, and rows 1 to 3 before them: a line for each row. They decide the conditions of `readRules` (`Rows`).
-abbrev pub bodyTests : List ℕ → List ℕ → List ℕ → List Test
+-- rows 4 to 6 of the sections, and rows 1 to 3 before them: a line for each row. They decide the conditions of `readRules` (`Rows`).
+abbrev pub bodyTests : Video → List ℕ → List ℕ → List Test
 bodyTests video audio matrix =
-    modeNotOffered if not (offered (videoIn video)) ∷
+    modeNotOffered if not (offered video) ∷
     fieldOutOfRange if outside video audio matrix ∷
     combination if combined video audio matrix ∷ []
 
-unfoldable pub judged : List ℕ → List ℕ → List ℕ → Checked
+unfoldable pub judged : Video → List ℕ → List ℕ → Checked
 judged video audio matrix =
     answer (lowest (bodyTests video audio matrix)) emptied (record { refusal = 0; request = requestIn video audio matrix })
 
@@ -64,7 +64,7 @@ walkTests w =
     bytesAfter if present (restOf w) ∷ []
 
 abbrev pub checked : Walk → Checked
-checked w = answer (lowest (walkTests w)) emptied (judged (videoSection w) (audioSection w) (matrixSection w))
+checked w = answer (lowest (walkTests w)) emptied (judged (videoOf w) (audioSection w) (matrixSection w))
 
 -- a request read from an input: refusals 1 to 6
 unfoldable pub readOf : List ℕ → Checked

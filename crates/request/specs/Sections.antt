@@ -3,7 +3,7 @@
 use mathlib.Core.Path.{_≡_}
 use mathlib.Core.Logic.{_↔_, _⊎_}
 use mathlib.Core.Bool.{Bool, true, false, cond, _&&_}
-use mathlib.Core.List.{List, [], _∷_, _++_}
+use mathlib.Core.List.{List, [], _∷_, _++_, map}
 use Prim.Native.Nat.{ℕ, suc, _+_, _≤_, _<_, max}
 use lib.Dec.{leb}
 use lib.ListN.{getD, length, take, drop}
@@ -73,6 +73,19 @@ abbrev pub longestOf : List (List ℕ) → ℕ
 longestOf [] = 0
 longestOf (counts ∷ more) = suc (largest counts) + longestOf more
 
+-- the lengths that sections can have: of each its count, and a body of one of the counts that it allows
+abbrev pub eachWith : List ℕ → List ℕ → List ℕ
+eachWith counts [] = []
+eachWith counts (t ∷ totals) = map (λ n. suc n + t) counts ++ eachWith counts totals
+
+abbrev pub lengthsOf : List (List ℕ) → List ℕ
+lengthsOf [] = 0 ∷ []
+lengthsOf (counts ∷ more) = eachWith counts (lengthsOf more)
+
+-- "Lengths are therefore 7, 10, 32 or 35"
+abbrev pub lengths : List ℕ
+lengths = lengthsOf sections
+
 -- "the longest request, 35"
 abbrev pub longest : ℕ
 longest = longestOf sections
@@ -121,9 +134,9 @@ pub record Walks (table : List (List ℕ)) (input : List ℕ) : Type 0 where
 
 -- the same of a request, section by section
 pub record Sectioned (input video audio matrix rest : List ℕ) : Type 0 where
-  pub videoCounted : length video ≡ 4
-  pub audioCounted : (length audio ≡ 0) ⊎ (length audio ≡ 3)
-  pub matrixCounted : (length matrix ≡ 0) ⊎ (length matrix ≡ 25)
+  pub videoCounted : length video ≡ videoCount
+  pub audioCounted : (length audio ≡ 0) ⊎ (length audio ≡ audioCount)
+  pub matrixCounted : (length matrix ≡ 0) ⊎ (length matrix ≡ matrixCount)
   pub made : input ≡ length video ∷ (video ++ (length audio ∷ (audio ++ (length matrix ∷ (matrix ++ rest)))))
 
 pub record RequestWalks (input : List ℕ) : Type 0 where

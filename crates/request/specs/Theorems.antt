@@ -10,8 +10,8 @@ use Rattle.refusals.specs.Rows.{Given}
 use Rattle.matrix.specs.declared.Matrix.{Matrix}
 use Rattle.matrix.specs.Matrix.{noMatrix, Bytes}
 use Rattle.request.specs.declared.Request.{Request}
-use Rattle.request.specs.Sections.{longest, walked, videoSection, audioSection, matrixSection}
-use Rattle.request.specs.Request.{requestIn, readRules, nctsRules}
+use Rattle.request.specs.Sections.{walk, whole, lengthsOf, lengths, longest, walked, audioSection, matrixSection}
+use Rattle.request.specs.Request.{videoOf, requestIn, readRules, nctsRules}
 use Rattle.request.specs.Read.{readOf, nctsOf}
 use Rattle.request.specs.Bytes.{asBytes, answeredBytes}
 
@@ -19,14 +19,15 @@ pub record Rows (input : List ℕ) : Type 0 where
   -- of the rows that a call checks, the lowest that applies is given, and none is given otherwise
   pub read : Bytes input → Given (readRules (walked input)) (readOf input .refusal)
   pub ncts : Bytes input → Given (nctsRules (walked input)) (nctsOf input .refusal)
-  -- the request that is read is what the three bodies say
+  -- the request that is read is what the three sections say
   pub said : readOf input .refusal ≡ 0
-      → readOf input .request ≡ requestIn (videoSection (walked input)) (audioSection (walked input)) (matrixSection (walked input))
+      → readOf input .request ≡ requestIn (videoOf (walked input)) (audioSection (walked input)) (matrixSection (walked input))
 
--- "Lengths are therefore 7, 10, 32 or 35"
+-- "Lengths are therefore 7, 10, 32 or 35" (`MarkedCases`, promises, has the numbers)
 pub record Lengths (input : List ℕ) : Type 0 where
-  pub accepted : readOf input .refusal ≡ 0 → among (length input) (7 ∷ 10 ∷ 32 ∷ 35 ∷ []) ≡ true
-  pub most : longest ≡ 35
+  pub accepted : readOf input .refusal ≡ 0 → among (length input) lengths ≡ true
+  -- as over any sections with no byte after them
+  pub walked : (table bodies : List (List ℕ)) → walk table input ≡ whole bodies [] → among (length input) (lengthsOf table) ≡ true
   -- so one byte more than the longest decides: cut there, or later, an input is answered as it is whole
   pub read : (n : ℕ) → longest < n → readOf (take n input) ≡ readOf input
   pub ncts : (n : ℕ) → longest < n → nctsOf (take n input) ≡ nctsOf input

@@ -1,13 +1,14 @@
 // The request: document 01, "The request" and "Refusal numbers".
 ghost use mathlib.Core.Path.{_≡_};
 ghost use mathlib.Core.Bool.{not, _&&_};
-ghost use Prim.Native.Nat.{ℕ, _%_, _≤_};
+ghost use Prim.Native.Nat.{ℕ, _%_};
 ghost use lib.ListN.{length};
 ghost use Rattle.matrix.specs.Matrix.{isAllowed};
-ghost use Rattle.request.specs.Sections.{Walks, RequestWalks};
+ghost use Rattle.request.specs.Sections.{audioCount, Walks, RequestWalks};
 ghost use Rattle.request.specs.Request.{present, soundOf};
-ghost use Rattle.request.specs.Read.{audioOutside, outside, combined, judged, Reads, Pairs, PairsInput, emptied};
+ghost use Rattle.request.specs.Read.{audioOutside, outside, combined, judged, readOf, Reads, Pairs, PairsInput, emptied};
 ghost use Rattle.request.specs.Theorems.{Rows, Lengths, ThereAndBack};
+ghost use Rattle.request.specs.Fits.{Fits};
 ghost use mathlib.Core.List.{List};
 use clock::Pair;
 use matrix::Matrix;
@@ -61,7 +62,7 @@ fn refused(number: u8) -> Checked
 
 // What an audio section's body, of three bytes or none, asks for.
 fn sound_of(audio: &[u8]) -> Sound
-    requires { ⌜ length (now audio) % 3 ≡ 0 ⌝ }
+    requires { ⌜ length (now audio) % audioCount ≡ 0 ⌝ }
     ensures { λ r. ⌜ r ≡ soundOf (now (audio .entry)) ⌝ }
 {
     if audio.len() == 0 {
@@ -76,7 +77,7 @@ fn sound_of(audio: &[u8]) -> Sound
 
 // Whether an audio section is there and has a field outside its range.
 fn audio_outside(audio: &[u8]) -> bool
-    requires { ⌜ length (now audio) % 3 ≡ 0 ⌝ }
+    requires { ⌜ length (now audio) % audioCount ≡ 0 ⌝ }
     ensures { λ r. ⌜ r ≡ (present (now (audio .entry)) && audioOutside (now (audio .entry))) ⌝ }
 {
     if audio.len() == 0 {
@@ -96,29 +97,27 @@ fn matrix_outside(body: &[u8]) -> bool
 }
 
 // Row 5.
-fn is_outside(video: &[u8], audio: &[u8], body: &[u8]) -> bool
-    requires { ⌜ (4 ≤ length (now video)) × (length (now audio) % 3 ≡ 0) ⌝ }
-    ensures { λ r. ⌜ r ≡ outside (now (video .entry)) (now (audio .entry)) (now (body .entry)) ⌝ }
+fn is_outside(video: Video, audio: &[u8], body: &[u8]) -> bool
+    requires { ⌜ length (now audio) % audioCount ≡ 0 ⌝ }
+    ensures { λ r. ⌜ r ≡ outside video (now (audio .entry)) (now (body .entry)) ⌝ }
 {
-    (2 < video[2]) | ((1 < video[3]) | (audio_outside(audio) | matrix_outside(body)))
+    video::outside(video) | (audio_outside(audio) | matrix_outside(body))
 }
 
 // Row 6.
-fn is_combined(video: &[u8], audio: &[u8], body: &[u8]) -> bool
-    requires { ⌜ 4 ≤ length (now video) ⌝ }
-    ensures { λ r. ⌜ r ≡ combined (now (video .entry)) (now (audio .entry)) (now (body .entry)) ⌝ }
+fn is_combined(video: Video, audio: &[u8], body: &[u8]) -> bool
+    ensures { λ r. ⌜ r ≡ combined video (now (audio .entry)) (now (body .entry)) ⌝ }
 {
-    ((video[2] != 0) & (body.len() == 0))
-        | ((video[3] == 0) & ((audio.len() != 0) | (video[2] != 0)))
+    ((video.encoding != 0) & (body.len() == 0))
+        | (((video.link == 0) & (audio.len() != 0)) | video::combined(video))
 }
 
-// The three bodies: rows 4 to 6.
-fn judge(video: &[u8], audio: &[u8], body: &[u8]) -> Checked
-    requires { ⌜ (4 ≤ length (now video)) × (length (now audio) % 3 ≡ 0) ⌝ }
-    ensures { λ r. ⌜ r ≡ judged (now (video .entry)) (now (audio .entry)) (now (body .entry)) ⌝ }
+// What the three sections ask for: rows 4 to 6.
+fn judge(video: Video, audio: &[u8], body: &[u8]) -> Checked
+    requires { ⌜ length (now audio) % audioCount ≡ 0 ⌝ }
+    ensures { λ r. ⌜ r ≡ judged video (now (audio .entry)) (now (body .entry)) ⌝ }
 {
-    let asked = video::video_in(video);
-    let clock = clock::clock_of(asked);
+    let clock = clock::clock_of(video);
     if clock.refusal != Refusal::NONE {
         return refused(Refusal::MODE_NOT_OFFERED);
     }
@@ -133,7 +132,7 @@ fn judge(video: &[u8], audio: &[u8], body: &[u8]) -> Checked
     Checked {
         refusal: Refusal::NONE,
         request: Request {
-            video: asked,
+            video: video,
             sound: sound,
             matrix: matrix,
         },
@@ -157,8 +156,9 @@ pub fn read(s: &[u8]) -> Checked
     }
     let audio_start = video_end + 1;
     let matrix_start = audio_end + 1;
+    let video = video::video_in(&s[1..video_end]);
     judge(
-        &s[1..video_end],
+        video,
         &s[audio_start..audio_end],
         &s[matrix_start..matrix_end],
     )
@@ -209,6 +209,11 @@ pub fn there_and_back()
 // The rows of a request, in document 01's order, and the request that is read.
 pub fn rows()
     ensures { λ _. ⌜ ((input : List ℕ) → Rows input) ⌝ }
+{}
+
+// What is known of an accepted request.
+pub fn accepted_fits()
+    ensures { λ _. ⌜ ((input : List ℕ) → readOf input .refusal ≡ 0 → Fits (readOf input .request)) ⌝ }
 {}
 
 // The lengths of a request, and what a longer input is answered.

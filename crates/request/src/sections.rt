@@ -6,6 +6,7 @@ ghost use Rattle.lists.specs.Among.{among};
 ghost use Rattle.request.specs.Sections.{sections, walked};
 ghost use Rattle.request.specs.Places.{placesOf};
 use refusals::Refusal;
+use video::VIDEO_COUNT;
 
 // How many sections there are, and the place of each in the order.
 pub const SECTIONS: usize = 3;
@@ -16,9 +17,7 @@ pub const AUDIO: usize = 1;
 
 pub const MATRIX: usize = 2;
 
-// The count of each section where it is not empty.
-pub const VIDEO_COUNT: u8 = 4;
-
+// The count of each section where it is not empty; the video section's is `video::VIDEO_COUNT`.
 pub const AUDIO_COUNT: u8 = 3;
 
 pub const MATRIX_COUNT: u8 = 25;
@@ -33,7 +32,7 @@ pub const LONGEST: usize = SECTIONS
 // stands where the body before it ends.
 pub struct Places {
     pub refusal: u8,
-    pub ends: [usize; 3],
+    pub ends: [usize; SECTIONS],
 }
 
 // Whether section k allows a count: a line for each section.
@@ -56,21 +55,21 @@ pub fn allows(k: usize, count: u8) -> bool
 pub fn walk(s: &[u8]) -> Places
     ensures { λ r. ⌜ r ≡ placesOf (walked (now (s .entry))) ⌝ }
 {
-    let mut ends = [0usize; 3];
+    let mut ends = [0usize; SECTIONS];
     let mut place: usize = 0;
     let mut k: usize = 0;
     while k < SECTIONS {
         if s.len() <= place {
             return Places {
                 refusal: Refusal::INPUT_ENDS,
-                ends: [0usize; 3],
+                ends: [0usize; SECTIONS],
             };
         }
         let count = s[place];
         if !allows(k, count) {
             return Places {
                 refusal: Refusal::COUNT_NOT_ALLOWED,
-                ends: [0usize; 3],
+                ends: [0usize; SECTIONS],
             };
         }
         let start = place + 1;
@@ -78,7 +77,7 @@ pub fn walk(s: &[u8]) -> Places
         if s.len() - start < n {
             return Places {
                 refusal: Refusal::INPUT_ENDS,
-                ends: [0usize; 3],
+                ends: [0usize; SECTIONS],
             };
         }
         place = start + n;

@@ -8,7 +8,7 @@ avi-of-requires : tie.Need-avi-of-requires
 avi-of-requires c κs = search needs
 
 returns : tie.Need-returns
-returns c = rw (c .before .avi-of .ensures) (avi-given _ (c .before .before .pre .0) (c .before .before .pre .1))
+returns c = rw (c .before .avi-of .ensures) (avi-given _ (c .before .before .pre))
 
 pub avi-bytes-spec : {M : Type 1} → statement M
 avi-bytes-spec = tie.close (tie.spec avi-of-requires returns)

@@ -5,20 +5,21 @@ use Prim.Native.Nat.{ℕ}
 use native.Mathlib.Omega.{arith}
 use lib.ListN.{getD}
 use borrow.Author.Needs.{needs}
+use Rattle.request.proofs.Fits.{on-small, coefficients-small}
 use Rattle.plan.proofs.csc_bytes.Statement.{statement}
 use Rattle.plan.proofs.csc_bytes.Tie as tie
 
 halves-requires : tie.Need-halves-requires
-halves-requires c κs = search needs
+halves-requires c κs = coefficients-small _ (c .before .pre .0)
 
 mul-out : tie.Need-mul-out
-mul-out c = search needs
+mul-out c = let o = on-small _ (c .before .before .before .pre .0) in search needs
 
 mul-out-2 : tie.Need-mul-out-2
 mul-out-2 c = search needs
 
 add-out : tie.Need-add-out
-add-out c = search needs
+add-out c = let o = on-small _ (c .before .before .before .before .pre .0) in search needs
 
 array-read-out : tie.Need-array-read-out
 array-read-out c = search needs
@@ -26,7 +27,7 @@ array-read-out c = search needs
 add-out-2 : tie.Need-add-out-2
 add-out-2 c =
     let h = c .before .before in
-    omega (arith, ap (λ (l : List ℕ). getD l 0 0) (h .halves .ensures), h .before .before .pre .coefficients 0)
+    omega (arith, ap (λ (l : List ℕ). getD l 0 0) (h .halves .ensures), on-small _ (h .before .before .pre .0), coefficients-small _ (h .before .before .pre .0) 0)
 
 array-write-out : tie.Need-array-write-out
 array-write-out c = search needs

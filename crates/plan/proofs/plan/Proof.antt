@@ -3,9 +3,9 @@ use mathlib.Core.Path.{_≡_, refl, sym, subst}
 use borrow.Author.Tests.{eq-eqb, ne-eqb}
 use borrow.Author.Needs.{needs}
 use Rattle.request.specs.declared.Checked.{Checked}
-use Rattle.plan.specs.Wanted.{Fits}
+use Rattle.request.specs.Fits.{Fits}
 use Rattle.plan.specs.Plan.{planOf, planBuffer}
-use Rattle.plan.proofs.Accepted.{fits}
+use Rattle.request.proofs.Fits.{fits}
 use Rattle.plan.proofs.plan.Statement.{statement}
 use Rattle.plan.proofs.plan.Tie as tie
 

@@ -5,7 +5,7 @@ use borrow.Author.Tests.{eq-eqb, ne-eqb}
 use Rattle.request.specs.Read.{readOf}
 use Rattle.plan.specs.Wanted.{wanted}
 use Rattle.plan.specs.Plan.{standsIn}
-use Rattle.plan.proofs.Accepted.{fits}
+use Rattle.request.proofs.Fits.{fits}
 use borrow.Author.Needs.{needs}
 use Rattle.plan.proofs.stands.Statement.{statement}
 use Rattle.plan.proofs.stands.Tie as tie

@@ -4,11 +4,8 @@ use borrow.Author.Needs.{needs}
 use Rattle.request.proofs.is_outside.Statement.{statement}
 use Rattle.request.proofs.is_outside.Tie as tie
 
-shared-slice-read-result : tie.Need-shared-slice-read-result
-shared-slice-read-result c = search needs
-
-shared-slice-read-result-2 : tie.Need-shared-slice-read-result-2
-shared-slice-read-result-2 c = search needs
+outside-requires : tie.Need-outside-requires
+outside-requires c κs = search needs
 
 audio-outside-requires : tie.Need-audio-outside-requires
 audio-outside-requires c κs = search needs
@@ -18,14 +15,7 @@ matrix-outside-requires c κs = search needs
 
 returns : tie.Need-returns
 unfolding outside
-returns c = simp (c .before .audio-outside .ensures, c .matrix-outside .ensures)
+returns c = simp (c .before .before .outside .ensures, c .before .audio-outside .ensures, c .matrix-outside .ensures)
 
 pub is-outside-spec : {M : Type 1} → statement M
-is-outside-spec =
-    tie.close
-    (tie.spec
-    shared-slice-read-result
-    shared-slice-read-result-2
-    audio-outside-requires
-    matrix-outside-requires
-    returns)
+is-outside-spec = tie.close (tie.spec outside-requires audio-outside-requires matrix-outside-requires returns)

@@ -1,7 +1,6 @@
 -- `request::judge` meets its contract: rows 4 to 6. Assumes nothing.
 use mathlib.Core.Path.{_≡_, sym, _∙_}
 use mathlib.Core.Bool.{true}
-use Rattle.video.specs.Video.{videoIn}
 use Rattle.video.specs.Modes.{offered}
 use Rattle.request.specs.Read.{judged}
 use Rattle.request.proofs.Judged.{matrix-read}
@@ -9,9 +8,6 @@ use Rattle.clock.proofs.Offered.{accepted, declined}
 use borrow.Author.Needs.{needs}
 use Rattle.request.proofs.judge.Statement.{statement}
 use Rattle.request.proofs.judge.Tie as tie
-
-video-in-requires : tie.Need-video-in-requires
-video-in-requires c κs = search needs
 
 clock-of-requires : tie.Need-clock-of-requires
 clock-of-requires c κs = search needs
@@ -23,14 +19,14 @@ returns : tie.Need-returns
 unfolding judged
 returns c =
     let k = c .before .before .before in
-    let o = rw (k .before .video-in .ensures) at (declined _ (rw (k .clock-of .ensures) at (c .before .if1 .taken)) .0) in
+    let o = declined _ (rw (k .clock-of .ensures) at (c .before .if1 .taken)) .0 in
     simp (o, c .refused .ensures)
 
 -- past the first test the mode is offered
-mode : (c : tie.After-is-outside) → offered (videoIn (c .before .before .before .before .before .before .before .before .args .video .now)) ≡ true
+mode : (c : tie.After-is-outside) → offered (c .before .before .before .before .before .before .args .video) ≡ true
 mode c =
     let k = c .before .before .before in
-    rw (k .before .video-in .ensures) at (accepted _ (rw (k .clock-of .ensures) at (c .before .if1 .left)))
+    accepted _ (rw (k .clock-of .ensures) at (c .before .if1 .left))
 
 is-outside-requires : tie.Need-is-outside-requires
 is-outside-requires c κs = search needs
@@ -73,13 +69,12 @@ returns-4 c =
     let b = d .before .before in
     let o = mode b in
     let m = matrix-read _ _ _ (sym (b .is-outside .ensures) ∙ d .before .if2 .left) in
-    simp (o, ← b .is-outside .ensures, d .before .if2 .left, ← d .is-combined .ensures, e .if3 .left, c .before .sound-of .ensures, c .read .ensures, m, b .before .before .before .before .video-in .ensures)
+    simp (o, ← b .is-outside .ensures, d .before .if2 .left, ← d .is-combined .ensures, e .if3 .left, c .before .sound-of .ensures, c .read .ensures, m)
 
 pub judge-spec : {M : Type 1} → statement M
 judge-spec =
     tie.close
     (tie.spec
-    video-in-requires
     clock-of-requires
     refused-requires
     returns
