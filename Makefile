@@ -40,18 +40,18 @@ clean:
 help:
 	@sed -n 's/^#   //p' Makefile
 
-target/c/accident: programs/accident.c programs/chip.c
+target/c/accident: programs/accident.c programs/fields.c programs/chip.c programs/words.c
 target/c/image: programs/image.c programs/words.c
 target/c/listing: programs/listing.c programs/registers.c programs/chip.c programs/words.c
 target/c/modes: programs/modes.c programs/fields.c programs/words.c
 target/c/picture: programs/picture.c programs/registers.c programs/fields.c programs/chip.c programs/words.c
 target/c/request: programs/request.c programs/fields.c programs/words.c
-target/c/vectors: programs/vectors.c
+target/c/vectors: programs/vectors.c programs/fields.c programs/words.c
 target/c/example: host/example.c
-target/c/host: host/host.c programs/chip.c programs/words.c
+target/c/host: host/host.c programs/fields.c programs/chip.c programs/words.c
 target/c/i2c: host/i2c.c programs/words.c
-target/c/i2c_fake: tests/i2c/fake.c programs/chip.c programs/words.c | host/i2c.c
-target/c/bench: bench/bench.c bench/plain.c
+target/c/i2c_fake: tests/i2c/fake.c programs/fields.c programs/chip.c programs/words.c | host/i2c.c
+target/c/bench: bench/bench.c bench/plain.c programs/fields.c programs/words.c
 target/c/tests: $(wildcard tests/*.c tests/model/*.c tests/wrong/*.c) bench/plain.c
 target/c/tests: FLAGS += -pthread
 $(BINARIES): $(HEADERS) $(LIB) Makefile

@@ -5,16 +5,19 @@
  *   bench count SIDE CALL N    N calls and nothing else, for a tool that counts instructions: SIDE library, plain or rule, CALL plan,
  *                              decode or refused */
 #include "plain.h"
-#include <stdio.h>
+#include "../programs/fields.h"
+#include "../programs/words.h"
 #include <stdlib.h>
 #include <string.h>
 #include <time.h>
 
+const char *program = "bench";
+
 enum { INPUTS = 64, CALLS = 10 * INPUTS, ROUNDS = 400 };
 
 static struct {
-    uint8_t request[STATION_REQUEST], start[STATION_IMAGE], finished[STATION_IMAGE], damaged[STATION_IMAGE];
-    size_t length;
+    struct request request;
+    uint8_t start[STATION_IMAGE], finished[STATION_IMAGE], damaged[STATION_IMAGE];
 } in[INPUTS];
 static uint8_t room[STATION_WRITES];
 static uint32_t sum;    /* keeps the calls alive */
@@ -28,26 +31,23 @@ static uint32_t noise(void) {
 /* Requests over HDMI that are accepted, three of four with sound, half of these coherent, half of all with a matrix; the image that each
  * ends in; and that image with one mandated bit turned over. */
 static void make_inputs(void) {
-    static const uint8_t vics[] = { 1, 2, 3, 4, 5, 16, 17, 18, 19, 20, 31, 32, 34, 60, 62 };
     for (int i = 0; i < INPUTS; ) {
-        uint8_t list[STATION_WRITES], *r = in[i].request;
-        size_t n = 0;
-        int matrix = noise() % 2;
-        r[n++] = 4, r[n++] = vics[noise() % sizeof vics], r[n++] = noise() % 2, r[n++] = matrix ? noise() % 3 : 0, r[n++] = 1;
-        if (noise() % 4) r[n++] = 3, r[n++] = noise() % 7, r[n++] = noise() % 2 ? 8 : 2, r[n++] = noise() % 2;
-        else r[n++] = 0;
-        r[n++] = matrix ? 25 : 0;
-        if (matrix) {
-            r[n++] = noise() % 3;
-            for (int k = 0; k < 12; k++) {
-                int value = (int)(noise() % 8192) - 4096;
-                r[n++] = (uint8_t)((unsigned)value >> 8), r[n++] = (uint8_t)value;
-            }
+        uint8_t list[STATION_WRITES];
+        char sound[64] = "", matrix[TEXT_OF_A_REQUEST / 2] = "";
+        unsigned with_matrix = noise() % 2, vic = modes[noise() % number_of_modes].vic, family = noise() % 2;
+        unsigned encoding = with_matrix ? noise() % 3 : 0;
+        if (noise() % 4) {
+            unsigned rate = noise() % 7, channels = noise() % 2 ? 8 : 2, coherent = noise() % 2;
+            snprintf(sound, sizeof sound, "audio rate=%u channels=%u coherent=%u", rate, channels, coherent);
         }
-        in[i].length = n;
+        if (with_matrix) {
+            int used = snprintf(matrix, sizeof matrix, "matrix mode=%u", noise() % 3);
+            for (int k = 0; k < 12; k++) used += snprintf(matrix + used, sizeof matrix - used, " %d", (int)(noise() % 8192) - 4096);
+        }
+        in[i].request = request_of_text("vic %u family=%u encoding=%u hdmi %s %s", vic, family, encoding, sound, matrix);
         for (int a = 0; a < STATION_IMAGE; a++) in[i].start[a] = (uint8_t)noise();
         in[i].start[0x4A] &= noise() % 2 ? 0xCF : 0xAF;
-        struct station_count c = plain_plan(r, n, in[i].start, STATION_IMAGE, list, STATION_WRITES);
+        struct station_count c = plain_plan(in[i].request.bytes, in[i].request.length, in[i].start, STATION_IMAGE, list, STATION_WRITES);
         if (c.refusal) continue;
         memcpy(in[i].finished, in[i].start, STATION_IMAGE);
         for (uint32_t w = 0; w < c.count; w++) in[i].finished[list[2 * w]] = list[2 * w + 1];
@@ -59,7 +59,7 @@ static void make_inputs(void) {
 
 /* The sides, and what is called. */
 enum { LIBRARY, PLAIN, RULE, SIDES };
-enum { PLAN, DECODE, REFUSED, WHATS };
+enum { PLAN, DECODE, NO_REQUEST, WHATS };
 static const struct {
     const char *name;
     struct station_count (*plan)(const uint8_t *, size_t, const uint8_t *, size_t, uint8_t *, size_t);
@@ -72,12 +72,12 @@ static const struct {
 static const struct { const char *name, *title; double bar; } whats[WHATS] = {
     [PLAN] = { "plan", "planning", 1.5 },
     [DECODE] = { "decode", "decoding", 2.0 },
-    [REFUSED] = { "refused", "decoding, refused 11", 2.0 },
+    [NO_REQUEST] = { "refused", "decoding, refused 11", 2.0 },
 };
 
 static inline struct station_count call(int side, int what, int i) {
-    if (what == PLAN) return sides[side].plan(in[i].request, in[i].length, in[i].start, STATION_IMAGE, room, sizeof room);
-    return sides[side].decode(what == REFUSED ? in[i].damaged : in[i].finished, STATION_IMAGE, room, sizeof room);
+    if (what == PLAN) return sides[side].plan(in[i].request.bytes, in[i].request.length, in[i].start, STATION_IMAGE, room, sizeof room);
+    return sides[side].decode(what == NO_REQUEST ? in[i].damaged : in[i].finished, STATION_IMAGE, room, sizeof room);
 }
 
 static double now(void) {

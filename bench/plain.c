@@ -3,8 +3,10 @@
 #include "plain.h"
 #include <string.h>
 
-/* The bytes of each section and of the longest request, with its three counts; the VICs have six bits. */
-enum { VIDEO = 4, SOUND = 3, MATRIX = 25, LONGEST = 3 + VIDEO + SOUND + MATRIX, VICS = 64, RATES = 7 };
+/* The places of the video section's fields in a request, behind its count, and that of the next count. The bytes of each section and of
+ * the longest request, with its three counts; the VICs have six bits. */
+enum { VIC = 1, FAMILY, ENCODING, LINK, NEXT };
+enum { VIDEO = NEXT - 1, SOUND = 3, MATRIX = STATION_MATRIX, LONGEST = 3 + VIDEO + SOUND + MATRIX, VICS = 64, RATES = 7 };
 
 /* For each VIC: the row of `pairs` at family 0 and 1 (0 where it is not offered), 4:3, ITU-R 601, the clock at family 0 in Hz. */
 static const struct { uint8_t row[2], narrow, itu601; uint32_t hertz; } modes[VICS] = {
@@ -88,7 +90,7 @@ static const uint8_t always[256] = {
 struct asked { uint8_t vic, family, encoding, link; const uint8_t *sound, *matrix; };
 
 static uint32_t read(const uint8_t *r, size_t length, struct asked *q) {
-    size_t at = 1 + VIDEO;
+    size_t at = NEXT;
     if (length < 1) return 1;
     if (r[0] != VIDEO) return 2;
     if (length < at + 1) return 1;
@@ -107,7 +109,7 @@ static uint32_t read(const uint8_t *r, size_t length, struct asked *q) {
     } else if (r[at] != 0) return 2;
     at++;
     if (length != at) return 3;
-    q->vic = r[1], q->family = r[2], q->encoding = r[3], q->link = r[4];
+    q->vic = r[VIC], q->family = r[FAMILY], q->encoding = r[ENCODING], q->link = r[LINK];
     if (q->vic >= VICS || q->family > 1 || !modes[q->vic].row[q->family]) return 4;
     if (q->encoding > 2 || q->link > 1) return 5;
     if (q->sound && (q->sound[0] > 6 || (q->sound[1] != 2 && q->sound[1] != 8) || q->sound[2] > 1)) return 5;
@@ -226,13 +228,14 @@ static inline int stands(const struct asked *q, const uint8_t *image, find_pair 
 static inline struct station_count decode(const uint8_t *image, size_t image_length, uint8_t *request, size_t request_length,
                                           find_pair *find) {
     static const uint8_t rates[16] = { 1, 9, 2, 0, 9, 9, 9, 9, 3, 9, 4, 9, 5, 9, 6, 9 };
-    uint8_t r[LONGEST] = { VIDEO, image_length == 256 ? image[0x3C] & 0x3F : 0 };
-    size_t at = 1 + VIDEO;
+    uint8_t r[LONGEST] = { VIDEO };
+    size_t at = NEXT;
     struct asked q;
     if (image_length != 256) return (struct station_count){ 7, 0 };
     if (request_length < LONGEST) return (struct station_count){ 10, 0 };
-    r[3] = image[0x55] >> 5 & 3;
-    r[4] = image[0xAF] >> 1 & 1;
+    r[VIC] = image[0x3C] & 0x3F;
+    r[ENCODING] = image[0x55] >> 5 & 3;
+    r[LINK] = image[0xAF] >> 1 & 1;
     if (image[0x44] & 0x20) {
         r[at++] = SOUND;
         r[at++] = rates[image[0x15] >> 4];

@@ -3,6 +3,7 @@
  * back, plans again and finishes. After each write it shows whether the picture is muted, and whether each group in use is as it was
  * when this host started (old) or as the list ends (new). */
 #include "../programs/chip.h"
+#include "../programs/fields.h"
 #include "../programs/words.h"
 #include "station_text.h"
 #include <fcntl.h>
@@ -34,13 +35,13 @@ static struct chip chip;
 static int chip_file;
 
 static void open_chip(const char *name) {
-    static const uint8_t first[] = { 4, 4, 0, 0, 1, 3, 2, 2, 1, 0 };        /* a new chip shows 720p, stereo at 48 kHz */
+    struct request first = request_of_text("vic 4 rgb hdmi audio 48kHz 2 coherent");    /* a new chip shows 720p, stereo at 48 kHz */
     uint8_t list[STATION_WRITES];
     chip_file = open(name, O_RDWR | O_CREAT, 0666);
     if (chip_file < 0) misuse("%s cannot be opened", name);
     off_t length = lseek(chip_file, 0, SEEK_END);
     if (length == 0) {
-        struct station_count n = station_plan(first, sizeof first, chip.image, STATION_IMAGE, list, sizeof list);
+        struct station_count n = station_plan(first.bytes, first.length, chip.image, STATION_IMAGE, list, sizeof list);
         for (uint32_t w = 0; w < n.count; w++) chip_write(&chip, list + 2 * w);
     } else if (length != (off_t)sizeof chip || pread(chip_file, &chip, sizeof chip, 0) != (ssize_t)sizeof chip)
         misuse("%s is no chip: that is a file of %u bytes", name, (unsigned)sizeof chip);
@@ -88,9 +89,8 @@ static void show_request(const char *what, const uint8_t *request, size_t length
 static void take_name(const char *word, struct option *o) { *(const char **)o->into = word; }
 
 int main(int count, char **words) {
-    static const uint8_t usual[] = { 4, 16, 0, 1, 1, 3, 2, 8, 1, 25, 1, 0x0C, 0x53, 0x08, 0x00, 0x00, 0x00, 0xF9, 0xD6, 0xFC, 0x56, 0x08,
-                                     0x00, 0xFE, 0x88, 0x02, 0x91, 0xFF, 0xFF, 0x08, 0x00, 0x0E, 0x85, 0xF8, 0xBE };
-    uint8_t request[STATION_REQUEST], image[STATION_IMAGE], list[STATION_WRITES], back[STATION_REQUEST];
+    struct request asked = request_of_text("vic 16 ycbcr422 hdmi audio 48kHz 8 coherent matrix table39");
+    uint8_t image[STATION_IMAGE], list[STATION_WRITES], back[STATION_REQUEST];
     const char *file = NULL;
     size_t length;
     long cut = -1;
@@ -103,15 +103,17 @@ int main(int count, char **words) {
     setvbuf(stdout, NULL, _IOLBF, 0);                       /* what was said before a kill is seen */
     uint8_t *given = request_of_command(count, words, help, options, sizeof options / sizeof options[0], &length);
     if (!file) misuse("--chip FILE is missing");
-    if (length > sizeof request) misuse("%u bytes, and the longest request has %u", (unsigned)length, STATION_REQUEST);
-    memcpy(request, length ? given : usual, length ? length : sizeof usual);
-    if (length == 0) length = sizeof usual;
+    if (length > sizeof asked.bytes) misuse("%u bytes, and the longest request has %u", (unsigned)length, STATION_REQUEST);
+    if (length) {
+        memcpy(asked.bytes, given, length);
+        asked.length = length;
+    }
     free(given);
     open_chip(file);
 
     /* Read back, ask the library, and keep the list until the last write or the first that fails. */
     read_back(image);
-    struct station_count n = station_plan(request, length, image, sizeof image, list, sizeof list);
+    struct station_count n = station_plan(asked.bytes, asked.length, image, sizeof image, list, sizeof list);
     if (n.refusal) {
         printf("refused %u: %s\n", (unsigned)n.refusal, station_text(n.refusal));
         return REFUSED;
@@ -120,7 +122,7 @@ int main(int count, char **words) {
 
     struct station_count shown = station_decode(image, sizeof image, back, sizeof back);
     show_request("on show:", back, shown.count);
-    show_request("asked for:", request, length);
+    show_request("asked for:", asked.bytes, asked.length);
     printf("planned: %u writes\n", (unsigned)n.count);
 
     /* Old is what is in use now; new is what will be, found on a copy of the chip. */
@@ -145,8 +147,8 @@ int main(int count, char **words) {
     read_back(image);
     shown = station_decode(image, sizeof image, back, sizeof back);
     show_request("reads back:", back, shown.count);
-    request[2] = 0;
-    int good = shown.count == length && !memcmp(back, request, length);
+    asked.bytes[2] = 0;
+    int good = shown.count == asked.length && !memcmp(back, asked.bytes, asked.length);
     printf("%s\n", good ? "finished, and the request reads back" : "FAILED: another request reads back");
     return good ? ACCEPTED : REFUSED;
 }

@@ -1,6 +1,6 @@
 /* A host on a real bus: shows a request on the ADV7511 at address 0x39 of /dev/i2c-N. docs/HOST.md says why each step is as it is.
  *
- *   i2c DEVICE BYTE...     bytes of a request in hex: i2c /dev/i2c-1 04 10 00 00 01 03 02 02 01 00
+ *   i2c DEVICE BYTE...     bytes of a request in hex, as the text of --help has them
  *
  * Status 0: on show; 1: refused, and nothing was written; 2: misuse; 3: the bus or the chip failed, and the same command may be given again. */
 #include <errno.h>
@@ -87,7 +87,7 @@ static struct answer show(int bus, const uint8_t *request, size_t length) {
 
 int main(int count, char **arguments) {
     if (count == 2 && !strcmp(arguments[1], "--help")) {
-        printf("i2c DEVICE BYTE...: shows a request on the chip at 0x39, as in: i2c /dev/i2c-1 04 10 00 00 01 03 02 02 01 00\n");
+        printf("i2c DEVICE BYTE...: shows a request on the chip at 0x39, as in: i2c /dev/i2c-1 " EXAMPLE "\n");
         return ACCEPTED;
     }
     if (count < 2) misuse("a device is missing, such as /dev/i2c-1");

@@ -50,7 +50,7 @@ enum station_refusal {
     STATION_IMAGE_LENGTH = 7,       /* image not of 256 bytes; in the machine also packet buffer not of 32, coefficient buffer not of 24 */
     STATION_HOLDS_UP = 8,           /* GC hold up, or AVI and audio holds both up */
     STATION_NO_EXACT_PAIR = 9,      /* coherent audio, and no exact pair exists */
-    STATION_BUFFER_SHORT = 10,      /* write buffer shorter than 256 bytes; request buffer shorter than 35; matrix buffer shorter than 25 */
+    STATION_BUFFER_SHORT = 10,      /* write buffer shorter than 256 bytes; request buffer shorter than STATION_REQUEST; matrix buffer shorter than 25 */
     STATION_NO_REQUEST = 11,        /* no request ends in this image */
     STATION_INPUT_ABOVE = 12,       /* an input above 4095 */
     STATION_TWO_HOLDS = 13          /* two packet holds are up, or the write would leave two up */
@@ -68,8 +68,8 @@ struct station_masks { uint32_t read_only, mandated, named, free_bits, value; };
 struct station_count station_plan(const uint8_t *request, size_t request_length, const uint8_t *image, size_t image_length,
                                   uint8_t *writes, size_t writes_length);
 
-/* The request that ends in a register image of 256 bytes: `count` bytes at the front of `request`, which has at least 35; the bytes after
- * them stay. Its family is answered as 0, for no register names it. Refusals 7, 10 and 11. */
+/* The request that ends in a register image of 256 bytes: `count` bytes at the front of `request`, which has at least STATION_REQUEST; the
+ * bytes after them stay. Its family is answered as 0, for no register names it. Refusals 7, 10 and 11. */
 struct station_count station_decode(const uint8_t *image, size_t image_length, uint8_t *request, size_t request_length);
 
 /* N and CTS for a request. Refusals 1 to 6 and 9. */

@@ -4,6 +4,10 @@
 
 #include "station.h"
 
+/* A length of station.h as text. */
+#define STATION_TEXT_OF(length) #length
+#define STATION_TEXT(length) STATION_TEXT_OF(length)
+
 static inline const char *station_text(uint32_t refusal) {
     static const char *const texts[] = {
         "none",
@@ -16,12 +20,15 @@ static inline const char *station_text(uint32_t refusal) {
         "image not of 256 bytes; in the machine also packet buffer not of 32, coefficient buffer not of 24",
         "GC hold up, or AVI and audio holds both up",
         "coherent audio, and no exact pair exists",
-        "write buffer shorter than 256 bytes; request buffer shorter than 35; matrix buffer shorter than 25",
+        "write buffer shorter than 256 bytes; request buffer shorter than " STATION_TEXT(STATION_REQUEST) "; matrix buffer shorter than 25",
         "no request ends in this image",
         "an input above 4095",
         "two packet holds are up, or the write would leave two up"
     };
     return refusal < sizeof texts / sizeof texts[0] ? texts[refusal] : "a number that this header does not know";
 }
+
+#undef STATION_TEXT
+#undef STATION_TEXT_OF
 
 #endif

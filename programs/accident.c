@@ -1,15 +1,18 @@
 /* Replays the May accident on the chip machine: a new colour matrix, cut after its fifth coefficient. And our list, cut everywhere.
  * It takes no argument. What it prints is compared with accident.out. */
 #include "chip.h"
+#include "fields.h"
 #include "may.h"
 #include "station_text.h"
-#include <stdio.h>
+#include "words.h"
 #include <string.h>
+
+const char *program = "accident";
 
 struct list { uint32_t count; uint8_t pairs[STATION_WRITES]; };
 
-static int plan(struct list *l, const uint8_t *request, size_t length, const struct chip *c) {
-    struct station_count n = station_plan(request, length, c->image, STATION_IMAGE, l->pairs, STATION_WRITES);
+static int plan(struct list *l, struct request q, const struct chip *c) {
+    struct station_count n = station_plan(q.bytes, q.length, c->image, STATION_IMAGE, l->pairs, STATION_WRITES);
     l->count = n.count;
     if (n.refusal) printf("refused %u: %s\n", (unsigned)n.refusal, station_text(n.refusal));
     return n.refusal == 0;
@@ -72,9 +75,9 @@ int main(void) {
     struct chip start = { { 0 }, { 0 }, { 0 } };
     struct list first, list;
     uint32_t refused;
-    if (!plan(&first, may_before, sizeof may_before, &start)) return 1;
+    if (!plan(&first, request_of_text(MAY_BEFORE), &start)) return 1;
     start = after(start, &first, first.count, &refused);
-    if (!plan(&list, may_asked, sizeof may_asked, &start)) return 1;
+    if (!plan(&list, request_of_text(MAY_ASKED), &start)) return 1;
     struct chip end = after(start, &list, list.count, &refused);
     struct sent old = chip_sent(&start), new = chip_sent(&end);
 

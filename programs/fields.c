@@ -172,9 +172,12 @@ static int take(struct reading *r, int count, char **words) {
     return 0;
 }
 
-size_t request_of_words(int count, char **words, uint8_t *request) {
+struct request request_of_words(int count, char **words) {
+    struct request q = { { 0 }, 0 };
     struct reading r;
-    size_t length = 0;
+    size_t longest = 0;
+    for (int s = 0; s < SECTIONS; s++) longest += 1 + count_of(s);
+    if (longest != STATION_REQUEST) misuse("the longest request has %u bytes, and by station.h %u", (unsigned)longest, STATION_REQUEST);
     memset(&r, 0, sizeof r);
     r.given[IN_VIDEO] = 1;
     for (int w = 0; w < count; ) {
@@ -192,17 +195,26 @@ size_t request_of_words(int count, char **words, uint8_t *request) {
     }
     close_section(&r);
     for (int s = 0; s < SECTIONS; s++) {
-        size_t bytes = bytes_of_fields(s);
-        request[length++] = r.given[s] ? (uint8_t)count_of(s) : 0;
+        q.bytes[q.length++] = r.given[s] ? (uint8_t)count_of(s) : 0;
         if (!r.given[s]) continue;
-        memset(request + length, 0, bytes);
         for (size_t f = 0; f < FIELDS; f++)
-            if (fields[f].section == s) request[length + fields[f].at] |= (uint8_t)(r.value[f] << fields[f].shift);
-        length += bytes;
-        memcpy(request + length, r.number, 2 * sections[s].numbers);
-        length += 2 * sections[s].numbers;
+            if (fields[f].section == s) q.bytes[q.length + fields[f].at] |= (uint8_t)(r.value[f] << fields[f].shift);
+        q.length += bytes_of_fields(s);
+        memcpy(q.bytes + q.length, r.number, 2 * sections[s].numbers);
+        q.length += 2 * sections[s].numbers;
     }
-    return length;
+    return q;
+}
+
+struct request request_of_text(const char *format, ...) {
+    char text[TEXT_OF_A_REQUEST], *words[TEXT_OF_A_REQUEST / 2];
+    int count = 0;
+    va_list list;
+    va_start(list, format);
+    vsnprintf(text, sizeof text, format, list);
+    va_end(list);
+    for (char *word = strtok(text, " "); word; word = strtok(NULL, " ")) words[count++] = word;
+    return request_of_words(count, words);
 }
 
 /* ---- Bytes to words. */

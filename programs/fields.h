@@ -2,14 +2,16 @@
 #ifndef FIELDS_H
 #define FIELDS_H
 
-#include <stddef.h>
-#include <stdint.h>
+#include "station.h"
 #include <stdio.h>
 
 enum { TEXT_OF_A_REQUEST = 400 };
 
-/* The bytes of a request in words, at `request`, which has room for the longest: their number. Words that are none end the program. */
-size_t request_of_words(int count, char **words, uint8_t *request);
+/* A request from its words; or from a text of them, with blanks between, which is made as printf makes it. Words that are none end the
+ * program. A field that no word gives has its usual value. */
+struct request { uint8_t bytes[STATION_REQUEST]; size_t length; };
+struct request request_of_words(int count, char **words);
+struct request request_of_text(const char *format, ...);
 
 /* A request in words, as request_of_words reads them: 0 where its sections are not whole. */
 int words_of_request(const uint8_t *request, size_t length, char text[TEXT_OF_A_REQUEST]);

@@ -24,7 +24,7 @@ static const char help[] =
     "status is 0, or 2 for such an input and for a command that is not as above.\n"
     "\n"
     "  i2cdump -y 1 0x39 b | tools/image >chip.image\n"
-    "  tools/listing --image chip.image 04 10 00 00 01 00 00\n";
+    "  tools/listing --image chip.image " EXAMPLE "\n";
 
 enum { MOST = 1 << 16, CELLS = 16 };
 

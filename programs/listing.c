@@ -30,7 +30,7 @@ static const char help[] =
     "makes the file), for the list keeps their free bits. The status is 0 for a list,\n"
     "1 for a request that is refused, 2 for a command that is not as above.\n"
     "\n"
-    "  tools/listing 04 10 00 00 01 03 02 02 01 00\n";
+    "  tools/listing " EXAMPLE "\n";
 
 /* The holds, by their bit; a write to 0x4A tells of the first that is up before or after it. */
 static const struct { uint8_t address, mask; const char *name; } holds[] = {

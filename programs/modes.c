@@ -25,8 +25,8 @@ enum { FAMILIES = 2, CLOCKS = 32, TIMES = 128, KHZ_48 = 2 };
 static const uint32_t hertz[RATES] = { 32000, 44100, 48000, 88200, 96000, 176400, 192000 };
 
 static struct station_pair ask(uint8_t vic, uint8_t family, uint8_t rate, uint8_t coherent) {
-    uint8_t request[] = { 4, vic, family, 0, 1, 3, rate, 2, coherent, 0 };
-    return station_ncts(request, sizeof request);
+    struct request q = request_of_text("vic %u family=%u rgb hdmi audio rate=%u 2 coherent=%u", vic, family, rate, coherent);
+    return station_ncts(q.bytes, q.length);
 }
 
 static uint64_t divisor(uint64_t a, uint64_t b) { return b ? divisor(b, a % b) : a; }

@@ -35,7 +35,7 @@ static const char help[] =
     "The status is 0 for a page, 1 for a request that is refused (it is said on the\n"
     "error stream), 2 for a command that is not as above.\n"
     "\n"
-    "  tools/picture --cut 40 04 10 00 00 01 03 02 02 01 00 >run.html\n";
+    "  tools/picture --cut 40 " EXAMPLE " >run.html\n";
 
 /* ---- A run: a moment for the beginning, for each write, and for what stays. */
 
@@ -333,9 +333,10 @@ static void page_of_accident(void) {
     static struct run r;
     struct chip none = { { 0 }, { 0 }, { 0 } };
     uint8_t pairs[STATION_WRITES], old_way[STATION_WRITES];
-    uint32_t count = plan(may_before, sizeof may_before, &none, pairs), cut_at = 0;
+    struct request before = request_of_text(MAY_BEFORE), asked = request_of_text(MAY_ASKED);
+    uint32_t count = plan(before.bytes, before.length, &none, pairs), cut_at = 0;
     struct chip start = finished(none, pairs, count);
-    count = plan(may_asked, sizeof may_asked, &start, pairs);
+    count = plan(asked.bytes, asked.length, &start, pairs);
     struct chip end = finished(start, pairs, count);
     struct sent old = chip_sent(&start), new = chip_sent(&end);
     uint32_t registers_of_it = 0;
@@ -347,8 +348,8 @@ static void page_of_accident(void) {
     cut_at++;
 
     printf("%s<h1>The accident of last May, and the same change by our list</h1>\n", head);
-    say_request("On show before:", may_before, sizeof may_before);
-    say_request("Asked for:", may_asked, sizeof may_asked);
+    say_request("On show before:", before.bytes, before.length);
+    say_request("Asked for:", asked.bytes, asked.length);
     key();
     begin(&r, &start, &old, &new);
     play(&r, old_way, registers_of_it, FIVE);
@@ -358,7 +359,7 @@ static void page_of_accident(void) {
     printf("<p>From the cut on, until somebody comes: ");
     say(&r.moments[r.cut]);
     printf("</p>\n");
-    draw_cut(&r, &start, may_asked, sizeof may_asked, pairs, count, cut_at, &old, &new);
+    draw_cut(&r, &start, asked.bytes, asked.length, pairs, count, cut_at, &old, &new);
     printf("</body></html>\n");
 }
 
@@ -371,13 +372,14 @@ static void take_bytes(const char *word, struct option *o) {
 int main(int count, char **words) {
     static struct run r;
     struct chip c = { { 0 }, { 0 }, { 0 } };
+    struct request before = request_of_text(MAY_ASKED);
     long cut_at = -1;
     int accident = 0;
     struct option options[] = {
         { "--image", take_file, c.image, STATION_IMAGE, 0 },
         { "--packet", take_file, c.packet, STATION_PACKET, 0 },
         { "--coefficients", take_file, c.coefficients, STATION_COEFFICIENTS, 0 },
-        { "--before", take_bytes, (void *)may_asked, sizeof may_asked, 0 },
+        { "--before", take_bytes, before.bytes, before.length, 0 },
         { "--cut", take_number, &cut_at, STATION_WRITES, 0 },
         { "--accident", NULL, &accident, 0, 0 },
     };

@@ -32,7 +32,7 @@ static const char help[] =
     "  tools/request vic 16 rgb hdmi audio 48kHz 2 coherent\n"
     "  tools/request vic 4 /1.001 ycbcr444 hdmi matrix table43\n"
     "  tools/request vic 1 rgb dvi matrix 1 2048 0 0 0 0 2048 0 0 0 0 2048 0\n"
-    "  tools/request --explain 04100000010302020100\n";
+    "  tools/request --explain " EXAMPLE "\n";
 
 static int tell(FILE *to, struct station_pair p, int of_sound) {
     if (p.refusal) {
@@ -63,9 +63,8 @@ int main(int count, char **words) {
         return printed(status);
     }
     if (words[1][0] == '-') misuse("%.80s is no option", words[1]);
-    uint8_t request[STATION_REQUEST];
-    size_t length = request_of_words(count - 1, words + 1, request);
-    for (size_t i = 0; i < length; i++) printf("%s%02x", i ? " " : "", request[i]);
+    struct request q = request_of_words(count - 1, words + 1);
+    for (size_t i = 0; i < q.length; i++) printf("%s%02x", i ? " " : "", q.bytes[i]);
     printf("\n");
-    return printed(tell(stderr, station_ncts(request, length), 0));
+    return printed(tell(stderr, station_ncts(q.bytes, q.length), 0));
 }

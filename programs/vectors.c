@@ -1,9 +1,11 @@
 /* Runs the tables of the programming guide (guide.h) through the library, and compares: each number agrees, or differs by a misprint that
  * is named, or is unexplained. It takes no argument; the status is 1 where anything is unexplained. What it prints is compared with
  * vectors.out. */
+#include "fields.h"
 #include "guide.h"
-#include "station.h"
-#include <stdio.h>
+#include "words.h"
+
+const char *program = "vectors";
 
 #define COUNT(array) (sizeof(array) / sizeof(array)[0])
 
@@ -34,8 +36,8 @@ static void run_mode(const struct row *r, uint8_t vic, uint8_t family, struct ta
     struct station_pair answers[RATES];
     const struct misprint *is[RATES];
     for (size_t k = 0; k < RATES; k++) {
-        const uint8_t request[] = { 4, vic, family, 0, 1, 3, (uint8_t)k, 2, r->coherent, 0 };
-        answers[k] = station_ncts(request, sizeof request);
+        struct request q = request_of_text("vic %u family=%u rgb hdmi audio rate=%u 2 coherent=%u", vic, family, (unsigned)k, r->coherent);
+        answers[k] = station_ncts(q.bytes, q.length);
         is[k] = named((size_t)(r - rows), k, answers[k]);
         t.of[verdict_of(r, k, answers[k], is[k])]++;
     }

@@ -50,7 +50,7 @@ enum { CALLS = sizeof calls / sizeof calls[0], INPUTS = 300, OFFSETS = 16 };
 /* ---- Inputs, and the slices of one, each at an offset of its own. */
 
 static struct input {
-    uint8_t request[64], image[STATION_IMAGE], packet[STATION_PACKET], coefficients[STATION_COEFFICIENTS], matrix[STATION_MATRIX];
+    uint8_t request[LEAST_ROOM], image[STATION_IMAGE], packet[STATION_PACKET], coefficients[STATION_COEFFICIENTS], matrix[STATION_MATRIX];
     size_t length;
     uint8_t address, value;
 } inputs[INPUTS];
@@ -183,15 +183,15 @@ static unsigned stack_of(int call) {
 /* ---- The names of station.h. */
 
 static void names(void) {
-    static const uint8_t request[] = { 4, 16, 0, 0, 1, 3, 2, 2, 1, 0 };
-    uint8_t image[STATION_IMAGE] = { 0 }, packet[STATION_PACKET] = { 0 }, coefficients[STATION_COEFFICIENTS] = { 0 };
+    uint8_t request[LONGEST], image[STATION_IMAGE] = { 0 }, packet[STATION_PACKET] = { 0 }, coefficients[STATION_COEFFICIENTS] = { 0 };
     uint8_t writes[STATION_WRITES], back[STATION_REQUEST], m[STATION_MATRIX];
+    size_t length = model_bytes(&example, request);
     char version[32];
-    struct station_count c = station_plan(request, sizeof request, image, sizeof image, writes, sizeof writes);
+    struct station_count c = station_plan(request, length, image, sizeof image, writes, sizeof writes);
     tell(c.refusal == STATION_ACCEPTED && 2 * c.count <= STATION_WRITES, "a list fits into STATION_WRITES");
-    tell(station_plan(request, sizeof request, image, sizeof image, writes, STATION_WRITES - 1).refusal == STATION_BUFFER_SHORT,
+    tell(station_plan(request, length, image, sizeof image, writes, STATION_WRITES - 1).refusal == STATION_BUFFER_SHORT,
          "STATION_WRITES is the least room");
-    tell(station_plan(request, sizeof request, image, STATION_IMAGE - 1, writes, sizeof writes).refusal == STATION_IMAGE_LENGTH,
+    tell(station_plan(request, length, image, STATION_IMAGE - 1, writes, sizeof writes).refusal == STATION_IMAGE_LENGTH,
          "STATION_IMAGE is an image's length");
     tell(station_write(image, STATION_IMAGE, packet, STATION_PACKET - 1, coefficients, STATION_COEFFICIENTS, 0, 0) == STATION_IMAGE_LENGTH,
          "STATION_PACKET is the packet buffer's length");
@@ -207,7 +207,7 @@ static void names(void) {
         }
     }
     c = station_decode(image, sizeof image, back, sizeof back);
-    tell(c.count == sizeof request && !memcmp(back, request, sizeof request), "the request reads back");
+    tell(c.count == length && !memcmp(back, request, length), "the request reads back");
     tell(station_decode(image, sizeof image, back, STATION_REQUEST - 1).refusal == STATION_BUFFER_SHORT, "STATION_REQUEST is the least room");
     tell(STATION_REQUEST == LONGEST, "STATION_REQUEST is the longest request");
     tell(station_sent(image, sizeof image, packet, sizeof packet, STATION_AVI).len == AVI_BYTES, "STATION_AVI is the AVI packet");

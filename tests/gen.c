@@ -23,6 +23,7 @@ void any_bytes(uint8_t *bytes, size_t length) {
     }
 }
 
+const struct fields example = { .vic = 16, .link = 1, .sound = 1, .rate = 2, .channels = 2, .coherent = 1 };
 const uint8_t table_39[MATRIX_BYTES] = { 1, 0x0C, 0x53, 0x08, 0x00, 0x00, 0x00, 0xF9, 0xD6, 0xFC, 0x56, 0x08, 0x00, 0xFE, 0x88, 0x02, 0x91,
                                0xFF, 0xFF, 0x08, 0x00, 0x0E, 0x85, 0xF8, 0xBE };
 
@@ -75,9 +76,9 @@ size_t any_request(uint8_t *bytes, size_t room) {
     size_t length;
     uint32_t how = any(16);
     if (how == 0) {                                     /* noise, mostly short */
-        length = any(8) ? any(50) : any((uint32_t)room);
+        length = any(8) ? any(LONGEST + 15) : any((uint32_t)room);
         any_bytes(bytes, length);
-        if (length && any(2)) bytes[0] = 4;
+        if (length && any(2)) bytes[0] = VIDEO_BYTES;
         return length;
     }
     if (how <= 4) loose_fields(&f);
@@ -85,7 +86,7 @@ size_t any_request(uint8_t *bytes, size_t room) {
     length = model_bytes(&f, bytes);
     if (how == 5) return any((uint32_t)length);         /* cut */
     if (how == 6) {                                     /* bytes after the last section, few or very many */
-        size_t more = 1 + (any(8) ? any(40) : any((uint32_t)(room - length - 1)));
+        size_t more = 1 + (any(8) ? any(MORE) : any((uint32_t)(room - length - 1)));
         any_bytes(bytes + length, more);
         return length + more;
     }

@@ -4,13 +4,16 @@
 
 #include "model/model.h"
 
-extern const uint8_t table_39[MATRIX_BYTES];  /* the guide's Table 39 as a request's matrix */
+extern const struct fields example;             /* document 01's example */
+extern const uint8_t table_39[MATRIX_BYTES];    /* the guide's Table 39 as a request's matrix */
+
+enum { MORE = 40, LEAST_ROOM = LONGEST + MORE + 1 };    /* bytes after the last section: few, or as many as there is room for */
 
 void     seed(uint64_t s);
 uint32_t any(uint32_t below);                           /* 0 .. below - 1 */
 void     any_bytes(uint8_t *bytes, size_t length);
 void     any_fields(struct fields *f);                  /* fields of a request that 1 to 6 let pass (9 may apply) */
-size_t   any_request(uint8_t *bytes, size_t room);      /* valid, damaged, cut, too long, or plain noise */
+size_t   any_request(uint8_t *bytes, size_t room);      /* valid, damaged, cut, too long, or plain noise; `room` is LEAST_ROOM or more */
 void     any_image(uint8_t *image);                     /* noise, finished, cut, damaged, bare; holds of every kind */
 void     any_start(uint8_t *image, uint8_t *packet, uint8_t *coefficients);     /* a state that planning accepts */
 void     finish(uint8_t *image, const struct fields *f);

@@ -170,35 +170,41 @@ static void classes(void) {
 }
 
 /* Document 01's marked cases: its own numbers, not the model's. */
+static void marked_case(size_t number, const uint8_t *bytes, size_t length, uint32_t refusal, uint32_t n, uint32_t cts) {
+    uint8_t image[256] = { 0 }, writes[256];
+    run.now->cases++;
+    struct station_pair p = run.f->ncts(bytes, length);
+    struct station_count c = run.f->plan(bytes, length, image, 256, writes, 256);
+    if (p.refusal != refusal || p.n != n || p.cts != cts) differs("case %zu, N and CTS", number);
+    if (c.refusal != refusal) differs("case %zu, planning: %u", number, c.refusal);
+}
+
 static void marked(void) {
-    static const struct { uint8_t bytes[12]; size_t length; uint32_t refusal, n, cts; } cases[] = {
-        { { 0x04 }, 1, 1, 0, 0 },
-        { { 0x05, 0x10, 0, 0, 1 }, 5, 2, 0, 0 },
-        { { 0x04, 0x10, 0, 0, 1, 0, 0, 0 }, 8, 3, 0, 0 },
-        { { 0x04, 19, 1, 0, 1, 0, 0 }, 7, 4, 0, 0 },
-        { { 0x04, 0x10, 0, 1, 1, 0, 0 }, 7, 6, 0, 0 },
-        { { 0x04, 16, 0, 0, 1, 3, 2, 2, 1, 0 }, 10, 0, 6144, 148500 },
-        { { 0x04, 60, 0, 0, 1, 3, 1, 2, 1, 0 }, 10, 0, 5488, 57750 },
-        { { 0x04, 60, 1, 0, 1, 3, 0, 2, 1, 0 }, 10, 0, 5824, 84375 },
-        { { 0x04, 4, 1, 0, 1, 3, 0, 2, 1, 0 }, 10, 9, 0, 0 },
+    static const struct { struct fields f; uint32_t refusal, n, cts; } cases[] = {      /* from 4 on */
+        { { .vic = 19, .family = 1, .link = 1 }, 4, 0, 0 },
+        { { .vic = 16, .encoding = 1, .link = 1 }, 6, 0, 0 },
+        { { .vic = 16, .link = 1, .sound = 1, .rate = 2, .channels = 2, .coherent = 1 }, 0, 6144, 148500 },
+        { { .vic = 60, .link = 1, .sound = 1, .rate = 1, .channels = 2, .coherent = 1 }, 0, 5488, 57750 },
+        { { .vic = 60, .family = 1, .link = 1, .sound = 1, .rate = 0, .channels = 2, .coherent = 1 }, 0, 5824, 84375 },
+        { { .vic = 4, .family = 1, .link = 1, .sound = 1, .rate = 0, .channels = 2, .coherent = 1 }, 9, 0, 0 },
     };
-    uint8_t image[256] = { 0 }, writes[256], coefficients[24] = { 0 }, matrix[MATRIX_BYTES];
-    for (size_t i = 0; i < sizeof cases / sizeof cases[0]; i++) {
-        run.now->cases++;
-        struct station_pair p = run.f->ncts(cases[i].bytes, cases[i].length);
-        struct station_count c = run.f->plan(cases[i].bytes, cases[i].length, image, 256, writes, 256);
-        if (p.refusal != cases[i].refusal || p.n != cases[i].n || p.cts != cases[i].cts) differs("case %zu, N and CTS", i + 1);
-        if (c.refusal != cases[i].refusal) differs("case %zu, planning: %u", i + 1, c.refusal);
-    }
+    uint8_t bytes[LONGEST + 1] = { 0 }, image[256] = { 0 }, writes[256], coefficients[24] = { 0 }, matrix[MATRIX_BYTES];
+    size_t length = model_bytes(&(struct fields){ .vic = 16, .link = 1 }, bytes);
+    marked_case(1, bytes, 1, 1, 0, 0);                      /* its first count alone */
+    marked_case(3, bytes, length + 1, 3, 0, 0);             /* a byte more */
+    bytes[0]++;
+    marked_case(2, bytes, 1 + VIDEO_BYTES, 2, 0, 0);        /* the count one too large */
+    for (size_t i = 0; i < sizeof cases / sizeof cases[0]; i++)
+        marked_case(4 + i, bytes, model_bytes(&cases[i].f, bytes), cases[i].refusal, cases[i].n, cases[i].cts);
     /* 10 and 11: checksums, read off the list's bytes for 0x54 and 0x72. */
-    static const struct { uint8_t bytes[10]; size_t length; uint8_t avi, audio; } sums[] = {
-        { { 0x04, 16, 0, 0, 1, 3, 2, 8, 1, 0 }, 10, 0x27, 0x57 },
-        { { 0x04, 16, 0, 0, 1, 0, 0 }, 7, 0x27, 0x71 },
-        { { 0x04, 16, 0, 0, 1, 3, 2, 2, 1, 0 }, 10, 0x27, 0x70 },
+    static const struct { struct fields f; uint8_t avi, audio; } sums[] = {
+        { { .vic = 16, .link = 1, .sound = 1, .rate = 2, .channels = 8, .coherent = 1 }, 0x27, 0x57 },
+        { { .vic = 16, .link = 1 }, 0x27, 0x71 },
+        { { .vic = 16, .link = 1, .sound = 1, .rate = 2, .channels = 2, .coherent = 1 }, 0x27, 0x70 },
     };
     for (int i = 0; i < 3; i++) {
         run.now->cases++;
-        struct station_count c = run.f->plan(sums[i].bytes, sums[i].length, image, 256, writes, 256);
+        struct station_count c = run.f->plan(bytes, model_bytes(&sums[i].f, bytes), image, 256, writes, 256);
         for (uint32_t w = 0; w < c.count && w < 128; w++) {
             if (writes[2 * w] == 0x54 && writes[2 * w + 1] != sums[i].avi) differs("case 10: AVI checksum %02x", writes[2 * w + 1]);
             if (writes[2 * w] == 0x72 && writes[2 * w + 1] != sums[i].audio) differs("case 11: audio checksum %02x", writes[2 * w + 1]);
@@ -217,7 +223,7 @@ static void marked(void) {
 /* Whether a kind of request is tried: all of them where there are few, and else about so many of them, by chance. Every value of every
  * field comes among them; `met` counts. */
 enum { KINDS = 3000, EVERY = 24 };
-static uint32_t met[FIELDS][16];
+static uint32_t met[FIELDS][VALUES];
 
 static int tries_kind(uint32_t number, uint32_t tried, struct fields *f) {
     static uint32_t all;
@@ -273,7 +279,7 @@ static void ncts(void) {
         size_t length = any_request(bytes, 4096);
         check_ncts(bytes, length);
     }
-    memset(bytes, 4, sizeof bytes);         /* a very long one */
+    memset(bytes, VIDEO_BYTES, sizeof bytes);       /* a very long one */
     check_ncts(bytes, ROOM - 64);
 }
 
@@ -304,7 +310,7 @@ static void plan(void) {
 /* Every length of every buffer up to 600, and the order of the refusals where two apply. */
 static void lengths(void) {
     static uint8_t image[600], buffer[600], packet[64], coefficients[64];
-    uint8_t request[64];
+    uint8_t request[LONGEST];
     uint32_t step = 1 + 3 * (run.share < 1000);
     for (uint32_t i = 0; i < 6; i++) {
         struct fields f;
@@ -450,7 +456,7 @@ static void views(void) {
 }
 
 static void preview(void) {
-    uint8_t matrix[64], request[64];
+    uint8_t matrix[64], request[LONGEST];
     for (uint32_t i = times(100000); i > 0; i--) {
         struct fields f;
         uint32_t in[3];
@@ -521,10 +527,12 @@ static void finished(const uint8_t *bytes, size_t length, const struct fields *f
     if (memcmp(audio + 2, new->audio + 2, AUDIO_BYTES - 2) || (new->audio[0] & 7) != 1 || (new->audio[1] & 31) != 10)
         differs("the audio group at the end");
     if (f->matrix && memcmp(new->matrix, bytes + length - 24, 24)) differs("the matrix group at the end");
-    for (const struct field *row = model_fields; row < model_fields + FIELDS; row++)
-        if (row->shown && model_has(f, row->section) && row->shown(end->image) != *model_field(&answer, row))
+    model_answer(&answer, end->image);
+    for (const struct field *row = model_fields; row < model_fields + FIELDS; row++) {
+        int shown = row->shown(end->image);
+        if (shown != NO_REGISTER && model_has(f, row->section) && shown != *model_field(&answer, row))
             differs("VIC %d: field %d is shown otherwise", f->vic, (int)(row - model_fields));
-    answer.family = 0;
+    }
     model_bytes(&answer, asked);
     struct station_count d = run.f->decode(end->image, 256, back, sizeof back);
     if (d.refusal || d.count != length || memcmp(asked, back, length)) differs("VIC %d: the finished image decodes otherwise", f->vic);

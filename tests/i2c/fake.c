@@ -17,6 +17,8 @@ static int fake_lock(int bus, int how);
 #include "../../host/i2c.c"
 #undef main
 #include "../../programs/chip.h"
+#include "../../programs/fields.h"
+#include "../../programs/may.h"
 
 /* ---- The fake bus. */
 
@@ -71,10 +73,7 @@ static int fake_ioctl(int b, unsigned long what, void *data) {
 
 /* ---- The tests. */
 
-static const uint8_t before[] = { 4, 16, 0, 0, 1, 3, 2, 2, 1, 25, 1, 0x0C, 0x53, 0x08, 0x00, 0x00, 0x00, 0xF9, 0xD6, 0xFC, 0x56, 0x08,
-                                  0x00, 0xFE, 0x88, 0x02, 0x91, 0xFF, 0xFF, 0x08, 0x00, 0x0E, 0x85, 0xF8, 0xBE };
-static const uint8_t asked[] = { 4, 4, 0, 2, 1, 3, 2, 8, 0, 25, 0, 0x08, 0x2E, 0xF8, 0x93, 0xFF, 0x3F, 0x08, 0x00, 0x03, 0x67, 0x0B,
-                                 0x71, 0x01, 0x28, 0x00, 0x00, 0xFE, 0x21, 0xF9, 0xB2, 0x08, 0x2D, 0x08, 0x00 };
+static struct request asked;
 static long passed, lost;
 
 static void tell(int good, const char *what, long place) {
@@ -104,9 +103,9 @@ static int whole(const struct chip *c) {
 static int careful(const struct chip *c) { return whole(c) && chip_sent(c).mute == STATION_MUTED; }
 
 /* A new run of the program on the bus as it is: opened, locked, closed. */
-static int again(const uint8_t *request, size_t length) {
+static int again(struct request q) {
     bus.sent = bus.locked = 0;
-    int b = bus_open("/dev/i2c-1"), status = show(b, request, length).status;
+    int b = bus_open("/dev/i2c-1"), status = show(b, q.bytes, q.length).status;
     close(b);
     return status;
 }
@@ -115,55 +114,56 @@ static void heal(void) { bus.fails = bus.resets = bus.how = bus.for_good = bus.d
 
 static void on_the_bus(void) {
     heal();
-    tell(again(asked, sizeof asked) == ACCEPTED && bus.sent == writes && ended(), "a run", 0);
-    tell(again(asked, sizeof asked) == ACCEPTED && bus.sent == 0 && ended(), "what is on show is written again", 0);
+    tell(again(asked) == ACCEPTED && bus.sent == writes && ended(), "a run", 0);
+    tell(again(asked) == ACCEPTED && bus.sent == 0 && ended(), "what is on show is written again", 0);
     for (int how = NOT_TAKEN; how <= NOT_HEARD; how++)
         for (long k = 1; k <= writes; k++) {
             chip = start;
             heal();
             bus.fails = k, bus.how = how;
-            tell(again(asked, sizeof asked) == ACCEPTED && bus.sent == writes + 1 && ended(), "a repeated write", k);
+            tell(again(asked) == ACCEPTED && bus.sent == writes + 1 && ended(), "a repeated write", k);
             chip = start;
             bus.for_good = 1;
-            tell(again(asked, sizeof asked) == FAILED && bus.sent == k - 1 + TRIES, "a failed write", k);
+            tell(again(asked) == FAILED && bus.sent == k - 1 + TRIES, "a failed write", k);
             if (k > 1 && k < writes) tell(careful(&chip), "muted, old or new, where a write failed", k);
             heal();
-            tell(again(asked, sizeof asked) == ACCEPTED && ended(), "started again", k);
+            tell(again(asked) == ACCEPTED && ended(), "started again", k);
         }
     for (long k = 1; k <= writes; k++) {
         chip = start;
         bus.resets = k;
-        tell(again(asked, sizeof asked) == FAILED && bus.sent == writes, "a reset", k);
+        tell(again(asked) == FAILED && bus.sent == writes, "a reset", k);
         heal();
         chip.image[0x41] &= 0xBF;
-        tell(again(asked, sizeof asked) == ACCEPTED && ended(), "after a reset and bring-up", k);
+        tell(again(asked) == ACCEPTED && ended(), "after a reset and bring-up", k);
     }
 }
 
 /* Refusals, holds left up, a bus that cannot be read, another family. */
 static void on_states(void) {
-    static const uint8_t bad[] = { 4, 16, 0, 1, 1, 0, 0 }, none[] = { 4, 4, 1, 0, 1, 3, 0, 2, 1, 0 };
-    static const uint8_t family_0[] = { 4, 16, 0, 0, 1, 3, 2, 2, 1, 0 }, family_1[] = { 4, 16, 1, 0, 1, 3, 2, 2, 1, 0 };
+    struct request bad = request_of_text("vic 16 ycbcr422 hdmi"), none = request_of_text("vic 4 /1.001 rgb hdmi audio 32kHz 2 coherent");
+    struct request family_0 = request_of_text("vic 16 rgb hdmi audio 48kHz 2 coherent");
+    struct request family_1 = request_of_text("vic 16 /1.001 rgb hdmi audio 48kHz 2 coherent");
     uint8_t back[STATION_REQUEST];
     heal();
     chip = start;
     chip.image[0x4A] |= 0x10;
-    tell(again(bad, sizeof bad) == REFUSED && again(none, sizeof none) == REFUSED && bus.sent == 0, "a refused request", 0);
-    tell(again(asked, sizeof asked) == ACCEPTED && bus.sent == writes + 1 && ended(), "the GC hold left up", 0);
+    tell(again(bad) == REFUSED && again(none) == REFUSED && bus.sent == 0, "a refused request", 0);
+    tell(again(asked) == ACCEPTED && bus.sent == writes + 1 && ended(), "the GC hold left up", 0);
     for (int holds = 0x30; holds <= 0x70; holds += 0x10) {
         if (holds == 0x40) continue;
         chip = start;
         chip.image[0x4A] |= (uint8_t)holds;
-        tell(again(asked, sizeof asked) == FAILED && bus.sent == 0, "two holds left up", holds);
+        tell(again(asked) == FAILED && bus.sent == 0, "two holds left up", holds);
     }
     chip = start;
     bus.dead = 1;
-    tell(again(asked, sizeof asked) == FAILED && bus.sent == 0, "a bus that cannot be read", 0);
+    tell(again(asked) == FAILED && bus.sent == 0, "a bus that cannot be read", 0);
     heal();
     /* The families of one mode with coherent sound differ in N and CTS, and decoding answers the same for both. */
-    tell(again(family_0, sizeof family_0) == ACCEPTED && again(family_1, sizeof family_1) == ACCEPTED && bus.sent == writes &&
-         station_decode(chip.image, STATION_IMAGE, back, sizeof back).count == sizeof family_0 &&
-         !memcmp(back, family_0, sizeof family_0), "another family", 1);
+    tell(again(family_0) == ACCEPTED && again(family_1) == ACCEPTED && bus.sent == writes &&
+         station_decode(chip.image, STATION_IMAGE, back, sizeof back).count == family_0.length &&
+         !memcmp(back, family_0.bytes, family_0.length), "another family", 1);
 }
 
 /* A host that goes on past one lost write: at how many places a group in use is torn at some moment, at how many at the end, open. */
@@ -214,9 +214,10 @@ static void bring_up(void) {
 
 int main(void) {
     chip = fresh;
-    tell(again(before, sizeof before) == ACCEPTED, "the first request", 0);
+    asked = request_of_text(MAY_ASKED);
+    tell(again(request_of_text(MAY_BEFORE)) == ACCEPTED, "the first request", 0);
     start = end = chip;
-    writes = station_plan(asked, sizeof asked, start.image, STATION_IMAGE, list, sizeof list).count;
+    writes = station_plan(asked.bytes, asked.length, start.image, STATION_IMAGE, list, sizeof list).count;
     for (long w = 0; w < writes; w++) tell(chip_write(&end, list + 2 * w) == 0, "the list", w);
     old = chip_sent(&start), new = chip_sent(&end);
     on_the_bus();

@@ -18,9 +18,9 @@ static int tried(const uint8_t *image, int row, int free, struct fields *f) {
     if (row == FIELDS) return ends_in(f, image);
     const struct field *k = &model_fields[row];
     if (!model_has(f, k->section) || k->section == OF_MATRIX) return tried(image, row + 1, free, f);
-    int every = free == ALL_FREE || free == row || !k->shown;
+    int shown = k->shown(image), every = free == ALL_FREE || free == row || shown == NO_REGISTER;
     for (int v = 0; v < k->count; v++) {
-        if (!every && k->values[v] != k->shown(image)) continue;
+        if (!every && k->values[v] != shown) continue;
         *model_field(f, k) = k->values[v];
         if (tried(image, row + 1, free, f)) return 1;
     }
@@ -40,7 +40,7 @@ int model_ends(const uint8_t *image, int free, struct fields *f) {
             }
         }
         if (tried(image, 0, free, f)) {
-            f->family = 0;
+            model_answer(f, image);
             return 1;
         }
     }

@@ -1,32 +1,22 @@
-/* The fields of a request, a row each, in the order of document 01. */
+/* The table of fields.h as an array, and what is read off a row. */
 #include "model.h"
 
-static const int numbers[] = { 0, 1, 2, 3, 4, 5, 6 }, two_or_eight[] = { 2, 8 };
+static const int numbers[VALUES] = { 0, 1, 2, 3, 4, 5, 6, 7, 8, 9, 10, 11, 12, 13, 14, 15 }, two_or_eight[] = { 2, 8 };
 
-/* What a finished image shows of a field. */
-static int vic(const uint8_t *image) { return image[0x3C] & 0x3F; }
-static int encoding(const uint8_t *image) { return image[0x55] >> 5 & 3; }
-static int link(const uint8_t *image) { return image[0xAF] >> 1 & 1; }
-static int rate(const uint8_t *image) {
+static int rate_of_code(int code) {
     for (int r = 0; r < RATES; r++)
-        if (model_rate_codes[r] == image[0x15] >> 4) return r;
-    return -1;
+        if (model_rate_codes[r] == code) return r;
+    return NO_VALUE;
 }
-static int channels(const uint8_t *image) { return (image[0x73] & 7) + 1; }
-static int coherent(const uint8_t *image) { return image[0x0A] >> 7; }
-static int mode(const uint8_t *image) { return image[0x18] >> 5 & 3; }
 
-#define AT(field) offsetof(struct fields, field)
-const struct field model_fields[FIELDS] = {
-    { OF_VIDEO, 0, 0, 8, AT(vic), VICS, model_vics, vic },
-    { OF_VIDEO, 1, 0, 8, AT(family), 2, numbers, NULL },
-    { OF_VIDEO, 2, 0, 8, AT(encoding), 3, numbers, encoding },
-    { OF_VIDEO, 3, 0, 8, AT(link), 2, numbers, link },
-    { OF_SOUND, 0, 0, 8, AT(rate), RATES, numbers, rate },
-    { OF_SOUND, 1, 0, 8, AT(channels), 2, two_or_eight, channels },
-    { OF_SOUND, 2, 0, 8, AT(coherent), 2, numbers, coherent },
-    { OF_MATRIX, 0, 0, 8, AT(mode), 3, numbers, mode },
-};
+#define SHOWN(section, byte, low, bits, name, values, shown) \
+    static int shown_##name(const uint8_t *image) { return (void)image, shown; }
+MODEL_FIELDS(SHOWN)
+
+#define ONE_OF(list) sizeof list / sizeof *list, list
+#define BELOW(n) n, numbers
+#define ROW(section, byte, low, bits, name, values, shown) { section, byte, low, bits, offsetof(struct fields, name), values, shown_##name },
+const struct field model_fields[FIELDS] = { MODEL_FIELDS(ROW) };
 
 int *model_field(struct fields *f, const struct field *row) { return (int *)((char *)f + row->at); }
 
@@ -36,4 +26,9 @@ int model_allows(const struct field *row, int value) {
     for (int i = 0; i < row->count; i++)
         if (row->values[i] == value) return 1;
     return 0;
+}
+
+void model_answer(struct fields *f, const uint8_t *image) {
+    for (const struct field *row = model_fields; row < model_fields + FIELDS; row++)
+        if (row->shown(image) == NO_REGISTER) *model_field(f, row) = 0;
 }

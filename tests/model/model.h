@@ -9,17 +9,16 @@
 struct model_class { uint8_t read_only, mandated, named, free, bits; };
 extern const struct model_class model_classes[256];
 
-/* A request's fields. Without sound or matrix the fields of that section are 0. */
+/* fields.h: the table of the fields. Here the fields of one request; without sound or matrix those of that section are 0. */
+#include "fields.h"
+enum part { OF_VIDEO, OF_SOUND, OF_MATRIX, PARTS };
+#define MODEL_MEMBER(section, byte, low, bits, name, ...) int name;
 struct fields {
-    int vic, family, encoding, link;
-    int sound, rate, channels, coherent;
-    int matrix, mode, coefficient[12];
+    MODEL_FIELDS(MODEL_MEMBER)
+    int sound, matrix, coefficient[12];
 };
 
-/* fields.c: the fields as a table, a row each: the section, the byte of its body and the bits of that byte; the place in `struct fields`;
- * the values that document 01 allows; and how a finished image shows it (NULL where no register names it). The twelve coefficients are
- * no rows: they follow the rows of the matrix section. */
-enum part { OF_VIDEO, OF_SOUND, OF_MATRIX, PARTS };
+/* A row of the table. `at` is the place in `struct fields`. */
 struct field {
     enum part section;
     int byte, low, bits;
@@ -28,14 +27,27 @@ struct field {
     const int *values;
     int (*shown)(const uint8_t *image);
 };
-enum { FIELDS = 8 };
+enum { NO_REGISTER = -1, NO_VALUE = -2 };   /* `shown`: no register names the field; the image shows no value of it */
+#define MODEL_ROW(...) + 1
+enum { FIELDS = MODEL_FIELDS(MODEL_ROW), VALUES = 16 };      /* so many rows; the most values that a field may have */
 extern const struct field model_fields[FIELDS];
 int *model_field(struct fields *f, const struct field *row);
 int  model_has(const struct fields *f, enum part s);     /* is this section there? The video section always is. */
 int  model_allows(const struct field *row, int value);
+void model_answer(struct fields *f, const uint8_t *image);  /* as decoding answers: a field that no register names is 0 */
 
-/* request.c: refusals 1 to 6, 0 for none; and the bytes of a request. The counts of the sections, and with their counts the longest. */
-enum { VIDEO_BYTES = 4, SOUND_BYTES = 3, MATRIX_BYTES = 1 + 2 * 12, LONGEST = PARTS + VIDEO_BYTES + SOUND_BYTES + MATRIX_BYTES };
+/* request.c: refusals 1 to 6, 0 for none; and the bytes of a request. The counts of the sections, each byte counted at the row of its lowest
+ * bit, and with these counts the longest request. */
+#define MODEL_VIDEO(section, byte, low, ...) + (section == OF_VIDEO && low == 0)
+#define MODEL_SOUND(section, byte, low, ...) + (section == OF_SOUND && low == 0)
+#define MODEL_MATRIX(section, byte, low, ...) + (section == OF_MATRIX && low == 0)
+enum {
+    VIDEO_BYTES = MODEL_FIELDS(MODEL_VIDEO),
+    SOUND_BYTES = MODEL_FIELDS(MODEL_SOUND),
+    MODE_BYTES = MODEL_FIELDS(MODEL_MATRIX),
+    MATRIX_BYTES = MODE_BYTES + 2 * 12,
+    LONGEST = PARTS + VIDEO_BYTES + SOUND_BYTES + MATRIX_BYTES
+};
 extern const int model_counts[PARTS];
 uint32_t model_read(const uint8_t *request, size_t length, struct fields *f);   /* also sets `f` where it answers 4, 5 or 6 */
 size_t   model_bytes(const struct fields *f, uint8_t *request);

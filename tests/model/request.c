@@ -8,7 +8,7 @@ int model_coefficient(const uint8_t *two) {
     return value < 32768 ? value : value - 65536;
 }
 
-/* "Video, count 4. Audio, count 0 or 3. Matrix, count 0 or 25." */
+/* Of the video section its count alone; of the others 0 too. */
 static int allowed(int s, int count) { return count == model_counts[s] || (s != OF_VIDEO && count == 0); }
 
 uint32_t model_read(const uint8_t *request, size_t length, struct fields *f) {
@@ -30,7 +30,7 @@ uint32_t model_read(const uint8_t *request, size_t length, struct fields *f) {
     *f = (struct fields){ .sound = count[OF_SOUND] != 0, .matrix = count[OF_MATRIX] != 0 };
     for (const struct field *row = model_fields; row < model_fields + FIELDS; row++)
         if (model_has(f, row->section)) *model_field(f, row) = body[row->section][row->byte] >> row->low & ((1 << row->bits) - 1);
-    for (int i = 0; f->matrix && i < 12; i++) f->coefficient[i] = model_coefficient(body[OF_MATRIX] + 1 + 2 * i);
+    for (int i = 0; f->matrix && i < 12; i++) f->coefficient[i] = model_coefficient(body[OF_MATRIX] + MODE_BYTES + 2 * i);
 
     if (!model_offers(f->vic, f->family)) return 4;
 
@@ -58,8 +58,8 @@ size_t model_bytes(const struct fields *f, uint8_t *request) {
         if (model_has(f, row->section)) body[row->section][row->byte] |= (uint8_t)(*model_field(&g, row) << row->low);
     for (int i = 0; f->matrix && i < 12; i++) {
         unsigned two = (unsigned)f->coefficient[i];
-        body[OF_MATRIX][1 + 2 * i] = (uint8_t)(two >> 8);
-        body[OF_MATRIX][2 + 2 * i] = (uint8_t)two;
+        body[OF_MATRIX][MODE_BYTES + 2 * i] = (uint8_t)(two >> 8);
+        body[OF_MATRIX][MODE_BYTES + 2 * i + 1] = (uint8_t)two;
     }
     return n;
 }
