@@ -28,7 +28,7 @@ pub cases : MarkedCases
 unfolding steps divisorOf modeOf clockOf reference recommendedOf nearestK nearestIn nearestOf exactly coherentOf pairOf total aviFrame aviOf audioFrame audioOf audioOffFrame fields inRange isAllowed codeOf previewOf walk walked videoOutside videoCombined outside combined judged readOf pairFor nctsOf lineOf digits acceptedText refusedText
 cases =
     record {
-      example = refl;
+      line = refl;
       empty = refl;
       case1 = refl;
       case2 = refl;

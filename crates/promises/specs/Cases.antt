@@ -6,6 +6,7 @@ use Prim.Native.Nat.{ℕ, _*_, _∣_}
 use lib.IntN.{negsuc}
 use lib.ListN.{getD}
 use Rattle.video.specs.declared.Video.{Video}
+use Rattle.video.specs.Video.{videoIn}
 use Rattle.clock.specs.Clocks.{clockOf}
 use Rattle.clock.specs.Pairs.{reference, thePair}
 use Rattle.clock.specs.Found.{pairOf}
@@ -25,12 +26,15 @@ table39 =
 
 -- a VIC in a family, RGB over HDMI
 abbrev pub rgbOverHdmi : ℕ → ℕ → Video
-rgbOverHdmi vic family = record { vic = vic; family = family; encoding = 0; link = 1 }
+rgbOverHdmi vic family = videoIn (vic ∷ family ∷ 0 ∷ 1 ∷ [])
+
+-- "the ten bytes `04 10 00 00 01 03 02 02 01 00`"
+abbrev pub example : List ℕ
+example = 0x04 ∷ 0x10 ∷ 0x00 ∷ 0x00 ∷ 0x01 ∷ 0x03 ∷ 0x02 ∷ 0x02 ∷ 0x01 ∷ 0x00 ∷ []
 
 pub record MarkedCases : Type 0 where
-  -- "For the ten bytes `04 10 00 00 01 03 02 02 01 00` the whole output is `accepted vic 16 n 6144 cts 148500 avi 27 audio 70`"
-  pub example : lineText (0x04 ∷ 0x10 ∷ 0x00 ∷ 0x00 ∷ 0x01 ∷ 0x03 ∷ 0x02 ∷ 0x02 ∷ 0x01 ∷ 0x00 ∷ [])
-      ≡ ascii "accepted vic 16 n 6144 cts 148500 avi 27 audio 70\n"
+  -- "For the ten bytes .. the whole output is `accepted vic 16 n 6144 cts 148500 avi 27 audio 70`"
+  pub line : lineText example ≡ ascii "accepted vic 16 n 6144 cts 148500 avi 27 audio 70\n"
   -- "and for an empty input `refused 1`"
   pub empty : lineText [] ≡ ascii "refused 1\n"
   -- 1. `04`: refused 1

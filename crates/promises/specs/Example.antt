@@ -1,15 +1,12 @@
 -- "Take an accepted request": there is one. Document 01's worked example is accepted, also where a cut left a hold up.
 use mathlib.Core.Path.{_≡_}
 use mathlib.Core.Bool.{true}
-use mathlib.Core.List.{List, [], _∷_}
+use mathlib.Core.List.{List}
 use Prim.Native.Nat.{ℕ}
 use lib.ListN.{set, replicate}
 use Rattle.chip.specs.Machine.{avi, audio, matrix, packets, converter, up, holdsOf}
 use Rattle.plan.specs.Plan.{planOf}
-
--- "the ten bytes `04 10 00 00 01 03 02 02 01 00`"
-abbrev pub example : List ℕ
-example = 0x04 ∷ 0x10 ∷ 0x00 ∷ 0x00 ∷ 0x01 ∷ 0x03 ∷ 0x02 ∷ 0x02 ∷ 0x01 ∷ 0x00 ∷ []
+use Rattle.promises.specs.Cases.{example}
 
 abbrev pub zeros : List ℕ
 zeros = replicate 256 0
