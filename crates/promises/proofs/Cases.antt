@@ -1,5 +1,6 @@
 -- The marked cases: each computes, but for the reason of case 9, which is a law of the clock. Assumes nothing.
 use mathlib.Core.Path.{_≡_, refl}
+use mathlib.Core.List.{flatMap}
 use Prim.Native.Nat.{ℕ, _*_, _∣_}
 use native.Mathlib.Omega.{arith}
 use lib.Dec.{lit<}
@@ -25,7 +26,7 @@ unfolding reference clockOf modeOf divisorOf steps
 multiple n cts e = divides 74250000000 4100096000 (lit< tt) n cts (omega arith)
 
 pub cases : MarkedCases
-unfolding steps divisorOf modeOf clockOf reference recommendedOf nearestK nearestIn nearestOf exactly coherentOf pairOf total aviFrame aviOf audioFrame audioOf audioOffFrame fields inRange isAllowed codeOf previewOf walk walked videoOutside videoCombined outside combined judged readOf pairFor nctsOf lineOf digits acceptedText refusedText
+unfolding flatMap steps divisorOf modeOf clockOf reference recommendedOf nearestK nearestIn nearestOf exactly coherentOf pairOf total aviFrame aviOf audioFrame audioOf audioOffFrame fields inRange isAllowed codeOf previewOf walk walked videoOutside videoCombined outside combined judged readOf pairFor nctsOf lineOf digits acceptedText refusedText
 cases =
     record {
       line = refl;

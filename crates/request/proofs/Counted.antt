@@ -1,7 +1,7 @@
 -- What the bodies that a walk finds say of the input's length, over any sections. Assumes nothing.
 use mathlib.Core.Path.{_≡_, refl, ap, _∙_}
 use mathlib.Core.Bool.{Bool, true, false, false≢true, _||_}
-use mathlib.Core.List.{List, [], _∷_, _++_, map}
+use mathlib.Core.List.{List, [], _∷_, _++_, map, flatMap}
 use Prim.Native.Nat.{ℕ, suc, _+_, _≤_}
 use native.Mathlib.Omega.{arith}
 use lib.Dec.{eqb}
@@ -9,7 +9,7 @@ use lib.ListN.{length, length-append}
 use borrow.Author.Tests.{eqb-true, eq-eqb}
 use Rattle.lists.specs.Among.{among}
 use Rattle.lists.proofs.Both.{both-left, both-right}
-use Rattle.request.specs.Sections.{Walk, ends, notAllowed, whole, walk, laid, fits, largest, longestOf, eachWith, lengthsOf}
+use Rattle.request.specs.Sections.{Walk, ends, notAllowed, whole, walk, laid, fits, largest, longestOf, lengthsOf}
 use Rattle.request.proofs.Walks.{Found, found}
 
 -- the bytes of sections with these bodies, each after its count
@@ -66,7 +66,11 @@ counted-with n t (x ∷ c) h =
     either (among (suc n + t) (map (λ m. suc m + t) (x ∷ c)) ≡ true) n x c (λ e. rw (eq-eqb (suc n + t) (suc x + t) (omega arith)))
     (λ l. later (suc n + t) (suc x + t) (map (λ m. suc m + t) c) (counted-with n t c l)) h
 
+abbrev eachWith : List ℕ → List ℕ → List ℕ
+eachWith c = flatMap (λ t. map (λ n. suc n + t) c)
+
 each-with : (n t : ℕ) (c ts : List ℕ) → among n c ≡ true → among t ts ≡ true → among (suc n + t) (eachWith c ts) ≡ true
+unfolding flatMap
 each-with n t c [] h k = absurd (false≢true k)
 each-with n t c (x ∷ ts) h k =
     either (among (suc n + t) (eachWith c (x ∷ ts)) ≡ true) t x ts

@@ -3,7 +3,7 @@
 use mathlib.Core.Path.{_≡_}
 use mathlib.Core.Logic.{_↔_, _⊎_}
 use mathlib.Core.Bool.{Bool, true, false, cond, _&&_}
-use mathlib.Core.List.{List, [], _∷_, _++_, map}
+use mathlib.Core.List.{List, [], _∷_, _++_, map, flatMap}
 use Prim.Native.Nat.{ℕ, suc, _+_, _≤_, _<_, max}
 use lib.Dec.{leb}
 use lib.ListN.{getD, length, take, drop}
@@ -74,13 +74,9 @@ longestOf [] = 0
 longestOf (counts ∷ more) = suc (largest counts) + longestOf more
 
 -- the lengths that sections can have: of each its count, and a body of one of the counts that it allows
-abbrev pub eachWith : List ℕ → List ℕ → List ℕ
-eachWith counts [] = []
-eachWith counts (t ∷ totals) = map (λ n. suc n + t) counts ++ eachWith counts totals
-
 abbrev pub lengthsOf : List (List ℕ) → List ℕ
 lengthsOf [] = 0 ∷ []
-lengthsOf (counts ∷ more) = eachWith counts (lengthsOf more)
+lengthsOf (counts ∷ more) = flatMap (λ total. map (λ n. suc n + total) counts) (lengthsOf more)
 
 -- "Lengths are therefore 7, 10, 32 or 35"
 abbrev pub lengths : List ℕ
