@@ -10,17 +10,17 @@ use lib.ListN.{length, getD, set, drop, length-set, length-append, length-take, 
 use lib.Seq.{getD-set-same, getD-set-other, set-out}
 use borrow.Author.Tests.{eq-eqb, ne-eqb, eqb-true, eqb-false, leb-true, ltb-true, ltb-false, not-true}
 use Rattle.lists.specs.Find.{every}
-use Rattle.lists.proofs.Both.{both-left, both-right, neither-left, neither-right}
+use Rattle.lists.proofs.Both.{both-left, both-right, neither-right}
 use Rattle.lists.proofs.Decides.{Decides, itself, either, together}
-use Rattle.refusals.specs.Rows.{at}
-use Rattle.refusals.proofs.First.{test, tried}
+use Rattle.refusals.specs.Rows.{Given, lowest}
+use Rattle.refusals.proofs.Tests.{lowest-given, answer-given}
 use Rattle.bits.specs.Merge.{bit}
 use Rattle.bits.proofs.Laws.{merge-bit, bit-code}
 use Rattle.registers.specs.Classes.{readOnly}
 use Rattle.chip.specs.declared.Chip.{Chip}
 use Rattle.chip.specs.declared.Wrote.{Wrote}
-use Rattle.chip.specs.Machine.{Group, Buffer, avi, audio, gc, matrix, packets, converter, up, registersOf, holdsOf, filled, bufferAfter, put, stored, imageAfter, two, refuses, writeOf}
-use Rattle.chip.specs.Step.{TwoUp, writeRules, Copies, Keeps, Step}
+use Rattle.chip.specs.Machine.{Group, Buffer, avi, audio, gc, matrix, packets, converter, up, registersOf, holdsOf, filled, bufferAfter, put, stored, imageAfter, two, refuses, writeTests, refusedWrite, writeOf}
+use Rattle.chip.specs.Step.{TwoUp, writeRules, Keeps, Step}
 
 -- a test for two packet holds decides that two are up
 pub two-up : (image : List ℕ) → Decides (two (holdsOf packets image)) (TwoUp image)
@@ -80,15 +80,16 @@ odd n h = omega arith
 
 module _ (s : Chip) (address value : ℕ) where
   -- a refused write, and one that is taken
-  abbrev answer : Bool → Wrote
-  answer b = cond b (record { refusal = 13; chip = s }) (record { refusal = 0; chip = put address (stored address value (s .image)) s })
+  abbrev pub wrote : Bool → Wrote
+  wrote b = cond b (refusedWrite s 13) (record { refusal = 0; chip = put address (stored address value (s .image)) s })
 
-  written-as : (b : Bool) → refuses s address value ≡ b → writeOf s address value ≡ answer b
+  pub written-as : (b : Bool) → refuses s address value ≡ b → writeOf s address value ≡ wrote b
   unfolding writeOf
-  written-as b e = rw e
+  written-as true e = rw e
+  written-as false e = rw e
 
   -- a write that has no refusal is taken, and leaves the image that it would leave
-  allowed : writeOf s address value .refusal ≡ 0 → refuses s address value ≡ false
+  pub allowed : writeOf s address value .refusal ≡ 0 → refuses s address value ≡ false
   allowed z = go (refuses s address value) refl
     where
       go : (b : Bool) → refuses s address value ≡ b → b ≡ false
@@ -112,7 +113,7 @@ module _ (s : Chip) (address value : ℕ) where
   unfolding stored
   new-bit j h r = merge-bit 8 j (readOnly address) (getD (s .image) address 0) value h ∙ rw (ne-eqb (bit j (readOnly address)) 1 (λ e. omega arith))
 
-  kept-bit : (j : ℕ) → j < 8 → bit j (readOnly address) ≡ 1 → (b : Bool) → bit j (getD (answer b .chip .image) address 0) ≡ bit j (getD (s .image) address 0)
+  kept-bit : (j : ℕ) → j < 8 → bit j (readOnly address) ≡ 1 → (b : Bool) → bit j (getD (wrote b .chip .image) address 0) ≡ bit j (getD (s .image) address 0)
   unfolding put
   kept-bit j h r true = refl
   kept-bit j h r false = go (ltb address (length (s .image))) refl
@@ -139,17 +140,17 @@ module _ (s : Chip) (address value : ℕ) where
           ∙ there (eqb (bit j (readOnly address)) 0) refl)
       go false e = ap (bit j) (getD-set-other (s .image) address a _ 0 (eqb-false a address e))
 
-  other-byte : (a : ℕ) → a ≢ address → (b : Bool) → getD (answer b .chip .image) a 0 ≡ getD (s .image) a 0
+  other-byte : (a : ℕ) → a ≢ address → (b : Bool) → getD (wrote b .chip .image) a 0 ≡ getD (s .image) a 0
   unfolding put
   other-byte a h true = refl
   other-byte a h false = getD-set-other (s .image) address a _ 0 h
 
   taken-bit : address < length (s .image) → (j : ℕ) → j < 8 → bit j (readOnly address) ≡ 0
-      → bit j (getD (answer false .chip .image) address 0) ≡ bit j value
+      → bit j (getD (wrote false .chip .image) address 0) ≡ bit j value
   unfolding put
   taken-bit l j h r = ap (bit j) (getD-set-same (s .image) address _ 0 l) ∙ new-bit j h r
 
-  image-sized : (b : Bool) → length (answer b .chip .image) ≡ length (s .image)
+  image-sized : (b : Bool) → length (wrote b .chip .image) ≡ length (s .image)
   unfolding put
   image-sized true = refl
   image-sized false = length-set (s .image) address _
@@ -159,7 +160,13 @@ module _ (s : Chip) (address value : ℕ) where
   unfolding refuses
   decided = either (two-up (s .image)) (two-up (imageAfter s address value))
 
-  unchanged : (b : Bool) → answer b .refusal ≢ 0 → answer b .chip ≡ s
+  given : Given (writeRules s address value) (writeOf s address value .refusal)
+  unfolding writeOf
+  given =
+      answer-given (refusedWrite s) _ (λ (w : Wrote). w .refusal) (writeRules s address value) (lowest (writeTests s address value)) refl (λ _. refl)
+      (lowest-given (writeTests s address value) (writeRules s address value) refl (refl, decided, λ _. tt))
+
+  unchanged : (b : Bool) → wrote b .refusal ≢ 0 → wrote b .chip ≡ s
   unchanged true h = refl
   unchanged false h = absurd (h refl)
 
@@ -257,8 +264,7 @@ module _ (s : Chip) (address value : ℕ) where
     stepped =
         let n : ℕ = holdsOf packets (imageAfter s address value) in
         record {
-          refusals = rw (written-as (refuses s address value) refl) (tried (writeRules s address value) _ refl
-              (test (λ (w : Wrote). w .refusal) (at (writeRules s address value) 0) [] (refuses s address value) _ _ refl decided (λ f. refl)));
+          refusals = given;
           refused = rw (written-as (refuses s address value) refl) (unchanged (refuses s address value));
           kept = λ j h r. rw (written-as (refuses s address value) refl) (kept-bit j h r (refuses s address value));
           would = would-bit;

@@ -1,5 +1,5 @@
 -- Document 01, "The chip machine": its groups and their holds, one write, and what is in use. What a write is made of (`filled`,
--- `bufferAfter`, `put`, `stored`, `two`, `refuses`, `writeOf`) follows the code; `Step` says of it, bit by bit, what document 01 does.
+-- `bufferAfter`, `put`, `stored`, `two`, `refuses`, `writeTests`, `writeOf`) follows the code; `Step` says of it, bit by bit, what document 01 does.
 use mathlib.Core.Path.{_≡_}
 use mathlib.Core.Bool.{Bool, cond, not, _&&_, _||_}
 use mathlib.Core.List.{List, [], _∷_, _++_}
@@ -12,7 +12,7 @@ use Rattle.map.specs.Map as reg
 use Rattle.map.specs.Map.{infoframeUpdate, aviInfoframeVersion, aviInfoframeCount, audioInfoframeVersion, audioInfoframeCount}
 use Rattle.map.specs.Map.{coefficientUpdate, csc, cscCount}
 use Rattle.matrix.specs.Matrix.{fields}
-use Rattle.refusals.specs.Rows.{twoHolds, number}
+use Rattle.refusals.specs.Rows.{twoHolds, Test, _if_, lowest, answer}
 use Rattle.chip.specs.declared.Chip.{Chip}
 use Rattle.chip.specs.declared.Wrote.{Wrote}
 
@@ -97,11 +97,18 @@ two holds = (up avi holds && up audio holds) || ((up avi holds && up gc holds) |
 unfoldable pub refuses : Chip → ℕ → ℕ → Bool
 refuses s address value = two (holdsOf packets (s .image)) || two (holdsOf packets (imageAfter s address value))
 
+-- a line for each row that a write checks
+abbrev pub writeTests : Chip → ℕ → ℕ → List Test
+writeTests s address value = twoHolds if refuses s address value ∷ []
+
+-- a refused write has its number and leaves the state as it is
+abbrev pub refusedWrite : Chip → ℕ → Wrote
+refusedWrite s number = record { refusal = number; chip = s }
+
 -- "Each write hands the state back with one byte changed in the image, and a buffer filled where a hold rises"
 unfoldable pub writeOf : Chip → ℕ → ℕ → Wrote
 writeOf s address value =
-    cond (refuses s address value) (record { refusal = number twoHolds; chip = s })
-    (record { refusal = 0; chip = put address (stored address value (s .image)) s })
+    answer (lowest (writeTests s address value)) (refusedWrite s) (record { refusal = 0; chip = put address (stored address value (s .image)) s })
 
 -- a pair of address and value
 pub record Write : Type 0 where

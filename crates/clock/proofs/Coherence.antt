@@ -1,19 +1,21 @@
 -- The pair that is found for coherent audio is the one that document 01 asks for, and there is no other. Assumes nothing.
 use mathlib.Core.Path.{_≡_, refl, sym, _∙_, subst}
 use mathlib.Core.Logic.{_⊎_, inl, inr, _≢_}
-use mathlib.Core.Bool.{Bool, true, false, false≢true, cond}
+use mathlib.Core.Bool.{Bool, true, false, false≢true, cond, not, _&&_}
+use mathlib.Core.List.{[], _∷_}
 use Prim.Native.Nat.{ℕ, _*_, _<_}
 use native.Mathlib.Nat.{eq-of-mul-eq-mul-left, mul-pos, le-antisymm}
 use native.Mathlib.Omega.{arith}
-use lib.Dec.{eqb}
+use lib.Dec.{eqb, ltb}
 use borrow.Author.Tests.{eqb-true, eqb-false, le-ltb}
+use Rattle.refusals.specs.Rows.{noExactPair, _if_, lowest, answer}
 use Rattle.video.specs.declared.Video.{Video}
 use Rattle.video.specs.Modes.{offered}
 use Rattle.clock.specs.declared.Clock.{Clock}
 use Rattle.clock.specs.declared.Pair.{Pair}
 use Rattle.clock.specs.Clocks.{clockOf}
 use Rattle.clock.specs.Pairs.{reference, Exact, recommendedOf, Coherent, thePair, noPair, other}
-use Rattle.clock.specs.Found.{exactly, nearestOf, coherentOf, pairOf}
+use Rattle.clock.specs.Found.{exactly, leastK, mostK, nearestIn, nearestOf, coherentOf, pairOf}
 use Rattle.clock.specs.Theorems.{PairRule}
 use Rattle.clock.proofs.Rates.{reference-some}
 use Rattle.clock.proofs.Offered.{sized}
@@ -116,11 +118,39 @@ module _ (clock : Clock) (rate : ℕ) where
 pub in-mode : (video : Video) (rate : ℕ) → offered video ≡ true → rate < 7 → Coherent (clockOf video) rate (coherentOf (clockOf video) rate)
 in-mode video rate o h = let s = sized video o in found (clockOf video) rate (s .some) (s .part) (reference-some rate h)
 
-pub rule : PairRule
+-- what is answered is refusal 9 with zeros, or no refusal
+abbrev pub EitherWay : Pair → Type 0
+EitherWay p = (p ≡ noPair 9) ⊎ (p .refusal ≡ 0)
+
+one-of : (b : Bool) {p q : Pair} → EitherWay p → EitherWay q → EitherWay (cond b p q)
+one-of true y z = y
+one-of false y z = z
+
+near : (f u v : ℕ) → EitherWay (nearestIn f u v)
+unfolding nearestIn
+near f u v = one-of (ltb (mostK f u v) (leastK f v)) (inl refl) (inr refl)
+
+pub either-way : (clock : Clock) (rate : ℕ) → EitherWay (coherentOf clock rate)
+unfolding coherentOf nearestOf
+either-way clock rate = one-of (exactly clock rate (N clock rate) (C clock rate)) (inr refl) (near _ _ _)
+
+-- what is answered where rows 4 and 5 do not apply
+pub pair-in : (video : Video) (rate coherent : ℕ) → offered video ≡ true → rate < 7 → coherent < 2
+    → pairOf video rate coherent ≡ cond (eqb coherent 1) (coherentOf (clockOf video) rate) (other rate)
 unfolding pairOf
+pair-in video rate coherent o h k =
+    rw (o, le-ltb 6 rate (omega arith), le-ltb 1 coherent (omega arith)) (go (eqb coherent 1) (coherentOf (clockOf video) rate) (either-way (clockOf video) rate))
+  where
+    go : (b : Bool) (c : Pair) → EitherWay c
+        → answer (lowest (noExactPair if (b && not (eqb (c .refusal) 0)) ∷ [])) noPair (cond b c (other rate)) ≡ cond b c (other rate)
+    go false c w = refl
+    go true c (inl e) = rw e
+    go true c (inr e) = rw e
+
+pub rule : PairRule
 rule =
     record {
-      coherent = λ video rate o h. rw (o, le-ltb 6 rate (omega arith)) (in-mode video rate o h);
+      coherent = λ video rate o h. rw (pair-in video rate 1 o h (omega arith)) (in-mode video rate o h);
       one = λ clock rate den h. one clock rate den (reference-some rate h);
-      others = λ video rate o h. rw (o, le-ltb 6 rate (omega arith));
+      others = λ video rate o h. pair-in video rate 0 o h (omega arith);
     }

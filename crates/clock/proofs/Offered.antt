@@ -1,6 +1,7 @@
 -- Every clock that is offered is a fraction above 0, of bounded size. Assumes nothing.
 use mathlib.Core.Path.{_≡_, refl}
-use mathlib.Core.Bool.{Bool, true, false, cond, _&&_, _||_}
+use mathlib.Core.Bool.{Bool, true, false, cond, not, _&&_, _||_}
+use mathlib.Core.List.{[], _∷_}
 use Prim.Native.Nat.{ℕ, _*_, _<_, _≤_}
 use native.Mathlib.Omega.{arith}
 use lib.Dec.{eqb, ltb, leb}
@@ -11,7 +12,8 @@ use Rattle.video.specs.declared.Mode.{Mode}
 use Rattle.video.specs.declared.Video.{Video}
 use Rattle.clock.specs.declared.Clock.{Clock}
 use Rattle.video.specs.Modes.{modes, modeOf, rowOf, unlisted, offered}
-use Rattle.clock.specs.Clocks.{clockIn, clockOf}
+use Rattle.refusals.specs.Rows.{modeNotOffered, _if_, lowest, answer}
+use Rattle.clock.specs.Clocks.{clockIn, noClock, clockOf}
 use Rattle.clock.specs.Bounds.{hertzMost, Sized}
 
 abbrev test : Mode → Bool
@@ -53,11 +55,15 @@ no-refusal h family = go (eqb family 0)
     go true = refl
     go false = refl
 
+-- the answer by whether the mode is offered
+abbrev given : Video → Bool → Clock
+given video b = answer (lowest (modeNotOffered if not b ∷ [])) noClock (clockIn (modeOf (video .vic) .hertz) (video .family))
+
 pub accepted : (video : Video) → clockOf video .refusal ≡ 0 → offered video ≡ true
 unfolding clockOf
 accepted video = go (offered video)
   where
-    go : (b : Bool) → cond b (clockIn (modeOf (video .vic) .hertz) (video .family)) (record { refusal = 4; num = 0; den = 0 }) .refusal ≡ 0 → b ≡ true
+    go : (b : Bool) → given video b .refusal ≡ 0 → b ≡ true
     go true e = refl
     go false e = absurd (omega arith)
 
@@ -65,7 +71,6 @@ pub declined : (video : Video) → (clockOf video .refusal ≡ 0 → ⊥) → (o
 unfolding clockOf
 declined video = go (offered video)
   where
-    go : (b : Bool) → (cond b (clockIn (modeOf (video .vic) .hertz) (video .family)) (record { refusal = 4; num = 0; den = 0 }) .refusal ≡ 0 → ⊥)
-        → (b ≡ false) × (cond b (clockIn (modeOf (video .vic) .hertz) (video .family)) (record { refusal = 4; num = 0; den = 0 }) .refusal ≡ 4)
+    go : (b : Bool) → (given video b .refusal ≡ 0 → ⊥) → (b ≡ false) × (given video b .refusal ≡ 4)
     go true e = absurd (e (no-refusal (modeOf (video .vic) .hertz) (video .family)))
     go false e = (refl, refl)

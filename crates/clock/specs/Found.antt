@@ -2,9 +2,10 @@
 -- `ClockRefusals`. With u/v the ratio clock / (128·fs) in lowest terms, CTS = N·u/v, so the exact pairs are N = k·v, CTS = k·u.
 use mathlib.Core.Path.{_≡_}
 use mathlib.Core.Bool.{Bool, cond, _&&_, _||_, not}
+use mathlib.Core.List.{List, [], _∷_}
 use Prim.Native.Nat.{ℕ, _+_, _-_, _*_, _/_, min}
 use lib.Dec.{eqb, leb, ltb}
-use Rattle.refusals.specs.Rows.{modeNotOffered, fieldOutOfRange, noExactPair, number}
+use Rattle.refusals.specs.Rows.{modeNotOffered, fieldOutOfRange, noExactPair, number, Test, _if_, lowest, answer}
 use Rattle.video.specs.declared.Video.{Video}
 use Rattle.video.specs.Modes.{offered}
 use Rattle.ratio.specs.Lowest.{topOf, bottomOf}
@@ -49,12 +50,17 @@ coherentOf clock rate =
     let r : NCts = recommendedOf clock rate in
     cond (exactly clock rate (r .n) (r .cts)) (thePair (r .n) (r .cts)) (nearestOf clock rate)
 
--- N/CTS on single fields: refusals 4, 5, 9
+-- the tests of rows 4, 5 and 9, a line for each; they decide the conditions of `pairRules` (`ClockRefusals`)
+abbrev pub pairTests : Video → ℕ → ℕ → List Test
+pairTests video rate coherent =
+    modeNotOffered if not (offered video) ∷
+    fieldOutOfRange if (ltb 6 rate || ltb 1 coherent) ∷
+    noExactPair if (eqb coherent 1 && not (eqb (coherentOf (clockOf video) rate .refusal) 0)) ∷ []
+
+-- N/CTS on single fields
 unfoldable pub pairOf : Video → ℕ → ℕ → Pair
 pairOf video rate coherent =
-    cond (not (offered video)) (noPair (number modeNotOffered))
-    (cond (ltb 6 rate || ltb 1 coherent) (noPair (number fieldOutOfRange))
-    (cond (eqb coherent 1) (coherentOf (clockOf video) rate) (other rate)))
+    answer (lowest (pairTests video rate coherent)) noPair (cond (eqb coherent 1) (coherentOf (clockOf video) rate) (other rate))
 
 -- what `pair_of` promises
 abbrev pub GivesPair : Video → ℕ → ℕ → Pair → Type 0

@@ -7,14 +7,13 @@ use Prim.Native.Nat.{ℕ, zero, suc, _<_, suc-le-suc}
 use native.Mathlib.Nat.{zero-lt-suc}
 use lib.Dec.{eqb, lit<}
 use lib.ListN.{length, getD}
-use borrow.Author.Tests.{eqb-true}
-use Rattle.bits.specs.Merge.{merge, bit}
+use Rattle.bits.specs.Merge.{bit}
 use Rattle.bits.proofs.Laws.{merge-bit}
 use Rattle.map.specs.Map as reg
 use Rattle.registers.specs.Classes.{classAt, readOnly, free}
 use Rattle.chip.specs.declared.Chip.{Chip}
-use Rattle.chip.specs.declared.Wrote.{Wrote}
 use Rattle.chip.specs.Machine.{Write, put, stored, imageAfter, refuses, writeOf}
+use Rattle.chip.proofs.Writes.{wrote, written-as}
 use Rattle.writes.specs.List.{isWritten}
 use Rattle.writes.proofs.Carries.{masked}
 use Rattle.cut.specs.Run.{Event, write, happens, run, cut, event, Fair, IsFair, Stays, Untouched}
@@ -22,12 +21,10 @@ use Rattle.cut.proofs.Bytes.{at-set}
 
 -- what holds of the image as it is, and of the image that a write would leave, holds after the write, taken or refused
 after-write : (P : List ℕ → Type 0) (s : Chip) (a v : ℕ) → P (s .image) → P (imageAfter s a v) → P (writeOf s a v .chip .image)
-unfolding writeOf put
-after-write P s a v p q = go (refuses s a v)
+unfolding put
+after-write P s a v p q = rw (written-as s a v (refuses s a v) refl) (go (refuses s a v))
   where
-    go : (r : Bool)
-        → P (cond {A = Wrote} r (record { refusal = 13; chip = s })
-        (record { refusal = 0; chip = put a (stored a v (s .image)) s }) .chip .image)
+    go : (r : Bool) → P (wrote s a v r .chip .image)
     go true = p
     go false = q
 

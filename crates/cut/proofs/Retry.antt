@@ -1,12 +1,12 @@
 -- A write that was taken, sent again, is taken and changes nothing; so a run whose events are repeated goes through the same states.
 -- Assumes nothing.
 use mathlib.Core.Path.{_≡_, refl, sym, ap, _∙_}
-use mathlib.Core.Bool.{Bool, true, false, false≢true, cond, not, _&&_, _||_}
+use mathlib.Core.Bool.{Bool, true, false, false≢true, not, _&&_, _||_}
 use mathlib.Core.List.{List, [], _∷_, _++_}
 use Prim.Native.Nat.{ℕ, zero, suc, _-_, _<_, suc-le-suc}
 use native.Mathlib.Nat.{not-suc-le-zero, le-of-suc-le-suc, zero-lt-suc}
 use native.Mathlib.Omega.{arith}
-use lib.ListN.{length, getD, set, take, replicate}
+use lib.ListN.{length, getD, set, replicate}
 use lib.Seq.{take-nil}
 use Rattle.lists.specs.Find.{every}
 use Rattle.bits.specs.Merge.{merge}
@@ -14,8 +14,8 @@ use Rattle.bits.proofs.Laws.{merge-left}
 use Rattle.registers.specs.Classes.{readOnly}
 use Rattle.chip.specs.declared.Chip.{Chip}
 use Rattle.chip.specs.declared.Wrote.{Wrote}
-use Rattle.chip.specs.Machine.{Write, Group, packets, converter, up, holdsOf, put, stored, imageAfter, two, refuses, writeOf}
-use Rattle.chip.proofs.Writes.{stepped}
+use Rattle.chip.specs.Machine.{Group, packets, converter, up, holdsOf, put, stored, imageAfter, two, refuses, writeOf}
+use Rattle.chip.proofs.Writes.{written-as, allowed, stepped}
 use Rattle.cut.specs.Run.{Event, write, happens, run, cut, event, retried, begun, Retried}
 
 -- a byte that was stored is stored again as it is
@@ -44,22 +44,7 @@ sized-after s a v z = stepped s a v z .sized ∙ z
 abbrev taking : ℕ → List ℕ → List ℕ → List ℕ → Wrote
 taking n image packet coefficients = record { refusal = n; chip = record { image = image; packet = packet; coefficients = coefficients } }
 
-took : (s : Chip) (a v : ℕ) → refuses s a v ≡ false → writeOf s a v ≡ record { refusal = 0; chip = put a (stored a v (s .image)) s }
-unfolding writeOf
-took s a v e = rw e
-
 module _ (s : Chip) (a v : ℕ) (z : length (s .image) ≡ 256) (taken : writeOf s a v .refusal ≡ 0) where
-  kept-up : refuses s a v ≡ false
-  unfolding writeOf
-  kept-up = go (refuses s a v) taken
-    where
-      go : (r : Bool)
-          → cond {A = Wrote} r (record { refusal = 13; chip = s })
-          (record { refusal = 0; chip = put a (stored a v (s .image)) s }) .refusal ≡ 0
-          → r ≡ false
-      go true e = absurd (omega arith)
-      go false e = refl
-
   abbrev t : Chip
   t = writeOf s a v .chip
 
@@ -72,7 +57,7 @@ module _ (s : Chip) (a v : ℕ) (z : length (s .image) ≡ 256) (taken : writeOf
 
   let-in : refuses t a v ≡ false
   unfolding refuses
-  let-in = rw (stays, left) (twice (two (holdsOf packets (s .image))) (two (holdsOf packets (imageAfter s a v))) kept-up)
+  let-in = rw (stays, left) (twice (two (holdsOf packets (s .image))) (two (holdsOf packets (imageAfter s a v))) (allowed s a v taken))
     where
       twice : (x y : Bool) → (x || y) ≡ false → (y || y) ≡ false
       twice true y e = absurd (false≢true (sym e))
@@ -81,7 +66,7 @@ module _ (s : Chip) (a v : ℕ) (z : length (s .image) ≡ 256) (taken : writeOf
 
   image-stays : writeOf t a v .chip .image ≡ t .image
   unfolding put
-  image-stays = ap (λ (w : Wrote). w .chip .image) (took t a v let-in) ∙ stays
+  image-stays = ap (λ (w : Wrote). w .chip .image) (written-as t a v false let-in) ∙ stays
 
   packet-stays : writeOf t a v .chip .packet ≡ t .packet
   packet-stays = stepped t a v (sized-after s a v z) .packet (rw image-stays (none-rises (holdsOf packets (t .image)) (packets .groups)))
@@ -94,7 +79,7 @@ module _ (s : Chip) (a v : ℕ) (z : length (s .image) ≡ 256) (taken : writeOf
   sent-again =
       let w : Wrote = writeOf t a v in
       let c : Chip = w .chip in
-      ap (λ (x : Wrote). taking (x .refusal) (c .image) (c .packet) (c .coefficients)) (took t a v let-in)
+      ap (λ (x : Wrote). taking (x .refusal) (c .image) (c .packet) (c .coefficients)) (written-as t a v false let-in)
       ∙ ap (λ (l : List ℕ). taking 0 l (c .packet) (c .coefficients)) image-stays
       ∙ ap (λ (l : List ℕ). taking 0 (t .image) l (c .coefficients)) packet-stays
       ∙ ap (λ (l : List ℕ). taking 0 (t .image) (t .packet) l) coefficients-stay

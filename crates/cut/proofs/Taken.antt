@@ -10,6 +10,7 @@ use lib.ListN.{length, getD, set, take}
 use Rattle.chip.specs.declared.Chip.{Chip}
 use Rattle.chip.specs.declared.Wrote.{Wrote}
 use Rattle.chip.specs.Machine.{Write, _gets_, avi, audio, gc, packets, up, holdsOf, put, stored, imageAfter, two, refuses, writeOf}
+use Rattle.chip.proofs.Writes.{written-as}
 use Rattle.writes.specs.Steps.{Step}
 use Rattle.writes.specs.List.{written}
 use Rattle.cut.specs.Run.{run}
@@ -68,8 +69,7 @@ module _ (w : Write) (s : Chip) (z : Whole s) (e : stored (w .address) (w .value
         rw (b, a)
 
     took : writeOf s (w .address) (w .value) ≡ record { refusal = 0; chip = store w s }
-    unfolding writeOf
-    took = rw (takes, e)
+    took = written-as s (w .address) (w .value) false takes ∙ rw e
 
 module _ (want : ℕ → ℕ) (image₀ : List ℕ) where
   abbrev f : Step → Write

@@ -7,7 +7,7 @@ use native.Mathlib.Nat.{not-suc-le-zero, le-of-suc-le-suc}
 use native.Mathlib.Omega.{arith}
 use lib.Dec.{eqb, ltb, lit<}
 use lib.ListN.{length, getD, take, drop}
-use borrow.Author.Tests.{eqb-true, eqb-false, eq-eqb, ne-eqb, le-ltb, ltb-true}
+use borrow.Author.Tests.{eqb-true, eqb-false, eq-eqb, ne-eqb, ltb-true}
 use Rattle.lists.proofs.Both.{both-left, both-right}
 use Rattle.bits.proofs.Below.{at-below}
 use Rattle.video.specs.declared.Video.{Video}
@@ -19,7 +19,7 @@ use Rattle.clock.specs.Tables.{otherRow}
 use Rattle.clock.specs.Pairs.{Coherent, other}
 use Rattle.clock.specs.Found.{coherentOf, pairOf}
 use Rattle.clock.proofs.Rates.{reference-most}
-use Rattle.clock.proofs.Coherence.{in-mode}
+use Rattle.clock.proofs.Coherence.{in-mode, pair-in}
 use Rattle.frames.specs.Frames.{total, frame, aviFrame}
 use Rattle.frames.proofs.Sealed as frames
 use Rattle.request.specs.declared.Sound.{Sound}
@@ -51,8 +51,7 @@ use Rattle.promises.proofs.Places.{audio-frame, Ranges, stand}
 -- a pair on fields in range
 in-range : (video : Video) (rate coherent : ℕ) → offered video ≡ true → rate ≤ 6 → coherent ≤ 1
     → pairOf video rate coherent ≡ cond (eqb coherent 1) (coherentOf (clockOf video) rate) (other rate)
-unfolding pairOf
-in-range video rate coherent o h k = rw (o, le-ltb 6 rate h, le-ltb 1 coherent k)
+in-range video rate coherent o h k = pair-in video rate coherent o (omega arith) (omega arith)
 
 paired-in : (r : Request) (s : Sound) → offered (r .video) ≡ true → SoundFits s → Paired (r .video) s (pairIn r s)
 paired-in r Off o h = (refl, refl, refl)

@@ -1,22 +1,27 @@
 -- One law for every call that gives the lowest of its tests: where they decide its conditions one by one, that is what `Given` says.
 --     Decided         tests that decide conditions, each where none before it applies
 --     lowest-given    the law
+--     answer-given    of the number that the call's answer carries; answer-beside: what stands beside it
+--     in-stages       of a call in two stages, each with conditions of its own
+--     later, sole, reworded    past a condition that fails; one condition alone, and in other words
 --     decided-append  some tests, and then others where none of the first is true
 --     lowest-append   their number
---     past, none-found, all-pass    where the number is 0
+--     past, none-at, none-found, all-pass    where the number is 0
 --     numbered, answer-none, answer-some    the number of an answer, and the answer
 -- Assumes nothing.
 use mathlib.Core.Path.{_≡_, refl, sym, _∙_}
 use mathlib.Core.Logic.{_≢_, inl, inr}
 use mathlib.Core.Bool.{Bool, true, false, false≢true, cond, not, _&&_}
 use mathlib.Core.List.{List, [], _∷_, _++_}
-use Prim.Native.Nat.{ℕ}
+use Prim.Native.Nat.{ℕ, zero, suc}
 use lib.Dec.{eqb}
-use borrow.Author.Tests.{eqb-true, eq-eqb, ne-eqb}
+use lib.ListN.{getD}
+use borrow.Author.Tests.{eqb-true, eqb-false, eq-eqb, ne-eqb, not-true, not-false}
 use Rattle.lists.specs.Find.{every}
 use Rattle.lists.proofs.Decides.{Decides}
-use Rattle.refusals.specs.Rows.{Row, number, order, inOrder, Condition, Given, Test, lowest, answer}
+use Rattle.refusals.specs.Rows.{Row, inputEnds, number, order, inOrder, Condition, _when_, Given, Test, _if_, lowest, answer}
 use Rattle.refusals.proofs.First.{Tried, tried, number-some}
+use Rattle.refusals.proofs.Again.{again}
 
 abbrev pub Decided : List Test → List Condition → Type 0
 Decided [] [] = Unit {0}
@@ -44,6 +49,12 @@ past t ts = go (t .found) refl
     go : (b : Bool) → t .found ≡ b → cond b (number (t .row)) (lowest ts) ≡ 0 → (t .found ≡ false) × (lowest ts ≡ 0)
     go true e z = absurd (number-some (t .row) z)
     go false e z = (e, z)
+
+-- each test is false where nothing is given; past the end there is none that is true
+pub none-at : (ts : List Test) (i : ℕ) → lowest ts ≡ 0 → getD ts i (inputEnds if false) .found ≡ false
+none-at [] i z = refl
+none-at (t ∷ ts) zero z = past t ts z .0
+none-at (t ∷ ts) (suc i) z = none-at ts i (past t ts z .1)
 
 -- nothing is given where every test is false, and only there
 abbrev pub fails : Test → Bool
@@ -79,6 +90,30 @@ decided-append (t ∷ ts) us [] more d then = absurd d
 decided-append (t ∷ ts) us (c ∷ cs) more d then =
     (d .0, d .1, λ e. decided-append ts us cs more (d .2 e) (λ z. then (rw e z)))
 
+-- where the first condition fails, the others are left
+pub later : (c : Condition) (cs : List Condition) (n : ℕ) → inOrder cs order ≡ true → (c .When → ⊥) → Given (c ∷ cs) n → Given cs n
+later c cs n o x g = tried cs n o (go (again n (c ∷ cs) g))
+  where
+    go : Tried (c ∷ cs) n → Tried cs n
+    go (inl h) = absurd (x (h .0))
+    go (inr h) = h .1
+
+-- of one condition: what is given says whether it applies, and another condition that says the same may stand for it
+pub sole : (c : Condition) (n : ℕ) → Given (c ∷ []) n → Decides (not (eqb n 0)) (c .When)
+sole c n g = go (again n (c ∷ []) g)
+  where
+    go : Tried (c ∷ []) n → Decides (not (eqb n 0)) (c .When)
+    go (inl h) =
+        record { passes = λ t. h .0; fails = λ f. absurd (number-some (c .row) (sym (h .1) ∙ eqb-true n 0 (not-false (eqb n 0) f))) }
+    go (inr h) = record { passes = λ t. absurd (eqb-false n 0 (not-true (eqb n 0) t) (h .1)); fails = λ f. h .0 }
+
+pub reworded : (row : Row) (P Q : Type 0) (n : ℕ) → (P → Q) → (Q → P) → Given (row when P ∷ []) n → Given (row when Q ∷ []) n
+reworded row P Q n to from g = tried (row when Q ∷ []) n (g .ordered) (go (again n (row when P ∷ []) g))
+  where
+    go : Tried (row when P ∷ []) n → Tried (row when Q ∷ []) n
+    go (inl h) = inl (to (h .0), h .1)
+    go (inr h) = inr ((λ q. h .0 (from q)), h .1)
+
 module _ {X : Type 0} (refused : ℕ → X) (x : X) where
   -- the number that an answer carries is the number given
   pub numbered : (f : X → ℕ) (n : ℕ) → f x ≡ 0 → f (refused n) ≡ n → f (answer n refused x) ≡ n
@@ -87,6 +122,32 @@ module _ {X : Type 0} (refused : ℕ → X) (x : X) where
       go : (b : Bool) → eqb n 0 ≡ b → f (cond b x (refused n)) ≡ n
       go true e = p ∙ sym (eqb-true n 0 e)
       go false e = q
+
+  -- a call in two stages: some conditions, and then others where none of the first applies; f reads the number off an answer
+  pub in-stages : (f : X → ℕ) (rules more : List Condition) (n : ℕ) → inOrder (rules ++ more) order ≡ true → f (refused n) ≡ n
+      → Given rules n → (n ≡ 0 → Given more (f x)) → Given (rules ++ more) (f (answer n refused x))
+  in-stages f rules more n o same g then = tried (rules ++ more) (f (answer n refused x)) o (go rules (again n rules g))
+    where
+      go : (rules : List Condition) → Tried rules n → Tried (rules ++ more) (f (answer n refused x))
+      go [] t = rw (eq-eqb n 0 t) (again (f x) more (then t))
+      go (c ∷ cs) (inl h) = inl (h .0, rw (ne-eqb n 0 (λ e. number-some (c .row) (sym (h .1) ∙ e))) (same ∙ h .1))
+      go (c ∷ cs) (inr h) = inr (h .0, go cs (h .1))
+
+  -- a call in one, whose answer without a refusal has number 0; and what stands beside a refusal
+  pub answer-given : (f : X → ℕ) (rules : List Condition) (n : ℕ) → f (refused n) ≡ n → (n ≡ 0 → f x ≡ 0) → Given rules n
+      → Given rules (f (answer n refused x))
+  answer-given f rules n same none g = rw (go (eqb n 0) refl) g
+    where
+      go : (b : Bool) → eqb n 0 ≡ b → f (cond b x (refused n)) ≡ n
+      go true e = let z = eqb-true n 0 e in none z ∙ sym z
+      go false e = same
+
+  pub answer-beside : (f : X → ℕ) (n : ℕ) → (n ≡ 0 → f x ≡ 0) → f (answer n refused x) ≢ 0 → answer n refused x ≡ refused n
+  answer-beside f n none = go (eqb n 0) refl
+    where
+      go : (b : Bool) → eqb n 0 ≡ b → f (cond b x (refused n)) ≢ 0 → cond b x (refused n) ≡ refused n
+      go true e h = absurd (h (none (eqb-true n 0 e)))
+      go false e h = refl
 
   pub answer-none : (n : ℕ) → n ≡ 0 → answer n refused x ≡ x
   answer-none n e = rw (eq-eqb n 0 e)

@@ -10,12 +10,13 @@ use lib.Seq.{getD-drop}
 use Rattle.lists.specs.Among.{among}
 use Rattle.refusals.specs.Rows.{noExactPair, _when_, Given}
 use Rattle.refusals.proofs.First.{Tried, then, tried}
+use Rattle.refusals.proofs.Again.{again}
 use Rattle.clock.specs.declared.Pair.{Pair}
 use Rattle.video.specs.declared.Video.{Video}
 use Rattle.video.specs.Modes.{offered}
 use Rattle.clock.specs.Pairs.{noPair}
 use Rattle.clock.specs.Theorems.{pairRules}
-use Rattle.clock.proofs.Rows.{in-turn}
+use Rattle.clock.proofs.Rows.{refusals}
 use Rattle.request.specs.declared.Sound.the-variants.{Off, On}
 use Rattle.matrix.specs.Matrix.{Bytes}
 use Rattle.request.specs.declared.Request.{Request}
@@ -50,7 +51,7 @@ sounds w bytes j = go (present (audioSection w)) refl
         → Tried (noExactPair when (NoPair w) ∷ []) (pairIn r (cond b (On (rate (audioSection w)) (channels (audioSection w)) (coherent (audioSection w))) Off) .refusal)
     go true e =
         let p = full (audioSection w) .passes e in
-        nine w (j .mode) (in-range (videoOf w) (audioSection w) (matrixSection w) (is-outside (videoOf w) (audioSection w) (matrixSection w) bytes .fails (j .inside)) p) p _ (in-turn _ _ _)
+        nine w (j .mode) (in-range (videoOf w) (audioSection w) (matrixSection w) (is-outside (videoOf w) (audioSection w) (matrixSection w) bytes .fails (j .inside)) p) p _ (again _ _ (refusals .pair _ _ _))
     go false e = inr ((λ x. full (audioSection w) .fails e (x .0)), refl)
 
 abbrev numberOf : Pair → ℕ

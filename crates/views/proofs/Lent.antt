@@ -1,21 +1,21 @@
 -- A write over lent slices. Assumes nothing.
 use mathlib.Core.Path.{_≡_, refl}
 use mathlib.Core.Logic.{_≢_}
-use mathlib.Core.Bool.{Bool, true, false, cond, not, _&&_}
+use mathlib.Core.Bool.{Bool, true, false, not}
+use mathlib.Core.List.{[], _∷_}
 use Prim.Native.Nat.{ℕ}
 use lib.Dec.{eqb}
-use lib.ListN.{length}
+use lib.ListN.{length, take}
 use borrow.Author.Tests.{eqb-true, not-false}
 use Rattle.lists.proofs.Both.{both-left, both-right}
 use Rattle.lists.proofs.Decides.{opposite, equal, one-fails}
-use Rattle.refusals.specs.Rows.{at}
-use Rattle.refusals.proofs.First.{test, tried}
-use Rattle.refusals.proofs.Again.{again}
+use Rattle.refusals.specs.Rows.{imageLength, _if_, lowest, answer}
+use Rattle.refusals.proofs.Tests.{lowest-given, in-stages, none-at}
 use Rattle.chip.specs.declared.Chip.{Chip}
 use Rattle.chip.specs.declared.Wrote.{Wrote}
-use Rattle.chip.specs.Machine.{writeOf}
+use Rattle.chip.specs.Machine.{refusedWrite, writeOf}
 use Rattle.chip.specs.Step.{writeRules}
-use Rattle.views.specs.Entry.{isSized, enterOf}
+use Rattle.views.specs.Entry.{isSized, enterTests, enterOf}
 use Rattle.views.specs.Theorems.{enterRules, WriteRefusals, Sized}
 use Rattle.chip.proofs.Writes.{stepped}
 use Rattle.views.proofs.Seen.{unlike}
@@ -43,14 +43,19 @@ module _ (s : Chip) (address value : ℕ) where
   pub refusals : WriteRefusals s address value
   unfolding enterOf
   refusals = record {
-    given = tried (enterRules s address value) _ refl
-        (test (λ (w : Wrote). w .refusal) (at (enterRules s address value) 0) (writeRules s address value) (not (isSized s)) _ _ refl
-        (one-fails (eqb (length (s .image)) 256) _ (opposite (equal _ 256)) (unlike (length (s .packet)) (length (s .coefficients)) 32 24))
-        (λ f. again _ (writeRules s address value) (stepped s address value (sized s f .image) .refusals)));
+    given =
+        in-stages (refusedWrite s) (writeOf s address value) (λ (w : Wrote). w .refusal) (take 1 (enterRules s address value)) (writeRules s address value)
+        (lowest (enterTests s)) refl refl
+        (lowest-given (enterTests s) (take 1 (enterRules s address value)) refl (
+          refl,
+          one-fails (eqb (length (s .image)) 256) _ (opposite (equal _ 256)) (unlike (length (s .packet)) (length (s .coefficients)) 32 24),
+          λ _. tt,
+        ))
+        (λ z. stepped s address value (sized s (none-at (enterTests s) 0 z) .image) .refusals);
     kept = go (not (isSized s)) refl;
   }
     where
-      go : (b : Bool) → not (isSized s) ≡ b → cond b (record { refusal = 7; chip = s }) (writeOf s address value) .refusal ≢ 0
-          → cond b (record { refusal = 7; chip = s }) (writeOf s address value) .chip ≡ s
+      go : (b : Bool) → not (isSized s) ≡ b
+          → let w : Wrote = answer (lowest (imageLength if b ∷ [])) (refusedWrite s) (writeOf s address value) in w .refusal ≢ 0 → w .chip ≡ s
       go true e h = refl
       go false e h = stepped s address value (sized s e .image) .refused h

@@ -11,8 +11,8 @@ use lib.Seq.{getD-take, getD-drop}
 use borrow.Author.Tests.{lt-ltb, le-ltb, eq-eqb, ne-eqb, eqb-true, not-false}
 use Rattle.lists.proofs.Both.{both-left, both-right}
 use Rattle.lists.proofs.Decides.{Decides, opposite, equal, less, one-fails}
-use Rattle.refusals.specs.Rows.{fieldOutOfRange, imageLength, twoHolds, Given, Test, _if_}
-use Rattle.refusals.proofs.Tests.{Decided, lowest-given, past, numbered}
+use Rattle.refusals.specs.Rows.{fieldOutOfRange, Given, _if_}
+use Rattle.refusals.proofs.Tests.{Decided, lowest-given, past, none-at, numbered}
 use Rattle.views.specs.declared.view.Part.{Part}
 use Rattle.views.specs.declared.view.Mute.{Mute}
 use Rattle.chip.specs.Machine.{Group, avi, audio, packets, up, holdsOf, two, inUse, gcInUse, mute, registersOf}
@@ -37,9 +37,7 @@ module _ (image packet : List ℕ) where
   pub clear : lentRefusal image packet ≡ 0 → Clear
   unfolding lentRefusal
   clear e =
-      let ts : List Test = lentTests image packet in
-      let a = past (imageLength if not (eqb (length image) 256 && eqb (length packet) 32)) (drop 1 ts) e in
-      record { lengths = both-long _ _ 256 32 (a .0); lone = past (twoHolds if two (holdsOf packets image)) [] (a .1) .0 }
+      record { lengths = both-long _ _ 256 32 (none-at (lentTests image packet) 0 e); lone = none-at (lentTests image packet) 1 e }
 
   pub cleared : Clear → lentRefusal image packet ≡ 0
   unfolding lentRefusal

@@ -1,20 +1,17 @@
 -- What the calls answer of a state, and after a write over slices. Assumes nothing.
 use mathlib.Core.Path.{_≡_, refl, ap, _∙_}
 use mathlib.Core.Logic.{_↔_}
-use mathlib.Core.Bool.{Bool, true, false, cond, _||_}
-use mathlib.Core.List.{List}
+use mathlib.Core.Bool.{false}
 use Prim.Native.Nat.{ℕ, _+_, _*_, _<_, _≤_}
 use native.Mathlib.Omega.{arith}
-use lib.ListN.{length}
 use borrow.Author.Tests.{eq-eqb}
 use Rattle.lists.proofs.Both.{neither-right}
 use Rattle.bits.specs.Merge.{bit}
 use Rattle.chip.specs.declared.Chip.{Chip}
-use Rattle.chip.specs.declared.Wrote.{Wrote}
-use Rattle.chip.specs.Machine.{packets, holdsOf, two, inUse, gcInUse, Muted, Open, mute, put, stored, imageAfter, refuses, writeOf}
-use Rattle.chip.proofs.Writes.{stepped}
+use Rattle.chip.specs.Machine.{packets, holdsOf, two, inUse, gcInUse, mute, imageAfter, refuses, writeOf}
+use Rattle.chip.proofs.Writes.{allowed, stepped}
 use Rattle.views.specs.declared.view.Mute.{Mute}
-use Rattle.views.specs.Entry.{isSized, enterOf}
+use Rattle.views.specs.Entry.{enterOf}
 use Rattle.views.specs.View.{lentRefusal, viewRefusal, sentOf, muteOf}
 use Rattle.views.specs.Theorems.{Sized, Faces, Entered}
 use Rattle.views.proofs.Seen.{cleared, later}
@@ -57,15 +54,10 @@ module _ (s : Chip) (z : Sized s) (address value : ℕ) where
 
   -- a write that is taken leaves no two packet holds up
   lone : writeOf s address value .refusal ≡ 0 → two (holdsOf packets (writeOf s address value .chip .image)) ≡ false
-  unfolding writeOf refuses put
-  lone = go (two (holdsOf packets (s .image))) (two (holdsOf packets (imageAfter s address value))) refl
-    where
-      go : (x y : Bool) → two (holdsOf packets (imageAfter s address value)) ≡ y
-          → cond {A = Wrote} (x || y) (record { refusal = 13; chip = s }) (record { refusal = 0; chip = put address (stored address value (s .image)) s }) .refusal ≡ 0
-          → two (holdsOf packets (cond {A = Wrote} (x || y) (record { refusal = 13; chip = s }) (record { refusal = 0; chip = put address (stored address value (s .image)) s }) .chip .image)) ≡ false
-      go true y e r = absurd (omega arith)
-      go false true e r = absurd (omega arith)
-      go false false e r = e
+  unfolding refuses
+  lone r =
+      rw (stepped s address value (z .image) .after r)
+      (neither-right (two (holdsOf packets (s .image))) (two (holdsOf packets (imageAfter s address value))) (allowed s address value r))
 
   pub entered : Entered s address value
   entered = record { same = same; sized = rw same after; faces = λ r. rw same (shown (writeOf s address value .chip) after (lone (rw same at r))) }

@@ -8,6 +8,7 @@ use Rattle.video.specs.Modes.{offered}
 use Rattle.clock.specs.Bounds.{Sized}
 use Rattle.clock.specs.Found.{pairOf}
 use Rattle.clock.proofs.Offered.{sized, accepted, declined}
+use Rattle.clock.proofs.Coherence.{pair-in}
 use Rattle.clock.proofs.pair_of.Statement.{statement}
 use Rattle.clock.proofs.pair_of.Tie as tie
 
@@ -54,16 +55,16 @@ coherent-pair-requires c κs =
     (search needs, subst Sized (sym (q .clock-of .ensures)) (sized (q .before .args .video) (taken-up (p .before))))
 
 returns-4 : tie.Need-returns-4
-unfolding pairOf
 returns-4 c =
-    let p = c .before .before .before in
+    let p = c .before .before in
+    let q = p .before .before .before .before in
+    let k = c .before .if4 .taken in
+    let a = q .before .args in
     rw (
       c .coherent-pair .ensures,
-      taken-up (p .before),
-      le-ltb _ _ (p .if2 .left),
-      le-ltb _ _ (c .before .before .if3 .left),
-      eq-eqb _ _ (c .before .if4 .taken),
-      p .before .before .before .clock-of .ensures,
+      q .clock-of .ensures,
+      pair-in (a .video) (a .rate) (a .coherent) (taken-up (p .before .before)) (search needs) (search needs),
+      eq-eqb _ _ k,
     )
 
 mul-the-pair : tie.Need-mul-the-pair
@@ -76,10 +77,10 @@ the-pair-requires : tie.Need-the-pair-requires
 the-pair-requires c κs = search needs
 
 returns-5 : tie.Need-returns-5
-unfolding pairOf
 returns-5 c =
-    let p = c .before .before .before in
-    rw (c .the-pair .ensures, taken-up (p .before), le-ltb _ _ (p .if2 .left), le-ltb _ _ (c .before .before .if3 .left), ne-eqb _ _ (c .before .if4 .left))
+    let p = c .before .before in
+    let a = p .before .before .before .before .before .args in
+    rw (c .the-pair .ensures, pair-in (a .video) (a .rate) (a .coherent) (taken-up (p .before .before)) (search needs) (search needs), ne-eqb _ _ (c .before .if4 .left))
 
 pub pair-of-spec : {M : Type 1} → statement M
 pair-of-spec =
