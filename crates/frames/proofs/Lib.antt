@@ -2,3 +2,5 @@ pub mod Total
 pub mod Sealed
 pub mod Small
 pub mod Refused
+pub mod Named
+pub mod Bytes

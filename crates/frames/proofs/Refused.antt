@@ -1,50 +1,48 @@
 -- The two calls on single fields give the first of their rows that applies. Assumes nothing.
-use mathlib.Core.Path.{_≡_, refl}
+use mathlib.Core.Path.{_≡_, refl, ap, _∙_}
 use mathlib.Core.Logic.{_≢_}
-use mathlib.Core.Bool.{Bool, true, false, cond, not, _&&_}
-use mathlib.Core.List.{[]}
 use Prim.Native.Nat.{ℕ}
-use lib.Dec.{eqb, ltb}
-use lib.ListN.{drop, replicate}
-use Rattle.lists.proofs.Decides.{equal, less, opposite, together}
-use Rattle.refusals.specs.Rows.{at}
-use Rattle.refusals.proofs.First.{test, tried}
-use Rattle.video.specs.Modes.{modeOf}
-use Rattle.video.proofs.Listed.{not-listed}
+use lib.ListN.{replicate}
+use Rattle.lists.proofs.Decides.{equal, opposite, together, failing}
+use Rattle.refusals.specs.Rows.{lowest}
+use Rattle.refusals.proofs.Tests.{Decided, lowest-given, numbered, answer-some}
+use Rattle.video.specs.declared.Video.{Video}
+use Rattle.video.specs.Modes.{offered}
+use Rattle.video.proofs.Fits.{is-outside}
 use Rattle.frames.specs.declared.Avi.{Avi}
 use Rattle.frames.specs.declared.Audio.{Audio}
-use Rattle.frames.specs.Answers.{noAvi, noAudio, aviOf, audioOf}
+use Rattle.frames.specs.Frames.{framed, aviCount, audioCount}
+use Rattle.frames.specs.Answers.{noAvi, noAudio, videoTests, channelsTests, aviOf, audioOf}
 use Rattle.frames.specs.Theorems.{aviRules, audioRules, FrameRefusals}
 
--- the numbers of the answers
-abbrev aviNumber : Avi → ℕ
-aviNumber a = a .refusal
+avi-decided : (video : Video) → Decided (videoTests video) (aviRules video)
+avi-decided video = (refl, failing (offered video), λ _. (refl, is-outside video, λ _. tt))
 
-abbrev audioNumber : Audio → ℕ
-audioNumber a = a .refusal
+audio-decided : (channels : ℕ) → Decided (channelsTests channels) (audioRules channels)
+audio-decided channels = (refl, together (opposite (equal channels 2)) (opposite (equal channels 8)), λ _. tt)
 
--- zeros beside a refusal
-no-avi : (a b : Bool) (x : Avi) → x .refusal ≡ 0 → aviNumber (cond a (noAvi 4) (cond b (noAvi 5) x)) ≢ 0
-    → cond a (noAvi 4) (cond b (noAvi 5) x) .bytes ≡ replicate 17 0
-no-avi true b x e h = refl
-no-avi false true x e h = refl
-no-avi false false x e h = absurd (h e)
+-- the numbers of the answers, and what stands beside them
+avi-number : (video : Video) → aviOf video .refusal ≡ lowest (videoTests video)
+unfolding aviOf
+avi-number video = numbered noAvi _ (λ (a : Avi). a .refusal) (lowest (videoTests video)) refl refl
 
-no-audio : (a : Bool) (x : Audio) → x .refusal ≡ 0 → audioNumber (cond a (noAudio 5) x) ≢ 0 → cond a (noAudio 5) x .bytes ≡ replicate 14 0
-no-audio true x e h = refl
-no-audio false x e h = absurd (h e)
+avi-zeros : (video : Video) → lowest (videoTests video) ≢ 0 → aviOf video .bytes ≡ replicate (framed aviCount) 0
+unfolding aviOf
+avi-zeros video h = ap (λ (a : Avi). a .bytes) (answer-some noAvi _ (lowest (videoTests video)) h)
+
+audio-number : (channels : ℕ) → audioOf channels .refusal ≡ lowest (channelsTests channels)
+unfolding audioOf
+audio-number channels = numbered noAudio _ (λ (a : Audio). a .refusal) (lowest (channelsTests channels)) refl refl
+
+audio-zeros : (channels : ℕ) → lowest (channelsTests channels) ≢ 0 → audioOf channels .bytes ≡ replicate (framed audioCount) 0
+unfolding audioOf
+audio-zeros channels h = ap (λ (a : Audio). a .bytes) (answer-some noAudio _ (lowest (channelsTests channels)) h)
 
 pub refusals : FrameRefusals
-unfolding aviOf audioOf
 refusals =
     record {
-      avi =
-          λ video. tried (aviRules video) _ refl
-          (test aviNumber (at (aviRules video) 0) (drop 1 (aviRules video)) _ _ _ refl (not-listed (video .vic))
-          (λ l. test aviNumber (at (aviRules video) 1) [] _ _ _ refl (less 2 (video .encoding)) (λ e. refl)));
-      noAvi = λ video. no-avi (eqb (modeOf (video .vic) .families) 0) (ltb 2 (video .encoding)) _ refl;
-      audio =
-          λ channels. tried (audioRules channels) _ refl
-          (test audioNumber (at (audioRules channels) 0) [] _ _ _ refl (together (opposite (equal channels 2)) (opposite (equal channels 8))) (λ c. refl));
-      noAudio = λ channels. no-audio (not (eqb channels 2) && not (eqb channels 8)) _ refl;
+      avi = λ video. rw (avi-number video) (lowest-given (videoTests video) (aviRules video) refl (avi-decided video));
+      noAvi = λ video h. avi-zeros video (λ z. h (avi-number video ∙ z));
+      audio = λ channels. rw (audio-number channels) (lowest-given (channelsTests channels) (audioRules channels) refl (audio-decided channels));
+      noAudio = λ channels h. audio-zeros channels (λ z. h (audio-number channels ∙ z));
     }

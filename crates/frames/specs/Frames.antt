@@ -1,9 +1,9 @@
 -- Document 01, "InfoFrames": the checksum, the AVI and the audio frame.
 use mathlib.Core.Bool.{cond}
 use mathlib.Core.List.{List, [], _∷_, _++_}
-use Prim.Native.Nat.{ℕ, _+_, _-_, _*_, _%_}
+use Prim.Native.Nat.{ℕ, _+_, _-_, _*_, _/_, _%_}
 use lib.Dec.{eqb}
-use lib.ListN.{replicate}
+use lib.ListN.{getD, replicate}
 use Rattle.video.specs.declared.Mode.{Mode}
 use Rattle.video.specs.declared.Video.{Video}
 use Rattle.video.specs.Modes.{modeOf}
@@ -17,27 +17,43 @@ total (x ∷ xs) = x + total xs
 abbrev pub checksumOf : List ℕ → ℕ
 checksumOf bytes = (256 - total bytes % 256) % 256
 
--- a frame: its header of three bytes, the checksum, its payload
+-- a frame: its header of three bytes, the checksum, its payload, which are the data bytes 1 to the count that the header's third byte is
 abbrev pub frame : List ℕ → List ℕ → List ℕ
 frame header payload = header ++ checksumOf (header ++ payload) ∷ payload
+
+-- the bytes of a frame with so many data bytes
+abbrev pub framed : ℕ → ℕ
+framed count = 3 + 1 + count
 
 -- "C is 0 for RGB, else 1 for VIC 1, 2, 3, 17, 18 and 2 for the rest"
 abbrev pub colorimetry : Mode → ℕ → ℕ
 colorimetry mode encoding = cond (eqb encoding 0) 0 (mode .colorimetry)
 
+-- "AVI header 0x82, 0x02, 0x0D"
+abbrev pub aviCount : ℕ
+aviCount = 0x0D
+
+abbrev pub aviHeader : List ℕ
+aviHeader = 0x82 ∷ 0x02 ∷ aviCount ∷ []
+
 -- "Y is the encoding; A is 1; B, S, ITC, EC, SC, Q, PR and bars are 0; C ..; M from the aspect; R is 8; VIC as asked"
 -- Byte 1 is 0 Y1 Y0 A B1 B0 S1 S0, byte 2 C1 C0 M1 M0 R3 to R0, byte 3 ITC EC Q SC, byte 4 the VIC, byte 5 PR, bytes 6 to 13 the bars.
-abbrev pub aviPayload : ℕ → ℕ → ℕ → ℕ → List ℕ
-aviPayload y c m vic = (y * 32 + 16) ∷ (c * 64 + m * 16 + 8) ∷ 0 ∷ vic ∷ 0 ∷ replicate 8 0
-
--- "AVI header 0x82, 0x02, 0x0D"
-abbrev pub aviHeader : List ℕ
-aviHeader = 0x82 ∷ 0x02 ∷ 0x0D ∷ []
+abbrev pub aviPayload : Video → List ℕ
+aviPayload v =
+    let mode : Mode = modeOf (v .vic) in
+    (v .encoding * 32 + 16) ∷
+    (colorimetry mode (v .encoding) * 64 + mode .aspect * 16 + 8) ∷
+    0 ∷
+    v .vic ∷
+    0 ∷
+    replicate 8 0
 
 unfoldable pub aviFrame : Video → List ℕ
-aviFrame video =
-    let mode : Mode = modeOf (video .vic) in
-    frame aviHeader (aviPayload (video .encoding) (colorimetry mode (video .encoding)) (mode .aspect) (video .vic))
+aviFrame video = frame aviHeader (aviPayload video)
+
+-- what the data bytes of an AVI frame name, over a link: Y of byte 1, and byte 4. "Family is answered as 0". `NamedBack` ties it to them.
+abbrev pub videoNamed : ℕ → List ℕ → Video
+videoNamed link bytes = record { vic = getD bytes 3 0; family = 0; encoding = getD bytes 0 0 / 32 % 4; link = link }
 
 -- "CC is channels less one; CA is 0x00 for 2 and 0x13 for 8; the rest 0." Byte 1 is CT3 to CT0 0 CC2 to CC0, byte 4 is CA.
 abbrev pub audioPayload : ℕ → ℕ → List ℕ
@@ -47,12 +63,15 @@ abbrev pub allocation : ℕ → ℕ
 allocation channels = cond (eqb channels 8) 0x13 0x00
 
 -- "audio header 0x84, 0x01, 0x0A"
+abbrev pub audioCount : ℕ
+audioCount = 0x0A
+
 abbrev pub audioHeader : List ℕ
-audioHeader = 0x84 ∷ 0x01 ∷ 0x0A ∷ []
+audioHeader = 0x84 ∷ 0x01 ∷ audioCount ∷ []
 
 unfoldable pub audioFrame : ℕ → List ℕ
 audioFrame channels = frame audioHeader (audioPayload (channels - 1) (allocation channels))
 
 -- "Audio off: payload all 0."
 unfoldable pub audioOffFrame : List ℕ
-audioOffFrame = frame audioHeader (replicate 10 0)
+audioOffFrame = frame audioHeader (replicate audioCount 0)

@@ -1,21 +1,22 @@
--- What is proved of the frames: document 01's words for the checksum, and when the two calls on single fields are refused.
+-- What is proved of the frames: document 01's words for the checksum, when the two calls on single fields are refused, and that an AVI frame
+-- names the video that it was made for.
 use mathlib.Core.Path.{_≡_}
 use mathlib.Core.Logic.{_≢_}
 use mathlib.Core.Bool.{false}
 use mathlib.Core.List.{List, [], _∷_}
 use Prim.Native.Nat.{ℕ, _+_, _%_, _<_}
 use lib.ListN.{replicate}
-use Rattle.lists.specs.Among.{among}
 use Rattle.refusals.specs.Rows.{modeNotOffered, fieldOutOfRange, Condition, _when_, Given}
 use Rattle.video.specs.declared.Video.{Video}
-use Rattle.video.specs.Modes.{listed}
-use Rattle.frames.specs.Frames.{total, checksumOf, frame}
+use Rattle.video.specs.Modes.{offered}
+use Rattle.video.specs.Video.{answered, VideoOutside, VideoFits}
+use Rattle.frames.specs.Frames.{total, checksumOf, frame, framed, aviCount, aviPayload, videoNamed, audioCount}
 use Rattle.frames.specs.Answers.{aviOf, audioOf}
 
--- "A call on single fields checks those .. whose fields it takes": row 4, "VIC not listed below", and row 5, "any other field outside its
--- range": the encoding is 0 to 2, and the channels are 2 or 8
+-- "A call on single fields checks those .. whose fields it takes": of a whole video row 4, "VIC not listed below, or family not offered by
+-- it", and row 5, "any other field outside its range"; of the channels row 5: they are 2 or 8
 abbrev pub aviRules : Video → List Condition
-aviRules video = modeNotOffered when (among (video .vic) listed ≡ false) ∷ fieldOutOfRange when (2 < video .encoding) ∷ []
+aviRules video = modeNotOffered when (offered video ≡ false) ∷ fieldOutOfRange when VideoOutside video ∷ []
 
 abbrev pub audioRules : ℕ → List Condition
 audioRules channels = fieldOutOfRange when ((channels ≢ 2) × (channels ≢ 8)) ∷ []
@@ -23,9 +24,9 @@ audioRules channels = fieldOutOfRange when ((channels ≢ 2) × (channels ≢ 8)
 -- the refusals of the two calls, and zeros beside them
 pub record FrameRefusals : Type 0 where
   pub avi : (video : Video) → Given (aviRules video) (aviOf video .refusal)
-  pub noAvi : (video : Video) → aviOf video .refusal ≢ 0 → aviOf video .bytes ≡ replicate 17 0
+  pub noAvi : (video : Video) → aviOf video .refusal ≢ 0 → aviOf video .bytes ≡ replicate (framed aviCount) 0
   pub audio : (channels : ℕ) → Given (audioRules channels) (audioOf channels .refusal)
-  pub noAudio : (channels : ℕ) → audioOf channels .refusal ≢ 0 → audioOf channels .bytes ≡ replicate 14 0
+  pub noAudio : (channels : ℕ) → audioOf channels .refusal ≢ 0 → audioOf channels .bytes ≡ replicate (framed audioCount) 0
 
 -- The checksum does what document 01 says, whatever the header and the payload; and no other byte does.
 pub record Checksum : Type 0 where
@@ -33,3 +34,8 @@ pub record Checksum : Type 0 where
   pub byte : (bytes : List ℕ) → checksumOf bytes < 256
   pub only : (bytes : List ℕ) (c : ℕ) → c < 256 → (c + total bytes) % 256 ≡ 0 → c ≡ checksumOf bytes
   pub already : (bytes : List ℕ) → total bytes % 256 ≡ 0 → checksumOf bytes ≡ 0
+
+-- "the finished image reads back as the same request, but for the frame-rate family", of the AVI packet alone: its data bytes name the
+-- video that it was made for. Which link it goes over no byte of it says.
+abbrev pub NamedBack : Type 0
+NamedBack = (v : Video) → VideoFits v → videoNamed (v .link) (aviPayload v) ≡ answered v

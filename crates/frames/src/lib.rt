@@ -1,24 +1,34 @@
 // The checksum, and the AVI and audio InfoFrames: document 01, "InfoFrames".
 ghost use mathlib.Core.Path.{_≡_};
-ghost use Prim.Native.Nat.{_%_, _≤_};
+ghost use Prim.Native.Nat.{_%_};
+ghost use Rattle.video.specs.Video.{VideoFits};
 ghost use Rattle.frames.specs.Frames.{total, checksumOf, frame, colorimetry};
-ghost use Rattle.frames.specs.Frames.{aviHeader, aviPayload, audioHeader, audioPayload, audioOffFrame};
-ghost use Rattle.frames.specs.Answers.{GivesAvi, GivesAudio};
-ghost use Rattle.frames.specs.Theorems.{Checksum, FrameRefusals};
+ghost use Rattle.frames.specs.Frames.{aviFrame, videoNamed, audioHeader, audioPayload, audioOffFrame};
+ghost use Rattle.frames.specs.Answers.{noAvi, GivesAvi, GivesAudio};
+ghost use Rattle.frames.specs.Theorems.{Checksum, FrameRefusals, NamedBack};
 use refusals::Refusal;
 use video::Mode;
 use video::Video;
 
+// The data bytes of each frame, and all its bytes: a header of three and the checksum before them.
+pub const AVI_COUNT: u8 = 13;
+
+pub const AVI_FRAME: usize = 4 + AVI_COUNT as usize;
+
+pub const AUDIO_COUNT: u8 = 10;
+
+pub const AUDIO_FRAME: usize = 4 + AUDIO_COUNT as usize;
+
 // An AVI InfoFrame: header, checksum, payload; or the number of a refusal with zeros beside it.
 pub struct Avi {
     pub refusal: u8,
-    pub bytes: [u8; 17],
+    pub bytes: [u8; AVI_FRAME],
 }
 
 // An audio InfoFrame, likewise.
 pub struct Audio {
     pub refusal: u8,
-    pub bytes: [u8; 14],
+    pub bytes: [u8; AUDIO_FRAME],
 }
 
 // The sum of the bytes, modulo 256.
@@ -51,17 +61,22 @@ fn colour(mode: Mode, encoding: u8) -> u8
     mode.colorimetry
 }
 
-// An AVI InfoFrame with these Y, C, M and VIC.
-fn avi_frame(y: u8, c: u8, m: u8, vic: u8) -> [u8; 17]
-    requires { ⌜ (y ≤ 2) × (c ≤ 2) × (m ≤ 2) ⌝ }
-    ensures { λ r. ⌜ r ≡ frame aviHeader (aviPayload y c m vic) ⌝ }
+// The AVI InfoFrame of a video.
+fn avi_frame(video: Video) -> [u8; AVI_FRAME]
+    requires { ⌜ VideoFits video ⌝ }
+    ensures { λ r. ⌜ r ≡ aviFrame video ⌝ }
 {
-    let first = y * 32 + 16;
-    let second = c * 64 + m * 16 + 8;
+    let encoding = video.encoding;
+    let vic = video.vic;
+    let mode = video::mode_of(vic);
+    let colour = colour(mode, encoding);
+    let aspect = mode.aspect;
+    let first = encoding * 32 + 16;
+    let second = colour * 64 + aspect * 16 + 8;
     let mut bytes = [
         0x82,
         0x02,
-        0x0D,
+        AVI_COUNT,
         0,
         first,
         second,
@@ -82,40 +97,57 @@ fn avi_frame(y: u8, c: u8, m: u8, vic: u8) -> [u8; 17]
     bytes
 }
 
-// The AVI InfoFrame of a video: its VIC and its encoding.
+// A refusal: its number, and zeros.
+fn no_avi(number: u8) -> Avi
+    ensures { λ r. ⌜ r ≡ noAvi number ⌝ }
+{
+    Avi {
+        refusal: number,
+        bytes: [0u8; AVI_FRAME],
+    }
+}
+
+// The AVI InfoFrame of a video: refusals 4 and 5.
 pub fn avi_of(video: Video) -> Avi
     ensures { λ r. ⌜ GivesAvi video r ⌝ }
 {
     let vic = video.vic;
-    let encoding = video.encoding;
     let mode = video::mode_of(vic);
-    if mode.families == 0 {
-        return Avi {
-            refusal: Refusal::MODE_NOT_OFFERED,
-            bytes: [0u8; 17],
-        };
+    if mode.families <= video.family {
+        return no_avi(Refusal::MODE_NOT_OFFERED);
     }
-    if 2 < encoding {
-        return Avi {
-            refusal: Refusal::FIELD_OUT_OF_RANGE,
-            bytes: [0u8; 17],
-        };
+    if video::outside(video) {
+        return no_avi(Refusal::FIELD_OUT_OF_RANGE);
     }
-    let bytes = avi_frame(encoding, colour(mode, encoding), mode.aspect, vic);
+    let bytes = avi_frame(video);
     Avi {
         refusal: Refusal::NONE,
         bytes: bytes,
     }
 }
 
+// What the data bytes of an AVI InfoFrame name, over a link, in family 0.
+pub fn video_named(link: u8, bytes: &[u8]) -> Video
+    ensures { λ r. ⌜ r ≡ videoNamed link (now (bytes .entry)) ⌝ }
+{
+    let first = lists::byte_at(bytes, 0);
+    let vic = lists::byte_at(bytes, 3);
+    Video {
+        vic: vic,
+        family: 0,
+        encoding: first / 32 % 4,
+        link: link,
+    }
+}
+
 // An audio InfoFrame whose data bytes 1 and 4 are these, and the others 0.
-fn audio_frame(count: u8, allocation: u8) -> [u8; 14]
+fn audio_frame(count: u8, allocation: u8) -> [u8; AUDIO_FRAME]
     ensures { λ r. ⌜ r ≡ frame audioHeader (audioPayload count allocation) ⌝ }
 {
     let mut bytes = [
         0x84,
         0x01,
-        0x0A,
+        AUDIO_COUNT,
         0,
         count,
         0,
@@ -153,12 +185,12 @@ pub fn audio_of(channels: u8) -> Audio
     }
     Audio {
         refusal: Refusal::FIELD_OUT_OF_RANGE,
-        bytes: [0u8; 14],
+        bytes: [0u8; AUDIO_FRAME],
     }
 }
 
 // The audio InfoFrame where sound is off.
-pub fn audio_off() -> [u8; 14]
+pub fn audio_off() -> [u8; AUDIO_FRAME]
     ensures { λ r. ⌜ r ≡ audioOffFrame ⌝ }
 {
     audio_frame(0, 0)
@@ -172,4 +204,9 @@ pub fn checksum_rule()
 // The refusals of the two calls, in document 01's order.
 pub fn frame_refusals()
     ensures { λ _. ⌜ FrameRefusals ⌝ }
+{}
+
+// An AVI InfoFrame names the video that it was made for, but for the family.
+pub fn named_back()
+    ensures { λ _. ⌜ NamedBack ⌝ }
 {}

@@ -1,27 +1,53 @@
 -- `frames::avi_frame` meets its contract: the place of the checksum is 0 while the sum is taken. Assumes nothing.
-use Rattle.frames.specs.Frames.{aviHeader, aviPayload}
+use Prim.Native.Nat.{_≤_}
+use native.Mathlib.Omega.{arith}
+use Rattle.video.proofs.Fits.{encoding-fits}
+use Rattle.frames.specs.Frames.{aviHeader, aviPayload, aviFrame}
 use Rattle.frames.proofs.Total.{kept}
+use Rattle.frames.proofs.Small.{Small, mode-small, colour-small}
 use borrow.Author.Needs.{needs}
 use Rattle.frames.proofs.avi_frame.Statement.{statement}
 use Rattle.frames.proofs.avi_frame.Tie as tie
 
+mode-of-requires : tie.Need-mode-of-requires
+mode-of-requires c κs = search needs
+
+colour-requires : tie.Need-colour-requires
+colour-requires c κs = search needs
+
+-- Y, C and M have two bits
+record Small-fields (c : tie.After-colour) : Type 0 where
+  encoding : c .before .before .args .video .encoding ≤ 2
+  colour : c .colour .result ≤ 2
+  aspect : c .before .mode-of .result .aspect ≤ 2
+
+small : (c : tie.After-colour) → Small-fields c
+small c =
+    let v = c .before .before .args .video in
+    let m : Small (c .before .mode-of .result) = rw (c .before .mode-of .ensures) (mode-small (v .vic)) in
+    record {
+      encoding = encoding-fits v (c .before .before .pre);
+      colour = rw (c .colour .ensures) (colour-small (c .before .mode-of .result) (v .encoding) m);
+      aspect = m .aspect;
+    }
+
 mul-first : tie.Need-mul-first
-mul-first c = search needs
+mul-first c = let s = small c in search needs
 
 add-first : tie.Need-add-first
-add-first c = search needs
+add-first c = let s = small c in search needs
 
 mul-second : tie.Need-mul-second
-mul-second c = search needs
+mul-second c = let s = small c in search needs
 
 mul-second-2 : tie.Need-mul-second-2
-mul-second-2 c = search needs
+mul-second-2 c = let s = small c in search needs
 
 add-second : tie.Need-add-second
-add-second c = search needs
+add-second c = let s = small c in search needs
 
 add-second-2 : tie.Need-add-second-2
-add-second-2 c = search needs
+add-second-2 c = let s = small c in search needs
 
 slice-aggregate-checksum : tie.Need-slice-aggregate-checksum
 slice-aggregate-checksum c = search needs
@@ -33,12 +59,17 @@ array-write-bytes : tie.Need-array-write-bytes
 array-write-bytes c = search needs
 
 returns : tie.Need-returns
-returns c = simp (c .checksum .ensures, kept aviHeader (aviPayload (c .before .before .args .y) (c .before .before .args .c) (c .before .before .args .m) (c .before .before .args .vic)))
+unfolding aviFrame
+returns c =
+    let p = c .before .before in
+    simp (c .checksum .ensures, kept aviHeader (aviPayload (p .before .before .args .video)), p .colour .ensures, p .before .mode-of .ensures)
 
 pub avi-frame-spec : {M : Type 1} → statement M
 avi-frame-spec =
     tie.close
     (tie.spec
+    mode-of-requires
+    colour-requires
     mul-first
     add-first
     mul-second
