@@ -18,6 +18,8 @@ ghost use Rattle.plan.specs.Wanted.{clockBytes, inputBytes, enableBytes,
 ghost use Rattle.plan.specs.Plan.{nothing, PlansWith, Plans, standsIn};
 ghost use Rattle.plan.specs.Rules.{PlanRefusals};
 use clock::Pair;
+use frames::AUDIO_FRAME;
+use frames::AVI_FRAME;
 use map::Map;
 use matrix::Matrix;
 use refusals::Refusal;
@@ -117,7 +119,7 @@ fn with_audio(sound: Sound) -> u8
     }
 }
 
-fn audio_bytes(sound: Sound) -> [u8; 14]
+fn audio_bytes(sound: Sound) -> [u8; AUDIO_FRAME]
     requires { ⌜ SoundFits sound ⌝ }
     ensures { λ r. ⌜ r ≡ audioBytes sound ⌝ }
 {
@@ -217,7 +219,7 @@ fn with_enables(out: [u8; 256], r: Request) -> [u8; 256]
 }
 
 // The AVI InfoFrame of the video of an accepted request.
-fn avi_bytes(video: Video) -> [u8; 17]
+fn avi_bytes(video: Video) -> [u8; AVI_FRAME]
     requires { ⌜ VideoFits video ⌝ }
     ensures { λ r. ⌜ r ≡ aviFrame video ⌝ }
 {
