@@ -183,22 +183,28 @@ void any_start(uint8_t *image, uint8_t *packet, uint8_t *coefficients) {
     image[0x1A] = (uint8_t)((image[0x1A] & 0xDF) | (any(2) ? 0x20 : 0));
 }
 
-uint32_t kinds(void) {
-    uint32_t all = 2 * 2;
+/* A kind for each combination of values, or for so many of them by chance where there are more than so many. */
+enum { COMBINATIONS = 40000 };
+static uint64_t combinations(void) {
+    uint64_t all = 2 * 2;
     for (int i = 0; i < FIELDS; i++)
-        if (model_fields[i].section != OF_MATRIX) all *= (uint32_t)model_fields[i].count;
+        if (model_fields[i].section != OF_MATRIX) all *= (uint64_t)model_fields[i].count;
     return all;
 }
 
-int kind_of_request(uint32_t number, struct fields *f) {
+uint32_t kinds(void) { return (uint32_t)(combinations() < COMBINATIONS ? combinations() : COMBINATIONS); }
+
+int kind_of_request(uint32_t kind, struct fields *f) {
+    uint64_t number = kind, all = combinations();
+    if (all > COMBINATIONS) number = ((uint64_t)any(1u << 31) << 31 | any(1u << 31)) % all;
     *f = (struct fields){ .sound = number % 2 };
     number /= 2;
     if (number % 2) any_matrix(f);
     number /= 2;
     for (const struct field *row = model_fields; row < model_fields + FIELDS; row++) {
         if (row->section == OF_MATRIX) continue;
-        uint32_t v = number % (uint32_t)row->count;
-        number /= (uint32_t)row->count;
+        uint32_t v = (uint32_t)(number % (uint64_t)row->count);
+        number /= (uint64_t)row->count;
         if (model_has(f, row->section)) *model_field(f, row) = row->values[v];
         else if (v) return 0;                           /* a field that is not there has one value */
     }

@@ -18,9 +18,10 @@ void     any_image(uint8_t *image);                     /* noise, finished, cut,
 void     any_start(uint8_t *image, uint8_t *packet, uint8_t *coefficients);     /* a state that planning accepts */
 void     finish(uint8_t *image, const struct fields *f);
 
-/* Every kind of request: each value of each field of the video and the audio section, sound and matrix on or off. A kind has a number
- * below `kinds()`; many numbers are of requests that 1 to 6 refuse, and for these the answer is 0. The matrix is any. */
+/* Every kind of request: each value of each field of the video and the audio section, sound and matrix on or off; where these are too many,
+ * a part of them by chance. A kind has a number below `kinds()`; many numbers are of requests that 1 to 6 refuse, and for these the answer
+ * is 0. The matrix is any. */
 uint32_t kinds(void);
-int      kind_of_request(uint32_t number, struct fields *f);
+int      kind_of_request(uint32_t kind, struct fields *f);
 
 #endif

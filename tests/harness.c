@@ -222,15 +222,19 @@ static void marked(void) {
 
 /* Whether a kind of request is tried: all of them where there are few, and else about so many of them, by chance. Every value of every
  * field comes among them; `met` counts. */
-enum { KINDS = 3000, EVERY = 24 };
+enum { KINDS = 3000, EVERY = 24, FREE_COMBINATIONS = 20000 };
 static uint32_t met[FIELDS][VALUES];
+
+static int is_kind(uint32_t number, struct fields *f) {
+    seed(0x100000u + number);
+    return kind_of_request(number, f);
+}
 
 static int tries_kind(uint32_t number, uint32_t tried, struct fields *f) {
     static uint32_t all;
     if (!all)
-        for (uint32_t n = 0; n < kinds(); n++) all += (uint32_t)kind_of_request(n, f);
-    seed(0x100000u + number);
-    if (!kind_of_request(number, f) || any(all) >= tried) return 0;
+        for (uint32_t n = 0; n < kinds(); n++) all += (uint32_t)is_kind(n, f);
+    if (!is_kind(number, f) || any(all) >= tried) return 0;
     for (int i = 0; i < FIELDS; i++)
         for (int v = 0; v < model_fields[i].count; v++)
             met[i][v] += model_has(f, model_fields[i].section) && *model_field(f, &model_fields[i]) == model_fields[i].values[v];
@@ -381,8 +385,8 @@ static void flips(void) {
 }
 
 /* The model's own short cut in decoding: against the search with one field free, for each field, with the sections free, and, on fewer
- * images, over every kind of request. */
-static void same_search(const uint8_t *image, int free) {
+ * images, with both and as many fields free as have few combinations together, from any field on: all of them, where there are few. */
+static void same_search(const uint8_t *image, uint32_t free) {
     uint8_t one[LONGEST], two[LONGEST];
     struct fields f, g;
     run.now->cases++;
@@ -392,14 +396,25 @@ static void same_search(const uint8_t *image, int free) {
         differs("the model's two requests");
 }
 
+static uint32_t many_free(void) {
+    uint32_t free = 0, from = any(FIELDS), combinations = 1;
+    for (uint32_t n = 0; n < FIELDS; n++) {
+        uint32_t field = (from + n) % FIELDS, count = (uint32_t)model_fields[field].count;
+        if (combinations * count > FREE_COMBINATIONS) continue;
+        combinations *= count;
+        free |= 1u << field;
+    }
+    return free;
+}
+
 static void search(void) {
     uint8_t image[256];
     for (uint32_t i = times(1500); i > 0; i--) {
         seed(0x700000u + i);
         any_image(image);
-        for (int field = 0; field < FIELDS; field++) same_search(image, field);
+        for (int field = 0; field < FIELDS; field++) same_search(image, 1u << field);
         same_search(image, SECTIONS_FREE);
-        if (i <= times(100)) same_search(image, ALL_FREE);
+        if (i <= times(100)) same_search(image, SECTIONS_FREE | many_free());
     }
 }
 

@@ -14,11 +14,11 @@ static int ends_in(const struct fields *f, const uint8_t *image) {
 }
 
 /* The fields from a row on, each with the values that it could have. */
-static int tried(const uint8_t *image, int row, int free, struct fields *f) {
+static int tried(const uint8_t *image, int row, uint32_t free, struct fields *f) {
     if (row == FIELDS) return ends_in(f, image);
     const struct field *k = &model_fields[row];
     if (!model_has(f, k->section) || k->section == OF_MATRIX) return tried(image, row + 1, free, f);
-    int shown = k->shown(image), every = free == ALL_FREE || free == row || shown == NO_REGISTER;
+    int shown = k->shown(image), every = (free >> row & 1) || shown == NO_REGISTER;
     for (int v = 0; v < k->count; v++) {
         if (!every && k->values[v] != shown) continue;
         *model_field(f, k) = k->values[v];
@@ -27,11 +27,10 @@ static int tried(const uint8_t *image, int row, int free, struct fields *f) {
     return 0;
 }
 
-int model_ends(const uint8_t *image, int free, struct fields *f) {
-    int every = free == ALL_FREE || free == SECTIONS_FREE;
+int model_ends(const uint8_t *image, uint32_t free, struct fields *f) {
     for (int sections = 0; sections < 4; sections++) {
         *f = (struct fields){ .sound = sections & 1, .matrix = sections >> 1 };
-        if (!every && (f->sound != (image[0x44] >> 5 & 1) || f->matrix != image[0x18] >> 7)) continue;
+        if (!(free & SECTIONS_FREE) && (f->sound != (image[0x44] >> 5 & 1) || f->matrix != image[0x18] >> 7)) continue;
         if (f->matrix) {
             f->mode = image[0x18] >> 5 & 3;
             for (int i = 0; i < 12; i++) {

@@ -33,7 +33,7 @@ struct station_count model_decode(const uint8_t *image, size_t image_length, uin
     struct fields f;
     if (image_length != IMAGE_BYTES) return (struct station_count){ 7, 0 };
     if (request_length < LONGEST) return (struct station_count){ 10, 0 };
-    if (!model_ends(image, 0, &f)) return (struct station_count){ 11, 0 };
+    if (!model_ends(image, NONE_FREE, &f)) return (struct station_count){ 11, 0 };
     return (struct station_count){ 0, (uint32_t)model_bytes(&f, request) };
 }
 

@@ -27,7 +27,7 @@ struct field {
     const int *values;
     int (*shown)(const uint8_t *image);
 };
-enum { NO_REGISTER = -1, NO_VALUE = -2 };   /* `shown`: no register names the field; the image shows no value of it */
+enum { NO_REGISTER = -1000, NO_VALUE = -1 };   /* `shown`: no register names the field; the image shows no value of it */
 #define MODEL_ROW(...) + 1
 enum { FIELDS = MODEL_FIELDS(MODEL_ROW), VALUES = 16 };      /* so many rows; the most values that a field may have */
 extern const struct field model_fields[FIELDS];
@@ -79,10 +79,11 @@ int  model_stands(const uint8_t *wanted, const uint8_t *image);
 int      model_holds(uint8_t byte_4a);
 uint32_t model_step(uint8_t *image, uint8_t *packet, uint8_t *coefficients, uint8_t address, uint8_t value);
 
-/* decode.c: the request that ends in an image, family 0. Only the values that the image shows are tried; but of the field `free`, a row of
- * the table, all; or of every field; or sections that the image does not show, and without those that it shows. */
-enum { NONE_FREE = -1, ALL_FREE = -2, SECTIONS_FREE = -3 };
-int model_ends(const uint8_t *image, int free, struct fields *f);
+/* decode.c: the request that ends in an image, as decoding answers it. Only the values that the image shows are tried; but all of each field
+ * in the set `free`, bit by bit the rows of the table; and with the bit SECTIONS_FREE also sections that the image does not show, and
+ * without those that it shows. */
+enum { NONE_FREE = 0, SECTIONS_FREE = 1 << 30 };
+int model_ends(const uint8_t *image, uint32_t free, struct fields *f);
 
 /* face.c: the C face, by the model. */
 struct station_count model_plan(const uint8_t *, size_t, const uint8_t *, size_t, uint8_t *, size_t);
