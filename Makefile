@@ -9,7 +9,8 @@
 #   make clean     takes away what make has built of C; what rt has proved and built (the rest of target/) stays
 #   make help      this list
 LIB      = target/staticlib/libstation.a
-FLAGS    = -std=c99 -D_GNU_SOURCE -Wall -Wextra -O2 -Iinclude
+EXAMPLE  = $(shell sed -n 's/^ . So \([0-9a-f ]*\) is .*/\1/p' include/station.h)
+FLAGS    = -std=c99 -D_GNU_SOURCE -Wall -Wextra -O2 -Iinclude '-DEXAMPLE="$(EXAMPLE)"'
 HEADERS  = $(wildcard include/*.h programs/*.h tests/*.h tests/*/*.h bench/*.h)
 PROVED   = crates.txt $(wildcard crates/*/src/*.rt crates/*/specs/*.antt crates/*/proofs/*.antt)
 PROGRAMS = $(addprefix target/c/,accident image listing modes picture request vectors)

@@ -7,8 +7,10 @@
 
 enum { ACCEPTED = 0, REFUSED = 1, MISUSE = 2 };
 
-/* Document 01's example, for the texts of --help: what docs/REQUEST.md begins with. */
-#define EXAMPLE "04 10 00 00 01 03 02 02 01 00"
+/* Document 01's example, for the texts of --help: the Makefile takes it from the head of station.h. */
+#ifndef EXAMPLE
+#define EXAMPLE "BYTES.."
+#endif
 
 extern const char *program;     /* its name, for that line */
 void misuse(const char *format, ...);
