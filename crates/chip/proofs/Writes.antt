@@ -19,7 +19,8 @@ use Rattle.bits.proofs.Laws.{merge-bit, bit-code}
 use Rattle.registers.specs.Classes.{readOnly}
 use Rattle.chip.specs.declared.Chip.{Chip}
 use Rattle.chip.specs.declared.Wrote.{Wrote}
-use Rattle.chip.specs.Machine.{Group, Buffer, avi, audio, gc, matrix, packets, converter, up, registersOf, holdsOf, filled, bufferAfter, put, stored, imageAfter, two, refuses, writeTests, refusedWrite, writeOf}
+use Rattle.chip.specs.Machine.{Group, Buffer, avi, audio, gc, matrix, packets, converter, up, registersOf, holdsOf}
+use Rattle.chip.specs.Write.{filled, bufferAfter, put, stored, imageAfter, two, refuses, writeTests, refusedWrite, writeOf}
 use Rattle.chip.specs.Step.{TwoUp, writeRules, Keeps, Step}
 
 -- a test for two packet holds decides that two are up

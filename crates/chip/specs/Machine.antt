@@ -1,20 +1,16 @@
--- Document 01, "The chip machine": its groups and their holds, one write, and what is in use. What a write is made of (`filled`,
--- `bufferAfter`, `put`, `stored`, `two`, `refuses`, `writeTests`, `writeOf`) follows the code; `Step` says of it, bit by bit, what document 01 does.
+-- Document 01, "The chip machine": its groups and their holds, and what is in use. What one write does is `Step`.
 use mathlib.Core.Path.{_≡_}
-use mathlib.Core.Bool.{Bool, cond, not, _&&_, _||_}
-use mathlib.Core.List.{List, [], _∷_, _++_}
+use mathlib.Core.Bool.{Bool, cond}
+use mathlib.Core.List.{List, [], _∷_}
 use Prim.Native.Nat.{ℕ, _+_, _*_}
 use lib.Dec.{eqb}
-use lib.ListN.{getD, set, take, drop}
-use Rattle.bits.specs.Merge.{merge, bit}
-use Rattle.registers.specs.Classes.{readOnly}
+use lib.ListN.{getD, take, drop}
+use Rattle.bits.specs.Merge.{bit}
 use Rattle.map.specs.Map as reg
 use Rattle.map.specs.Map.{infoframeUpdate, aviInfoframeVersion, aviInfoframeCount, audioInfoframeVersion, audioInfoframeCount}
 use Rattle.map.specs.Map.{coefficientUpdate, csc, cscCount}
 use Rattle.matrix.specs.Matrix.{fields}
-use Rattle.refusals.specs.Rows.{twoHolds, Test, _if_, lowest, answer}
 use Rattle.chip.specs.declared.Chip.{Chip}
-use Rattle.chip.specs.declared.Wrote.{Wrote}
 
 -- a run of registers that is sent whole: the bit of its hold in the register of the holds, its first register, how many they are
 pub record Group : Type 0 where
@@ -60,55 +56,6 @@ up g holds = eqb (bit (g .hold) holds) 1
 -- a group's registers
 abbrev pub registersOf : Group → List ℕ → List ℕ
 registersOf g image = take (g .count) (drop (g .first) image)
-
--- "A hold going 0 to 1 copies that packet's registers, as they stood before the write, to the packet buffer" ("a packet fills its front,
--- the rest stays"): a buffer's bytes as the holds go from one byte to another
-abbrev pub filled : List Group → ℕ → ℕ → List ℕ → List ℕ → List ℕ
-filled [] old new image bytes = bytes
-filled (g ∷ gs) old new image bytes =
-    cond (up g new && not (up g old)) (registersOf g image ++ drop (g .count) bytes) (filled gs old new image bytes)
-
--- a buffer's bytes after a byte is stored at an address
-abbrev pub bufferAfter : Buffer → ℕ → ℕ → Chip → List ℕ
-bufferAfter b address byte s =
-    cond (eqb address (b .register)) (filled (b .groups) (holdsOf b (s .image)) byte (s .image) (b .bytes s)) (b .bytes s)
-
--- a byte stored as it is
-unfoldable pub put : ℕ → ℕ → Chip → Chip
-put address byte s = record {
-  image = set (s .image) address byte;
-  packet = bufferAfter packets address byte s;
-  coefficients = bufferAfter converter address byte s;
-}
-
--- "Read-only bits never change"
-unfoldable pub stored : ℕ → ℕ → List ℕ → ℕ
-stored address value image = merge 8 (readOnly address) (getD image address 0) value
-
--- the image that a write would leave
-abbrev pub imageAfter : Chip → ℕ → ℕ → List ℕ
-imageAfter s address value = set (s .image) address (stored address value (s .image))
-
--- two packet holds are up
-abbrev pub two : ℕ → Bool
-two holds = (up avi holds && up audio holds) || ((up avi holds && up gc holds) || (up audio holds && up gc holds))
-
--- refusal 13: "two packet holds are up, or the write would leave two up"
-unfoldable pub refuses : Chip → ℕ → ℕ → Bool
-refuses s address value = two (holdsOf packets (s .image)) || two (holdsOf packets (imageAfter s address value))
-
--- a line for each row that a write checks
-abbrev pub writeTests : Chip → ℕ → ℕ → List Test
-writeTests s address value = twoHolds if refuses s address value ∷ []
-
--- a refused write has its number and leaves the state as it is
-abbrev pub refusedWrite : Chip → ℕ → Wrote
-refusedWrite s number = record { refusal = number; chip = s }
-
--- "Each write hands the state back with one byte changed in the image, and a buffer filled where a hold rises"
-unfoldable pub writeOf : Chip → ℕ → ℕ → Wrote
-writeOf s address value =
-    answer (lowest (writeTests s address value)) (refusedWrite s) (record { refusal = 0; chip = put address (stored address value (s .image)) s })
 
 -- a pair of address and value
 pub record Write : Type 0 where

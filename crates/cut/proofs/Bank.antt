@@ -11,8 +11,10 @@ use borrow.Author.Tests.{eqb-true, eqb-false, leb-true, ltb-true}
 use Rattle.bits.specs.Merge.{bit}
 use Rattle.bits.proofs.Laws.{bit-code}
 use Rattle.chip.specs.declared.Chip.{Chip}
-use Rattle.chip.specs.Machine.{Write, Group, Buffer, packets, converter, avi, audio, gc, matrix, up, registersOf, filled, holdsOf}
-use Rattle.chip.specs.Machine.{bufferAfter, put, inUse}
+use Rattle.chip.specs.Machine.{Write, Group, Buffer, packets, converter, avi, audio, gc, matrix, up, registersOf, holdsOf}
+use Rattle.chip.specs.Write.{filled}
+use Rattle.chip.specs.Machine.{inUse}
+use Rattle.chip.specs.Write.{bufferAfter, put}
 use Rattle.cut.proofs.Latch.{View, Faithful}
 
 -- a write whose byte is stored as it is

@@ -15,7 +15,8 @@ use Rattle.bits.proofs.Laws.{merge-left, merge-right, merge-bit}
 use Rattle.map.specs.Map as reg
 use Rattle.registers.specs.Classes.{classAt, readOnly, named, free, bits}
 use Rattle.chip.specs.declared.Chip.{Chip}
-use Rattle.chip.specs.Machine.{Write, _gets_, Buffer, Group, packets, converter, put, stored}
+use Rattle.chip.specs.Machine.{Write, _gets_, Buffer, Group, packets, converter}
+use Rattle.chip.specs.Write.{put, stored}
 use Rattle.writes.specs.Steps.{Step, _raising_}
 use Rattle.writes.proofs.Carries.{masked}
 use Rattle.writes.specs.List.{decided, byte, written}

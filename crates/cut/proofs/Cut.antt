@@ -17,7 +17,8 @@ use Rattle.bits.proofs.Below.{at-below}
 use Rattle.matrix.specs.Matrix.{fields}
 use Rattle.chip.specs.declared.Chip.{Chip}
 use Rattle.chip.specs.Machine.{Write, _gets_, Group, Buffer, avi, audio, gc, matrix, packets, converter, up, registersOf, holdsOf, inUse}
-use Rattle.chip.specs.Machine.{writeOf, gcInUse, Muted, Open, mute, coefficients}
+use Rattle.chip.specs.Machine.{gcInUse, Muted, Open, mute, coefficients}
+use Rattle.chip.specs.Write.{writeOf}
 use Rattle.writes.specs.Steps.{Step, _raising_, steps}
 use Rattle.writes.specs.List.{decided, written, listWith, isWritten, leftUp, finished, ready}
 use Rattle.cut.specs.Run.{Event, write, Fair, Careful, Covered, begun, Retried}

@@ -12,7 +12,8 @@ use Rattle.bits.proofs.Laws.{merge-bit}
 use Rattle.map.specs.Map as reg
 use Rattle.registers.specs.Classes.{classAt, readOnly, free}
 use Rattle.chip.specs.declared.Chip.{Chip}
-use Rattle.chip.specs.Machine.{Write, put, stored, imageAfter, refuses, writeOf}
+use Rattle.chip.specs.Machine.{Write}
+use Rattle.chip.specs.Write.{put, stored, imageAfter, refuses, writeOf}
 use Rattle.chip.proofs.Writes.{wrote, written-as}
 use Rattle.writes.specs.List.{isWritten}
 use Rattle.writes.proofs.Carries.{masked}

@@ -14,7 +14,8 @@ use Rattle.bits.proofs.Laws.{merge-left}
 use Rattle.registers.specs.Classes.{readOnly}
 use Rattle.chip.specs.declared.Chip.{Chip}
 use Rattle.chip.specs.declared.Wrote.{Wrote}
-use Rattle.chip.specs.Machine.{Group, packets, converter, up, holdsOf, put, stored, imageAfter, two, refuses, writeOf}
+use Rattle.chip.specs.Machine.{Group, packets, converter, up, holdsOf}
+use Rattle.chip.specs.Write.{put, stored, imageAfter, two, refuses, writeOf}
 use Rattle.chip.proofs.Writes.{written-as, allowed, stepped}
 use Rattle.cut.specs.Run.{Event, write, happens, run, cut, event, retried, begun, Retried}
 

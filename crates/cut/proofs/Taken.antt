@@ -9,7 +9,8 @@ use native.Mathlib.Nat.{not-suc-le-zero, le-of-suc-le-suc}
 use lib.ListN.{length, getD, set, take}
 use Rattle.chip.specs.declared.Chip.{Chip}
 use Rattle.chip.specs.declared.Wrote.{Wrote}
-use Rattle.chip.specs.Machine.{Write, _gets_, avi, audio, gc, packets, up, holdsOf, put, stored, imageAfter, two, refuses, writeOf}
+use Rattle.chip.specs.Machine.{Write, _gets_, avi, audio, gc, packets, up, holdsOf}
+use Rattle.chip.specs.Write.{put, stored, imageAfter, two, refuses, writeOf}
 use Rattle.chip.proofs.Writes.{written-as}
 use Rattle.writes.specs.Steps.{Step}
 use Rattle.writes.specs.List.{written}

@@ -11,7 +11,8 @@ use Rattle.map.specs.Map as reg
 use Rattle.registers.specs.Classes.{readOnly, mandated, free, bits}
 use Rattle.chip.specs.declared.Chip.{Chip}
 use Rattle.chip.specs.declared.Wrote.{Wrote}
-use Rattle.chip.specs.Machine.{Write, _gets_, avi, audio, packets, writeOf, inUse, coefficients, Muted}
+use Rattle.chip.specs.Machine.{Write, _gets_, avi, audio, packets, inUse, coefficients, Muted}
+use Rattle.chip.specs.Write.{writeOf}
 use Rattle.writes.specs.List.{isWritten}
 
 -- what happens to the chip: document 01 knows writes alone

@@ -14,7 +14,8 @@ use Rattle.request.specs.declared.Request.{Request}
 use Rattle.request.specs.Read.{readOf}
 use Rattle.chip.specs.declared.Chip.{Chip}
 use Rattle.chip.specs.declared.Wrote.{Wrote}
-use Rattle.chip.specs.Machine.{Write, _gets_, avi, audio, packets, holdsOf, two, inUse, coefficients, modeInUse, gcInUse, Muted, Open, mute}
+use Rattle.chip.specs.Machine.{Write, _gets_, avi, audio, packets, holdsOf, inUse, coefficients, modeInUse, gcInUse, Muted, Open, mute}
+use Rattle.chip.specs.Write.{two}
 use Rattle.views.specs.declared.view.Mute.{Mute}
 use Rattle.views.specs.Entry.{enterOf}
 use Rattle.views.specs.Theorems.{Sized, Faces, Entered}

@@ -23,7 +23,7 @@ use Rattle.request.specs.declared.Request.{Request}
 use Rattle.request.specs.Read.{readOf, pairFor, nctsOf, Reads, Pairs, PairsInput}
 use Rattle.chip.specs.declared.Chip.{Chip}
 use Rattle.chip.specs.declared.Wrote.{Wrote}
-use Rattle.chip.specs.Machine.{writeOf}
+use Rattle.chip.specs.Write.{writeOf}
 use Rattle.chip.specs.Step.{Hands}
 use Rattle.views.specs.declared.view.Part.{Part}
 use Rattle.views.specs.declared.view.Mute.{Mute}

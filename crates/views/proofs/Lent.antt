@@ -13,7 +13,7 @@ use Rattle.refusals.specs.Rows.{imageLength, _if_, lowest, answer}
 use Rattle.refusals.proofs.Tests.{lowest-given, in-stages, none-at}
 use Rattle.chip.specs.declared.Chip.{Chip}
 use Rattle.chip.specs.declared.Wrote.{Wrote}
-use Rattle.chip.specs.Machine.{refusedWrite, writeOf}
+use Rattle.chip.specs.Write.{refusedWrite, writeOf}
 use Rattle.chip.specs.Step.{writeRules}
 use Rattle.views.specs.Entry.{isSized, enterTests, enterOf}
 use Rattle.views.specs.Theorems.{enterRules, WriteRefusals, Sized}

@@ -15,7 +15,8 @@ use Rattle.refusals.specs.Rows.{fieldOutOfRange, Given, _if_}
 use Rattle.refusals.proofs.Tests.{Decided, lowest-given, past, none-at, numbered}
 use Rattle.views.specs.declared.view.Part.{Part}
 use Rattle.views.specs.declared.view.Mute.{Mute}
-use Rattle.chip.specs.Machine.{Group, avi, audio, packets, up, holdsOf, two, inUse, gcInUse, mute, registersOf}
+use Rattle.chip.specs.Machine.{Group, avi, audio, packets, up, holdsOf, inUse, gcInUse, mute, registersOf}
+use Rattle.chip.specs.Write.{two}
 use Rattle.views.specs.View.{packetAt, lentRefusal, viewRefusal, sentOf, placed, noPart, sentPart, startIn, muteOf, noMute, lentTests}
 use Rattle.views.specs.Theorems.{bytesIn, lentRules, viewRules, ViewRefusals}
 use Rattle.bits.proofs.Laws.{bit-code, two-bits-code}

@@ -8,7 +8,8 @@ use borrow.Author.Tests.{eq-eqb}
 use Rattle.lists.proofs.Both.{neither-right}
 use Rattle.bits.specs.Merge.{bit}
 use Rattle.chip.specs.declared.Chip.{Chip}
-use Rattle.chip.specs.Machine.{packets, holdsOf, two, inUse, gcInUse, mute, imageAfter, refuses, writeOf}
+use Rattle.chip.specs.Machine.{packets, holdsOf, inUse, gcInUse, mute}
+use Rattle.chip.specs.Write.{two, imageAfter, refuses, writeOf}
 use Rattle.chip.proofs.Writes.{allowed, stepped}
 use Rattle.views.specs.declared.view.Mute.{Mute}
 use Rattle.views.specs.Entry.{enterOf}

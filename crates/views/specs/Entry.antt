@@ -9,7 +9,7 @@ use lib.ListN.{length}
 use Rattle.refusals.specs.Rows.{imageLength, Test, _if_, lowest, answer}
 use Rattle.chip.specs.declared.Chip.{Chip}
 use Rattle.chip.specs.declared.Wrote.{Wrote}
-use Rattle.chip.specs.Machine.{refusedWrite, writeOf}
+use Rattle.chip.specs.Write.{refusedWrite, writeOf}
 
 -- the three slices as a state
 abbrev pub lentAs : List ℕ → List ℕ → List ℕ → Chip

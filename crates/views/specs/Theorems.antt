@@ -10,7 +10,8 @@ use Rattle.refusals.specs.Rows.{fieldOutOfRange, imageLength, bufferShort, twoH
 use Rattle.matrix.specs.Coefficient.{coefficientBytes}
 use Rattle.matrix.specs.Matrix.{fields}
 use Rattle.chip.specs.declared.Chip.{Chip}
-use Rattle.chip.specs.Machine.{avi, audio, packets, inUse, coefficients, modeInUse, Muted, Open, mute, writeOf}
+use Rattle.chip.specs.Machine.{avi, audio, packets, inUse, coefficients, modeInUse, Muted, Open, mute}
+use Rattle.chip.specs.Write.{writeOf}
 use Rattle.chip.specs.Step.{TwoUp, writeRules}
 use Rattle.views.specs.declared.view.Part.{Part}
 use Rattle.views.specs.Entry.{enterOf}

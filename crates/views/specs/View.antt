@@ -7,7 +7,8 @@ use Prim.Native.Nat.{ℕ, _+_}
 use lib.Dec.{eqb, ltb}
 use lib.ListN.{length}
 use Rattle.refusals.specs.Rows.{fieldOutOfRange, imageLength, twoHolds, Test, _if_, lowest, answer}
-use Rattle.chip.specs.Machine.{Group, avi, audio, packets, up, holdsOf, two, inUse, mute}
+use Rattle.chip.specs.Machine.{Group, avi, audio, packets, up, holdsOf, inUse, mute}
+use Rattle.chip.specs.Write.{two}
 use Rattle.views.specs.declared.view.Part.{Part}
 use Rattle.views.specs.declared.view.Mute.{Mute}
 use Rattle.views.specs.Entry.{lentAs}

@@ -4,7 +4,8 @@ ghost use mathlib.Core.Bool.{false};
 ghost use mathlib.Core.List.{List};
 ghost use Prim.Native.Nat.{ℕ};
 ghost use Rattle.chip.specs.declared.Chip.{Chip};
-ghost use Rattle.chip.specs.Machine.{packets, holdsOf, two};
+ghost use Rattle.chip.specs.Machine.{packets, holdsOf};
+ghost use Rattle.chip.specs.Write.{two};
 ghost use Rattle.views.specs.Theorems.{WriteRefusals, ViewRefusals, MatrixRefusals, Sized, Faces, Entered};
 
 mod converter;

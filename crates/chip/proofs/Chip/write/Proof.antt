@@ -1,7 +1,7 @@
 -- `chip::Chip::write` meets its contract. Assumes nothing.
 use mathlib.Core.Path.{_≡_, refl, _∙_}
 use mathlib.Core.Bool.{_||_}
-use Rattle.chip.specs.Machine.{stored, refuses}
+use Rattle.chip.specs.Write.{stored, refuses}
 use Rattle.chip.proofs.Writes.{tested, taken-write, refused-write}
 use borrow.Author.Needs.{needs}
 use Rattle.chip.proofs.Chip.write.Statement.{statement}

@@ -2,7 +2,7 @@
 use mathlib.Core.Path.{_≡_, sym, ap, _∙_}
 use Rattle.chip.specs.declared.Chip.{Chip}
 use Rattle.chip.specs.declared.Wrote.{Wrote}
-use Rattle.chip.specs.Machine.{writeOf}
+use Rattle.chip.specs.Write.{writeOf}
 use Rattle.views.specs.Entry.{lentAs, enterOf}
 use Rattle.views.specs.Theorems.{Sized}
 use Rattle.views.proofs.Lent.{sized, turned-away, let-in}
