@@ -18,6 +18,16 @@ merge-left k m a b c = law (by (var 0) (by (var 0) (var 1) (var 2)) (var 3)) (by
 pub merge-right : (k m a b c : ℕ) → merge k m a (merge k m b c) ≡ merge k m a c
 merge-right k m a b c = law (by (var 0) (var 1) (by (var 0) (var 2) (var 3))) (by (var 0) (var 1) (var 3)) k (m ∷ a ∷ b ∷ c ∷ []) refl
 
+-- a merge of k bits has k bits
+pub merge-small : (k m a b : ℕ) → merge k m a b < 2 ^ k
+unfolding merge
+merge-small zero m a b = omega arith
+merge-small (suc k) m a b = go (eqb (m % 2) 1) (merge k (m / 2) (a / 2) (b / 2)) (merge-small k (m / 2) (a / 2) (b / 2))
+  where
+    go : (c : Bool) (q : ℕ) → q < 2 ^ k → cond c (a % 2) (b % 2) + 2 * q < 2 ^ suc k
+    go true q h = let p : 2 ^ suc k ≡ 2 * 2 ^ k = pow-succ' 2 k in omega arith
+    go false q h = let p : 2 ^ suc k ≡ 2 * 2 ^ k = pow-succ' 2 k in omega arith
+
 -- bit j of a merge is bit j of one of the two
 pub merge-bit : (k j m a b : ℕ) → j < k → bit j (merge k m a b) ≡ cond (eqb (bit j m) 1) (bit j a) (bit j b)
 unfolding merge

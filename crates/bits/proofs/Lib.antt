@@ -1,3 +1,4 @@
 pub mod Below
 pub mod Truth
 pub mod Laws
+pub mod Fields
