@@ -17,6 +17,7 @@ use Rattle.bits.specs.Merge.{merge}
 use Rattle.bits.proofs.Truth.{E, var, by, law}
 use Rattle.registers.specs.Classes.{readOnly, free, named, bits}
 use Rattle.map.specs.Map as reg
+use Rattle.video.proofs.Fits.{family-small}
 use Rattle.matrix.specs.Matrix.{fields, noMatrix}
 use Rattle.matrix.proofs.Pairs.{fields-small, length-fields}
 use Rattle.request.specs.declared.Request.{Request}
@@ -25,6 +26,7 @@ use Rattle.request.specs.Sections.{longest}
 use Rattle.request.specs.Read.{readOf, pairFor}
 use Rattle.request.specs.Bytes.{asBytes, inFamily, answeredAs, answeredBytes}
 use Rattle.request.specs.Theorems.{Shaped}
+use Rattle.request.specs.Fits.{Fits}
 use Rattle.plan.specs.Wanted.{wanted}
 use Rattle.writes.specs.List.{byte, decided, written, isWritten, finished}
 use Rattle.decode.specs.declared.Decoded.{Decoded}
@@ -33,7 +35,7 @@ use Rattle.decode.specs.Extract.{byteIn, matrixIn, extract}
 use Rattle.writes.specs.List.{standsBelow}
 use Rattle.decode.specs.Decode.{endsIn, someEnds, decodeTests, decodeRefusal, notDecoded, decodeOf, inFront, decodedBuffer}
 use Rattle.decode.specs.Theorems.{Answered, ExactlyWhen, AtMostOne, decodeRules, Refusals, Ran, ReadBack}
-use Rattle.request.proofs.Ranged.{Ranged, read-ranged}
+use Rattle.request.proofs.Fits.{fits}
 use Rattle.request.proofs.Said.{said}
 use Rattle.request.proofs.Back.{back}
 use Rattle.decode.proofs.Extracted.{extracted}
@@ -57,8 +59,8 @@ module _ (r : Request) (image : List ℕ) where
       go (inr l) ih = ih l
 
 -- an acceptable request has its fields in range
-ranged : (r : Request) → Acceptable r → Ranged r
-ranged r a = subst Ranged (ap (λ (c : Checked). c .request) (a .read)) (read-ranged (asBytes r) (ap (λ (c : Checked). c .refusal) (a .read)))
+acceptable-fits : (r : Request) → Acceptable r → Fits r
+acceptable-fits r a = subst Fits (ap (λ (c : Checked). c .request) (a .read)) (fits (asBytes r) (ap (λ (c : Checked). c .refusal) (a .read)))
 
 -- ---- one family
 
@@ -115,11 +117,11 @@ module _ (image : List ℕ) (long : length image ≡ 256) where
 
   is-extracted : (r : Request) → Ends r image → extract image ≡ r
   is-extracted r e =
-      extracted (inFamily (e .family) r) image long (ranged (inFamily (e .family) r) (e .acceptable)) (e .stands) ∙ e .answered
+      extracted (inFamily (e .family) r) image long (acceptable-fits (inFamily (e .family) r) (e .acceptable)) (e .stands) ∙ e .answered
 
   ends-found : (r : Request) → Ends r image → someEnds image ≡ true
   unfolding someEnds
-  ends-found r e = rw (is-extracted r e) (go (e .family) (ranged (inFamily (e .family) r) (e .acceptable) .family) (ends-tested r (e .family) image (e .acceptable) (e .stands)))
+  ends-found r e = rw (is-extracted r e) (go (e .family) (family-small _ (acceptable-fits (inFamily (e .family) r) (e .acceptable) .video)) (ends-tested r (e .family) image (e .acceptable) (e .stands)))
     where
       right : (b : Bool) → (b || true) ≡ true
       right true = refl

@@ -10,6 +10,7 @@ use lib.ListN.{getD}
 use borrow.Author.Tests.{eqb-true, eqb-false, eq-eqb, ne-eqb}
 use Rattle.bits.specs.Merge.{bit}
 use Rattle.bits.proofs.Laws.{merge-bit}
+use Rattle.bits.proofs.Fields.{low-same}
 use Rattle.registers.specs.Classes.{readOnly, mandated, named, free, bits}
 use Rattle.registers.proofs.Whole.{rule}
 use Rattle.matrix.specs.Matrix.{Bytes}
@@ -18,7 +19,6 @@ use Rattle.plan.specs.Wanted.{wanted}
 use Rattle.writes.specs.List.{byte, isWritten, finished}
 use Rattle.decode.specs.Ends.{Stands}
 use Rattle.decode.specs.Theorems.{Counts, AsLeft, BitByBit}
-use Rattle.decode.proofs.Fields.{low-same}
 use Rattle.decode.proofs.Standing.{byte-small, left}
 
 -- ---- one bit of a register: it counts, or it is free or read-only

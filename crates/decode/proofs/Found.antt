@@ -1,19 +1,18 @@
 -- What the code tests of an image is `someEnds`, and what decoding answers, row by row. Assumes nothing.
-use mathlib.Core.Path.{_≡_, refl, sym, ap, ap₂, _∙_, subst}
-use mathlib.Core.Logic.{_≢_, inl, inr}
+use mathlib.Core.Path.{_≡_, refl, ap, ap₂, _∙_}
+use mathlib.Core.Logic.{_≢_}
 use mathlib.Core.Bool.{Bool, true, false, _&&_, _||_}
 use mathlib.Core.List.{List}
 use Prim.Native.Nat.{ℕ, _<_, _≤_}
 use lib.Dec.{eqb}
 use lib.ListN.{length, getD}
 use borrow.Author.Tests.{eqb-true, eq-eqb, ne-eqb, lt-ltb, le-ltb}
-use Rattle.matrix.specs.declared.Matrix.{Matrix}
-use Rattle.matrix.proofs.Pairs.{none-small}
 use Rattle.request.specs.declared.Request.{Request}
 use Rattle.request.specs.Sections.{longest}
 use Rattle.request.specs.Read.{readOf, pairFor}
 use Rattle.request.specs.Bytes.{asBytes, inFamily}
 use Rattle.request.specs.Theorems.{Shaped}
+use Rattle.request.proofs.Fits.{coefficients-small}
 use Rattle.request.proofs.Said.{said}
 use Rattle.writes.specs.List.{standsBelow}
 use Rattle.plan.specs.Wanted.{wanted}
@@ -22,10 +21,6 @@ use Rattle.decode.specs.declared.Decoded.{Decoded}
 use Rattle.decode.specs.Extract.{extract}
 use Rattle.decode.specs.Decode.{endsIn, someEnds, decodeRefusal, notDecoded, decodeOf, inFront, decodedBuffer}
 use Rattle.decode.proofs.Answers.{shaped}
-
-small-fields : (m : Matrix) → Shaped m → (i : ℕ) → getD (m .coefficients) i 0 < 8192
-small-fields m (inl e) i = subst (λ (x : Matrix). getD (x .coefficients) i 0 < 8192) (sym e) (none-small i)
-small-fields m (inr f) i = f .small i
 
 -- accepted on some image, and standing in this one: on the bytes, and on the request
 stands-ends : (r : Request) (family : ℕ) (image : List ℕ) → Shaped (r .matrix) → length image ≡ 256
@@ -46,7 +41,7 @@ module _ (image : List ℕ) (sized : length image ≡ 256) where
   matrix-shaped = shaped image sized
 
   pub small : (i : ℕ) → getD (extract image .matrix .coefficients) i 0 < 8192
-  small = small-fields (extract image .matrix) matrix-shaped
+  small = coefficients-small (extract image .matrix) matrix-shaped
 
   pub found-by : (standsIn (asBytes (inFamily 0 (extract image))) image || standsIn (asBytes (inFamily 1 (extract image))) image) ≡ someEnds image
   unfolding someEnds

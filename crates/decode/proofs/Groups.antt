@@ -1,55 +1,104 @@
 -- Where a request stands in an image, its InfoFrames and its coefficients stand in the groups' registers. Assumes nothing.
-use mathlib.Core.Path.{_≡_, refl, sym, ap, ap₂, _∙_, subst}
-use mathlib.Core.Logic.{_⊎_, inl, inr}
+use mathlib.Core.Path.{_≡_, refl, sym, ap, ap₂, _∙_}
+use mathlib.Core.Logic.{inl, inr}
 use mathlib.Core.Bool.{Bool, true, _&&_}
 use mathlib.Core.List.{List, [], _∷_, _++_, map}
-use Prim.Native.Nat.{ℕ, zero, suc, _+_, _-_, _*_, _%_, _<_, _≤_}
+use Prim.Native.Nat.{ℕ, zero, suc, _+_, _*_, _/_, _%_, _<_, _≤_}
 use native.Mathlib.Nat.{mod-eq-of-lt}
 use native.Mathlib.Omega.{arith}
 use lib.Dec.{lit<, lit≤}
-use lib.ListN.{length, getD, take, drop, replicate}
+use lib.ListN.{length, getD, take, drop}
+use lib.Seq.{take-all, getD-drop}
 use Rattle.lists.proofs.Both.{both-left, both-right}
 use Rattle.bits.specs.Merge.{merge}
 use Rattle.registers.specs.Classes.{classAt}
-use Rattle.video.specs.Modes.{modeOf}
-use Rattle.frames.specs.Frames.{colorimetry, allocation, checksumOf, aviFrame, audioFrame, audioOffFrame}
-use Rattle.frames.proofs.Small.{mode-small, colour-small}
+use Rattle.map.specs.Map as reg
+use Rattle.frames.specs.Frames.{aviCount, aviPayload, aviFrame, audioFrame, audioOffFrame}
+use Rattle.frames.proofs.Bytes.{Bytes, frame-bytes, audio-bytes, off-bytes}
 use Rattle.matrix.specs.declared.Matrix.{Matrix}
-use Rattle.matrix.specs.Matrix.{fields, noMatrix}
-use Rattle.matrix.proofs.Pairs.{none-small}
+use Rattle.matrix.specs.Matrix.{fields}
 use Rattle.request.specs.declared.Sound.{Sound}
 use Rattle.request.specs.declared.Sound.the-variants.{Off, On}
 use Rattle.request.specs.declared.Request.{Request}
+use Rattle.request.specs.Theorems.{Filled, Shaped}
+use Rattle.request.specs.Fits.{SoundFits, Fits}
+use Rattle.request.proofs.Fits.{coefficients-small}
 use Rattle.chip.specs.Machine.{avi, audio, matrix, registersOf}
-use Rattle.plan.specs.Wanted.{wanted, audioBytes}
+use Rattle.plan.specs.Wanted.{wanted, cscBytes, audioBytes}
 use Rattle.writes.specs.List.{isWritten, decided, byte}
 use Rattle.decode.specs.Ends.{Stands}
 use Rattle.decode.proofs.Stored.{each, window, wants}
 use Rattle.decode.proofs.Standing.{clear, is-written, reads, small-byte, there}
-use Rattle.request.specs.Theorems.{Filled, Shaped}
-use Rattle.request.proofs.Ranged.{InRange, Ranged}
-use Rattle.decode.proofs.Extracted.{coefficients-read}
 
--- ---- the bytes of a frame are bytes
+-- ---- bytes
 
 abbrev thin : List ℕ → List ℕ
 thin = map (λ x. x % 256)
 
-checksum-small : (bytes : List ℕ) → checksumOf bytes < 256
-checksum-small bytes = omega arith
+thin-same : (l : List ℕ) → Bytes l → thin l ≡ l
+thin-same [] b = refl
+thin-same (x ∷ l) b = ap₂ (λ (x : ℕ) (l : List ℕ). x ∷ l) (mod-eq-of-lt (b 0)) (thin-same l (λ i. b (suc i)))
 
-avi-thin : (k y c v : ℕ) → k < 256 → y < 256 → c < 256 → v < 256 → thin (k ∷ y ∷ c ∷ 0 ∷ v ∷ 0 ∷ replicate 8 0) ≡ k ∷ y ∷ c ∷ 0 ∷ v ∷ 0 ∷ replicate 8 0
-avi-thin k y c v hk hy hc hv = rw (mod-eq-of-lt hk, mod-eq-of-lt hy, mod-eq-of-lt hc, mod-eq-of-lt hv)
+bytes-after : (n : ℕ) (l : List ℕ) → Bytes l → Bytes (drop n l)
+bytes-after n l b i = rw (getD-drop n l i 0) (b (n + i))
 
-audio-thin : (k cc ca : ℕ) → k < 256 → cc < 256 → ca < 256 → thin (k ∷ cc ∷ 0 ∷ 0 ∷ ca ∷ 0 ∷ []) ≡ k ∷ cc ∷ 0 ∷ 0 ∷ ca ∷ 0 ∷ []
-audio-thin k cc ca hk hc ha = rw (mod-eq-of-lt hk, mod-eq-of-lt hc, mod-eq-of-lt ha)
+bytes-front : (n : ℕ) (l : List ℕ) → Bytes l → Bytes (take n l)
+bytes-front zero l b i = lit< tt
+bytes-front (suc n) [] b i = lit< tt
+bytes-front (suc n) (x ∷ l) b zero = b 0
+bytes-front (suc n) (x ∷ l) b (suc i) = bytes-front n l (λ i. b (suc i)) i
+
+sound-bytes : (s : Sound) → SoundFits s → Bytes (audioBytes s)
+sound-bytes Off f = off-bytes
+sound-bytes (On rate channels coherent) f = audio-bytes channels (f .1)
 
 -- every register of a run is named whole
 abbrev clearRun : ℕ → ℕ → Bool
 clearRun i zero = true
 clearRun i (suc n) = clear i 0 8 && clearRun (suc i) n
 
-module _ (r : Request) (image : List ℕ) (long : length image ≡ 256) (g : Ranged r) (st : Stands r image) where
+-- ---- coefficients
+
+-- the fields of 13 bits of pairs of bytes
+abbrev thirteen : List ℕ → List ℕ
+thirteen [] = []
+thirteen (x ∷ []) = []
+thirteen (x ∷ y ∷ more) = (x % 32 * 256 + y % 256) ∷ thirteen more
+
+twelve : (m : Matrix) → Shaped m → length (m .coefficients) ≡ 12
+twelve m (inl e) = rw e
+twelve m (inr f) = f .twelve
+
+module _ (m : Matrix) (s : (i : ℕ) → getD (m .coefficients) i 0 < 8192) where
+  abbrev from : ℕ → ℕ → List ℕ
+  from i zero = []
+  from i (suc n) = getD (m .coefficients) i 0 / 256 ∷ getD (m .coefficients) i 0 % 256 ∷ from (suc i) n
+
+  whole : (c : ℕ) → c < 8192 → c / 256 % 32 * 256 + c % 256 % 256 ≡ c
+  whole c h = omega arith
+
+  later : (i n : ℕ) → thirteen (from i n) ≡ each (λ j. getD (m .coefficients) j 0) i n
+  later i zero = refl
+  later i (suc n) = ap₂ (λ (c : ℕ) (l : List ℕ). c ∷ l) (whole (getD (m .coefficients) i 0) (s i)) (later (suc i) n)
+
+  first : (on mode c : ℕ) → c < 8192 → (on * 128 + mode * 32 + c / 256) % 32 * 256 + c % 256 % 256 ≡ c
+  first on mode c h = omega arith
+
+  coefficients : length (m .coefficients) ≡ 12 → thirteen (cscBytes m) ≡ m .coefficients
+  coefficients t =
+      ap₂ (λ (c : ℕ) (l : List ℕ). c ∷ l) (first (m .on) (m .mode) (getD (m .coefficients) 0 0) (s 0)) (later 1 11)
+      ∙ sym (window (m .coefficients) 0 12 (omega arith)) ∙ take-all 12 (m .coefficients) (omega arith)
+
+-- every pair's registers have a coefficient's bits
+abbrev clearPairs : ℕ → ℕ → Bool
+clearPairs i zero = true
+clearPairs i (suc n) = (clear i 0 5 && clear (suc i) 0 8) && clearPairs (suc (suc i)) n
+
+abbrev double : ℕ → ℕ
+double zero = zero
+double (suc n) = suc (suc (double n))
+
+module _ (r : Request) (image : List ℕ) (long : length image ≡ 256) (st : Stands r image) where
   bytes-read : (i n : ℕ) → i + n ≤ 256 → clearRun i n ≡ true → each (λ a. getD image a 0) i n ≡ thin (each (wanted r) i n)
   bytes-read i zero h t = refl
   bytes-read i (suc n) h t =
@@ -58,32 +107,51 @@ module _ (r : Request) (image : List ℕ) (long : length image ≡ 256) (g : Ran
       let b : getD image i 0 < 256 = small-byte r image st i (omega arith) (is-written i 0 8 now) in
       ap₂ (λ (x : ℕ) (l : List ℕ). x ∷ l) (omega arith) (bytes-read (suc i) n (omega arith) (both-right (clear i 0 8) _ t))
 
-  -- ---- AVI
+  fields-read : (i n : ℕ) → i + double n ≤ 256 → clearPairs i n ≡ true
+      → fields (each (λ a. getD image a 0) i (double n)) ≡ thirteen (each (wanted r) i (double n))
+  unfolding fields
+  fields-read i zero h t = refl
+  fields-read i (suc n) h t =
+      let now : (clear i 0 5 && clear (suc i) 0 8) ≡ true = both-left _ (clearPairs (suc (suc i)) n) t in
+      let lo : clear (suc i) 0 8 ≡ true = both-right (clear i 0 5) _ now in
+      let e = reads r image st i 0 5 (omega arith) (both-left _ (clear (suc i) 0 8) now) in
+      let f = reads r image st (suc i) 0 8 (omega arith) lo in
+      let b : getD image (suc i) 0 < 256 = small-byte r image st (suc i) (omega arith) (is-written (suc i) 0 8 lo) in
+      ap₂ (λ (c : ℕ) (l : List ℕ). c ∷ l) (omega arith)
+      (fields-read (suc (suc i)) n (omega arith) (both-right (clear i 0 5 && clear (suc i) 0 8) _ t))
 
-  avi-bytes : thin (drop 3 (aviFrame (r .video))) ≡ drop 3 (aviFrame (r .video))
-  unfolding aviFrame
-  avi-bytes =
-      let s = mode-small (r .video .vic) in
-      let c : colorimetry (modeOf (r .video .vic)) (r .video .encoding) ≤ 2 = colour-small (modeOf (r .video .vic)) (r .video .encoding) s in
-      avi-thin _ _ _ (r .video .vic) (checksum-small _) (omega (arith, g .encoding)) (omega (arith, c, s .aspect)) (omega (arith, g .vic))
+  coefficients-read : length (r .matrix .coefficients) ≡ 12 → ((i : ℕ) → getD (r .matrix .coefficients) i 0 < 8192)
+      → fields (take reg.cscCount (drop reg.csc image)) ≡ r .matrix .coefficients
+  unfolding isWritten decided classAt
+  coefficients-read t s =
+      ap fields (window image reg.csc reg.cscCount (omega arith)) ∙ fields-read reg.csc 12 (lit≤ tt) refl
+      ∙ ap thirteen (wants r .csc) ∙ coefficients (r .matrix) s t
+
+module _ (r : Request) (image : List ℕ) (long : length image ≡ 256) (g : Fits r) (st : Stands r image) where
+  -- ---- AVI: the checksum and the data bytes
+
+  avi-run : each (λ a. getD image a 0) reg.aviInfoframeChecksum (1 + aviCount) ≡ drop 3 (aviFrame (r .video))
+  unfolding isWritten decided classAt
+  avi-run =
+      bytes-read r image long st reg.aviInfoframeChecksum (1 + aviCount) (lit≤ tt) refl ∙ ap thin (wants r .aviBytes)
+      ∙ thin-same (drop 3 (aviFrame (r .video))) (bytes-after 3 (aviFrame (r .video)) (frame-bytes (r .video) (g .video)))
 
   pub avi-in : drop 2 (registersOf avi image) ≡ drop 3 (aviFrame (r .video))
-  unfolding isWritten decided classAt
-  avi-in = ap (drop 2) (window image 0x52 16 (omega arith)) ∙ bytes-read 0x54 14 (lit≤ tt) refl ∙ ap thin (wants r .aviBytes) ∙ avi-bytes
+  avi-in = ap (drop 2) (window image 0x52 16 (omega arith)) ∙ avi-run
+
+  pub avi-data : take aviCount (drop reg.aviInfoframeByte1 image) ≡ aviPayload (r .video)
+  unfolding aviFrame
+  avi-data = window image reg.aviInfoframeByte1 aviCount (omega arith) ∙ ap (drop 1) avi-run
 
   -- ---- audio
 
   abbrev six : Sound → List ℕ
   six s = take 6 (drop 3 (audioBytes s))
 
-  sound-bytes : (s : Sound) → InRange s → (thin (six s) ≡ six s) × (six s ++ (0 ∷ 0 ∷ 0 ∷ 0 ∷ 0 ∷ []) ≡ drop 3 (audioBytes s))
-  unfolding audioFrame audioOffFrame
-  sound-bytes Off k = (audio-thin _ _ _ (checksum-small _) (lit< tt) (lit< tt), refl)
-  sound-bytes (On rate channels coherent) k = (of (k .1), refl)
-    where
-      of : (channels ≡ 2) ⊎ (channels ≡ 8) → thin (six (On rate channels coherent)) ≡ six (On rate channels coherent)
-      of (inl e) = rw e (audio-thin _ _ _ (checksum-small _) (lit< tt) (lit< tt))
-      of (inr e) = rw e (audio-thin _ _ _ (checksum-small _) (lit< tt) (lit< tt))
+  six-bytes : thin (six (r .sound)) ≡ six (r .sound)
+  six-bytes =
+      let l : List ℕ = audioBytes (r .sound) in
+      thin-same (six (r .sound)) (bytes-front 6 (drop 3 l) (bytes-after 3 l (sound-bytes (r .sound) (g .sound))))
 
   -- the reserved bytes are mandated, 0
   reserved : each (λ a. getD image a 0) 0x78 5 ≡ 0 ∷ 0 ∷ 0 ∷ 0 ∷ 0 ∷ []
@@ -98,20 +166,19 @@ module _ (r : Request) (image : List ℕ) (long : length image ≡ 256) (g : Ran
         zero-at 0x7C (sym (there r image st 0x7C (lit< tt) refl)),
       )
 
+  rest : (s : Sound) → six s ++ (0 ∷ 0 ∷ 0 ∷ 0 ∷ 0 ∷ []) ≡ drop 3 (audioBytes s)
+  unfolding audioFrame audioOffFrame
+  rest Off = refl
+  rest (On rate channels coherent) = refl
+
   pub audio-in : drop 2 (registersOf audio image) ≡ drop 3 (audioBytes (r .sound))
   unfolding isWritten decided classAt
   audio-in =
-      let k = sound-bytes (r .sound) (g .sound) in
       ap (drop 2) (window image 0x70 13 (omega arith))
-      ∙ ap₂ (λ (l m : List ℕ). l ++ m) (bytes-read 0x72 6 (lit≤ tt) refl ∙ ap thin (wants r .soundBytes) ∙ k .0) reserved ∙ k .1
+      ∙ ap₂ (λ (l m : List ℕ). l ++ m) (bytes-read r image long st reg.audioInfoframeChecksum 6 (lit≤ tt) refl ∙ ap thin (wants r .soundBytes) ∙ six-bytes) reserved
+      ∙ rest (r .sound)
 
   -- ---- the twelve coefficients
 
   pub matrix-in : fields (registersOf matrix image) ≡ r .matrix .coefficients
-  matrix-in = of (g .matrix)
-    where
-      of : Shaped (r .matrix) → fields (registersOf matrix image) ≡ r .matrix .coefficients
-      of (inl e) =
-          coefficients-read r image long g st (ap (λ (m : Matrix). length (m .coefficients)) e)
-          (λ i. subst (λ (m : Matrix). getD (m .coefficients) i 0 < 8192) (sym e) (none-small i))
-      of (inr f) = coefficients-read r image long g st (f .twelve) (f .small)
+  matrix-in = coefficients-read r image long st (twelve (r .matrix) (g .matrix)) (coefficients-small (r .matrix) (g .matrix))

@@ -1,9 +1,8 @@
-pub mod Fields
 pub mod Stored
 pub mod Standing
 pub mod BitByBit
-pub mod Extracted
 pub mod Groups
+pub mod Extracted
 pub mod Answers
 pub mod Found
 pub mod Emitted

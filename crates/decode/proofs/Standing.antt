@@ -3,7 +3,6 @@ use mathlib.Core.Path.{_≡_, refl, sym, ap, _∙_, subst}
 use mathlib.Core.Bool.{Bool, true, false, cond, _&&_}
 use mathlib.Core.List.{List, [], _∷_}
 use Prim.Native.Nat.{ℕ, zero, suc, _+_, _*_, _/_, _%_, _^_, _<_, _≤_}
-use native.Mathlib.Nat.{pow-succ'}
 use native.Mathlib.Omega.{arith}
 use lib.Dec.{eqb, leb}
 use lib.ListN.{getD}
@@ -12,7 +11,8 @@ use Rattle.lists.proofs.Both.{both-left, both-right}
 use Rattle.bits.specs.Merge.{merge, bit}
 use Rattle.bits.proofs.Truth.{zeros, var, by}
 use Rattle.bits.proofs.Below.{below, at-below}
-use Rattle.bits.proofs.Laws.{merge-bit}
+use Rattle.bits.proofs.Laws.{merge-bit, merge-small}
+use Rattle.bits.proofs.Fields.{field-same}
 use Rattle.registers.specs.Classes.{named}
 use Rattle.registers.proofs.Apart.{by-rule}
 use Rattle.map.specs.Map as reg
@@ -20,7 +20,6 @@ use Rattle.request.specs.declared.Request.{Request}
 use Rattle.plan.specs.Wanted.{wanted}
 use Rattle.writes.specs.List.{byte, decided, written, isWritten, finished}
 use Rattle.decode.specs.Ends.{Stands}
-use Rattle.decode.proofs.Fields.{field-same}
 
 -- a written byte has the wanted bits where they are named
 named-kept : (a old w : ℕ) → a < 256 → merge 8 (named a) (byte a old w) 0 ≡ merge 8 (named a) w 0
@@ -47,15 +46,6 @@ clear a s k = isWritten a && leb (k + s) 8 && below (λ j. undecided a (j + s)) 
 
 pub is-written : (a s k : ℕ) → clear a s k ≡ true → isWritten a ≡ true
 is-written a s k t = both-left _ (leb (k + s) 8) (both-left _ (below (λ j. undecided a (j + s)) k) t)
-
-merge-small : (k m a b : ℕ) → merge k m a b < 2 ^ k
-unfolding merge
-merge-small zero m a b = omega arith
-merge-small (suc k) m a b = go (eqb (m % 2) 1) (merge k (m / 2) (a / 2) (b / 2)) (merge-small k (m / 2) (a / 2) (b / 2))
-  where
-    go : (c : Bool) (q : ℕ) → q < 2 ^ k → cond c (a % 2) (b % 2) + 2 * q < 2 ^ suc k
-    go true q h = let p : 2 ^ suc k ≡ 2 * 2 ^ k = pow-succ' 2 k in omega arith
-    go false q h = let p : 2 ^ suc k ≡ 2 * 2 ^ k = pow-succ' 2 k in omega arith
 
 pub byte-small : (a old w : ℕ) → byte a old w < 256
 unfolding byte

@@ -9,7 +9,7 @@ use lib.ListN.{length, getD, set, take, drop, replicate, length-set, getD-replic
 use lib.Seq.{getD-set-same, getD-set-other, drop-cons}
 use borrow.Author.Tests.{eqb-true, eqb-false}
 use Rattle.map.specs.Map as reg
-use Rattle.frames.specs.Frames.{aviFrame, audioFrame, audioOffFrame}
+use Rattle.frames.specs.Frames.{aviCount, aviFrame, audioFrame, audioOffFrame}
 use Rattle.chip.specs.Machine.{Write}
 use Rattle.request.specs.declared.Sound.{Sound}
 use Rattle.request.specs.declared.Sound.the-variants.{Off, On}
@@ -59,16 +59,14 @@ cc Off = 0
 cc (On rate channels coherent) = channels - 1
 
 pub record Wants (r : Request) : Type 0 where
-  pub vic : wanted r reg.vicManual ≡ r .video .vic
-  pub encoding : wanted r reg.aviInfoframeByte1 ≡ r .video .encoding * 32 + 16
   pub link : wanted r reg.hdcpHdmiCfg ≡ r .video .link * 2
   pub audio : wanted r reg.packetEnable1 ≡ withAudio (r .sound) * 104 + r .video .link * 16
   pub rate : wanted r reg.i2sFreqIdCfg ≡ rateCode (r .sound) * 16
   pub channels : wanted r reg.audioInfoframeByte1 ≡ cc (r .sound)
   pub coherent : wanted r reg.audioSource ≡ ctsSelect (r .sound) * 128
-  pub csc : each (wanted r) reg.csc 24 ≡ cscBytes (r .matrix)
+  pub csc : each (wanted r) reg.csc reg.cscCount ≡ cscBytes (r .matrix)
   -- the checksum and the data bytes of the two InfoFrames, but for the reserved ones
-  pub aviBytes : each (wanted r) reg.aviInfoframeChecksum 14 ≡ drop 3 (aviFrame (r .video))
+  pub aviBytes : each (wanted r) reg.aviInfoframeChecksum (1 + aviCount) ≡ drop 3 (aviFrame (r .video))
   pub soundBytes : each (wanted r) reg.audioInfoframeChecksum 6 ≡ take 6 (drop 3 (audioBytes (r .sound)))
 
 module _ (r : Request) where
@@ -85,27 +83,23 @@ module _ (r : Request) where
   sound : (s : Sound) → Wants (sounding s)
   unfolding aviFrame audioFrame audioOffFrame
   sound Off = record {
-    vic = low Off (lit< tt) refl;
-    encoding = low Off (lit< tt) refl;
     link = low Off (lit< tt) refl;
     audio = low Off (lit< tt) refl;
     rate = low Off (lit< tt) refl;
     channels = low Off (lit< tt) refl;
     coherent = low Off (lit< tt) refl;
-    csc = run reg.csc 24 Off (lit≤ tt) refl;
-    aviBytes = run reg.aviInfoframeChecksum 14 Off (lit≤ tt) refl;
+    csc = run reg.csc reg.cscCount Off (lit≤ tt) refl;
+    aviBytes = run reg.aviInfoframeChecksum (1 + aviCount) Off (lit≤ tt) refl;
     soundBytes = run reg.audioInfoframeChecksum 6 Off (lit≤ tt) refl;
   }
   sound (On x y z) = let s : Sound = On x y z in record {
-    vic = low s (lit< tt) refl;
-    encoding = low s (lit< tt) refl;
     link = low s (lit< tt) refl;
     audio = low s (lit< tt) refl;
     rate = low s (lit< tt) refl;
     channels = low s (lit< tt) refl;
     coherent = low s (lit< tt) refl;
-    csc = run reg.csc 24 s (lit≤ tt) refl;
-    aviBytes = run reg.aviInfoframeChecksum 14 s (lit≤ tt) refl;
+    csc = run reg.csc reg.cscCount s (lit≤ tt) refl;
+    aviBytes = run reg.aviInfoframeChecksum (1 + aviCount) s (lit≤ tt) refl;
     soundBytes = run reg.audioInfoframeChecksum 6 s (lit≤ tt) refl;
   }
 

@@ -1,4 +1,4 @@
--- How the code reads a request off an image: each field from one register. `ExactlyWhen` and `AtMostOne` (Theorems) tie it to document 01.
+-- How the code reads a request off an image: each section from some registers. `ExactlyWhen` and `AtMostOne` (Theorems) tie it to document 01.
 use mathlib.Core.Bool.{cond}
 use mathlib.Core.List.{List, [], _∷_}
 use Prim.Native.Nat.{ℕ, _+_, _/_, _%_, _^_}
@@ -7,7 +7,7 @@ use lib.ListN.{getD, take, drop}
 use Rattle.map.specs.Map as reg
 use Rattle.matrix.specs.declared.Matrix.{Matrix}
 use Rattle.matrix.specs.Matrix.{fields, noMatrix}
-use Rattle.video.specs.declared.Video.{Video}
+use Rattle.frames.specs.Frames.{aviCount, videoNamed}
 use Rattle.request.specs.declared.Sound.{Sound}
 use Rattle.request.specs.declared.Sound.the-variants.{Off, On}
 use Rattle.request.specs.declared.Request.{Request}
@@ -35,19 +35,15 @@ matrixIn image =
       coefficients = fields (take reg.cscCount (drop reg.csc image));
     })
 
-abbrev pub videoNamed : List ℕ → Video
-videoNamed image =
-    record {
-      vic = byteIn image reg.vicManual % 64;
-      family = 0;
-      encoding = byteIn image reg.aviInfoframeByte1 / 2 ^ reg.y1y0Shift % 4;
-      link = byteIn image reg.hdcpHdmiCfg / reg.hdmiDviModeSelectMask % 2;
-    }
+-- HDMI or DVI
+abbrev pub linkIn : List ℕ → ℕ
+linkIn image = byteIn image reg.hdcpHdmiCfg / reg.hdmiDviModeSelectMask % 2
 
+-- the video is the one that the data bytes of the AVI InfoFrame name
 unfoldable pub extract : List ℕ → Request
 extract image =
     record {
-      video = videoNamed image;
+      video = videoNamed (linkIn image) (take aviCount (drop reg.aviInfoframeByte1 image));
       sound = soundIn image;
       matrix = matrixIn image;
     }

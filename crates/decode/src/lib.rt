@@ -13,6 +13,7 @@ ghost use Rattle.plan.specs.Plan.{standsIn};
 ghost use Rattle.decode.specs.Extract.{rateOf, soundIn, matrixIn, extract};
 ghost use Rattle.decode.specs.Decode.{inFront, notDecoded, Decodes};
 ghost use Rattle.decode.specs.Theorems.{ExactlyWhen, BitByBit, AtMostOne, Refusals, ReadBack};
+use frames::AVI_COUNT;
 use map::Map;
 use matrix::Matrix;
 use refusals::Refusal;
@@ -21,7 +22,6 @@ use request::Sound;
 use request::sections::AUDIO_COUNT;
 use request::sections::LONGEST;
 use request::sections::MATRIX_COUNT;
-use video::Video;
 
 // The number of a refusal, 0 for none, and the count of bytes of the request.
 pub struct Decoded {
@@ -80,13 +80,12 @@ fn extract(image: &[u8]) -> Request
 {
     let sound = sound_in(image);
     let matrix = matrix_in(image);
+    let link = image[Map::HDCP_HDMI_CFG as usize] / Map::HDMI_DVI_MODE_SELECT_MASK % 2;
+    let start = Map::AVI_INFOFRAME_BYTE1 as usize;
+    let end = start + AVI_COUNT as usize;
+    let video = frames::video_named(link, &image[start..end]);
     Request {
-        video: Video {
-            vic: image[Map::VIC_MANUAL as usize] % 64,
-            family: 0,
-            encoding: (image[Map::AVI_INFOFRAME_BYTE1 as usize] >> Map::Y1Y0_SHIFT) % 4,
-            link: image[Map::HDCP_HDMI_CFG as usize] / Map::HDMI_DVI_MODE_SELECT_MASK % 2,
-        },
+        video: video,
         sound: sound,
         matrix: matrix,
     }
@@ -176,15 +175,11 @@ fn emit(q: Request, buffer: &mut [u8]) -> usize
 fn in_family(q: Request, family: u8) -> Request
     ensures { λ r. ⌜ r ≡ inFamily family q ⌝ }
 {
+    let video = video::in_family(q.video, family);
     let sound = q.sound;
     let matrix = q.matrix;
     Request {
-        video: Video {
-            vic: q.video.vic,
-            family: family,
-            encoding: q.video.encoding,
-            link: q.video.link,
-        },
+        video: video,
         sound: sound,
         matrix: matrix,
     }

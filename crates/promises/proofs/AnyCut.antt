@@ -14,7 +14,8 @@ use Rattle.request.specs.declared.Checked.{Checked}
 use Rattle.request.specs.Read.{readOf, pairFor}
 use Rattle.request.specs.Bytes.{asBytes}
 use Rattle.request.proofs.Back.{there-and-back}
-use Rattle.request.proofs.Ranged.{Ranged, read-ranged}
+use Rattle.request.specs.Fits.{Fits}
+use Rattle.request.proofs.Fits as request
 use Rattle.plan.specs.Wanted.{wanted}
 use Rattle.plan.specs.declared.Planned.{Planned}
 use Rattle.writes.specs.List.{finishedImage, writeList, ready}
@@ -77,7 +78,7 @@ any-cut input buffer s z =
     let sized : length (e .image) ≡ 256 = ap length (d .registers) ∙ image-length (wanted q) (s .image) in
     let stands : Stands q (e .image) =
     λ a h. finished-again (wanted q) (s .image) (e .image) a (ap (λ (l : List ℕ). getD l a 0) (d .registers) ∙ image-at (wanted q) (s .image) a h) in
-    let g : Ranged q = read-ranged input (f .read) in
+    let g : Fits q = request.fits input (f .read) in
     let l : Listed input (s .image) buffer = listed input (s .image) buffer f in
     let newAvi = ap (drop 2) (d .ended .avi) ∙ avi-in q (e .image) sized g stands in
     let newAudio = ap (drop 2) (d .ended .audio) ∙ audio-in q (e .image) sized g stands ∙ ap (drop 3) (audio-frame (q .sound)) in

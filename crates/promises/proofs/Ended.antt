@@ -17,7 +17,7 @@ use Rattle.request.specs.declared.Sound.{Sound}
 use Rattle.request.specs.declared.Sound.the-variants.{Off, On}
 use Rattle.request.specs.declared.Request.{Request}
 use Rattle.request.specs.Theorems.{Filled}
-use Rattle.request.proofs.Ranged.{Ranged}
+use Rattle.request.specs.Fits.{Fits}
 use Rattle.chip.specs.Machine.{Group, avi, audio, registersOf}
 use Rattle.writes.specs.List.{decided, isWritten}
 use Rattle.plan.specs.Wanted.{wanted}
@@ -44,7 +44,7 @@ module _ (r : Request) where
 at-place : (g : Group) (image : List ℕ) (i : ℕ) → i < g .count → getD (registersOf g image) i 0 ≡ getD image (g .first + i) 0
 at-place g image i h = getD-take {A = ℕ} (g .count) (drop (g .first) image) i 0 h ∙ getD-drop (g .first) image i 0
 
-module _ (r : Request) (image : List ℕ) (g : Ranged r) (st : Stands r image) where
+module _ (r : Request) (image : List ℕ) (g : Fits r) (st : Stands r image) where
   pub avi-head : Headed 0x02 0x0D (registersOf avi image)
   unfolding isWritten decided classAt
   avi-head =

@@ -28,7 +28,6 @@ use Rattle.request.specs.declared.Request.{Request}
 use Rattle.request.specs.Read.{readOf, pairIn, pairFor, nctsOf}
 use Rattle.request.specs.Fits.{SoundFits, Fits}
 use Rattle.request.proofs.Fits.{fits}
-use Rattle.request.proofs.Ranged.{read-ranged}
 use Rattle.bits.specs.Merge.{merge, under, bit}
 use Rattle.registers.specs.Classes.{classAt}
 use Rattle.chip.specs.Machine.{Write, _gets_}
@@ -164,7 +163,7 @@ filled input image z y after sized ends =
     let e = stand r image after ends (ranges input z y) in
     let at = pick (Shows after) (places r p) e in
     let stands : Stands r after = λ a h. finished-again (wanted r) image after a (ends a h) in
-    let g = read-ranged input z in
+    let g : Fits r = fits input z in
     let v : bitsIn 2 0 (getD after 0x52 0) ≡ 0x02 = at 57 (lit< tt) in
     let l : bitsIn 4 0 (getD after 0x53 0) ≡ 0x0D = at 58 (lit< tt) in
     let va : bitsIn 2 0 (getD after 0x70 0) ≡ 0x01 = at 78 (lit< tt) in

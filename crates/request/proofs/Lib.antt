@@ -7,6 +7,5 @@ pub mod Ordered
 pub mod Coherent
 pub mod Cut
 pub mod Fits
-pub mod Ranged
 pub mod Said
 pub mod Back

@@ -1,4 +1,4 @@
--- `decode::extract` meets its contract: each field from one register. Assumes nothing.
+-- `decode::extract` meets its contract: each section from its registers. Assumes nothing.
 use borrow.Author.Needs.{needs}
 use Rattle.decode.specs.Extract.{extract}
 use Rattle.decode.proofs.extract.Statement.{statement}
@@ -10,27 +10,38 @@ sound-in-requires c κs = search needs
 matrix-in-requires : tie.Need-matrix-in-requires
 matrix-in-requires c κs = search needs
 
-cast-t4 : tie.Need-cast-t4
-cast-t4 c = search needs
+cast-link : tie.Need-cast-link
+cast-link c = search needs
 
-shared-slice-read-t6 : tie.Need-shared-slice-read-t6
-shared-slice-read-t6 c = search needs
+shared-slice-read-link : tie.Need-shared-slice-read-link
+shared-slice-read-link c = search needs
 
-cast-t8 : tie.Need-cast-t8
-cast-t8 c = search needs
+cast-start : tie.Need-cast-start
+cast-start c = search needs
 
-shared-slice-read-t10 : tie.Need-shared-slice-read-t10
-shared-slice-read-t10 c = search needs
+cast-end : tie.Need-cast-end
+cast-end c = search needs
 
-cast-t13 : tie.Need-cast-t13
-cast-t13 c = search needs
+add-end : tie.Need-add-end
+add-end c = search needs
 
-shared-slice-read-t15 : tie.Need-shared-slice-read-t15
-shared-slice-read-t15 c = search needs
+sub-video-named : tie.Need-sub-video-named
+sub-video-named c = search needs
+
+part-video-named-start : tie.Need-part-video-named-start
+part-video-named-start c = search needs
+
+part-video-named-end : tie.Need-part-video-named-end
+part-video-named-end c = search needs
+
+video-named-requires : tie.Need-video-named-requires
+video-named-requires c κs = search needs
 
 returns : tie.Need-returns
 unfolding extract
-returns c = simp (c .before .before .before .before .sound-in .ensures, c .before .before .before .matrix-in .ensures)
+returns c =
+    let p = c .before .before .before in
+    simp (c .video-named .ensures, p .before .sound-in .ensures, p .matrix-in .ensures)
 
 pub extract-spec : {M : Type 1} → statement M
 extract-spec =
@@ -38,10 +49,13 @@ extract-spec =
     (tie.spec
     sound-in-requires
     matrix-in-requires
-    cast-t4
-    shared-slice-read-t6
-    cast-t8
-    shared-slice-read-t10
-    cast-t13
-    shared-slice-read-t15
+    cast-link
+    shared-slice-read-link
+    cast-start
+    cast-end
+    add-end
+    sub-video-named
+    part-video-named-start
+    part-video-named-end
+    video-named-requires
     returns)
