@@ -14,7 +14,7 @@ use Rattle.clock.specs.declared.Clock.{Clock}
 use Rattle.video.specs.Modes.{modes, modeOf, rowOf, unlisted, offered}
 use Rattle.refusals.specs.Rows.{modeNotOffered, _if_, lowest, answer}
 use Rattle.clock.specs.Clocks.{clockIn, noClock, clockOf}
-use Rattle.clock.specs.Bounds.{hertzMost, Sized}
+use Rattle.clock.specs.Bounds.{hertzMost, WithinBounds}
 
 abbrev test : Mode → Bool
 test m = eqb (m .families) 0 || (ltb 0 (m .hertz) && leb (m .hertz) hertzMost)
@@ -36,14 +36,14 @@ hertz video o =
     let b : (p && q) ≡ true = either (m .families) (p && q) (found test (λ m. eqb (m .vic) (video .vic)) unlisted modes refl refl) (omega arith) in
     (ltb-true 0 (m .hertz) (both-left p q b), leb-true (m .hertz) hertzMost (both-right p q b))
 
-sized-in : (h family : ℕ) → 0 < h → h ≤ hertzMost → Sized (clockIn h family)
+sized-in : (h family : ℕ) → 0 < h → h ≤ hertzMost → WithinBounds (clockIn h family)
 sized-in h family p q = go (eqb family 0)
   where
-    go : (b : Bool) → Sized (cond b (record { refusal = 0; num = h; den = 1 }) (record { refusal = 0; num = h * 1000; den = 1001 }))
+    go : (b : Bool) → WithinBounds (cond b (record { refusal = 0; num = h; den = 1 }) (record { refusal = 0; num = h * 1000; den = 1001 }))
     go true = record { some = p; most = omega arith; part = omega arith; parts = omega arith }
     go false = record { some = omega arith; most = omega arith; part = omega arith; parts = omega arith }
 
-pub sized : (video : Video) → offered video ≡ true → Sized (clockOf video)
+pub sized : (video : Video) → offered video ≡ true → WithinBounds (clockOf video)
 unfolding clockOf
 sized video o = let b = hertz video o in rw o (sized-in (modeOf (video .vic) .hertz) (video .family) (b .0) (b .1))
 

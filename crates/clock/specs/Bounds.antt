@@ -30,7 +30,7 @@ abbrev pub stepMost : ℕ
 stepMost = referenceMost + partsMost
 
 -- a clock that is offered
-pub record Sized (clock : Clock) : Type 0 where
+pub record WithinBounds (clock : Clock) : Type 0 where
   pub some : 0 < clock .num
   pub most : clock .num ≤ numMost
   pub part : 0 < clock .den

@@ -2,7 +2,7 @@
 ghost use mathlib.Core.Path.{_≡_};
 ghost use Prim.Native.Nat.{_<_, _≤_, _+_, _-_, _*_, min};
 ghost use Rattle.clock.specs.Clocks.{GivesClock};
-ghost use Rattle.clock.specs.Bounds.{Sized, numMost, referenceMost, partsMost, stepMost};
+ghost use Rattle.clock.specs.Bounds.{WithinBounds, numMost, referenceMost, partsMost, stepMost};
 ghost use Rattle.clock.specs.Pairs.{reference, recommendedOf, thePair, noPair, audioOff};
 ghost use Rattle.clock.specs.Found.{nearestK, leastK, mostK, nearestIn, nearestOf, exactly, coherentOf, GivesPair};
 ghost use Rattle.clock.specs.Theorems.{PairRule, ClockRefusals};
@@ -112,7 +112,7 @@ fn reference(rate: u8) -> u64
 // wherever it is named.
 fn recommended_pair(clock: Clock, rate: u8) -> NCts
     requires { ⌜ rate < 7 ⌝ }
-    requires { ⌜ Sized clock ⌝ }
+    requires { ⌜ WithinBounds clock ⌝ }
     ensures { λ r. ⌜ r ≡ recommendedOf clock rate ⌝ }
 {
     let nums = NUMS;
@@ -134,7 +134,7 @@ fn recommended_pair(clock: Clock, rate: u8) -> NCts
 // The test of an exact pair.
 fn exactly(clock: Clock, rate: u8, n: u32, cts: u32) -> bool
     requires { ⌜ rate < 7 ⌝ }
-    requires { ⌜ Sized clock ⌝ }
+    requires { ⌜ WithinBounds clock ⌝ }
     ensures { λ r. ⌜ r ≡ exactly clock rate n cts ⌝ }
 {
     let f = reference(rate);
@@ -232,7 +232,7 @@ fn nearest_in(f: u64, u: u64, v: u64) -> Pair
 // The exact pair whose N is nearest to 128·fs/1000, or refusal 9.
 fn nearest(clock: Clock, rate: u8) -> Pair
     requires { ⌜ rate < 7 ⌝ }
-    requires { ⌜ Sized clock ⌝ }
+    requires { ⌜ WithinBounds clock ⌝ }
     ensures { λ r. ⌜ r ≡ nearestOf clock rate ⌝ }
 {
     let f = reference(rate);
@@ -243,7 +243,7 @@ fn nearest(clock: Clock, rate: u8) -> Pair
 // N and CTS for coherent audio.
 fn coherent_pair(clock: Clock, rate: u8) -> Pair
     requires { ⌜ rate < 7 ⌝ }
-    requires { ⌜ Sized clock ⌝ }
+    requires { ⌜ WithinBounds clock ⌝ }
     ensures { λ r. ⌜ r ≡ coherentOf clock rate ⌝ }
 {
     let best = recommended_pair(clock, rate);

@@ -7,7 +7,7 @@ use native.Mathlib.Omega.{arith}
 use lib.ListN.{length, getD, take, drop, set, replicate, length-append, length-replicate}
 use lib.Seq.{sets, take-suc, length-take-le}
 use Rattle.lists.proofs.Emit.{sets-append, sets-front}
-use Rattle.line.specs.Words.{Stores, printed}
+use Rattle.line.specs.Words.{Stores, lineBytes}
 
 -- a byte more
 pub one-more : (xs d : List ℕ) (at n v : ℕ) → at + length xs ≡ n → set (sets d at xs) n v ≡ sets d at (xs ++ (v ∷ []))
@@ -25,7 +25,7 @@ then d at xs ys (p, q) (r, s) =
     (r ∙ rw (p, length-append) (omega arith), s ∙ rw (q, p) (sym (sets-append xs ys d at)))
 
 -- bytes at the front of eighty
-pub at-front : (xs : List ℕ) (n : ℕ) (e : List ℕ) → Stores (replicate 80 0) 0 xs n e → n ≤ 80 → record { bytes = e; count = n } ≡ printed xs
+pub at-front : (xs : List ℕ) (n : ℕ) (e : List ℕ) → Stores (replicate 80 0) 0 xs n e → n ≤ 80 → record { bytes = e; count = n } ≡ lineBytes xs
 at-front xs n e (p, q) h =
     let l : n ≡ length xs = omega arith in
     let f : e ≡ xs ++ drop (length xs) (replicate 80 0) = q ∙ sets-front xs (replicate 80 0) (omega (arith, length-replicate {A = ℕ} 80 0)) in

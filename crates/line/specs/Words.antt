@@ -55,12 +55,12 @@ abbrev pub lineText : List ℕ → List ℕ
 lineText input = textOf (lineOf input)
 
 -- a line at the front of 80 bytes, the others 0, and its count
-abbrev pub printed : List ℕ → Printed
-printed text = record { bytes = text ++ drop (length text) (replicate 80 0); count = length text }
+abbrev pub lineBytes : List ℕ → Printed
+lineBytes text = record { bytes = text ++ drop (length text) (replicate 80 0); count = length text }
 
 -- what the program's call promises: the count, and what it leaves in the lent bytes
 abbrev pub Prints : List ℕ → ℕ → List ℕ → Type 0
-Prints input count left = (count ≡ printed (lineText input) .count) × (left ≡ printed (lineText input) .bytes)
+Prints input count left = (count ≡ lineBytes (lineText input) .count) × (left ≡ lineBytes (lineText input) .bytes)
 
 -- the number that decimal digits say, read from the left
 abbrev pub said : ℕ → List ℕ → ℕ

@@ -4,7 +4,7 @@ ghost use mathlib.Core.List.{List, _++_};
 ghost use Prim.Native.Nat.{ℕ, _+_, _<_, _≤_};
 ghost use lib.ListN.{length};
 ghost use Rattle.line.specs.Line.{audioChecksum, lineOf, Lines};
-ghost use Rattle.line.specs.Words.{digit, decimal, hex, acceptedText, refusedText, Stores, textOf, printed, Prints, Numeral};
+ghost use Rattle.line.specs.Words.{digit, decimal, hex, acceptedText, refusedText, Stores, textOf, lineBytes, Prints, Numeral};
 use refusals::Refusal;
 use request::Sound;
 
@@ -159,7 +159,7 @@ fn refused(out: &mut [u8; 80], number: u8) -> usize
 
 // What is printed of a line.
 fn text_of(line: Line) -> Printed
-    ensures { λ r. ⌜ r ≡ printed (textOf line) ⌝ }
+    ensures { λ r. ⌜ r ≡ lineBytes (textOf line) ⌝ }
     ensures { λ r. ⌜ r .count ≤ 80 ⌝ }
 {
     let mut out = [0u8; 80];

@@ -4,29 +4,30 @@ use mathlib.Core.List.{List, [], _∷_, map}
 use Prim.Native.Nat.{ℕ, _+_, _-_, _*_, _^_}
 use Rattle.map.specs.Map as reg
 
-pub record Row : Type 0 where
+-- a number as it is printed, and the constant that stands for it
+pub record Twin : Type 0 where
   pub number : ℕ
   pub constant : ℕ
 
 -- a field's mask, its shift, and its default in its place
-abbrev pub mask : ℕ → ℕ → ℕ → Row
+abbrev pub mask : ℕ → ℕ → ℕ → Twin
 mask high low constant = record { number = 2 ^ (high + 1) - 2 ^ low; constant = constant }
 
-abbrev pub shift : ℕ → ℕ → ℕ → Row
+abbrev pub shift : ℕ → ℕ → ℕ → Twin
 shift high low constant = record { number = low; constant = constant }
 
-abbrev pub default : ℕ → ℕ → ℕ → ℕ → Row
+abbrev pub default : ℕ → ℕ → ℕ → ℕ → Twin
 default high low number constant = record { number = number * 2 ^ low; constant = constant }
 
 -- the count of registers of a group
-abbrev pub count : ℕ → ℕ → ℕ → Row
+abbrev pub count : ℕ → ℕ → ℕ → Twin
 count first last constant = record { number = last + 1 - first; constant = constant }
 
 -- a register's address
-abbrev pub register : ℕ → ℕ → Row
+abbrev pub register : ℕ → ℕ → Twin
 register address constant = record { number = address; constant = constant }
 
-abbrev pub rows : List Row
+abbrev pub rows : List Twin
 rows =
     register 0x01 reg.n0 ∷ mask 3 0 reg.n0Mask ∷
     register 0x02 reg.n1 ∷ register 0x03 reg.n2 ∷
@@ -89,7 +90,7 @@ rows =
 
 -- the numbers as printed, and the constants
 abbrev pub printed : List ℕ
-printed = map (λ (r : Row). r .number) rows
+printed = map (λ (r : Twin). r .number) rows
 
 abbrev pub twins : List ℕ
-twins = map (λ (r : Row). r .constant) rows
+twins = map (λ (r : Twin). r .constant) rows

@@ -30,7 +30,7 @@ use Rattle.views.specs.declared.view.Mute.{Mute}
 use Rattle.views.specs.declared.converter.Count.{Count}
 use Rattle.views.specs.Entry.{enterOf, Writes}
 use Rattle.views.specs.View.{viewRefusal, sentOf, sentPart, muteOf, Sends, Places, Refuses, Mutes}
-use Rattle.views.specs.Converter.{matrixCount, matrixOut, ShowsMatrix}
+use Rattle.views.specs.Converter.{matrixAnswer, matrixOut, ShowsMatrix}
 use Rattle.plan.specs.declared.Planned.{Planned}
 use Rattle.plan.specs.Plan.{planOf, planBuffer, Plans}
 use Rattle.decode.specs.declared.Decoded.{Decoded}
@@ -89,7 +89,7 @@ pub record Settled : Type 0 where
   pub mute : (image packet : List ℕ) → Only {A = Mute} (Mutes image packet) (muteOf image packet)
   pub matrix : (image buffer out : List ℕ)
       → Only {A = Count × List ℕ} (λ o. ShowsMatrix image buffer out (o .0) (o .1))
-      (matrixCount image buffer out, matrixOut image buffer out)
+      (matrixAnswer image buffer out, matrixOut image buffer out)
   pub class : (address : ℕ) → Only {A = Class} (Classifies address) (classAt address)
   -- the nine exported calls: field by field what the library answers
   pub stationPlan : (request image writes : List ℕ)
@@ -117,7 +117,7 @@ pub record Settled : Type 0 where
       → let m : Mute = muteOf image packet in
       Only {A = StateOut} (StationMute image packet) (record { refusal = m .refusal; mute = m .mute })
   pub stationMatrix : (image coefficients matrix : List ℕ)
-      → let c : Count = matrixCount image coefficients matrix in
+      → let c : Count = matrixAnswer image coefficients matrix in
       Only {A = CountOut × List ℕ} (λ o. StationMatrix image coefficients matrix (o .0) (o .1))
       (record { refusal = c .refusal; count = c .count }, matrixOut image coefficients matrix)
   pub stationClass : (address : ℕ)

@@ -1,10 +1,7 @@
 -- Document 01, "Register classes": the fields that are named, in the order of its sentence "Named: N, CTS, ..". `registers::fields` says
 -- that the class table names their bits, and `AllNamed` (promises) that the document's places cover these and no others.
-use mathlib.Core.Bool.{cond}
 use mathlib.Core.List.{List, [], _∷_, _++_}
 use Prim.Native.Nat.{ℕ, zero, suc, _+_}
-use lib.Bits.{bitOr}
-use lib.Dec.{eqb}
 use Rattle.map.specs.Map.{n0, n0Mask, n1, n2, ctsManual0, ctsManual0Mask, ctsManual1, ctsManual2}
 use Rattle.map.specs.Map.{audioSource, ctsSelectMask, audioSelectMask, audioModeMask}
 use Rattle.map.specs.Map.{i2sConfig, i2s3EnableMask, i2s2EnableMask, i2s1EnableMask, i2s0EnableMask, i2sFormatMask}
@@ -19,25 +16,7 @@ use Rattle.map.specs.Map.{aviInfoframeVersion, aviInfoframeVersionMask, aviInfo
 use Rattle.map.specs.Map.{aviInfoframeChecksum, aviInfoframeByte1}
 use Rattle.map.specs.Map.{audioInfoframeVersion, audioInfoframeVersionMask, audioInfoframeLength, audioInfoframeLengthMask}
 use Rattle.map.specs.Map.{audioInfoframeChecksum, audioInfoframeByte1}
-
--- a field, or the part of it that lies in this register
-pub record Field : Type 0 where
-  pub address : ℕ
-  pub mask : ℕ
-  -- the bits that must be set, in their place; 0 for a field of which the list says none
-  pub value : ℕ
-
-abbrev pub field : ℕ → ℕ → Field
-field address mask = record { address = address; mask = mask; value = 0 }
-
--- the mask of a field that fills its register
-abbrev pub whole : ℕ
-whole = 0xFF
-
--- count registers from `first` on, each filled by a field
-abbrev pub bytes : ℕ → ℕ → List Field
-bytes first zero = []
-bytes first (suc count) = field first whole ∷ bytes (first + 1) count
+use Rattle.registers.specs.Field.{Field, field, whole, bytes, fieldsAt, masks}
 
 -- count coefficients from register `first` on: the high five bits of each in one register, the low eight in the next
 abbrev pub coefficients : ℕ → ℕ → List Field
@@ -79,21 +58,6 @@ namedFields =
     field audioInfoframeVersion audioInfoframeVersionMask ∷ field audioInfoframeLength audioInfoframeLengthMask ∷
     field audioInfoframeChecksum whole ∷ [] ++
     bytes audioInfoframeByte1 5
-
--- the fields of the list that lie in register a
-abbrev pub fieldsAt : ℕ → List Field → List Field
-fieldsAt a [] = []
-fieldsAt a (f ∷ fs) = cond (eqb a (f .address)) (f ∷ fieldsAt a fs) (fieldsAt a fs)
-
--- the bits that lie in one of the fields
-abbrev pub masks : List Field → ℕ
-masks [] = 0
-masks (f ∷ fs) = bitOr (f .mask) (masks fs)
-
--- those of them that must be 1
-abbrev pub values : List Field → ℕ
-values [] = 0
-values (f ∷ fs) = bitOr (f .value) (values fs)
 
 -- the bits of register a that lie in a field of the list, 0 where it has none
 abbrev pub maskIn : List Field → ℕ → ℕ

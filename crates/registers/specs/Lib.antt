@@ -1,4 +1,5 @@
 pub mod Classes
+pub mod Field
 pub mod Fields
 pub mod Precedence
 pub mod Rows

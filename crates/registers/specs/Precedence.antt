@@ -4,7 +4,8 @@ use mathlib.Core.List.{List, _++_}
 use Prim.Native.Nat.{ℕ, _+_, _-_}
 use lib.Bits.{bitAnd}
 use Rattle.registers.specs.declared.Class.{Class}
-use Rattle.registers.specs.Fields.{Field, namedFields, fieldsAt, masks, values}
+use Rattle.registers.specs.Field.{Field, fieldsAt, masks, values}
+use Rattle.registers.specs.Fields.{namedFields}
 use Rattle.registers.specs.Rows.{readOnlyFields, table14Bits, fixedFields}
 
 -- the bits of x that lie in none of the fields

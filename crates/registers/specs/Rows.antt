@@ -5,7 +5,7 @@
 use mathlib.Core.List.{List, [], _∷_, _++_}
 use Prim.Native.Nat.{ℕ, zero, suc, _+_, _-_, _*_, _^_}
 use Rattle.map.specs.Map.{fixed98, fixed9a, fixed9c, fixed9d, fixedA2, fixedA3, fixedE0, fixedI2cAddress}
-use Rattle.registers.specs.Fields.{Field, field, bytes}
+use Rattle.registers.specs.Field.{Field, field, bytes}
 
 -- a row whose type is printed as RO: the bits [high:low] of the register
 abbrev pub ro : ℕ → ℕ → ℕ → Field

@@ -6,7 +6,7 @@ use lib.Dec.{eqb}
 use Rattle.lists.specs.Find.{every}
 use Rattle.bits.specs.Merge.{under}
 use Rattle.registers.specs.Classes.{mandated, bits}
-use Rattle.registers.specs.Fields.{Field}
+use Rattle.registers.specs.Field.{Field}
 use Rattle.registers.specs.Rows.{table14Bits}
 use Rattle.registers.specs.Steps.{table14}
 

@@ -11,7 +11,7 @@ use Rattle.views.specs.declared.view.Mute.{Mute}
 use Rattle.views.specs.declared.converter.Count.{Count}
 use Rattle.views.specs.Entry.{enterOf}
 use Rattle.views.specs.View.{sentPart, muteOf}
-use Rattle.views.specs.Converter.{matrixCount, matrixOut}
+use Rattle.views.specs.Converter.{matrixAnswer, matrixOut}
 use Rattle.station.specs.declared.CountOut.{CountOut}
 use Rattle.station.specs.declared.machine.PartOut.{PartOut}
 use Rattle.station.specs.declared.machine.StateOut.{StateOut}
@@ -40,7 +40,7 @@ StationMute image packet out = out ≡ muteOut (muteOf image packet)
 
 abbrev pub StationMatrix : List ℕ → List ℕ → List ℕ → CountOut → List ℕ → Type 0
 StationMatrix image coefficients matrix out left =
-    (out ≡ bytesOut (matrixCount image coefficients matrix)) × (left ≡ matrixOut image coefficients matrix)
+    (out ≡ bytesOut (matrixAnswer image coefficients matrix)) × (left ≡ matrixOut image coefficients matrix)
 
 abbrev pub StationClass : ℕ → ClassOut → Type 0
 StationClass address out = out ≡ classOut (classAt address)

@@ -19,7 +19,7 @@ use Rattle.matrix.proofs.Pairs.{two-left, fields-small, length-fields, length-b
 use Rattle.chip.specs.declared.Chip.{Chip}
 use Rattle.views.specs.declared.converter.Count.{Count}
 use Rattle.chip.specs.Machine.{matrix, converter, registersOf, up, holdsOf, inUse, coefficients, modeInUse}
-use Rattle.views.specs.Converter.{matrixBytes, matrixTests, matrixRefusal, noCount, matrixCount, matrixOut}
+use Rattle.views.specs.Converter.{matrixBytes, matrixTests, matrixRefusal, noCount, matrixAnswer, matrixOut}
 use Rattle.views.specs.Theorems.{matrixRules, MatrixRefusals}
 use Rattle.views.specs.Entry.{lentAs}
 use Rattle.bits.proofs.Laws.{bit-code, two-bits-code}
@@ -52,13 +52,13 @@ module _ (image buffer out : List ℕ) where
       lowest-given (matrixTests image buffer out) (matrixRules image buffer out) refl
       (refl, unlike (length image) (length buffer) 256 24, λ f. (refl, less (length out) 25, λ g. tt))
 
-  counted : matrixCount image buffer out .refusal ≡ matrixRefusal image buffer out
-  unfolding matrixCount
+  counted : matrixAnswer image buffer out .refusal ≡ matrixRefusal image buffer out
+  unfolding matrixAnswer
   counted = numbered noCount _ (λ (c : Count). c .refusal) (matrixRefusal image buffer out) refl refl
 
   pub refused : (n : ℕ) → n ≢ 0 → matrixRefusal image buffer out ≡ n
-      → (record { refusal = n; count = 0 } ≡ matrixCount image buffer out) × (out ≡ matrixOut image buffer out)
-  unfolding matrixCount matrixOut
+      → (record { refusal = n; count = 0 } ≡ matrixAnswer image buffer out) × (out ≡ matrixOut image buffer out)
+  unfolding matrixAnswer matrixOut
   refused n h e = rw (e, ne-eqb n 0 h) (refl, refl)
 
   pub seven : not (eqb (length image) 256 && eqb (length buffer) 24) ≡ true → matrixRefusal image buffer out ≡ 7
@@ -97,8 +97,8 @@ module _ (image buffer out : List ℕ) where
     -- the mode stored first, and the coefficients of the bytes in use after it
     pub written : (bytes : List ℕ) → bytes ≡ inUse converter matrix (lentAs image [] buffer) → 25 ≤ length out
         → {after : List ℕ} → after ≡ sets (set out 0 (getD image 0x18 0 / 32 % 4)) 1 (coefficientBytes (fields bytes))
-        → (record { refusal = 0; count = 25 } ≡ matrixCount image buffer out) × (after ≡ matrixOut image buffer out)
-    unfolding matrixCount matrixOut matrixRefusal matrixBytes coefficients
+        → (record { refusal = 0; count = 25 } ≡ matrixAnswer image buffer out) × (after ≡ matrixOut image buffer out)
+    unfolding matrixAnswer matrixOut matrixRefusal matrixBytes coefficients
     written bytes e h f = rw (eq-eqb _ _ l, eq-eqb _ _ k, le-ltb _ _ h) (
       refl,
       f ∙ ap₂ (λ (m : ℕ) (b : List ℕ). sets out 0 (m ∷ coefficientBytes (fields b))) (sym (two-bits-code 5 (getD image 0x18 0))) e
@@ -118,9 +118,9 @@ module _ (s : Chip) (i : length (s .image) ≡ 256) (k : length (s .coefficients
   shown = refl
 
   pub answered : (out : List ℕ) → 25 ≤ length out
-      → (matrixCount (s .image) (s .coefficients) out ≡ record { refusal = 0; count = 25 })
+      → (matrixAnswer (s .image) (s .coefficients) out ≡ record { refusal = 0; count = 25 })
       × (matrixOut (s .image) (s .coefficients) out ≡ (modeInUse s ∷ coefficientBytes (coefficients s)) ++ drop 25 out)
-  unfolding matrixCount matrixOut matrixRefusal
+  unfolding matrixAnswer matrixOut matrixRefusal
   answered out h = rw (eq-eqb _ _ i, eq-eqb _ _ k, le-ltb _ _ h) (refl, ap (λ (l : List ℕ). l ++ drop 25 out) shown)
 
   pub said : fields (coefficientBytes (coefficients s)) ≡ coefficients s

@@ -29,12 +29,12 @@ abbrev pub noCount : ℕ → Count
 noCount number = record { refusal = number; count = 0 }
 
 -- the answer, and what is left in the lent bytes: "buffer bytes after .. stay", and a refusal changes none
-unfoldable pub matrixCount : List ℕ → List ℕ → List ℕ → Count
-matrixCount image buffer out = answer (matrixRefusal image buffer out) noCount (record { refusal = 0; count = 25 })
+unfoldable pub matrixAnswer : List ℕ → List ℕ → List ℕ → Count
+matrixAnswer image buffer out = answer (matrixRefusal image buffer out) noCount (record { refusal = 0; count = 25 })
 
 unfoldable pub matrixOut : List ℕ → List ℕ → List ℕ → List ℕ
 matrixOut image buffer out = answer (matrixRefusal image buffer out) (λ number. out) (matrixBytes image buffer ++ drop 25 out)
 
 -- what is promised: the answer, and what is left in the lent bytes
 abbrev pub ShowsMatrix : List ℕ → List ℕ → List ℕ → Count → List ℕ → Type 0
-ShowsMatrix image buffer out given left = (given ≡ matrixCount image buffer out) × (left ≡ matrixOut image buffer out)
+ShowsMatrix image buffer out given left = (given ≡ matrixAnswer image buffer out) × (left ≡ matrixOut image buffer out)

@@ -16,7 +16,7 @@ use Rattle.chip.specs.Step.{TwoUp, writeRules}
 use Rattle.views.specs.declared.view.Part.{Part}
 use Rattle.views.specs.Entry.{enterOf}
 use Rattle.views.specs.View.{viewRefusal, sentOf, sentPart, muteOf}
-use Rattle.views.specs.Converter.{matrixCount, matrixOut}
+use Rattle.views.specs.Converter.{matrixAnswer, matrixOut}
 
 -- ---- refusals, on any slices
 
@@ -61,8 +61,8 @@ pub record ViewRefusals (image packet : List ℕ) : Type 0 where
 
 -- a refusal has a count of zero, and leaves the lent buffer as it was
 pub record MatrixRefusals (image buffer out : List ℕ) : Type 0 where
-  pub given : Given (matrixRules image buffer out) (matrixCount image buffer out .refusal)
-  pub kept : matrixCount image buffer out .refusal ≢ 0 → (matrixCount image buffer out .count ≡ 0) × (matrixOut image buffer out ≡ out)
+  pub given : Given (matrixRules image buffer out) (matrixAnswer image buffer out .refusal)
+  pub kept : matrixAnswer image buffer out .refusal ≢ 0 → (matrixAnswer image buffer out .count ≡ 0) × (matrixOut image buffer out ≡ out)
 
 -- ---- answers, in the machine's own words
 
@@ -81,7 +81,7 @@ pub record Faces (s : Chip) : Type 0 where
   pub muted : (muteOf (s .image) (s .packet) .mute ≡ 1) ↔ Muted s
   pub opened : (muteOf (s .image) (s .packet) .mute ≡ 2) ↔ Open s
   -- mode and coefficients, in any buffer that is long enough; read back, the bytes say the twelve in use
-  pub count : (out : List ℕ) → 25 ≤ length out → matrixCount (s .image) (s .coefficients) out ≡ record { refusal = 0; count = 25 }
+  pub count : (out : List ℕ) → 25 ≤ length out → matrixAnswer (s .image) (s .coefficients) out ≡ record { refusal = 0; count = 25 }
   pub matrix : (out : List ℕ) → 25 ≤ length out
       → matrixOut (s .image) (s .coefficients) out ≡ (modeInUse s ∷ coefficientBytes (coefficients s)) ++ drop 25 out
   pub twelve : fields (coefficientBytes (coefficients s)) ≡ coefficients s

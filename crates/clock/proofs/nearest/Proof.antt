@@ -9,7 +9,7 @@ use Rattle.ratio.specs.Lowest.{Reduces, topOf, bottomOf}
 use Rattle.ratio.proofs.Unique.{only}
 use Rattle.ratio.proofs.Multiples.{u-some, v-some}
 use Rattle.clock.specs.declared.Clock.{Clock}
-use Rattle.clock.specs.Bounds.{Sized, numMost, referenceMost, partsMost}
+use Rattle.clock.specs.Bounds.{WithinBounds, numMost, referenceMost, partsMost}
 use Rattle.clock.specs.Found.{nearestOf}
 use Rattle.clock.proofs.nearest.Statement.{statement}
 use Rattle.clock.proofs.nearest.Tie as tie
@@ -20,7 +20,7 @@ pub record Known (num parts : ℕ) (r : Ratio) : Type 0 where
   pub bottom : r .v ≡ bottomOf num parts
   pub bounds : ((0 < r .u) × (r .u ≤ numMost)) × ((0 < r .v) × (r .v ≤ partsMost))
 
-known : (clock : Clock) (f : ℕ) (r : Ratio) → Sized clock → 0 < f → f ≤ referenceMost → Reduces (clock .num) (clock .den * f) r
+known : (clock : Clock) (f : ℕ) (r : Ratio) → WithinBounds clock → 0 < f → f ≤ referenceMost → Reduces (clock .num) (clock .den * f) r
     → Known (clock .num) (clock .den * f) r
 known clock f r s p m l =
     let parts : ℕ = clock .den * f in

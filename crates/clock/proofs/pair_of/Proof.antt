@@ -5,7 +5,7 @@ use borrow.Author.Needs.{needs}
 use borrow.Author.Tests.{lt-ltb, le-ltb, eq-eqb, ne-eqb}
 use Rattle.clock.specs.declared.Clock.{Clock}
 use Rattle.video.specs.Modes.{offered}
-use Rattle.clock.specs.Bounds.{Sized}
+use Rattle.clock.specs.Bounds.{WithinBounds}
 use Rattle.clock.specs.Found.{pairOf}
 use Rattle.clock.proofs.Offered.{sized, accepted, declined}
 use Rattle.clock.proofs.Coherence.{pair-in}
@@ -52,7 +52,7 @@ coherent-pair-requires : tie.Need-coherent-pair-requires
 coherent-pair-requires c κs =
     let p = c .before .before in
     let q = p .before .before .before in
-    (search needs, subst Sized (sym (q .clock-of .ensures)) (sized (q .before .args .video) (taken-up (p .before))))
+    (search needs, subst WithinBounds (sym (q .clock-of .ensures)) (sized (q .before .args .video) (taken-up (p .before))))
 
 returns-4 : tie.Need-returns-4
 returns-4 c =
