@@ -11,7 +11,8 @@ use Rattle.lists.proofs.Both.{neither-left, neither-right}
 use Rattle.lists.proofs.Decides.{itself, less, opposite, either, restated}
 use Rattle.refusals.specs.Rows.{lowest}
 use Rattle.refusals.proofs.Tests.{Decided, lowest-given, numbered, answer-some}
-use Rattle.matrix.specs.Matrix.{isAllowed, Bytes}
+use Rattle.matrix.specs.Matrix.{Bytes}
+use Rattle.matrix.specs.Tests.{isAllowed}
 use Rattle.matrix.specs.Preview.{above, previewTests, noPixel, previewOf, previewRules, PreviewRefusals}
 use Rattle.matrix.proofs.Numbers.{numbers}
 

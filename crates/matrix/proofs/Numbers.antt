@@ -9,8 +9,10 @@ use native.Mathlib.Omega.{arith}
 use lib.ListN.{length, getD, drop}
 use borrow.Author.Tests.{eq-eqb, le-leb}
 use Rattle.lists.proofs.Both.{both-left, both-right}
-use Rattle.matrix.specs.Coefficient.{within, field, valueOf, Sent}
-use Rattle.matrix.specs.Matrix.{fields, inRange, isAllowed, wordAt, Numbers, Bytes}
+use Rattle.matrix.specs.Coefficient.{field, valueOf}
+use Rattle.matrix.specs.Tests.{within, Sent}
+use Rattle.matrix.specs.Matrix.{fields, wordAt, Numbers, Bytes}
+use Rattle.matrix.specs.Tests.{inRange, isAllowed}
 use Rattle.matrix.proofs.Pairs.{rest, range-more, range-end, fields-more, sized, mode-small, ranged}
 use Rattle.matrix.proofs.Signs.{sent}
 

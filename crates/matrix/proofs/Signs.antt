@@ -11,7 +11,8 @@ use lib.IntN.{ℤ, pos, negsuc}
 use lib.Signed.{leZ-yes}
 use lib.Pow.{pow-pos}
 use borrow.Author.Tests.{lt-ltb, le-ltb, le-leb, ltb-true, ltb-false, leb-true}
-use Rattle.matrix.specs.Coefficient.{signed, bitsOf, within, field, word, Spans, TwosComplement, Sent, Said}
+use Rattle.matrix.specs.Coefficient.{signed, bitsOf, field, word, Spans, TwosComplement}
+use Rattle.matrix.specs.Tests.{within, Sent, Said}
 use Rattle.matrix.proofs.Order.{pos-le, of-pos-le, negsuc-le, of-negsuc-le}
 
 -- the two halves of the bits, at every width

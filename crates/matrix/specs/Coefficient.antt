@@ -1,10 +1,8 @@
 -- Document 01, "Matrix": "Coefficients are 13-bit two's complement"; "The request": two bytes, high byte first, from -4096 to 4095.
 use mathlib.Core.Path.{_≡_}
-use mathlib.Core.Logic.{_↔_}
-use mathlib.Core.Bool.{Bool, true, cond, _||_}
-use mathlib.Core.List.{List, [], _∷_}
-use Prim.Native.Nat.{ℕ, suc, _+_, _-_, _*_, _/_, _%_, _^_, _<_}
-use lib.Dec.{leb, ltb}
+use mathlib.Core.Bool.{cond}
+use Prim.Native.Nat.{ℕ, suc, _+_, _-_, _*_, _%_, _^_, _<_}
+use lib.Dec.{ltb}
 use lib.IntN.{ℤ, pos, negsuc, subℕ}
 use lib.Signed.{_≤ℤ_}
 
@@ -20,23 +18,12 @@ bitsOf k (negsuc n) = 2 ^ suc k - suc (n % 2 ^ suc k)
 abbrev pub valueOf : ℕ → ℤ
 valueOf field = signed 12 field
 
--- two bytes of a request, high byte first, as 16 bits; within -4096 to 4095; and their field
+-- two bytes of a request, high byte first, as 16 bits; and their field
 abbrev pub word : ℕ → ℕ → ℕ
 word high low = high * 256 + low
 
-abbrev pub within : ℕ → Bool
-within w = ltb w 4096 || leb 61440 w
-
 abbrev pub field : ℕ → ℕ
 field w = w % 8192
-
--- a coefficient as the request has it: two bytes, high byte first, of its 13 bits carried to 16
-abbrev pub highByte : ℕ → ℕ
-highByte field = cond (ltb field 4096) (field / 256) (field / 256 + 224)
-
-abbrev pub coefficientBytes : List ℕ → List ℕ
-coefficientBytes [] = []
-coefficientBytes (c ∷ cs) = highByte c ∷ c % 256 ∷ coefficientBytes cs
 
 -- the numbers of k + 1 bits
 pub record Spans (k : ℕ) (z : ℤ) : Type 0 where
@@ -48,13 +35,3 @@ pub record TwosComplement (k : ℕ) : Type 0 where
   pub range : (bits : ℕ) → bits < 2 ^ suc k → Spans k (signed k bits)
   pub back : (bits : ℕ) → bits < 2 ^ suc k → bitsOf k (signed k bits) ≡ bits
   pub again : (z : ℤ) → Spans k z → signed k (bitsOf k z) ≡ z
-
--- what two bytes of a request say: `within` is "from -4096 to 4095", and the field stands for the number that the bytes stand for
-pub record Sent (w : ℕ) : Type 0 where
-  pub range : (within w ≡ true) ↔ Spans 12 (signed 15 w)
-  pub same : within w ≡ true → valueOf (field w) ≡ signed 15 w
-
--- the bytes of a field are within the request's range, and say that field
-pub record Said (c : ℕ) : Type 0 where
-  pub range : within (word (highByte c) (c % 256)) ≡ true
-  pub same : field (word (highByte c) (c % 256)) ≡ c

@@ -1,3 +1,5 @@
 pub mod Coefficient
+pub mod Tests
 pub mod Matrix
+pub mod Read
 pub mod Preview

@@ -2,33 +2,20 @@
 -- `fields`; `Numbers` ties both to the document's words, `Allowed` and `numberAt`.
 use mathlib.Core.Path.{_≡_}
 use mathlib.Core.Logic.{_↔_}
-use mathlib.Core.Bool.{Bool, true, cond, _&&_}
+use mathlib.Core.Bool.{true}
 use mathlib.Core.List.{List, [], _∷_}
 use Prim.Native.Nat.{ℕ, _+_, _*_, _<_, _≤_}
-use lib.Dec.{eqb, leb}
 use lib.IntN.{ℤ}
-use lib.ListN.{getD, length, drop, replicate}
+use lib.ListN.{getD, length, drop}
 use Rattle.matrix.specs.declared.Matrix.{Matrix}
-use Rattle.matrix.specs.Coefficient.{word, within, field, signed, valueOf, Spans}
+use Rattle.matrix.specs.Coefficient.{word, field, signed, valueOf, Spans}
+use Rattle.matrix.specs.Tests.{isAllowed}
 
--- the fields of 13 bits, and whether each is in range
+-- the fields of 13 bits
 unfoldable pub fields : List ℕ → List ℕ
 fields [] = []
 fields (high ∷ []) = []
 fields (high ∷ low ∷ more) = field (word high low) ∷ fields more
-
--- those of 24 bytes; zeros where they are not 24
-abbrev pub twelveOf : List ℕ → List ℕ
-twelveOf bytes = cond (eqb (length bytes) 24) (fields bytes) (replicate 12 0)
-
-unfoldable pub inRange : List ℕ → Bool
-inRange [] = true
-inRange (high ∷ []) = true
-inRange (high ∷ low ∷ more) = within (word high low) && inRange more
-
--- a body of 25 bytes whose mode is at most 2 and whose coefficients are in range: what refusal 5 asks of a matrix
-unfoldable pub isAllowed : List ℕ → Bool
-isAllowed body = eqb (length body) 25 && leb (getD body 0 0) 2 && inRange (drop 1 body)
 
 -- "With a matrix: converter on."
 abbrev pub matrixOf : List ℕ → Matrix
@@ -37,10 +24,6 @@ matrixOf body = record { on = 1; mode = getD body 0 0; coefficients = fields (dr
 -- "No matrix: converter off, mode 1, A1 = B2 = C3 = 2048, the rest 0."
 abbrev pub noMatrix : Matrix
 noMatrix = record { on = 0; mode = 1; coefficients = 2048 ∷ 0 ∷ 0 ∷ 0 ∷ 0 ∷ 2048 ∷ 0 ∷ 0 ∷ 0 ∷ 0 ∷ 2048 ∷ 0 ∷ [] }
-
--- what is read of a body, allowed or not
-abbrev pub allowedMatrix : List ℕ → Matrix
-allowedMatrix body = cond (isAllowed body) (matrixOf body) noMatrix
 
 abbrev pub Bytes : List ℕ → Type 0
 Bytes body = (i : ℕ) → getD body i 0 < 256

@@ -13,7 +13,8 @@ use Rattle.refusals.specs.Rows.{fieldOutOfRange, inputAbove, Condition, _when_,
 use Rattle.matrix.specs.declared.Matrix.{Matrix}
 use Rattle.matrix.specs.declared.Pixel.{Pixel}
 use Rattle.matrix.specs.Coefficient.{valueOf}
-use Rattle.matrix.specs.Matrix.{isAllowed, matrixOf, Allowed}
+use Rattle.matrix.specs.Matrix.{matrixOf, Allowed}
+use Rattle.matrix.specs.Tests.{isAllowed}
 
 -- "Output A = (InA·A1/4096 + InB·A2/4096 + InC·A3/4096 + A4)·2^mode", with the one division at the end, where it "rounds down to a whole
 -- code"

@@ -6,8 +6,11 @@ ghost use lib.ListN.{getD, length};
 ghost use lib.IntN.{ℤ};
 ghost use lib.Signed.{shrZ};
 ghost use Rattle.matrix.specs.declared.Matrix.{Matrix};
-ghost use Rattle.matrix.specs.Coefficient.{word, field, highByte, TwosComplement, Sent, Said};
-ghost use Rattle.matrix.specs.Matrix.{twelveOf, isAllowed, allowedMatrix, noMatrix, wordAt, Bytes, Numbers};
+ghost use Rattle.matrix.specs.Coefficient.{word, field, TwosComplement};
+ghost use Rattle.matrix.specs.Tests.{highByte, Sent, Said};
+ghost use Rattle.matrix.specs.Matrix.{noMatrix, wordAt, Bytes, Numbers};
+ghost use Rattle.matrix.specs.Tests.{isAllowed};
+ghost use Rattle.matrix.specs.Read.{twelveOf, allowedMatrix};
 ghost use Rattle.matrix.specs.Preview.{held, codeOf, outputOf, Previews, PreviewRefusals, RoundedDown, Clamped};
 use refusals::Refusal;
 

@@ -13,7 +13,8 @@ use Rattle.clock.specs.Found.{nearestK, nearestIn, nearestOf, exactly, coherent
 use Rattle.ratio.proofs.Multiples.{divides}
 use Rattle.frames.specs.Frames.{total, aviFrame, audioFrame, audioOffFrame}
 use Rattle.frames.specs.Answers.{aviOf, audioOf}
-use Rattle.matrix.specs.Matrix.{fields, inRange, isAllowed}
+use Rattle.matrix.specs.Matrix.{fields}
+use Rattle.matrix.specs.Tests.{inRange, isAllowed}
 use Rattle.matrix.specs.Preview.{codeOf, previewOf}
 use Rattle.request.specs.Sections.{walk, walked}
 use Rattle.request.specs.Read.{outside, combined, judged, readOf, pairFor, nctsOf}

@@ -13,7 +13,8 @@ use Rattle.video.specs.declared.Video.{Video}
 use Rattle.video.specs.Video.{videoOutside}
 use Rattle.video.specs.Modes.{offered}
 use Rattle.matrix.specs.declared.Matrix.{Matrix}
-use Rattle.matrix.specs.Matrix.{isAllowed, matrixOf, noMatrix}
+use Rattle.matrix.specs.Matrix.{matrixOf, noMatrix}
+use Rattle.matrix.specs.Tests.{isAllowed}
 use Rattle.matrix.proofs.Pairs.{sized, mode-small, fields-small, none-small, length-fields}
 use Rattle.request.specs.declared.Sound.the-variants.{Off, On}
 use Rattle.request.specs.Sections.{Walk, walked, audioSection, matrixSection}

@@ -8,7 +8,8 @@ use borrow.Author.Tests.{eqb-true, eqb-false, not-false}
 use lib.ListN.{length, drop, getD}
 use Rattle.refusals.specs.Rows.{combination, Test, _if_, lowest, answer}
 use Rattle.lists.proofs.Decides.{Decides, failing, itself, equal, less, opposite, either, together, restated}
-use Rattle.matrix.specs.Matrix.{isAllowed, Allowed, Bytes}
+use Rattle.matrix.specs.Matrix.{Allowed, Bytes}
+use Rattle.matrix.specs.Tests.{isAllowed}
 use Rattle.matrix.proofs.Numbers.{numbers}
 use Rattle.refusals.proofs.First.{Tried}
 use Rattle.refusals.proofs.Again.{again}

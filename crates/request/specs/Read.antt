@@ -11,7 +11,8 @@ use Rattle.video.specs.Video.{noVideo, videoOutside, videoCombined}
 use Rattle.video.specs.Modes.{offered}
 use Rattle.clock.specs.Pairs.{noPair, audioOff}
 use Rattle.clock.specs.Found.{pairOf}
-use Rattle.matrix.specs.Matrix.{isAllowed, noMatrix}
+use Rattle.matrix.specs.Matrix.{noMatrix}
+use Rattle.matrix.specs.Tests.{isAllowed}
 use Rattle.request.specs.declared.Sound.{Sound}
 use Rattle.request.specs.declared.Sound.the-variants.{Off, On}
 use Rattle.request.specs.declared.Request.{Request}

@@ -3,7 +3,7 @@ ghost use mathlib.Core.Path.{_≡_};
 ghost use mathlib.Core.Bool.{not, _&&_};
 ghost use Prim.Native.Nat.{ℕ, _%_};
 ghost use lib.ListN.{length};
-ghost use Rattle.matrix.specs.Matrix.{isAllowed};
+ghost use Rattle.matrix.specs.Tests.{isAllowed};
 ghost use Rattle.request.specs.Sections.{audioCount, Walks, RequestWalks};
 ghost use Rattle.request.specs.Request.{present, soundOf};
 ghost use Rattle.request.specs.Read.{audioOutside, outside, combined, judged, readOf, Reads, Pairs, PairsInput, emptied};

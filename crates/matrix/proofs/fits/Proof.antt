@@ -6,8 +6,8 @@ use native.Mathlib.Omega.{arith}
 use lib.ListN.{drop}
 use borrow.Author.Needs.{needs}
 use borrow.Author.Tests.{eq-eqb, ne-eqb, le-leb, lt-leb, not-true, not-false}
-use Rattle.matrix.specs.Coefficient.{within}
-use Rattle.matrix.specs.Matrix.{isAllowed, inRange}
+use Rattle.matrix.specs.Tests.{within}
+use Rattle.matrix.specs.Tests.{isAllowed, inRange}
 use Rattle.matrix.proofs.Pairs.{range-more, range-end}
 use Rattle.matrix.proofs.fits.Statement.{statement}
 use Rattle.matrix.proofs.fits.Tie as tie

@@ -6,7 +6,8 @@ use Prim.Native.Nat.{ℕ, _<_, _≤_}
 use lib.Dec.{lit<}
 use lib.ListN.{getD}
 use borrow.Author.Tests.{not-true, not-false}
-use Rattle.matrix.specs.Matrix.{isAllowed, matrixOf}
+use Rattle.matrix.specs.Matrix.{matrixOf}
+use Rattle.matrix.specs.Tests.{isAllowed}
 use Rattle.matrix.specs.Preview.{previewOf}
 use Rattle.matrix.proofs.Pairs.{mode-small, fields-small}
 use Rattle.matrix.proofs.Codes.{codes}

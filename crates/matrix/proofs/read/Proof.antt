@@ -7,7 +7,7 @@ use lib.ListN.{length, take, drop, length-drop}
 use lib.Seq.{take-all}
 use borrow.Author.Needs.{needs}
 use borrow.Author.Tests.{not-true, not-false, eq-eqb}
-use Rattle.matrix.specs.Matrix.{isAllowed}
+use Rattle.matrix.specs.Tests.{isAllowed}
 use Rattle.matrix.proofs.Pairs.{sized}
 use Rattle.matrix.proofs.read.Statement.{statement}
 use Rattle.matrix.proofs.read.Tie as tie

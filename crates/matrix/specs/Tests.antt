@@ -1,0 +1,42 @@
+-- How the code tests and carries the coefficients of a request: `Numbers` (Matrix) ties `isAllowed` to document 01's words, `Sent` and `Said` the
+-- two bytes of a coefficient to its 13 bits.
+use mathlib.Core.Path.{_≡_}
+use mathlib.Core.Logic.{_↔_}
+use mathlib.Core.Bool.{Bool, true, cond, _&&_, _||_}
+use mathlib.Core.List.{List, [], _∷_}
+use Prim.Native.Nat.{ℕ, _+_, _/_, _%_}
+use lib.Dec.{eqb, leb, ltb}
+use lib.ListN.{getD, length, drop}
+use Rattle.matrix.specs.Coefficient.{signed, valueOf, word, field, Spans}
+
+-- a word of two bytes is within -4096 to 4095
+abbrev pub within : ℕ → Bool
+within w = ltb w 4096 || leb 61440 w
+
+-- each coefficient of a body
+unfoldable pub inRange : List ℕ → Bool
+inRange [] = true
+inRange (high ∷ []) = true
+inRange (high ∷ low ∷ more) = within (word high low) && inRange more
+
+-- a body of 25 bytes whose mode is at most 2 and whose coefficients are in range: what refusal 5 asks of a matrix
+unfoldable pub isAllowed : List ℕ → Bool
+isAllowed body = eqb (length body) 25 && leb (getD body 0 0) 2 && inRange (drop 1 body)
+
+-- a coefficient as the request has it: two bytes, high byte first, of its 13 bits carried to 16
+abbrev pub highByte : ℕ → ℕ
+highByte field = cond (ltb field 4096) (field / 256) (field / 256 + 224)
+
+abbrev pub coefficientBytes : List ℕ → List ℕ
+coefficientBytes [] = []
+coefficientBytes (c ∷ cs) = highByte c ∷ c % 256 ∷ coefficientBytes cs
+
+-- what two bytes of a request say: `within` is "from -4096 to 4095", and the field stands for the number that the bytes stand for
+pub record Sent (w : ℕ) : Type 0 where
+  pub range : (within w ≡ true) ↔ Spans 12 (signed 15 w)
+  pub same : within w ≡ true → valueOf (field w) ≡ signed 15 w
+
+-- the bytes of a field are within the request's range, and say that field
+pub record Said (c : ℕ) : Type 0 where
+  pub range : within (word (highByte c) (c % 256)) ≡ true
+  pub same : field (word (highByte c) (c % 256)) ≡ c
