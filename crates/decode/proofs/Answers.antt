@@ -11,8 +11,8 @@ use lib.ListN.{length, getD, take, drop, length-take, length-drop}
 use borrow.Author.Tests.{eqb-true, eq-eqb, le-ltb, not-true, not-false}
 use Rattle.lists.proofs.Both.{both-left, both-right}
 use Rattle.lists.proofs.Decides.{Decides, equal, less, opposite}
-use Rattle.refusals.specs.Rows.{imageLength, bufferShort, noRequest, _if_}
-use Rattle.refusals.proofs.Tests.{Decided, lowest-given, past, numbered, answer-none, answer-some}
+use Rattle.refusals.specs.Rows.{Test}
+use Rattle.refusals.proofs.Tests.{Decided, lowest-given, none-at, numbered, answer-none, answer-some}
 use Rattle.bits.specs.Merge.{merge}
 use Rattle.bits.proofs.Truth.{E, var, by, law}
 use Rattle.registers.specs.Classes.{readOnly, free, named, bits}
@@ -153,7 +153,7 @@ module _ (image buffer : List ℕ) where
 
   number-given : decodeOf image buffer .refusal ≡ decodeRefusal image buffer
   unfolding decodeOf
-  number-given = numbered notDecoded _ (λ d. d .refusal) (decodeRefusal image buffer) refl refl
+  number-given = numbered notDecoded _ (λ d. d .refusal) (decodeRefusal image buffer) (λ _. refl) refl
 
   pub refusals : Refusals image buffer
   unfolding decodeOf decodedBuffer decodeRefusal
@@ -171,10 +171,8 @@ module _ (image buffer : List ℕ) where
   accepted : decodeRefusal image buffer ≡ 0 → (length image ≡ 256) × (someEnds image ≡ true)
   unfolding decodeRefusal
   accepted z =
-      let p = past (imageLength if not (eqb (length image) 256)) (drop 1 (decodeTests image buffer)) z in
-      let q = past (bufferShort if ltb (length buffer) longest) (drop 2 (decodeTests image buffer)) (p .1) in
-      let r = past (noRequest if not (someEnds image)) [] (q .1) in
-      (eqb-true _ _ (not-false (eqb (length image) 256) (p .0)), not-false (someEnds image) (r .0))
+      let tests : List Test = decodeTests image buffer in
+      (eqb-true _ _ (not-false (eqb (length image) 256) (none-at tests 0 z)), not-false (someEnds image) (none-at tests 2 z))
 
   none : length image ≡ 256 → longest ≤ length buffer → someEnds image ≡ true → decodeRefusal image buffer ≡ 0
   unfolding decodeRefusal

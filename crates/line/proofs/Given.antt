@@ -12,7 +12,7 @@ use Rattle.line.specs.Line.{acceptedLine, refusedLine, lineOf, Lines}
 -- what is printed is refused as N and CTS are
 same-number : (input : List ℕ) → lineOf input .refusal ≡ nctsOf input .refusal
 unfolding lineOf
-same-number input = numbered refusedLine (acceptedLine (readOf input .request) (nctsOf input)) (λ (l : Line). l .refusal) (nctsOf input .refusal) refl refl
+same-number input = numbered refusedLine (acceptedLine (readOf input .request) (nctsOf input)) (λ (l : Line). l .refusal) (nctsOf input .refusal) (λ _. refl) refl
 
 pub lines : (input : List ℕ) → Lines input
 unfolding lineOf

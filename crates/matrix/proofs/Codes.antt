@@ -39,7 +39,7 @@ decided body bytes a b c =
 module _ (body : List ℕ) (a b c : ℕ) where
   number-given : previewOf body a b c .refusal ≡ lowest (previewTests body a b c)
   unfolding previewOf
-  number-given = numbered noPixel _ (λ p. p .refusal) (lowest (previewTests body a b c)) refl refl
+  number-given = numbered noPixel _ (λ p. p .refusal) (lowest (previewTests body a b c)) (λ _. refl) refl
 
   zeros : lowest (previewTests body a b c) ≢ 0 → previewOf body a b c ≡ noPixel (lowest (previewTests body a b c))
   unfolding previewOf

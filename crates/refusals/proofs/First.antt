@@ -1,16 +1,15 @@
--- One law for every call: tests made in the order of its conditions, one after the other, give what `Given` says.
+-- The conditions of a call gone through in order, which is what `Given` says of them. `Tests` has the laws for the calls.
 -- Assumes nothing.
 use mathlib.Core.Path.{_≡_, refl, sym, _∙_}
 use mathlib.Core.Logic.{_≢_, _⊎_, inl, inr}
-use mathlib.Core.Bool.{Bool, true, false, cond}
-use mathlib.Core.List.{List, [], _∷_, _++_}
-use Prim.Native.Nat.{ℕ, zero, suc, _<_}
+use mathlib.Core.Bool.{Bool, true, false}
+use mathlib.Core.List.{List, [], _∷_}
+use Prim.Native.Nat.{ℕ, zero, suc, _<_, suc-le-suc}
 use native.Mathlib.Nat.{not-suc-le-zero, zero-lt-suc, le-of-suc-le-suc}
 use native.Mathlib.Omega.{arith}
 use lib.Dec.{eqb}
 use lib.ListN.{length}
-use borrow.Author.Tests.{eq-eqb, ne-eqb}
-use Rattle.lists.proofs.Decides.{Decides}
+use borrow.Author.Tests.{eqb-true, eqb-false}
 use Rattle.refusals.specs.Rows.{Row, inputEnds, countNotAllowed, bytesAfter, modeNotOffered, fieldOutOfRange, combination, number, order, inOrder, Condition, at, First, Given}
 use Rattle.refusals.specs.Rows.{imageLength, holdsUp, noExactPair, bufferShort, noRequest, inputAbove, twoHolds}
 
@@ -18,12 +17,6 @@ use Rattle.refusals.specs.Rows.{imageLength, holdsUp, noExactPair, buffe
 abbrev pub Tried : List Condition → ℕ → Type 0
 Tried [] given = given ≡ 0
 Tried (r ∷ rs) given = (r .When × (given ≡ number (r .row))) ⊎ ((r .When → ⊥) × Tried rs given)
-
--- one test, and then the others, which may use that it failed; f reads the number off an answer
-pub test : {X : Type 0} (f : X → ℕ) (c : Condition) (cs : List Condition) (b : Bool) (x y : X) → f x ≡ number (c .row) → Decides b (c .When)
-    → (b ≡ false → Tried cs (f y)) → Tried (c ∷ cs) (f (cond b x y))
-test f c cs true x y e d more = inl (d .passes refl, e)
-test f c cs false x y e d more = inr (d .fails refl, more refl)
 
 pub number-some : (r : Row) → number r ≢ 0
 number-some inputEnds = omega arith
@@ -39,15 +32,6 @@ number-some bufferShort = omega arith
 number-some noRequest = omega arith
 number-some inputAbove = omega arith
 number-some twoHolds = omega arith
-
--- some conditions, and then others where none of the first applies; f reads the number off an answer
-pub then : {X : Type 0} (f : X → ℕ) (rules more : List Condition) (n : ℕ) (x y : X) → Tried rules n → (n ≢ 0 → f y ≡ n) → (n ≡ 0 → Tried more (f x))
-    → Tried (rules ++ more) (f (cond (eqb n 0) x y))
-then f [] more n x y t same go = rw (eq-eqb n 0 t) (go t)
-then f (r ∷ rs) more n x y (inl h) same go =
-    let z : n ≢ 0 = λ e. number-some (r .row) (sym (h .1) ∙ e) in
-    inl (h .0, rw (ne-eqb n 0 z) (same z ∙ h .1))
-then f (r ∷ rs) more n x y (inr h) same go = inr (h .0, then f rs more n x y (h .1) same go)
 
 -- what fails at the first and at each of the others fails everywhere
 shift : (r : Condition) (rs : List Condition) (n : ℕ) → (r .When → ⊥) → ((i : ℕ) → i < n → at rs i .When → ⊥) → (i : ℕ) → i < suc n → at (r ∷ rs) i .When → ⊥
@@ -80,3 +64,23 @@ none-given (r ∷ rs) given (inr h) f = none-given rs given (h .1) (λ i l. f (s
 
 pub tried : (rules : List Condition) (given : ℕ) → inOrder rules order ≡ true → Tried rules given → Given rules given
 tried rules given o t = record { ordered = o; some = first rules given t; none = (none-applies rules given t, none-given rules given t) }
+
+-- and back
+module _ (n : ℕ) where
+  at-place : (rules : List Condition) (place : ℕ) → place < length rules → n ≡ number (at rules place .row) → at rules place .When
+      → ((i : ℕ) → i < place → at rules i .When → ⊥) → Tried rules n
+  at-place [] place h e a f = absurd (not-suc-le-zero h)
+  at-place (r ∷ rs) zero h e a f = inl (a, e)
+  at-place (r ∷ rs) (suc place) h e a f =
+      inr (f 0 (zero-lt-suc place), at-place rs place (le-of-suc-le-suc h) e a (λ i l. f (suc i) (suc-le-suc l)))
+
+  at-none : (rules : List Condition) → n ≡ 0 → ((i : ℕ) → i < length rules → at rules i .When → ⊥) → Tried rules n
+  at-none [] z f = z
+  at-none (r ∷ rs) z f = inr (f 0 (zero-lt-suc (length rs)), at-none rs z (λ i l. f (suc i) (suc-le-suc l)))
+
+  pub again : (rules : List Condition) → Given rules n → Tried rules n
+  again rules g = go (eqb n 0) refl
+    where
+      go : (b : Bool) → eqb n 0 ≡ b → Tried rules n
+      go true e = let z = eqb-true n 0 e in at-none rules z (g .none .0 z)
+      go false e = let f = g .some (eqb-false n 0 e) in at-place rules (f .place) (f .within) (f .numbered) (f .applies) (f .earlier)

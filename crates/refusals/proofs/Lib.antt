@@ -1,3 +1,2 @@
-pub mod First
-pub mod Again
+mod First
 pub mod Tests

@@ -1,27 +1,23 @@
 -- One law for every call that gives the lowest of its tests: where they decide its conditions one by one, that is what `Given` says.
 --     Decided         tests that decide conditions, each where none before it applies
 --     lowest-given    the law
---     answer-given    of the number that the call's answer carries; answer-beside: what stands beside it
---     in-stages       of a call in two stages, each with conditions of its own
+--     answer-given    of the number that a call's answer carries; answer-beside: what stands beside a refusal
+--     in-stages       of a call in two stages, each with conditions of its own; none-in-stages: where it gives none, neither stage does
 --     later, sole, reworded    past a condition that fails; one condition alone, and in other words
---     decided-append  some tests, and then others where none of the first is true
---     lowest-append   their number
---     past, none-at, none-found, all-pass    where the number is 0
---     numbered, answer-none, answer-some    the number of an answer, and the answer
+--     none-at         each test is false where none is given
+--     numbered, answer-none, answer-some    the number that an answer carries, and the answer by its number
 -- Assumes nothing.
 use mathlib.Core.Path.{_≡_, refl, sym, _∙_}
 use mathlib.Core.Logic.{_≢_, inl, inr}
-use mathlib.Core.Bool.{Bool, true, false, false≢true, cond, not, _&&_}
+use mathlib.Core.Bool.{Bool, true, false, cond, not}
 use mathlib.Core.List.{List, [], _∷_, _++_}
 use Prim.Native.Nat.{ℕ, zero, suc}
 use lib.Dec.{eqb}
 use lib.ListN.{getD}
 use borrow.Author.Tests.{eqb-true, eqb-false, eq-eqb, ne-eqb, not-true, not-false}
-use Rattle.lists.specs.Find.{every}
 use Rattle.lists.proofs.Decides.{Decides}
 use Rattle.refusals.specs.Rows.{Row, inputEnds, number, order, inOrder, Condition, _when_, Given, Test, _if_, lowest, answer}
-use Rattle.refusals.proofs.First.{Tried, tried, number-some}
-use Rattle.refusals.proofs.Again.{again}
+use Rattle.refusals.proofs.First.{Tried, tried, again, number-some}
 
 abbrev pub Decided : List Test → List Condition → Type 0
 Decided [] [] = Unit {0}
@@ -43,7 +39,7 @@ pub lowest-given : (tests : List Test) (rules : List Condition) → inOrder rule
 lowest-given tests rules o d = tried rules (lowest tests) o (in-turn tests rules d)
 
 -- past a test where nothing is given
-pub past : (t : Test) (ts : List Test) → lowest (t ∷ ts) ≡ 0 → (t .found ≡ false) × (lowest ts ≡ 0)
+past : (t : Test) (ts : List Test) → lowest (t ∷ ts) ≡ 0 → (t .found ≡ false) × (lowest ts ≡ 0)
 past t ts = go (t .found) refl
   where
     go : (b : Bool) → t .found ≡ b → cond b (number (t .row)) (lowest ts) ≡ 0 → (t .found ≡ false) × (lowest ts ≡ 0)
@@ -56,43 +52,9 @@ none-at [] i z = refl
 none-at (t ∷ ts) zero z = past t ts z .0
 none-at (t ∷ ts) (suc i) z = none-at ts i (past t ts z .1)
 
--- nothing is given where every test is false, and only there
-abbrev pub fails : Test → Bool
-fails t = not (t .found)
-
-pub none-found : (ts : List Test) → lowest ts ≡ 0 → every fails ts ≡ true
-none-found [] z = refl
-none-found (t ∷ ts) z = let p = past t ts z in rw (p .0, none-found ts (p .1))
-
-pub all-pass : (ts : List Test) → every fails ts ≡ true → lowest ts ≡ 0
-all-pass [] e = refl
-all-pass (t ∷ ts) e = go (t .found) (all-pass ts) e
-  where
-    go : (b : Bool) → (every fails ts ≡ true → lowest ts ≡ 0) → (not b && every fails ts) ≡ true → cond b (number (t .row)) (lowest ts) ≡ 0
-    go true more e = absurd (false≢true e)
-    go false more e = more e
-
-pub lowest-append : (ts us : List Test) → lowest (ts ++ us) ≡ cond (eqb (lowest ts) 0) (lowest us) (lowest ts)
-lowest-append [] us = refl
-lowest-append (t ∷ ts) us = go (t .found) (lowest-append ts us)
-  where
-    go : (b : Bool) → lowest (ts ++ us) ≡ cond (eqb (lowest ts) 0) (lowest us) (lowest ts)
-        → cond b (number (t .row)) (lowest (ts ++ us))
-        ≡ cond (eqb (cond b (number (t .row)) (lowest ts)) 0) (lowest us) (cond b (number (t .row)) (lowest ts))
-    go true e = rw (ne-eqb (number (t .row)) 0 (number-some (t .row)))
-    go false e = e
-
-pub decided-append : (ts us : List Test) (rules more : List Condition) → Decided ts rules → (lowest ts ≡ 0 → Decided us more)
-    → Decided (ts ++ us) (rules ++ more)
-decided-append [] us [] more d then = then refl
-decided-append [] us (c ∷ cs) more d then = absurd d
-decided-append (t ∷ ts) us [] more d then = absurd d
-decided-append (t ∷ ts) us (c ∷ cs) more d then =
-    (d .0, d .1, λ e. decided-append ts us cs more (d .2 e) (λ z. then (rw e z)))
-
 -- where the first condition fails, the others are left
-pub later : (c : Condition) (cs : List Condition) (n : ℕ) → inOrder cs order ≡ true → (c .When → ⊥) → Given (c ∷ cs) n → Given cs n
-later c cs n o x g = tried cs n o (go (again n (c ∷ cs) g))
+pub later : (c : Condition) (cs : List Condition) (n : ℕ) → Given (c ∷ cs) n → inOrder cs order ≡ true → (c .When → ⊥) → Given cs n
+later c cs n g o x = tried cs n o (go (again n (c ∷ cs) g))
   where
     go : Tried (c ∷ cs) n → Tried cs n
     go (inl h) = absurd (x (h .0))
@@ -115,15 +77,27 @@ reworded row P Q n to from g = tried (row when Q ∷ []) n (g .ordered) (go (aga
     go (inr h) = inr ((λ q. h .0 (from q)), h .1)
 
 module _ {X : Type 0} (refused : ℕ → X) (x : X) where
-  -- the number that an answer carries is the number given
-  pub numbered : (f : X → ℕ) (n : ℕ) → f x ≡ 0 → f (refused n) ≡ n → f (answer n refused x) ≡ n
+  -- the number that an answer carries is the number given; f reads it off
+  pub numbered : (f : X → ℕ) (n : ℕ) → (n ≡ 0 → f x ≡ 0) → f (refused n) ≡ n → f (answer n refused x) ≡ n
   numbered f n p q = go (eqb n 0) refl
     where
       go : (b : Bool) → eqb n 0 ≡ b → f (cond b x (refused n)) ≡ n
-      go true e = p ∙ sym (eqb-true n 0 e)
+      go true e = let z = eqb-true n 0 e in p z ∙ sym z
       go false e = q
 
-  -- a call in two stages: some conditions, and then others where none of the first applies; f reads the number off an answer
+  -- of a call in one stage: what it gives, and what stands beside a refusal
+  pub answer-given : (f : X → ℕ) (rules : List Condition) (n : ℕ) → f (refused n) ≡ n → (n ≡ 0 → f x ≡ 0) → Given rules n
+      → Given rules (f (answer n refused x))
+  answer-given f rules n same none g = rw (numbered f n none same) g
+
+  pub answer-beside : (f : X → ℕ) (n : ℕ) → (n ≡ 0 → f x ≡ 0) → f (answer n refused x) ≢ 0 → answer n refused x ≡ refused n
+  answer-beside f n none = go (eqb n 0) refl
+    where
+      go : (b : Bool) → eqb n 0 ≡ b → f (cond b x (refused n)) ≢ 0 → cond b x (refused n) ≡ refused n
+      go true e h = absurd (h (none (eqb-true n 0 e)))
+      go false e h = refl
+
+  -- a call in two stages: some conditions, and then others where none of the first applies
   pub in-stages : (f : X → ℕ) (rules more : List Condition) (n : ℕ) → inOrder (rules ++ more) order ≡ true → f (refused n) ≡ n
       → Given rules n → (n ≡ 0 → Given more (f x)) → Given (rules ++ more) (f (answer n refused x))
   in-stages f rules more n o same g then = tried (rules ++ more) (f (answer n refused x)) o (go rules (again n rules g))
@@ -133,21 +107,12 @@ module _ {X : Type 0} (refused : ℕ → X) (x : X) where
       go (c ∷ cs) (inl h) = inl (h .0, rw (ne-eqb n 0 (λ e. number-some (c .row) (sym (h .1) ∙ e))) (same ∙ h .1))
       go (c ∷ cs) (inr h) = inr (h .0, go cs (h .1))
 
-  -- a call in one, whose answer without a refusal has number 0; and what stands beside a refusal
-  pub answer-given : (f : X → ℕ) (rules : List Condition) (n : ℕ) → f (refused n) ≡ n → (n ≡ 0 → f x ≡ 0) → Given rules n
-      → Given rules (f (answer n refused x))
-  answer-given f rules n same none g = rw (go (eqb n 0) refl) g
+  pub none-in-stages : (f : X → ℕ) (n : ℕ) → f (refused n) ≡ n → f (answer n refused x) ≡ 0 → (n ≡ 0) × (f x ≡ 0)
+  none-in-stages f n same = go (eqb n 0) refl
     where
-      go : (b : Bool) → eqb n 0 ≡ b → f (cond b x (refused n)) ≡ n
-      go true e = let z = eqb-true n 0 e in none z ∙ sym z
-      go false e = same
-
-  pub answer-beside : (f : X → ℕ) (n : ℕ) → (n ≡ 0 → f x ≡ 0) → f (answer n refused x) ≢ 0 → answer n refused x ≡ refused n
-  answer-beside f n none = go (eqb n 0) refl
-    where
-      go : (b : Bool) → eqb n 0 ≡ b → f (cond b x (refused n)) ≢ 0 → cond b x (refused n) ≡ refused n
-      go true e h = absurd (h (none (eqb-true n 0 e)))
-      go false e h = refl
+      go : (b : Bool) → eqb n 0 ≡ b → f (cond b x (refused n)) ≡ 0 → (n ≡ 0) × (f x ≡ 0)
+      go true e z = (eqb-true n 0 e, z)
+      go false e z = absurd (eqb-false n 0 e (sym same ∙ z))
 
   pub answer-none : (n : ℕ) → n ≡ 0 → answer n refused x ≡ x
   answer-none n e = rw (eq-eqb n 0 e)

@@ -4,55 +4,55 @@ use mathlib.Core.Logic.{_⊎_, inl, inr}
 use mathlib.Core.Bool.{Bool, true, false, false≢true, cond}
 use mathlib.Core.List.{List, [], _∷_}
 use Prim.Native.Nat.{ℕ, zero, suc, _+_, _<_}
-use lib.Dec.{eqb, leb, lit<}
+use lib.Dec.{leb, lit<}
 use lib.ListN.{length, take, drop}
 use lib.Seq.{getD-drop}
 use Rattle.lists.specs.Among.{among}
-use Rattle.refusals.specs.Rows.{noExactPair, _when_, Given}
-use Rattle.refusals.proofs.First.{Tried, then, tried}
-use Rattle.refusals.proofs.Again.{again}
+use Rattle.refusals.specs.Rows.{noExactPair, _when_, Given, _if_}
+use Rattle.refusals.proofs.Tests.{lowest-given, in-stages, later, reworded}
 use Rattle.clock.specs.declared.Pair.{Pair}
 use Rattle.video.specs.declared.Video.{Video}
-use Rattle.video.specs.Modes.{offered}
 use Rattle.clock.specs.Pairs.{noPair}
-use Rattle.clock.specs.Theorems.{pairRules}
 use Rattle.clock.proofs.Rows.{refusals}
 use Rattle.request.specs.declared.Sound.the-variants.{Off, On}
 use Rattle.matrix.specs.Matrix.{Bytes}
-use Rattle.request.specs.declared.Request.{Request}
 use Rattle.request.specs.Sections.{Walk, ends, notAllowed, whole, after, walk, walked, sections, bodyOf, audioSection, matrixSection}
-use Rattle.request.specs.Request.{Present, present, videoOf, rate, channels, coherent, Outside, requestIn, NoPair, readRules, nctsRules}
+use Rattle.request.specs.Request.{Present, present, videoOf, rate, channels, coherent, Outside, requestIn, NoPair, readRules}
 use Rattle.request.specs.Read.{checked, pairIn, pairFor, readOf, nctsOf}
 use Rattle.request.specs.Theorems.{Rows}
-use Rattle.request.proofs.Ordered.{tried-read, Judged, passed, full, is-outside}
+use Rattle.request.proofs.Ordered.{read-given, Judged, passed, full, is-outside}
 
 -- where row 5 does not apply, the rate and the coherent byte of an audio section are in range
 in-range : (v : Video) (a m : List ℕ) → (Outside v a m → ⊥) → Present a → (6 < rate a) ⊎ (1 < coherent a) → ⊥
 in-range v a m o p (inl h) = o (inr (inl (p, inl h)))
 in-range v a m o p (inr h) = o (inr (inl (p, inr (inr h))))
 
--- the rules of the call on single fields, where the mode is offered and the fields are in range: row 9 is left
-nine : (w : Walk) → offered (videoOf w) ≡ true → ((6 < rate (audioSection w)) ⊎ (1 < coherent (audioSection w)) → ⊥) → Present (audioSection w)
-    → (n : ℕ) → Tried (pairRules (videoOf w) (rate (audioSection w)) (coherent (audioSection w))) n → Tried (noExactPair when (NoPair w) ∷ []) n
-nine w o r p n (inl h) = absurd (false≢true (sym (h .0) ∙ o))
-nine w o r p n (inr (_, inl h)) = absurd (r (h .0))
-nine w o r p n (inr (_, inr (_, inl h))) = inl ((p, h .0 .0, h .0 .1), h .1)
-nine w o r p n (inr (_, inr (_, inr h))) = inr ((λ x. h .0 (x .1, x .2)), h .1)
+-- row 9 of a walk that rows 1 to 6 let pass: the rows of the call on single fields, past rows 4 and 5
+module _ (w : Walk) where
+  abbrev v : Video
+  v = videoOf w
 
-sounds : (w : Walk) → Bytes (matrixSection w) → Judged (videoOf w) (audioSection w) (matrixSection w) (checked w)
-    → Tried (noExactPair when (NoPair w) ∷ []) (pairFor (requestIn (videoOf w) (audioSection w) (matrixSection w)) .refusal)
-unfolding pairFor
-sounds w bytes j = go (present (audioSection w)) refl
-  where
-    r : Request
-    r = requestIn (videoOf w) (audioSection w) (matrixSection w)
+  abbrev a : List ℕ
+  a = audioSection w
 
-    go : (b : Bool) → present (audioSection w) ≡ b
-        → Tried (noExactPair when (NoPair w) ∷ []) (pairIn r (cond b (On (rate (audioSection w)) (channels (audioSection w)) (coherent (audioSection w))) Off) .refusal)
-    go true e =
-        let p = full (audioSection w) .passes e in
-        nine w (j .mode) (in-range (videoOf w) (audioSection w) (matrixSection w) (is-outside (videoOf w) (audioSection w) (matrixSection w) bytes .fails (j .inside)) p) p _ (again _ _ (refusals .pair _ _ _))
-    go false e = inr ((λ x. full (audioSection w) .fails e (x .0)), refl)
+  abbrev m : List ℕ
+  m = matrixSection w
+
+  nine : Bytes m → Judged v a m (checked w) → Given (noExactPair when NoPair w ∷ []) (pairFor (requestIn v a m) .refusal)
+  unfolding pairFor
+  nine bytes j = go (present a) refl
+    where
+      go : (b : Bool) → present a ≡ b
+          → Given (noExactPair when NoPair w ∷ []) (pairIn (requestIn v a m) (cond b (On (rate a) (channels a) (coherent a)) Off) .refusal)
+      go true e =
+          let p = full a .passes e in
+          let outside : Outside v a m → ⊥ = is-outside v a m bytes .fails (j .inside) in
+          let past4 = later _ _ _ (refusals .pair v (rate a) (coherent a)) refl (λ f. false≢true (sym f ∙ j .mode)) in
+          let past5 = later _ _ _ past4 refl (in-range v a m outside p) in
+          reworded noExactPair _ (NoPair w) _ (λ x. (p, x .0, x .1)) (λ x. (x .1, x .2)) past5
+      go false e =
+          lowest-given (noExactPair if false ∷ []) (noExactPair when NoPair w ∷ []) refl
+          (refl, record { passes = λ t. absurd (false≢true t); fails = λ _ x. full a .fails e (x .0) }, λ _. tt)
 
 abbrev numberOf : Pair → ℕ
 numberOf p = p .refusal
@@ -94,20 +94,21 @@ parts (c ∷ cs) (n ∷ s) b k = go (among n c) (leb n (length s)) (joined (take
     go true false h = none-there
     go false u h = none-there
 
-both-calls : (w : Walk) → Bytes (matrixSection w)
-    → Tried (nctsRules w) (cond (eqb (checked w .refusal) 0) (pairFor (checked w .request)) (noPair (checked w .refusal)) .refusal)
-both-calls w bytes =
-    then numberOf (readRules w) (noExactPair when NoPair w ∷ []) (checked w .refusal) (pairFor (checked w .request)) (noPair (checked w .refusal))
-    (tried-read w bytes) (λ _. refl) (λ z. let j = passed w z in rw (j .request) (sounds w bytes j))
-
 pub rows : (input : List ℕ) → Rows input
 unfolding readOf nctsOf walked
 rows input =
     let w : Walk = walked input in
     let bytes : Bytes input → Bytes (matrixSection w) = λ b. parts sections input b 2 in
-    let both : Bytes input → Given (nctsRules w) (nctsOf input .refusal) = λ b. tried (nctsRules w) _ refl (both-calls w (bytes b)) in
     record {
-      read = λ b. tried (readRules w) _ refl (tried-read w (bytes b));
-      ncts = both;
+      read = λ b. read-given w (bytes b);
+      ncts = λ b.
+          in-stages noPair (pairFor (checked w .request)) numberOf (readRules w) (noExactPair when NoPair w ∷ []) (checked w .refusal) refl refl (read-given w (bytes b))
+          (λ z. let j = passed w z in rw (j .request) (nine w (bytes b) j));
       said = λ z. passed w z .request;
     }
+
+-- row 9 of an input that rows 1 to 6 let pass
+pub pair-given : (input : List ℕ) → Bytes input → readOf input .refusal ≡ 0
+    → Given (noExactPair when NoPair (walked input) ∷ []) (pairFor (readOf input .request) .refusal)
+unfolding readOf walked
+pair-given input b z = let j = passed (walked input) z in rw (j .request) (nine (walked input) (parts sections input b 2) j)

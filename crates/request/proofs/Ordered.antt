@@ -1,19 +1,16 @@
 -- The rows of a request, tested in order. Assumes nothing.
-use mathlib.Core.Path.{_≡_, refl, sym, ap, _∙_}
-use mathlib.Core.Bool.{Bool, true, false, false≢true, cond}
-use mathlib.Core.List.{List, [], _∷_, _++_}
+use mathlib.Core.Path.{_≡_, refl, sym, ap}
+use mathlib.Core.Bool.{true, false, false≢true}
+use mathlib.Core.List.{List}
 use Prim.Native.Nat.{ℕ}
-use lib.Dec.{eqb}
-use borrow.Author.Tests.{eqb-true, eqb-false, not-false}
-use lib.ListN.{length, drop, getD}
-use Rattle.refusals.specs.Rows.{combination, Test, _if_, lowest, answer}
+use borrow.Author.Tests.{not-false}
+use lib.ListN.{length, take, drop}
+use Rattle.refusals.specs.Rows.{Given, lowest}
 use Rattle.lists.proofs.Decides.{Decides, failing, itself, equal, less, opposite, either, together, restated}
 use Rattle.matrix.specs.Matrix.{Allowed, Bytes}
 use Rattle.matrix.specs.Tests.{isAllowed}
 use Rattle.matrix.proofs.Numbers.{numbers}
-use Rattle.refusals.proofs.First.{Tried}
-use Rattle.refusals.proofs.Again.{again}
-use Rattle.refusals.proofs.Tests.{Decided, lowest-given, lowest-append, past, numbered, answer-none}
+use Rattle.refusals.proofs.Tests.{Decided, lowest-given, answer-given, in-stages, none-in-stages, none-at, answer-none}
 use Rattle.video.specs.declared.Video.{Video}
 use Rattle.video.specs.Modes.{offered}
 use Rattle.video.proofs.Fits as video
@@ -51,45 +48,24 @@ unfolding combined
 is-combined v a m =
     either (together (opposite (equal (v .encoding) 0)) (equal (length m) 0)) (either (together (equal (v .link) 0) (full a)) (video.is-combined v))
 
--- the tests of a walk and of its bodies decide rows 1 to 6
-decided : (w : Walk) → Bytes (matrixSection w)
-    → Decided (walkTests w ++ bodyTests (videoOf w) (audioSection w) (matrixSection w)) (readRules w)
-decided w bytes =
-    let v : Video = videoOf w in
-    let a : List ℕ = audioSection w in
-    let m : List ℕ = matrixSection w in (
-      refl,
-      ends-decided w,
-      λ e. (
-        refl,
-        refused-decided w,
-        λ n. (
-          refl,
-          full (restOf w),
-          λ r.
-              (refl, failing (offered v), λ o. (refl, is-outside v a m bytes, λ x. (refl, is-combined v a m, λ c. tt))),
-        ),
-      ),
-    )
-
--- the number that is given is that of the lowest
 abbrev numberOf : Checked → ℕ
 numberOf c = c .refusal
 
-judged-number : (v : Video) (a m : List ℕ) → judged v a m .refusal ≡ lowest (bodyTests v a m)
+-- rows 1 to 3 by the walk, and then rows 4 to 6 by its bodies: the tests decide them one by one
+pub read-given : (w : Walk) → Bytes (matrixSection w) → Given (readRules w) (checked w .refusal)
 unfolding judged
-judged-number v a m = numbered emptied (record { refusal = 0; request = requestIn v a m }) numberOf (lowest (bodyTests v a m)) refl refl
-
-pub tried-read : (w : Walk) → Bytes (matrixSection w) → Tried (readRules w) (checked w .refusal)
-tried-read w bytes =
-    let more : List Test = bodyTests (videoOf w) (audioSection w) (matrixSection w) in
-    let n : checked w .refusal ≡ lowest (walkTests w ++ more) = go (eqb (lowest (walkTests w)) 0) ∙ sym (lowest-append (walkTests w) more) in
-    rw n (again _ (readRules w) (lowest-given (walkTests w ++ more) (readRules w) refl (decided w bytes)))
-  where
-    go : (b : Bool) → cond b (judged (videoOf w) (audioSection w) (matrixSection w)) (emptied (lowest (walkTests w))) .refusal
-        ≡ cond b (lowest (bodyTests (videoOf w) (audioSection w) (matrixSection w))) (lowest (walkTests w))
-    go true = judged-number (videoOf w) (audioSection w) (matrixSection w)
-    go false = refl
+read-given w bytes =
+    let v : Video = videoOf w in
+    let a : List ℕ = audioSection w in
+    let m : List ℕ = matrixSection w in
+    let first : Decided (walkTests w) (take 3 (readRules w)) =
+    (refl, ends-decided w, λ _. (refl, refused-decided w, λ _. (refl, full (restOf w), λ _. tt))) in
+    let second : Decided (bodyTests v a m) (drop 3 (readRules w)) =
+    (refl, failing (offered v), λ _. (refl, is-outside v a m bytes, λ _. (refl, is-combined v a m, λ _. tt))) in
+    in-stages emptied (judged v a m) numberOf (take 3 (readRules w)) (drop 3 (readRules w)) (lowest (walkTests w)) refl refl
+    (lowest-given (walkTests w) (take 3 (readRules w)) refl first)
+    (λ _. answer-given emptied _ numberOf (drop 3 (readRules w)) (lowest (bodyTests v a m)) refl (λ _. refl)
+    (lowest-given (bodyTests v a m) (drop 3 (readRules w)) refl second))
 
 module _ (v : Video) (a m : List ℕ) where
   pub record Judged (c : Checked) : Type 0 where
@@ -101,29 +77,17 @@ module _ (v : Video) (a m : List ℕ) where
   pub accepted : judged v a m .refusal ≡ 0 → Judged (judged v a m)
   unfolding judged
   accepted z =
-      let n : lowest (bodyTests v a m) ≡ 0 = sym (judged-number v a m) ∙ z in
-      let f = past (at-row 0) (drop 1 (bodyTests v a m)) n in
-      let g = past (at-row 1) (drop 2 (bodyTests v a m)) (f .1) in
-      let h = past (at-row 2) [] (g .1) in
+      let n : lowest (bodyTests v a m) ≡ 0 = none-in-stages emptied _ numberOf (lowest (bodyTests v a m)) refl z .0 in
       record {
-        request = ap (λ (c : Checked). c .request) (answer-none emptied (record { refusal = 0; request = requestIn v a m }) (lowest (bodyTests v a m)) n);
-        mode = not-false (offered v) (f .0);
-        inside = g .0;
-        apart = h .0;
+        request = ap (λ (c : Checked). c .request) (answer-none emptied _ (lowest (bodyTests v a m)) n);
+        mode = not-false (offered v) (none-at (bodyTests v a m) 0 n);
+        inside = none-at (bodyTests v a m) 1 n;
+        apart = none-at (bodyTests v a m) 2 n;
       }
-    where
-      at-row : ℕ → Test
-      at-row i = getD (bodyTests v a m) i (combination if false)
 
 -- a walk that no row refuses: no byte is left, its request is what its bodies say, in a mode that is offered, with each field in range
 pub alone : (w : Walk) → checked w .refusal ≡ 0 → (lowest (walkTests w) ≡ 0) × (judged (videoOf w) (audioSection w) (matrixSection w) .refusal ≡ 0)
-alone w = go (eqb (lowest (walkTests w)) 0) refl
-  where
-    go : (b : Bool) → eqb (lowest (walkTests w)) 0 ≡ b
-        → cond b (judged (videoOf w) (audioSection w) (matrixSection w)) (emptied (lowest (walkTests w))) .refusal ≡ 0
-        → (lowest (walkTests w) ≡ 0) × (judged (videoOf w) (audioSection w) (matrixSection w) .refusal ≡ 0)
-    go true e z = (eqb-true _ 0 e, z)
-    go false e z = absurd (eqb-false _ 0 e z)
+alone w = none-in-stages emptied _ numberOf (lowest (walkTests w)) refl
 
 pub passed : (w : Walk) → checked w .refusal ≡ 0 → Judged (videoOf w) (audioSection w) (matrixSection w) (checked w)
 passed w z =

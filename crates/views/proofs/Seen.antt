@@ -8,11 +8,11 @@ use native.Mathlib.Omega.{arith}
 use lib.Dec.{eqb, ltb, lit<}
 use lib.ListN.{length, getD, take, drop}
 use lib.Seq.{getD-take, getD-drop}
-use borrow.Author.Tests.{lt-ltb, le-ltb, eq-eqb, ne-eqb, eqb-true, not-false}
+use borrow.Author.Tests.{lt-ltb, le-ltb, ltb-false, eq-eqb, ne-eqb, eqb-true, not-false}
 use Rattle.lists.proofs.Both.{both-left, both-right}
 use Rattle.lists.proofs.Decides.{Decides, opposite, equal, less, one-fails}
 use Rattle.refusals.specs.Rows.{fieldOutOfRange, Given, _if_}
-use Rattle.refusals.proofs.Tests.{Decided, lowest-given, past, none-at, numbered}
+use Rattle.refusals.proofs.Tests.{Decided, lowest-given, none-at, numbered}
 use Rattle.views.specs.declared.view.Part.{Part}
 use Rattle.views.specs.declared.view.Mute.{Mute}
 use Rattle.chip.specs.Machine.{Group, avi, audio, packets, up, holdsOf, inUse, gcInUse, mute, registersOf}
@@ -66,8 +66,8 @@ module _ (image packet : List ℕ) where
     later h = rw (le-ltb 1 which h)
 
     pub none : viewRefusal image packet which ≡ 0 → lentRefusal image packet ≡ 0
-    unfolding viewRefusal lentRefusal
-    none e = past (fieldOutOfRange if ltb 1 which) (lentTests image packet) e .1
+    unfolding viewRefusal
+    none e = sym (later (ltb-false 1 which (none-at (fieldOutOfRange if ltb 1 which ∷ lentTests image packet) 0 e))) ∙ e
 
     -- a part of no refusal lies within its slice
     abbrev p : Part
@@ -100,7 +100,7 @@ module _ (image packet : List ℕ) where
 
     part-numbered : sentPart image packet which .refusal ≡ viewRefusal image packet which
     unfolding sentPart
-    part-numbered = numbered noPart _ (λ (p : Part). p .refusal) (viewRefusal image packet which) (go (up g (holdsOf packets image))) refl
+    part-numbered = numbered noPart _ (λ (p : Part). p .refusal) (viewRefusal image packet which) (λ _. go (up g (holdsOf packets image))) refl
       where
         go : (b : Bool) → placed b (g .first) (g .count) .refusal ≡ 0
         go true = refl
@@ -148,7 +148,7 @@ module _ (image packet : List ℕ) where
 
   mute-numbered : muteOf image packet .refusal ≡ lentRefusal image packet
   unfolding muteOf
-  mute-numbered = numbered noMute _ (λ (m : Mute). m .refusal) (lentRefusal image packet) refl refl
+  mute-numbered = numbered noMute _ (λ (m : Mute). m .refusal) (lentRefusal image packet) (λ _. refl) refl
 
   pub refusals : ViewRefusals image packet
   refusals = record {

@@ -3,9 +3,9 @@ use mathlib.Core.Path.{_≡_, refl, sym, ap, ap₂, _∙_}
 use mathlib.Core.Logic.{_≢_}
 use mathlib.Core.Bool.{Bool, true, false, cond, not, _&&_}
 use mathlib.Core.List.{List, [], _∷_, _++_}
-use Prim.Native.Nat.{ℕ, zero, suc, _+_, _*_, _/_, _%_, _≤_, _<_}
+use Prim.Native.Nat.{ℕ, suc, _+_, _*_, _/_, _%_, _≤_, _<_}
 use native.Mathlib.Omega.{arith}
-use lib.Dec.{eqb, ltb}
+use lib.Dec.{eqb}
 use lib.ListN.{length, getD, set, take, drop, drop-of-length-le, length-drop}
 use lib.Seq.{sets, take-all, length-take-le}
 use borrow.Author.Tests.{eq-eqb, ne-eqb, lt-ltb, le-ltb}
@@ -55,7 +55,7 @@ module _ (image buffer out : List ℕ) where
 
   counted : matrixAnswer image buffer out .refusal ≡ matrixRefusal image buffer out
   unfolding matrixAnswer
-  counted = numbered noCount _ (λ (c : Count). c .refusal) (matrixRefusal image buffer out) refl refl
+  counted = numbered noCount _ (λ (c : Count). c .refusal) (matrixRefusal image buffer out) (λ _. refl) refl
 
   pub refused : (n : ℕ) → n ≢ 0 → matrixRefusal image buffer out ≡ n
       → (record { refusal = n; count = 0 } ≡ matrixAnswer image buffer out) × (out ≡ matrixOut image buffer out)
