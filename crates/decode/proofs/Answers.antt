@@ -24,7 +24,7 @@ use Rattle.request.specs.declared.Request.{Request}
 use Rattle.request.specs.declared.Checked.{Checked}
 use Rattle.request.specs.Sections.{longest}
 use Rattle.request.specs.Read.{readOf, pairFor}
-use Rattle.request.specs.Bytes.{asBytes, inFamily, answeredAs, answeredBytes}
+use Rattle.request.specs.Bytes.{asBytes, inFamily, answeredAs}
 use Rattle.request.specs.Theorems.{Shaped}
 use Rattle.request.specs.Fits.{Fits}
 use Rattle.plan.specs.Wanted.{wanted}
@@ -33,7 +33,7 @@ use Rattle.decode.specs.declared.Decoded.{Decoded}
 use Rattle.decode.specs.Ends.{Acceptable, Stands, Ends}
 use Rattle.decode.specs.Extract.{byteIn, matrixIn, extract}
 use Rattle.writes.specs.List.{standsBelow}
-use Rattle.decode.specs.Decode.{endsIn, someEnds, decodeTests, decodeRefusal, notDecoded, decodeOf, inFront, decodedBuffer}
+use Rattle.decode.specs.Decode.{endsIn, someEnds, decodeTests, decodeRefusal, notDecoded, decodeOf, decodedBuffer}
 use Rattle.decode.specs.Theorems.{Answered, ExactlyWhen, AtMostOne, decodeRules, Refusals, Ran, ReadBack}
 use Rattle.request.proofs.Fits.{fits}
 use Rattle.request.proofs.Said.{said}

@@ -6,7 +6,7 @@ use mathlib.Core.List.{List}
 use Prim.Native.Nat.{ℕ, _+_, _*_, _/_, _%_, _<_, _≤_}
 use native.Mathlib.Omega.{arith}
 use lib.Dec.{eqb, ltb, lit<}
-use lib.ListN.{length, getD, take, drop}
+use lib.ListN.{length, getD}
 use borrow.Author.Tests.{eqb-true, ltb-true, eq-eqb, ne-eqb}
 use Rattle.lists.proofs.Both.{both-left, both-right}
 use Rattle.bits.proofs.Below.{at-below}
@@ -14,7 +14,7 @@ use Rattle.registers.specs.Classes.{classAt}
 use Rattle.map.specs.Map as reg
 use Rattle.video.specs.Video.{answered}
 use Rattle.video.proofs.Fits.{link-fits}
-use Rattle.frames.specs.Frames.{aviCount, videoNamed}
+use Rattle.frames.specs.Frames.{videoNamed}
 use Rattle.frames.proofs.Named.{named}
 use Rattle.request.specs.declared.Sound.{Sound}
 use Rattle.request.specs.declared.Sound.the-variants.{Off, On}
@@ -22,12 +22,12 @@ use Rattle.request.specs.declared.Request.{Request}
 use Rattle.plan.specs.Wanted.{wanted, rateCodes, withAudio, rateCode, ctsSelect}
 use Rattle.writes.specs.List.{isWritten, decided}
 use Rattle.decode.specs.Ends.{Stands}
-use Rattle.decode.specs.Extract.{byteIn, rateOf, soundIn, matrixIn, linkIn, extract}
+use Rattle.decode.specs.Extract.{byteIn, rateOf, soundIn, matrixIn, linkIn, dataIn, extract}
 use Rattle.decode.proofs.Stored.{cc, Wants, wants}
 use Rattle.decode.proofs.Standing.{reads}
 use Rattle.decode.proofs.Groups.{avi-data, matrix-in}
 use Rattle.request.specs.Bytes.{answeredAs}
-use Rattle.request.specs.Theorems.{Filled, Shaped}
+use Rattle.request.specs.Theorems.{Shaped}
 use Rattle.request.specs.Fits.{SoundFits, Fits}
 
 -- ---- rates
@@ -51,7 +51,7 @@ module _ (r : Request) (image : List ℕ) (long : length image ≡ 256) (g : Fit
   unfolding isWritten decided classAt
   link = omega (arith, reads r image st reg.hdcpHdmiCfg 1 1 (lit< tt) refl, w .link, link-fits (r .video) (g .video))
 
-  video : videoNamed (linkIn image) (take aviCount (drop reg.aviInfoframeByte1 image)) ≡ answered (r .video)
+  video : videoNamed (linkIn image) (dataIn image) ≡ answered (r .video)
   video = ap₂ videoNamed link (avi-data r image long g st) ∙ named (r .video) (g .video)
 
   -- ---- sound

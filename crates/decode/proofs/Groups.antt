@@ -20,13 +20,14 @@ use Rattle.matrix.specs.Matrix.{fields}
 use Rattle.request.specs.declared.Sound.{Sound}
 use Rattle.request.specs.declared.Sound.the-variants.{Off, On}
 use Rattle.request.specs.declared.Request.{Request}
-use Rattle.request.specs.Theorems.{Filled, Shaped}
+use Rattle.request.specs.Theorems.{Shaped}
 use Rattle.request.specs.Fits.{SoundFits, Fits}
 use Rattle.request.proofs.Fits.{coefficients-small}
 use Rattle.chip.specs.Machine.{avi, audio, matrix, registersOf}
 use Rattle.plan.specs.Wanted.{wanted, cscBytes, audioBytes}
 use Rattle.writes.specs.List.{isWritten, decided, byte}
 use Rattle.decode.specs.Ends.{Stands}
+use Rattle.decode.specs.Extract.{dataIn}
 use Rattle.decode.proofs.Stored.{each, window, wants}
 use Rattle.decode.proofs.Standing.{clear, is-written, reads, small-byte, there}
 
@@ -137,9 +138,9 @@ module _ (r : Request) (image : List ℕ) (long : length image ≡ 256) (g : Fit
       ∙ thin-same (drop 3 (aviFrame (r .video))) (bytes-after 3 (aviFrame (r .video)) (frame-bytes (r .video) (g .video)))
 
   pub avi-in : drop 2 (registersOf avi image) ≡ drop 3 (aviFrame (r .video))
-  avi-in = ap (drop 2) (window image 0x52 16 (omega arith)) ∙ avi-run
+  avi-in = ap (drop 2) (window image (avi .first) (avi .count) (omega arith)) ∙ avi-run
 
-  pub avi-data : take aviCount (drop reg.aviInfoframeByte1 image) ≡ aviPayload (r .video)
+  pub avi-data : dataIn image ≡ aviPayload (r .video)
   unfolding aviFrame
   avi-data = window image reg.aviInfoframeByte1 aviCount (omega arith) ∙ ap (drop 1) avi-run
 
@@ -174,7 +175,7 @@ module _ (r : Request) (image : List ℕ) (long : length image ≡ 256) (g : Fit
   pub audio-in : drop 2 (registersOf audio image) ≡ drop 3 (audioBytes (r .sound))
   unfolding isWritten decided classAt
   audio-in =
-      ap (drop 2) (window image 0x70 13 (omega arith))
+      ap (drop 2) (window image (audio .first) (audio .count) (omega arith))
       ∙ ap₂ (λ (l m : List ℕ). l ++ m) (bytes-read r image long st reg.audioInfoframeChecksum 6 (lit≤ tt) refl ∙ ap thin (wants r .soundBytes) ∙ six-bytes) reserved
       ∙ rest (r .sound)
 

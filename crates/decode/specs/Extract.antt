@@ -39,11 +39,14 @@ matrixIn image =
 abbrev pub linkIn : List ℕ → ℕ
 linkIn image = byteIn image reg.hdcpHdmiCfg / reg.hdmiDviModeSelectMask % 2
 
--- the video is the one that the data bytes of the AVI InfoFrame name
+-- the data bytes of the AVI InfoFrame: the video is the one that they name
+abbrev pub dataIn : List ℕ → List ℕ
+dataIn image = take aviCount (drop reg.aviInfoframeByte1 image)
+
 unfoldable pub extract : List ℕ → Request
 extract image =
     record {
-      video = videoNamed (linkIn image) (take aviCount (drop reg.aviInfoframeByte1 image));
+      video = videoNamed (linkIn image) (dataIn image);
       sound = soundIn image;
       matrix = matrixIn image;
     }

@@ -1,6 +1,5 @@
 -- `frames::avi_frame` meets its contract: the place of the checksum is 0 while the sum is taken. Assumes nothing.
 use Prim.Native.Nat.{_≤_}
-use native.Mathlib.Omega.{arith}
 use Rattle.video.proofs.Fits.{encoding-fits}
 use Rattle.frames.specs.Frames.{aviHeader, aviPayload, aviFrame}
 use Rattle.frames.proofs.Total.{kept}
