@@ -1,13 +1,13 @@
 -- The finished image of an accepted request, and the N and CTS that are answered for it. Assumes nothing.
 use mathlib.Core.Path.{_≡_, refl, sym, ap, subst, _∙_}
-use mathlib.Core.Bool.{Bool, true, false, cond, _&&_}
+use mathlib.Core.Bool.{Bool, true, false, false≢true, cond, _&&_, _||_}
 use mathlib.Core.List.{List, [], _∷_}
-use Prim.Native.Nat.{ℕ, zero, suc, _+_, _*_, _/_, _%_, _<_, _≤_}
-use native.Mathlib.Nat.{not-suc-le-zero, le-of-suc-le-suc}
+use Prim.Native.Nat.{ℕ, suc, _+_, _*_, _/_, _%_, _<_, _≤_}
 use native.Mathlib.Omega.{arith}
 use lib.Dec.{eqb, ltb, lit<}
 use lib.ListN.{length, getD, take, drop}
 use borrow.Author.Tests.{eqb-true, eqb-false, eq-eqb, ne-eqb, ltb-true}
+use Rattle.lists.specs.Find.{find}
 use Rattle.lists.proofs.Both.{both-left, both-right}
 use Rattle.bits.proofs.Below.{at-below}
 use Rattle.video.specs.declared.Video.{Video}
@@ -127,11 +127,26 @@ ranges input z y =
 
 -- ---- the finished image
 
--- one place of them all
-pick : (P : Place → Type 0) (fs : List Place) → Each P fs → (k : ℕ) → k < length fs → P (getD fs k (place 0 0 0 0))
-pick P [] e k h = absurd (not-suc-le-zero h)
-pick P (f ∷ fs) e zero h = e .0
-pick P (f ∷ fs) e (suc k) h = pick P fs (e .1) k (le-of-suc-le-suc h)
+-- one place of them all, by its register and its highest bit
+abbrev isAt : ℕ → ℕ → Place → Bool
+isAt address high f = eqb (f .address) address && eqb (f .high) high
+
+abbrev isThere : (Place → Bool) → List Place → Bool
+isThere test [] = false
+isThere test (f ∷ fs) = test f || isThere test fs
+
+pick : (P : Place → Type 0) (test : Place → Bool) (fs : List Place) → Each P fs → isThere test fs ≡ true → P (find test (place 0 0 0 0) fs)
+pick P test [] e h = absurd (false≢true h)
+pick P test (f ∷ fs) e h = go (test f) h (pick P test fs (e .1))
+  where
+    go : (b : Bool) → (b || isThere test fs) ≡ true → (isThere test fs ≡ true → P (find test (place 0 0 0 0) fs))
+        → P (cond b f (find test (place 0 0 0 0) fs))
+    go true t more = e .0
+    go false t more = more t
+
+picked : (P : Place → Type 0) (fs : List Place) → Each P fs → (address high : ℕ) → isThere (isAt address high) fs ≡ true
+    → P (find (isAt address high) (place 0 0 0 0) fs)
+picked P fs e address high = pick P (isAt address high) fs e
 
 twenty : (x y z n : ℕ) → x ≡ n / 65536 → y ≡ n / 256 % 256 → z ≡ n % 256 → x * 65536 + y * 256 + z ≡ n
 twenty x y z n e f g = omega arith
@@ -161,22 +176,22 @@ filled input image z y after sized ends =
     let r : Request = readOf input .request in
     let p : Pair = pairFor r in
     let e = stand r image after ends (ranges input z y) in
-    let at = pick (Shows after) (places r p) e in
+    let at = picked (Shows after) (places r p) e in
     let stands : Stands r after = λ a h. finished-again (wanted r) image after a (ends a h) in
     let g : Fits r = fits input z in
-    let v : bitsIn 2 0 (getD after 0x52 0) ≡ 0x02 = at 57 (lit< tt) in
-    let l : bitsIn 4 0 (getD after 0x53 0) ≡ 0x0D = at 58 (lit< tt) in
-    let va : bitsIn 2 0 (getD after 0x70 0) ≡ 0x01 = at 78 (lit< tt) in
-    let la : bitsIn 4 0 (getD after 0x71 0) ≡ 0x0A = at 79 (lit< tt) in
+    let v : bitsIn 2 0 (getD after 0x52 0) ≡ 0x02 = at 0x52 2 refl in
+    let l : bitsIn 4 0 (getD after 0x53 0) ≡ 0x0D = at 0x53 4 refl in
+    let va : bitsIn 2 0 (getD after 0x70 0) ≡ 0x01 = at 0x70 2 refl in
+    let la : bitsIn 4 0 (getD after 0x71 0) ≡ 0x0A = at 0x71 4 refl in
     let d = after-two after 0x52 14 (omega arith) ∙ avi-in r after sized g stands in
     let da = after-two after 0x70 11 (omega arith) ∙ audio-in r after sized g stands ∙ ap (drop 3) (audio-frame (r .sound)) in
     subst (λ (q : Pair). Finished r q after) (sym (asked-pair input z)) (record {
       fields = e;
-      n = twenty _ _ _ (p .n) (at 0 (lit< tt)) (at 1 (lit< tt)) (at 2 (lit< tt));
-      cts = twenty _ _ _ (p .cts) (at 3 (lit< tt)) (at 4 (lit< tt)) (at 5 (lit< tt));
+      n = twenty _ _ _ (p .n) (at 0x01 3 refl) (at 0x02 7 refl) (at 0x03 7 refl);
+      cts = twenty _ _ _ (p .cts) (at 0x07 3 refl) (at 0x08 7 refl) (at 0x09 7 refl);
       aviSum = rw (v, l, d) (avi-zero (r .video));
       audioSum = rw (va, la, da) (audio-zero (r .sound));
-      mode = omega (arith, at 18 (lit< tt), fits input z .mode);
+      mode = omega (arith, at 0x18 6 refl, fits input z .mode);
       ordered = λ a h w. rw (ends a h) (ordered (wanted r) image a h w);
     })
 
