@@ -19,7 +19,7 @@ use Rattle.plan.specs.Wanted.{wanted}
 use Rattle.writes.specs.List.{byte, isWritten, finished}
 use Rattle.decode.specs.Ends.{Stands}
 use Rattle.decode.specs.Theorems.{Counts, AsLeft, BitByBit}
-use Rattle.decode.proofs.Standing.{byte-small, left}
+use Rattle.writes.proofs.Named.{byte-small, left}
 
 -- ---- one bit of a register: it counts, or it is free or read-only
 

@@ -28,7 +28,7 @@ use Rattle.request.specs.declared.Request.{Request}
 use Rattle.request.specs.Read.{readOf, pairIn, pairFor, nctsOf}
 use Rattle.request.specs.Fits.{SoundFits, Fits}
 use Rattle.request.proofs.Fits.{fits}
-use Rattle.bits.specs.Merge.{merge, under, bit}
+use Rattle.bits.specs.Merge.{merge, under, bit, bitsIn}
 use Rattle.registers.specs.Classes.{classAt}
 use Rattle.chip.specs.Machine.{Write, _gets_}
 use Rattle.writes.specs.List.{decided, isWritten, finished, finishedImage, writeList}
@@ -40,9 +40,9 @@ use Rattle.decode.specs.Ends.{Stands}
 use Rattle.decode.proofs.Stored.{window}
 use Rattle.decode.proofs.Groups.{avi-in, audio-in}
 use Rattle.decode.proofs.Answers.{finished-again}
-use Rattle.promises.specs.Finished.{Place, place, bitsIn, NeverThree, inM, inC, audioPacket, places, Shows, Each, Finished, Paired}
-use Rattle.promises.proofs.Bits.{same-bits}
-use Rattle.promises.proofs.Named.{field, ordered}
+use Rattle.promises.specs.Finished.{Place, place, NeverThree, inM, inC, audioPacket, places, Shows, Each, Finished, Paired}
+use Rattle.bits.proofs.Fields.{field-same}
+use Rattle.writes.proofs.Named.{field, ordered}
 use Rattle.promises.proofs.Places.{audio-frame, Ranges, stand}
 
 -- ---- N and CTS
@@ -209,10 +209,10 @@ in-entry want image k h e =
     let w : Write = getD (writeList want image) k (0 gets 0) in
     let c : under (requested 0x18) (w .value) ≡ under (requested 0x18) (want 0x18)
     = subst (λ (a : ℕ). under (requested a) (w .value) ≡ under (requested a) (want a)) e (entries want image k h .carries .itsNamed) in
-    same-bits 6 5 (w .value) (want 0x18) (λ j l u.
-    let b : j < 8 = omega arith in
-    let m : bit j (requested 0x18) ≡ 1 = requested-bit j b in
-    sym (masked (requested 0x18) j (w .value) b m) ∙ ap (λ (x : ℕ). bit j x) c ∙ masked (requested 0x18) j (want 0x18) b m)
+    field-same 5 2 (w .value) (want 0x18) (λ j u.
+    let b : j + 5 < 8 = omega arith in
+    let m : bit (j + 5) (requested 0x18) ≡ 1 = requested-bit (j + 5) b in
+    sym (masked (requested 0x18) (j + 5) (w .value) b m) ∙ ap (λ (x : ℕ). bit (j + 5) x) c ∙ masked (requested 0x18) (j + 5) (want 0x18) b m)
 
 pub never-three : (input image : List ℕ) → readOf input .refusal ≡ 0 → pairFor (readOf input .request) .refusal ≡ 0
     → NeverThree (writeList (wanted (readOf input .request)) image)
@@ -223,5 +223,5 @@ never-three input image z y k h e =
     let f = filled input image z y after (image-length (wanted r) image) (image-at (wanted r) image) in
     let m : bitsIn 6 5 (getD after 0x18 0) < 3 = f .mode in
     let t : bitsIn 6 5 (getD after 0x18 0) ≡ bitsIn 6 5 (wanted r 0x18)
-    = ap (bitsIn 6 5) (image-at (wanted r) image 0x18 (lit< tt)) ∙ field (wanted r) image 0x18 false 6 5 refl in
+    = ap (bitsIn 6 5) (image-at (wanted r) image 0x18 (lit< tt)) ∙ field (wanted r) image 0x18 false 5 2 refl in
     rw (in-entry (wanted r) image k h e ∙ sym t) m

@@ -5,7 +5,5 @@ pub mod AnyCut
 pub mod AnyInput
 pub mod Outcomes
 pub mod Example
-pub mod Bits
-pub mod Named
 pub mod Places
 pub mod Filled

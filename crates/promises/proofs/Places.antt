@@ -1,17 +1,17 @@
 -- What stands in each named field of the finished image of a request whose fields are in range. Assumes nothing.
 use mathlib.Core.Path.{_≡_, refl, ap, _∙_}
 use mathlib.Core.Logic.{⊎-elim}
-use mathlib.Core.Bool.{Bool, true, false, cond, not, _&&_}
+use mathlib.Core.Bool.{Bool, true, false, cond, not}
 use mathlib.Core.List.{List, [], _∷_, _++_}
-use Prim.Native.Nat.{ℕ, zero, suc, _+_, _*_, _/_, _%_, _^_, _<_, _≤_}
+use Prim.Native.Nat.{ℕ, _+_, _-_, _*_, _/_, _%_, _<_, _≤_}
 use native.Mathlib.Omega.{arith}
-use lib.Dec.{eqb, ltb, lit≤, lit<}
+use lib.Dec.{eqb, lit≤, lit<}
 use lib.ListN.{getD, drop}
-use borrow.Author.Tests.{eqb-true, ltb-true}
+use borrow.Author.Tests.{eqb-true}
 use Rattle.lists.specs.Among.{among}
 use Rattle.lists.specs.Find.{every}
 use Rattle.lists.proofs.Both.{both-left, both-right}
-use Rattle.bits.specs.Merge.{merge}
+use Rattle.bits.specs.Merge.{bitsIn}
 use Rattle.bits.proofs.Below.{at-below}
 use Rattle.registers.specs.Classes.{classAt}
 use Rattle.video.specs.Modes.{modeOf}
@@ -30,9 +30,9 @@ use Rattle.writes.specs.List.{decided, isWritten, leftUp, finished}
 use Rattle.plan.specs.Wanted.{laid, audioBytes, wanted, clockBytes, inputBytes, cscBytes, enableBytes}
 use Rattle.plan.specs.Wanted.{inputs, rateCode, ctsSelect, withAudio}
 use Rattle.decode.proofs.Stored.{look, stored}
-use Rattle.promises.specs.Finished.{Place, bitsIn, places, Shows, Each}
+use Rattle.promises.specs.Finished.{Place, places, Shows, Each}
 use Rattle.promises.specs.Finished.{withSound, eightChannels, manualCts, rateCodeOf, inC, inM, inCC, inCA, audioPacket}
-use Rattle.promises.proofs.Named.{isField, field}
+use Rattle.writes.proofs.Named.{isField, small-address, field}
 
 -- ---- the byte that is wanted at an address
 
@@ -60,7 +60,7 @@ abbrev stepped : Place → Bool
 stepped f = not (eqb (bitsIn (f .high) (f .low) (decided (f .address))) 0)
 
 abbrev ours : Place → Bool
-ours f = isField (stepped f) (f .address) (f .high) (f .low) && ltb (f .address) 256
+ours f = isField (stepped f) (f .address) (f .low) (f .high + 1 - f .low)
 
 module _ (r : Request) (image after : List ℕ) (ends : (a : ℕ) → a < 256 → getD after a 0 ≡ finished (wanted r) image a) where
   abbrev Source : Place → Type 0
@@ -70,8 +70,8 @@ module _ (r : Request) (image after : List ℕ) (ends : (a : ℕ) → a < 256 �
   each [] t s = tt
   each (f ∷ fs) t s =
       let o : ours f ≡ true = both-left (ours f) (every ours fs) t in
-      let h : f .address < 256 = ltb-true _ _ (both-right (isField (stepped f) (f .address) (f .high) (f .low)) _ o) in
-      let k = field (wanted r) image (f .address) (stepped f) (f .high) (f .low) (both-left _ (ltb (f .address) 256) o) in (
+      let h : f .address < 256 = small-address (stepped f) (f .address) (f .low) (f .high + 1 - f .low) o in
+      let k = field (wanted r) image (f .address) (stepped f) (f .low) (f .high + 1 - f .low) o in (
         ap (bitsIn (f .high) (f .low)) (ends (f .address) h) ∙ k
             ∙ ap (λ (x : ℕ). bitsIn (f .high) (f .low) (cond (stepped f) (leftUp (f .address)) x)) (looked-up r (f .address) h) ∙ s .0,
         each fs (both-right (ours f) (every ours fs) t) (s .1),

@@ -9,7 +9,7 @@ use Prim.Native.Nat.{ℕ, zero, suc, _+_, _-_, _*_, _/_, _%_, _^_, _<_}
 use lib.Dec.{eqb}
 use lib.ListN.{length, getD, take, drop, replicate}
 use Rattle.lists.specs.Among.{among}
-use Rattle.bits.specs.Merge.{under}
+use Rattle.bits.specs.Merge.{under, bitsIn}
 use Rattle.map.specs.Map.{audioSelectDefault, audioModeDefault, i2sFormatDefault, inputIdDefault}
 use Rattle.registers.specs.Classes.{mandated, named, bits}
 use Rattle.video.specs.declared.Video.{Video}
@@ -23,10 +23,6 @@ use Rattle.writes.specs.List.{isWritten}
 use Rattle.request.specs.declared.Sound.{Sound}
 use Rattle.request.specs.declared.Sound.the-variants.{Off, On}
 use Rattle.request.specs.declared.Request.{Request}
-
--- the bits [high:low] of a byte, as a number
-abbrev pub bitsIn : ℕ → ℕ → ℕ → ℕ
-bitsIn high low byte = byte / 2 ^ low % 2 ^ (high + 1 - low)
 
 -- the bits [high:low] of a register, and the number that stands there
 pub record Place : Type 0 where

@@ -32,7 +32,7 @@ whole wanted = by (var 0) (var 5) (by (var 3) (var 5) (by (var 2) wanted (var 4)
 abbrev part : E → E → E
 part m x = by m x zeros
 
-carried : (a : ℕ) → a < 256 → (old wanted : ℕ) → Carrying a old (named a) wanted (byte a old wanted)
+pub carried : (a : ℕ) → a < 256 → (old wanted : ℕ) → Carrying a old (named a) wanted (byte a old wanted)
 unfolding byte
 carried a h old wanted =
     let ρ : List ℕ = old ∷ wanted ∷ [] in
