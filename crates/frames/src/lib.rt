@@ -1,7 +1,8 @@
 // The checksum, and the AVI and audio InfoFrames: document 01, "InfoFrames".
 ghost use mathlib.Core.Path.{_≡_};
+ghost use mathlib.Core.Bool.{false};
 ghost use Prim.Native.Nat.{_%_};
-ghost use Rattle.video.specs.Video.{VideoFits};
+ghost use Rattle.video.specs.Video.{videoOutside};
 ghost use Rattle.frames.specs.Frames.{total, checksumOf, frame, colorimetry};
 ghost use Rattle.frames.specs.Frames.{aviFrame, videoNamed, audioHeader, audioPayload, audioOffFrame};
 ghost use Rattle.frames.specs.Answers.{noAvi, GivesAvi, GivesAudio};
@@ -63,7 +64,7 @@ fn colour(mode: Mode, encoding: u8) -> u8
 
 // The AVI InfoFrame of a video.
 fn avi_frame(video: Video) -> [u8; AVI_FRAME]
-    requires { ⌜ VideoFits video ⌝ }
+    requires { ⌜ videoOutside video ≡ false ⌝ }
     ensures { λ r. ⌜ r ≡ aviFrame video ⌝ }
 {
     let encoding = video.encoding;

@@ -34,7 +34,7 @@ decimal n = digits (suc n) n
 abbrev pub hex : ℕ → List ℕ
 hex byte = digit (byte / 16) ∷ digit (byte % 16) ∷ []
 
--- `accepted vic 16 n 6144 cts 148500 avi 27 audio 70`, or `refused 1`; and the line's end
+-- `accepted vic 16 n 6144 cts 148500 avi .. audio ..`, or `refused 1`; and the line's end
 unfoldable pub acceptedText : Line → List ℕ
 acceptedText l =
     (ascii "accepted vic " ++ decimal (l .vic)) ++ (ascii " n " ++ decimal (l .n)) ++ (ascii " cts " ++ decimal (l .cts))

@@ -10,7 +10,7 @@ use lib.ListN.{length, getD, drop, length-drop}
 use borrow.Author.Tests.{eqb-true, ltb-false}
 use Rattle.lists.proofs.Both.{neither-left, neither-right}
 use Rattle.video.specs.declared.Video.{Video}
-use Rattle.video.specs.Video.{videoOutside}
+use Rattle.video.specs.Video.{videoOutside, videoCombined}
 use Rattle.video.specs.Modes.{offered}
 use Rattle.matrix.specs.declared.Matrix.{Matrix}
 use Rattle.matrix.specs.Matrix.{matrixOf, noMatrix}
@@ -19,7 +19,7 @@ use Rattle.matrix.proofs.Pairs.{sized, mode-small, fields-small, none-small, le
 use Rattle.request.specs.declared.Sound.the-variants.{Off, On}
 use Rattle.request.specs.Sections.{Walk, walked, audioSection, matrixSection}
 use Rattle.request.specs.Request.{present, videoOf, rate, channels, coherent, requestIn}
-use Rattle.request.specs.Read.{audioOutside, outside, readOf}
+use Rattle.request.specs.Read.{audioOutside, outside, combined, readOf}
 use Rattle.request.specs.Theorems.{Filled, Shaped}
 use Rattle.request.specs.Fits.{SoundFits, Fits}
 use Rattle.request.proofs.Ordered.{passed}
@@ -55,14 +55,18 @@ matrix-fits m false s e f = (inl refl, lit≤ tt)
 matrix-fits m true true e f = (inr (filled m e), mode-small m e)
 matrix-fits m true false e f = absurd (false≢true (sym f))
 
-in-range : (v : Video) (a m : List ℕ) → offered v ≡ true → outside v a m ≡ false → Fits (requestIn v a m)
-unfolding outside
-in-range v a m o x =
+in-range : (v : Video) (a m : List ℕ) → offered v ≡ true → outside v a m ≡ false → combined v a m ≡ false → Fits (requestIn v a m)
+unfolding outside combined
+in-range v a m o x c =
     let later : Bool = present m && not (isAllowed m) in
     let y : ((present a && audioOutside a) || later) ≡ false = neither-right (videoOutside v) _ x in
     let f = matrix-fits m (present m) (isAllowed m) refl (neither-right (present a && audioOutside a) _ y) in
     record {
-      video = record { offered = o; inside = neither-left (videoOutside v) _ x };
+      video = record {
+        offered = o;
+        inside = neither-left (videoOutside v) _ x;
+        apart = neither-right (eqb (v .link) 0 && present a) _ (neither-right (not (eqb (v .encoding) 0) && eqb (length m) 0) _ c);
+      };
       sound = sound-fits a (present a) (neither-left (present a && audioOutside a) later y);
       matrix = f .0;
       mode = f .1;
@@ -73,7 +77,7 @@ unfolding readOf
 fits input z =
     let w : Walk = walked input in
     let j = passed w z in
-    subst Fits (sym (j .request)) (in-range (videoOf w) (audioSection w) (matrixSection w) (j .mode) (j .inside))
+    subst Fits (sym (j .request)) (in-range (videoOf w) (audioSection w) (matrixSection w) (j .mode) (j .inside) (j .apart))
 
 -- a matrix that is none or filled: its enable is one bit, and each coefficient has 13
 pub on-small : (m : Matrix) → Shaped m → m .on ≤ 1

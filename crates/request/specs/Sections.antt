@@ -10,7 +10,7 @@ use lib.ListN.{getD, length, take, drop}
 use Rattle.lists.specs.Among.{among}
 use Rattle.video.specs.Video.{videoCount}
 
--- "Video, count 4" (`videoCount`); "Audio, count 0 or 3"; "Matrix, count 0 or 25"
+-- "Video, count .." (`videoCount`); "Audio, count 0 or 3"; "Matrix, count 0 or 25"
 abbrev pub audioCount : ℕ
 audioCount = 3
 
@@ -78,11 +78,11 @@ abbrev pub lengthsOf : List (List ℕ) → List ℕ
 lengthsOf [] = 0 ∷ []
 lengthsOf (counts ∷ more) = flatMap (λ total. map (λ n. suc n + total) counts) (lengthsOf more)
 
--- "Lengths are therefore 7, 10, 32 or 35"
+-- "Lengths are therefore .." (`MarkedCases`, promises, has the numbers)
 abbrev pub lengths : List ℕ
 lengths = lengthsOf sections
 
--- "the longest request, 35"
+-- "the longest request"
 abbrev pub longest : ℕ
 longest = longestOf sections
 

@@ -23,7 +23,7 @@ pub record Rows (input : List ℕ) : Type 0 where
   pub said : readOf input .refusal ≡ 0
       → readOf input .request ≡ requestIn (videoOf (walked input)) (audioSection (walked input)) (matrixSection (walked input))
 
--- "Lengths are therefore 7, 10, 32 or 35" (`MarkedCases`, promises, has the numbers)
+-- "Lengths are therefore .." (`MarkedCases`, promises, has the numbers)
 pub record Lengths (input : List ℕ) : Type 0 where
   pub accepted : readOf input .refusal ≡ 0 → among (length input) lengths ≡ true
   -- as over any sections with no byte after them

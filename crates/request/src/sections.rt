@@ -22,7 +22,7 @@ pub const AUDIO_COUNT: u8 = 3;
 
 pub const MATRIX_COUNT: u8 = 25;
 
-// "the longest request, 35": of each section its count, and a body of its largest count.
+// "the longest request": of each section its count, and a body of its largest count.
 pub const LONGEST: usize = SECTIONS
     + VIDEO_COUNT as usize
     + AUDIO_COUNT as usize

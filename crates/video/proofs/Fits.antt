@@ -42,6 +42,17 @@ row-small vic family (m ∷ ms) t h =
         (omega arith, omega arith)
     go false e s l ih = ih l
 
+-- ---- a field that row 5 does not refuse
+
+module _ (v : Video) (inside : videoOutside v ≡ false) where
+  pub encoding-inside : v .encoding ≤ 2
+  unfolding videoOutside
+  encoding-inside = ltb-false 2 (v .encoding) (neither-left (ltb 2 (v .encoding)) (ltb 1 (v .link)) inside)
+
+  pub link-inside : v .link ≤ 1
+  unfolding videoOutside
+  link-inside = ltb-false 1 (v .link) (neither-right (ltb 2 (v .encoding)) (ltb 1 (v .link)) inside)
+
 module _ (v : Video) (f : VideoFits v) where
   in-table : (v .vic < 64) × (v .family < 2)
   unfolding modeOf
@@ -57,9 +68,7 @@ module _ (v : Video) (f : VideoFits v) where
   is-listed e = omega (arith, ltb-true (v .family) (modeOf (v .vic) .families) (f .offered))
 
   pub encoding-fits : v .encoding ≤ 2
-  unfolding videoOutside
-  encoding-fits = ltb-false 2 (v .encoding) (neither-left (ltb 2 (v .encoding)) (ltb 1 (v .link)) (f .inside))
+  encoding-fits = encoding-inside v (f .inside)
 
   pub link-fits : v .link ≤ 1
-  unfolding videoOutside
-  link-fits = ltb-false 1 (v .link) (neither-right (ltb 2 (v .encoding)) (ltb 1 (v .link)) (f .inside))
+  link-fits = link-inside v (f .inside)

@@ -57,3 +57,4 @@ videoCombined v = eqb (v .link) 0 && not (eqb (v .encoding) 0)
 pub record VideoFits (v : Video) : Type 0 where
   pub offered : offered v ≡ true
   pub inside : videoOutside v ≡ false
+  pub apart : videoCombined v ≡ false

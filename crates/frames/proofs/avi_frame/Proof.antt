@@ -1,6 +1,6 @@
 -- `frames::avi_frame` meets its contract: the place of the checksum is 0 while the sum is taken. Assumes nothing.
 use Prim.Native.Nat.{_≤_}
-use Rattle.video.proofs.Fits.{encoding-fits}
+use Rattle.video.proofs.Fits.{encoding-inside}
 use Rattle.frames.specs.Frames.{aviHeader, aviPayload, aviFrame}
 use Rattle.frames.proofs.Total.{kept}
 use Rattle.frames.proofs.Small.{Small, mode-small, colour-small}
@@ -25,7 +25,7 @@ small c =
     let v = c .before .before .args .video in
     let m : Small (c .before .mode-of .result) = rw (c .before .mode-of .ensures) (mode-small (v .vic)) in
     record {
-      encoding = encoding-fits v (c .before .before .pre);
+      encoding = encoding-inside v (c .before .before .pre);
       colour = rw (c .colour .ensures) (colour-small (c .before .mode-of .result) (v .encoding) m);
       aspect = m .aspect;
     }

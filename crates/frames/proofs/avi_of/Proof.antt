@@ -35,7 +35,7 @@ returns-2 c =
     rw (is-offered (p .before), ← p .outside .ensures, c .before .if2 .taken) (c .no-avi2 .ensures)
 
 avi-frame-requires : tie.Need-avi-frame-requires
-avi-frame-requires c κs = record { offered = is-offered (c .before .before); inside = rw (← c .before .outside .ensures) (c .if2 .left) }
+avi-frame-requires c κs = rw (← c .before .outside .ensures) (c .if2 .left)
 
 returns-3 : tie.Need-returns-3
 unfolding aviOf
