@@ -40,10 +40,14 @@ module _ (input : List ℕ) (bytes : Bytes input) (image buffer : List ℕ) wher
   abbrev rules : List Condition
   rules = planRules input image buffer
 
+  -- those after the request's own
+  abbrev laterRules : List Condition
+  laterRules = drop (length (readRules (walked input))) rules
+
   abbrev later : List Test
   later = laterTests (readOf input .request) image buffer
 
-  decided : readOf input .refusal ≡ 0 → Decided later (drop 6 rules)
+  decided : readOf input .refusal ≡ 0 → Decided later laterRules
   decided z = (
     refl,
     opposite (equal (length image) 256),
@@ -53,9 +57,9 @@ module _ (input : List ℕ) (bytes : Bytes input) (image buffer : List ℕ) wher
   given : Given rules (planOf input image buffer .refusal)
   unfolding planOf planWith laterRefusal
   given =
-      in-stages nothing (planWith (readOf input .request) image buffer) number (readRules (walked input)) (drop 6 rules) (readOf input .refusal) refl refl
+      in-stages nothing (planWith (readOf input .request) image buffer) number (readRules (walked input)) laterRules (readOf input .refusal) refl refl
       (rows input .read bytes)
-      (λ z. answer-given nothing _ number (drop 6 rules) (lowest later) refl (λ _. refl) (lowest-given later (drop 6 rules) refl (decided z)))
+      (λ z. answer-given nothing _ number laterRules (lowest later) refl (λ _. refl) (lowest-given later laterRules refl (decided z)))
 
   -- beside a refusal the count is 0 and the buffer as it was
   aside : planOf input image buffer .refusal ≢ 0 → (planOf input image buffer .count ≡ 0) × (planBuffer input image buffer ≡ buffer)

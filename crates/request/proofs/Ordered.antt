@@ -5,7 +5,7 @@ use mathlib.Core.List.{List}
 use Prim.Native.Nat.{ℕ}
 use borrow.Author.Tests.{not-false}
 use lib.ListN.{length, take, drop}
-use Rattle.refusals.specs.Rows.{Given, lowest}
+use Rattle.refusals.specs.Rows.{Condition, Given, lowest}
 use Rattle.lists.proofs.Decides.{Decides, failing, itself, equal, less, opposite, either, together, restated}
 use Rattle.matrix.specs.Matrix.{Allowed, Bytes}
 use Rattle.matrix.specs.Tests.{isAllowed}
@@ -52,20 +52,35 @@ abbrev numberOf : Checked → ℕ
 numberOf c = c .refusal
 
 -- rows 1 to 3 by the walk, and then rows 4 to 6 by its bodies: the tests decide them one by one
-pub read-given : (w : Walk) → Bytes (matrixSection w) → Given (readRules w) (checked w .refusal)
-unfolding judged
-read-given w bytes =
-    let v : Video = videoOf w in
-    let a : List ℕ = audioSection w in
-    let m : List ℕ = matrixSection w in
-    let first : Decided (walkTests w) (take 3 (readRules w)) =
-    (refl, ends-decided w, λ _. (refl, refused-decided w, λ _. (refl, full (restOf w), λ _. tt))) in
-    let second : Decided (bodyTests v a m) (drop 3 (readRules w)) =
-    (refl, failing (offered v), λ _. (refl, is-outside v a m bytes, λ _. (refl, is-combined v a m, λ _. tt))) in
-    in-stages emptied (judged v a m) numberOf (take 3 (readRules w)) (drop 3 (readRules w)) (lowest (walkTests w)) refl refl
-    (lowest-given (walkTests w) (take 3 (readRules w)) refl first)
-    (λ _. answer-given emptied _ numberOf (drop 3 (readRules w)) (lowest (bodyTests v a m)) refl (λ _. refl)
-    (lowest-given (bodyTests v a m) (drop 3 (readRules w)) refl second))
+module _ (w : Walk) (bytes : Bytes (matrixSection w)) where
+  abbrev v : Video
+  v = videoOf w
+
+  abbrev a : List ℕ
+  a = audioSection w
+
+  abbrev m : List ℕ
+  m = matrixSection w
+
+  abbrev walkRules : List Condition
+  walkRules = take (length (walkTests w)) (readRules w)
+
+  abbrev bodyRules : List Condition
+  bodyRules = drop (length (walkTests w)) (readRules w)
+
+  walk-decided : Decided (walkTests w) walkRules
+  walk-decided = (refl, ends-decided w, λ _. (refl, refused-decided w, λ _. (refl, full (restOf w), λ _. tt)))
+
+  body-decided : Decided (bodyTests v a m) bodyRules
+  body-decided = (refl, failing (offered v), λ _. (refl, is-outside v a m bytes, λ _. (refl, is-combined v a m, λ _. tt)))
+
+  pub read-given : Given (readRules w) (checked w .refusal)
+  unfolding judged
+  read-given =
+      in-stages emptied (judged v a m) numberOf walkRules bodyRules (lowest (walkTests w)) refl refl
+      (lowest-given (walkTests w) walkRules refl walk-decided)
+      (λ _. answer-given emptied _ numberOf bodyRules (lowest (bodyTests v a m)) refl (λ _. refl)
+      (lowest-given (bodyTests v a m) bodyRules refl body-decided))
 
 module _ (v : Video) (a m : List ℕ) where
   pub record Judged (c : Checked) : Type 0 where

@@ -44,9 +44,9 @@ module _ (s : Chip) (address value : ℕ) where
   unfolding enterOf
   refusals = record {
     given =
-        in-stages (refusedWrite s) (writeOf s address value) (λ (w : Wrote). w .refusal) (take 1 (enterRules s address value)) (writeRules s address value)
+        in-stages (refusedWrite s) (writeOf s address value) (λ (w : Wrote). w .refusal) (take (length (enterTests s)) (enterRules s address value)) (writeRules s address value)
         (lowest (enterTests s)) refl refl
-        (lowest-given (enterTests s) (take 1 (enterRules s address value)) refl (
+        (lowest-given (enterTests s) (take (length (enterTests s)) (enterRules s address value)) refl (
           refl,
           one-fails (eqb (length (s .image)) 256) _ (opposite (equal _ 256)) (unlike (length (s .packet)) (length (s .coefficients)) 32 24),
           λ _. tt,
