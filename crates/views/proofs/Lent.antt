@@ -2,15 +2,15 @@
 use mathlib.Core.Path.{_≡_, refl}
 use mathlib.Core.Logic.{_≢_}
 use mathlib.Core.Bool.{Bool, true, false, not}
-use mathlib.Core.List.{[], _∷_}
+use mathlib.Core.List.{List, [], _∷_}
 use Prim.Native.Nat.{ℕ}
 use lib.Dec.{eqb}
 use lib.ListN.{length, take}
 use borrow.Author.Tests.{eqb-true, not-false}
 use Rattle.lists.proofs.Both.{both-left, both-right}
 use Rattle.lists.proofs.Decides.{opposite, equal, one-fails}
-use Rattle.refusals.specs.Rows.{imageLength, _if_, lowest, answer}
-use Rattle.refusals.proofs.Tests.{lowest-given, in-stages, none-at}
+use Rattle.refusals.specs.Rows.{imageLength, Condition, _if_, lowest, answer}
+use Rattle.refusals.proofs.Tests.{Decided, lowest-given, in-stages, none-at}
 use Rattle.chip.specs.declared.Chip.{Chip}
 use Rattle.chip.specs.declared.Wrote.{Wrote}
 use Rattle.chip.specs.Write.{refusedWrite, writeOf}
@@ -40,18 +40,19 @@ module _ (s : Chip) (address value : ℕ) where
   unfolding enterOf
   let-in e = rw e
 
+  abbrev rules : List Condition
+  rules = take (length (enterTests s)) (enterRules s address value)
+
+  decided : Decided (enterTests s) rules
+  decided =
+      (refl, one-fails (eqb (length (s .image)) 256) _ (opposite (equal _ 256)) (unlike (length (s .packet)) (length (s .coefficients)) 32 24), λ _. tt)
+
   pub refusals : WriteRefusals s address value
   unfolding enterOf
   refusals = record {
     given =
-        in-stages (refusedWrite s) (writeOf s address value) (λ (w : Wrote). w .refusal) (take (length (enterTests s)) (enterRules s address value)) (writeRules s address value)
-        (lowest (enterTests s)) refl refl
-        (lowest-given (enterTests s) (take (length (enterTests s)) (enterRules s address value)) refl (
-          refl,
-          one-fails (eqb (length (s .image)) 256) _ (opposite (equal _ 256)) (unlike (length (s .packet)) (length (s .coefficients)) 32 24),
-          λ _. tt,
-        ))
-        (λ z. stepped s address value (sized s (none-at (enterTests s) 0 z) .image) .refusals);
+        in-stages (refusedWrite s) (writeOf s address value) (λ (w : Wrote). w .refusal) rules (writeRules s address value) (lowest (enterTests s)) refl refl
+        (lowest-given (enterTests s) rules refl decided) (λ z. stepped s address value (sized s (none-at (enterTests s) 0 z) .image) .refusals);
     kept = go (not (isSized s)) refl;
   }
     where

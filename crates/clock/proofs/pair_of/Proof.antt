@@ -58,13 +58,12 @@ returns-4 : tie.Need-returns-4
 returns-4 c =
     let p = c .before .before in
     let q = p .before .before .before .before in
-    let k = c .before .if4 .taken in
     let a = q .before .args in
     rw (
       c .coherent-pair .ensures,
       q .clock-of .ensures,
       pair-in (a .video) (a .rate) (a .coherent) (taken-up (p .before .before)) (search needs) (search needs),
-      eq-eqb _ _ k,
+      eq-eqb _ _ (c .before .if4 .taken),
     )
 
 mul-the-pair : tie.Need-mul-the-pair
@@ -80,7 +79,11 @@ returns-5 : tie.Need-returns-5
 returns-5 c =
     let p = c .before .before in
     let a = p .before .before .before .before .before .args in
-    rw (c .the-pair .ensures, pair-in (a .video) (a .rate) (a .coherent) (taken-up (p .before .before)) (search needs) (search needs), ne-eqb _ _ (c .before .if4 .left))
+    rw (
+      c .the-pair .ensures,
+      pair-in (a .video) (a .rate) (a .coherent) (taken-up (p .before .before)) (search needs) (search needs),
+      ne-eqb _ _ (c .before .if4 .left),
+    )
 
 pub pair-of-spec : {M : Type 1} → statement M
 pair-of-spec =
