@@ -14,7 +14,7 @@ use lib.Seq.{sets, sets-eq, take-suc, take-all, take-at, length-take-le}
 use Rattle.lists.proofs.Emit.{sets-append, sets-two, sets-front}
 use Rattle.video.specs.Video.{videoBody}
 use Rattle.matrix.specs.declared.Matrix.{Matrix}
-use Rattle.matrix.specs.Tests.{highByte, coefficientBytes}
+use Rattle.matrix.specs.Coefficient.{highByte, coefficientBytes}
 use Rattle.matrix.proofs.Pairs.{length-bytes}
 use Rattle.request.specs.declared.Sound.{Sound}
 use Rattle.request.specs.declared.Sound.the-variants.{Off, On}

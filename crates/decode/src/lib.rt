@@ -5,7 +5,7 @@ ghost use mathlib.Core.List.{List, _∷_};
 ghost use Prim.Native.Nat.{ℕ, suc, _+_, _<_, _≤_};
 ghost use lib.ListN.{getD, length};
 ghost use lib.Seq.{sets};
-ghost use Rattle.matrix.specs.Tests.{coefficientBytes};
+ghost use Rattle.matrix.specs.Coefficient.{coefficientBytes};
 ghost use Rattle.request.specs.declared.Request.{Request};
 ghost use Rattle.request.specs.Sections.{audioCount, matrixCount, longest};
 ghost use Rattle.request.specs.Bytes.{audioBody, matrixBody, asBytes, inFamily};

@@ -1,15 +1,14 @@
 -- The two calls on single fields give the first of their rows that applies. Assumes nothing.
 use mathlib.Core.Path.{refl, ap}
 use Prim.Native.Nat.{ℕ}
-use Rattle.lists.proofs.Decides.{equal, opposite, together, failing}
+use Rattle.lists.proofs.Decides.{equal, less, opposite, together}
 use Rattle.refusals.specs.Rows.{lowest}
 use Rattle.refusals.proofs.Tests.{Decided, lowest-given, answer-given, answer-beside}
 use Rattle.video.specs.declared.Video.{Video}
-use Rattle.video.specs.Modes.{offered}
-use Rattle.video.proofs.Fits.{is-outside}
+use Rattle.video.proofs.Listed.{not-listed}
 use Rattle.frames.specs.declared.Avi.{Avi}
 use Rattle.frames.specs.declared.Audio.{Audio}
-use Rattle.frames.specs.Answers.{noAvi, noAudio, videoTests, channelsTests, aviOf, audioOf}
+use Rattle.frames.specs.Answers.{noAvi, noAudio, aviTests, channelsTests, aviOf, audioOf}
 use Rattle.frames.specs.Theorems.{aviRules, audioRules, FrameRefusals}
 
 -- the numbers of the answers
@@ -19,8 +18,8 @@ aviNumber a = a .refusal
 abbrev audioNumber : Audio → ℕ
 audioNumber a = a .refusal
 
-avi-decided : (video : Video) → Decided (videoTests video) (aviRules video)
-avi-decided video = (refl, failing (offered video), λ _. (refl, is-outside video, λ _. tt))
+avi-decided : (video : Video) → Decided (aviTests video) (aviRules video)
+avi-decided video = (refl, not-listed (video .vic), λ _. (refl, less 2 (video .encoding), λ _. tt))
 
 audio-decided : (channels : ℕ) → Decided (channelsTests channels) (audioRules channels)
 audio-decided channels = (refl, together (opposite (equal channels 2)) (opposite (equal channels 8)), λ _. tt)
@@ -30,9 +29,9 @@ unfolding aviOf audioOf
 refusals =
     record {
       avi =
-          λ video. answer-given noAvi _ aviNumber (aviRules video) (lowest (videoTests video)) refl (λ _. refl)
-          (lowest-given (videoTests video) (aviRules video) refl (avi-decided video));
-      noAvi = λ video h. ap (λ (a : Avi). a .bytes) (answer-beside noAvi _ aviNumber (lowest (videoTests video)) (λ _. refl) h);
+          λ video. answer-given noAvi _ aviNumber (aviRules video) (lowest (aviTests video)) refl (λ _. refl)
+          (lowest-given (aviTests video) (aviRules video) refl (avi-decided video));
+      noAvi = λ video h. ap (λ (a : Avi). a .bytes) (answer-beside noAvi _ aviNumber (lowest (aviTests video)) (λ _. refl) h);
       audio =
           λ channels. answer-given noAudio _ audioNumber (audioRules channels) (lowest (channelsTests channels)) refl (λ _. refl)
           (lowest-given (channelsTests channels) (audioRules channels) refl (audio-decided channels));

@@ -7,11 +7,10 @@ use lib.Dec.{eqb}
 use lib.ListN.{replicate}
 use Rattle.refusals.specs.Rows.{modeNotOffered, fieldOutOfRange, Test, _if_, lowest, answer}
 use Rattle.video.specs.declared.Video.{Video}
-use Rattle.video.specs.Modes.{offered}
-use Rattle.video.specs.Video.{videoOutside}
+use Rattle.video.specs.Modes.{modeOf}
 use Rattle.frames.specs.declared.Avi.{Avi}
 use Rattle.frames.specs.declared.Audio.{Audio}
-use Rattle.frames.specs.Frames.{framed, aviCount, aviFrame, audioCount, audioFrame}
+use Rattle.frames.specs.Frames.{framed, aviCount, aviFrame, aviOutside, audioCount, audioFrame}
 
 -- a refusal has its number, and zeros beside it
 abbrev pub noAvi : ℕ → Avi
@@ -21,11 +20,11 @@ abbrev pub noAudio : ℕ → Audio
 noAudio number = record { refusal = number; bytes = replicate (framed audioCount) 0 }
 
 -- the AVI frame: the tests of rows 4 and 5
-abbrev pub videoTests : Video → List Test
-videoTests video = modeNotOffered if not (offered video) ∷ fieldOutOfRange if videoOutside video ∷ []
+abbrev pub aviTests : Video → List Test
+aviTests video = modeNotOffered if eqb (modeOf (video .vic) .families) 0 ∷ fieldOutOfRange if aviOutside video ∷ []
 
 unfoldable pub aviOf : Video → Avi
-aviOf video = answer (lowest (videoTests video)) noAvi (record { refusal = 0; bytes = aviFrame video })
+aviOf video = answer (lowest (aviTests video)) noAvi (record { refusal = 0; bytes = aviFrame video })
 
 -- the audio frame: the test of row 5
 abbrev pub channelsTests : ℕ → List Test

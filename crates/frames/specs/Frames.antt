@@ -1,8 +1,8 @@
 -- Document 01, "InfoFrames": the checksum, the AVI and the audio frame.
-use mathlib.Core.Bool.{cond}
+use mathlib.Core.Bool.{Bool, cond}
 use mathlib.Core.List.{List, [], _∷_, _++_}
-use Prim.Native.Nat.{ℕ, _+_, _-_, _*_, _/_, _%_}
-use lib.Dec.{eqb}
+use Prim.Native.Nat.{ℕ, _+_, _-_, _*_, _/_, _%_, _<_}
+use lib.Dec.{eqb, ltb}
 use lib.ListN.{getD, replicate}
 use Rattle.video.specs.declared.Mode.{Mode}
 use Rattle.video.specs.declared.Video.{Video}
@@ -50,6 +50,13 @@ aviPayload v =
 
 unfoldable pub aviFrame : Video → List ℕ
 aviFrame video = frame aviHeader (aviPayload video)
+
+-- row 5, "any other field outside its range", of the fields that the frame takes beside the VIC; and its test
+abbrev pub AviOutside : Video → Type 0
+AviOutside v = 2 < v .encoding
+
+abbrev pub aviOutside : Video → Bool
+aviOutside v = ltb 2 (v .encoding)
 
 -- what the data bytes of an AVI frame name, over a link: Y of byte 1, and byte 4. "Family is answered as 0". `NamedBack` ties it to them.
 abbrev pub videoNamed : ℕ → List ℕ → Video

@@ -6,17 +6,18 @@ use mathlib.Core.Bool.{false}
 use mathlib.Core.List.{List, [], _∷_}
 use Prim.Native.Nat.{ℕ, _+_, _%_, _<_}
 use lib.ListN.{replicate}
+use Rattle.lists.specs.Among.{among}
 use Rattle.refusals.specs.Rows.{modeNotOffered, fieldOutOfRange, Condition, _when_, Given}
 use Rattle.video.specs.declared.Video.{Video}
-use Rattle.video.specs.Modes.{offered}
-use Rattle.video.specs.Video.{answered, VideoOutside, VideoFits}
-use Rattle.frames.specs.Frames.{total, checksumOf, frame, framed, aviCount, aviPayload, videoNamed, audioCount}
+use Rattle.video.specs.Modes.{listed}
+use Rattle.video.specs.Video.{answered, VideoFits}
+use Rattle.frames.specs.Frames.{total, checksumOf, frame, framed, aviCount, aviPayload, AviOutside, videoNamed, audioCount}
 use Rattle.frames.specs.Answers.{aviOf, audioOf}
 
--- "A call on single fields checks those .. whose fields it takes": of a whole video row 4, "VIC not listed below, or family not offered by
--- it", and row 5, "any other field outside its range"; of the channels row 5: they are 2 or 8
+-- "A call on single fields checks those .. whose fields it takes": the AVI frame row 4, "VIC not listed below", and row 5, "any other field
+-- outside its range"; the audio frame row 5: the channels are 2 or 8
 abbrev pub aviRules : Video → List Condition
-aviRules video = modeNotOffered when (offered video ≡ false) ∷ fieldOutOfRange when VideoOutside video ∷ []
+aviRules video = modeNotOffered when (among (video .vic) listed ≡ false) ∷ fieldOutOfRange when AviOutside video ∷ []
 
 abbrev pub audioRules : ℕ → List Condition
 audioRules channels = fieldOutOfRange when ((channels ≢ 2) × (channels ≢ 8)) ∷ []

@@ -2,9 +2,9 @@
 ghost use mathlib.Core.Path.{_≡_};
 ghost use mathlib.Core.Bool.{false};
 ghost use Prim.Native.Nat.{_%_};
-ghost use Rattle.video.specs.Video.{videoOutside};
+ghost use Rattle.video.specs.Modes.{modeOf};
 ghost use Rattle.frames.specs.Frames.{total, checksumOf, frame, colorimetry};
-ghost use Rattle.frames.specs.Frames.{aviFrame, videoNamed, audioHeader, audioPayload, audioOffFrame};
+ghost use Rattle.frames.specs.Frames.{aviFrame, aviOutside, videoNamed, audioHeader, audioPayload, audioOffFrame};
 ghost use Rattle.frames.specs.Answers.{noAvi, GivesAvi, GivesAudio};
 ghost use Rattle.frames.specs.Theorems.{Checksum, FrameRefusals, NamedBack};
 use refusals::Refusal;
@@ -62,14 +62,20 @@ fn colour(mode: Mode, encoding: u8) -> u8
     mode.colorimetry
 }
 
-// The AVI InfoFrame of a video.
-fn avi_frame(video: Video) -> [u8; AVI_FRAME]
-    requires { ⌜ videoOutside video ≡ false ⌝ }
+// Row 5, of the fields that the AVI InfoFrame takes beside the VIC.
+fn avi_outside(video: Video) -> bool
+    ensures { λ r. ⌜ r ≡ aviOutside video ⌝ }
+{
+    2 < video.encoding
+}
+
+// The AVI InfoFrame of a video, and its mode.
+fn avi_frame(video: Video, mode: Mode) -> [u8; AVI_FRAME]
+    requires { ⌜ (mode ≡ modeOf (video .vic)) × (aviOutside video ≡ false) ⌝ }
     ensures { λ r. ⌜ r ≡ aviFrame video ⌝ }
 {
     let encoding = video.encoding;
     let vic = video.vic;
-    let mode = video::mode_of(vic);
     let colour = colour(mode, encoding);
     let aspect = mode.aspect;
     let first = encoding * 32 + 16;
@@ -114,13 +120,13 @@ pub fn avi_of(video: Video) -> Avi
 {
     let vic = video.vic;
     let mode = video::mode_of(vic);
-    if mode.families <= video.family {
+    if mode.families == 0 {
         return no_avi(Refusal::MODE_NOT_OFFERED);
     }
-    if video::outside(video) {
+    if avi_outside(video) {
         return no_avi(Refusal::FIELD_OUT_OF_RANGE);
     }
-    let bytes = avi_frame(video);
+    let bytes = avi_frame(video, mode);
     Avi {
         refusal: Refusal::NONE,
         bytes: bytes,

@@ -224,15 +224,9 @@ aviInfoframeLengthMask = 0x1F
 abbrev pub aviInfoframeChecksum : ℕ
 aviInfoframeChecksum = 0x54
 
--- 0x55: AVI data byte 1: Y1Y0
+-- 0x55: AVI data byte 1
 abbrev pub aviInfoframeByte1 : ℕ
 aviInfoframeByte1 = 0x55
-
-abbrev pub y1y0Mask : ℕ
-y1y0Mask = 0x60
-
-abbrev pub y1y0Shift : ℕ
-y1y0Shift = 5
 
 -- 0x70: Audio InfoFrame Version: the first of 13 registers
 abbrev pub audioInfoframeVersion : ℕ

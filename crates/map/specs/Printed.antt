@@ -77,7 +77,7 @@ rows =
     mask 2 0 reg.aviInfoframeVersionMask ∷
     register 0x53 reg.aviInfoframeLength ∷ mask 4 0 reg.aviInfoframeLengthMask ∷
     register 0x54 reg.aviInfoframeChecksum ∷
-    register 0x55 reg.aviInfoframeByte1 ∷ mask 6 5 reg.y1y0Mask ∷ shift 6 5 reg.y1y0Shift ∷
+    register 0x55 reg.aviInfoframeByte1 ∷
     register 0x70 reg.audioInfoframeVersion ∷
     count 0x70 0x7C reg.audioInfoframeCount ∷
     mask 2 0 reg.audioInfoframeVersionMask ∷

@@ -163,12 +163,8 @@ impl Map {
     // 0x54: AVI InfoFrame Checksum
     pub const AVI_INFOFRAME_CHECKSUM: u8 = 0x54;
 
-    // 0x55: AVI data byte 1: Y1Y0
+    // 0x55: AVI data byte 1
     pub const AVI_INFOFRAME_BYTE1: u8 = 0x55;
-
-    pub const Y1Y0_MASK: u8 = 0x60;
-
-    pub const Y1Y0_SHIFT: u8 = 5;
 
     // 0x70: Audio InfoFrame Version: the first of 13 registers
     pub const AUDIO_INFOFRAME_VERSION: u8 = 0x70;
@@ -219,7 +215,7 @@ impl Map {
 }
 
 // Every constant of the map: it is its twin, and what is printed.
-pub fn constants() -> [u8; 87]
+pub fn constants() -> [u8; 85]
     ensures { λ r. ⌜ r ≡ twins ⌝ }
     ensures { λ r. ⌜ r ≡ printed ⌝ }
 {
@@ -292,8 +288,6 @@ pub fn constants() -> [u8; 87]
         Map::AVI_INFOFRAME_LENGTH_MASK,
         Map::AVI_INFOFRAME_CHECKSUM,
         Map::AVI_INFOFRAME_BYTE1,
-        Map::Y1Y0_MASK,
-        Map::Y1Y0_SHIFT,
         Map::AUDIO_INFOFRAME_VERSION,
         Map::AUDIO_INFOFRAME_COUNT,
         Map::AUDIO_INFOFRAME_VERSION_MASK,

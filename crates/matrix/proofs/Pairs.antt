@@ -11,8 +11,8 @@ use borrow.Author.Tests.{eqb-true, leb-true}
 use lib.ListN.{length, getD, take, drop, set, drop-of-length-le}
 use lib.Seq.{drop-cons, take-suc-set, append-snoc, take-all}
 use Rattle.lists.proofs.Both.{both-left, both-right}
-use Rattle.matrix.specs.Coefficient.{word, field}
-use Rattle.matrix.specs.Tests.{within, coefficientBytes}
+use Rattle.matrix.specs.Coefficient.{word, field, coefficientBytes}
+use Rattle.matrix.specs.Tests.{within}
 use Rattle.matrix.specs.Matrix.{fields, wordAt, noMatrix}
 use Rattle.matrix.specs.Tests.{inRange, isAllowed}
 use Rattle.matrix.proofs.Signs.{carried}

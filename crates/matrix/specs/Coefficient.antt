@@ -1,7 +1,8 @@
 -- Document 01, "Matrix": "Coefficients are 13-bit two's complement"; "The request": two bytes, high byte first, from -4096 to 4095.
 use mathlib.Core.Path.{_≡_}
 use mathlib.Core.Bool.{cond}
-use Prim.Native.Nat.{ℕ, suc, _+_, _-_, _*_, _%_, _^_, _<_}
+use mathlib.Core.List.{List, [], _∷_}
+use Prim.Native.Nat.{ℕ, suc, _+_, _-_, _*_, _/_, _%_, _^_, _<_}
 use lib.Dec.{ltb}
 use lib.IntN.{ℤ, pos, negsuc, subℕ}
 use lib.Signed.{_≤ℤ_}
@@ -24,6 +25,14 @@ word high low = high * 256 + low
 
 abbrev pub field : ℕ → ℕ
 field w = w % 8192
+
+-- a coefficient as the request has it: two bytes, high byte first, of its 13 bits carried to 16
+abbrev pub highByte : ℕ → ℕ
+highByte field = cond (ltb field 4096) (field / 256) (field / 256 + 224)
+
+abbrev pub coefficientBytes : List ℕ → List ℕ
+coefficientBytes [] = []
+coefficientBytes (c ∷ cs) = highByte c ∷ c % 256 ∷ coefficientBytes cs
 
 -- the numbers of k + 1 bits
 pub record Spans (k : ℕ) (z : ℤ) : Type 0 where

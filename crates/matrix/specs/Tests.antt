@@ -2,12 +2,12 @@
 -- two bytes of a coefficient to its 13 bits.
 use mathlib.Core.Path.{_≡_}
 use mathlib.Core.Logic.{_↔_}
-use mathlib.Core.Bool.{Bool, true, cond, _&&_, _||_}
+use mathlib.Core.Bool.{Bool, true, _&&_, _||_}
 use mathlib.Core.List.{List, [], _∷_}
-use Prim.Native.Nat.{ℕ, _+_, _/_, _%_}
+use Prim.Native.Nat.{ℕ, _%_}
 use lib.Dec.{eqb, leb, ltb}
 use lib.ListN.{getD, length, drop}
-use Rattle.matrix.specs.Coefficient.{signed, valueOf, word, field, Spans}
+use Rattle.matrix.specs.Coefficient.{signed, valueOf, word, field, highByte, Spans}
 
 -- a word of two bytes is within -4096 to 4095
 abbrev pub within : ℕ → Bool
@@ -22,14 +22,6 @@ inRange (high ∷ low ∷ more) = within (word high low) && inRange more
 -- a body of 25 bytes whose mode is at most 2 and whose coefficients are in range: what refusal 5 asks of a matrix
 unfoldable pub isAllowed : List ℕ → Bool
 isAllowed body = eqb (length body) 25 && leb (getD body 0 0) 2 && inRange (drop 1 body)
-
--- a coefficient as the request has it: two bytes, high byte first, of its 13 bits carried to 16
-abbrev pub highByte : ℕ → ℕ
-highByte field = cond (ltb field 4096) (field / 256) (field / 256 + 224)
-
-abbrev pub coefficientBytes : List ℕ → List ℕ
-coefficientBytes [] = []
-coefficientBytes (c ∷ cs) = highByte c ∷ c % 256 ∷ coefficientBytes cs
 
 -- what two bytes of a request say: `within` is "from -4096 to 4095", and the field stands for the number that the bytes stand for
 pub record Sent (w : ℕ) : Type 0 where

@@ -8,7 +8,7 @@ use native.Mathlib.Omega.{arith}
 use lib.ListN.{length, getD, take, drop, length-map, List·getD-map}
 use lib.Seq.{take-at, take-length}
 use Rattle.bits.specs.Merge.{bit}
-use Rattle.matrix.specs.Tests.{coefficientBytes}
+use Rattle.matrix.specs.Coefficient.{coefficientBytes}
 use Rattle.frames.specs.Frames.{aviFrame}
 use Rattle.request.specs.declared.Request.{Request}
 use Rattle.request.specs.Read.{readOf}

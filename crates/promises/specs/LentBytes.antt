@@ -4,7 +4,7 @@ use mathlib.Core.Path.{_≡_}
 use mathlib.Core.List.{List, [], _∷_, _++_}
 use Prim.Native.Nat.{ℕ, suc, _*_, _%_, _<_, _≤_}
 use lib.ListN.{length, getD, take, drop}
-use Rattle.matrix.specs.Tests.{coefficientBytes}
+use Rattle.matrix.specs.Coefficient.{coefficientBytes}
 use Rattle.frames.specs.Frames.{aviFrame}
 use Rattle.request.specs.declared.Request.{Request}
 use Rattle.chip.specs.declared.Chip.{Chip}

@@ -10,8 +10,8 @@ use lib.ListN.{length, getD, drop, set, length-drop}
 use lib.Seq.{getD-append-add, getD-drop, drop-cons}
 use borrow.Author.Tests.{eqb-true, leb-true, ltb-true, lt-ltb, le-ltb, not-false}
 use Rattle.lists.proofs.Both.{both-left, both-right, neither-right}
-use Rattle.matrix.specs.Coefficient.{word, field}
-use Rattle.matrix.specs.Tests.{within, highByte, coefficientBytes}
+use Rattle.matrix.specs.Coefficient.{word, field, highByte, coefficientBytes}
+use Rattle.matrix.specs.Tests.{within}
 use Rattle.matrix.specs.Matrix.{fields, matrixOf, noMatrix, Bytes}
 use Rattle.matrix.specs.Tests.{inRange, isAllowed}
 use Rattle.matrix.proofs.Pairs.{ranged}

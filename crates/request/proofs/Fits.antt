@@ -12,6 +12,7 @@ use Rattle.lists.proofs.Both.{neither-left, neither-right}
 use Rattle.video.specs.declared.Video.{Video}
 use Rattle.video.specs.Video.{videoOutside, videoCombined}
 use Rattle.video.specs.Modes.{offered}
+use Rattle.video.proofs.Fits.{is-outside, is-combined}
 use Rattle.matrix.specs.declared.Matrix.{Matrix}
 use Rattle.matrix.specs.Matrix.{matrixOf, noMatrix}
 use Rattle.matrix.specs.Tests.{isAllowed}
@@ -64,8 +65,8 @@ in-range v a m o x c =
     record {
       video = record {
         offered = o;
-        inside = neither-left (videoOutside v) _ x;
-        apart = neither-right (eqb (v .link) 0 && present a) _ (neither-right (not (eqb (v .encoding) 0) && eqb (length m) 0) _ c);
+        inside = is-outside v .fails (neither-left (videoOutside v) _ x);
+        apart = is-combined v .fails (neither-right (eqb (v .link) 0 && present a) _ (neither-right (not (eqb (v .encoding) 0) && eqb (length m) 0) _ c));
       };
       sound = sound-fits a (present a) (neither-left (present a && audioOutside a) later y);
       matrix = f .0;

@@ -9,7 +9,7 @@ use lib.ListN.{length}
 use borrow.Author.Tests.{ne-eqb}
 use Rattle.lists.specs.Among.{among}
 use Rattle.matrix.specs.declared.Matrix.{Matrix}
-use Rattle.matrix.specs.Tests.{coefficientBytes}
+use Rattle.matrix.specs.Coefficient.{coefficientBytes}
 use Rattle.matrix.specs.Matrix.{matrixOf, noMatrix}
 use Rattle.matrix.proofs.Pairs.{length-bytes, fields-said}
 use Rattle.request.specs.declared.Sound.{Sound}

@@ -7,7 +7,7 @@ use lib.Dec.{eqb}
 use Rattle.video.specs.Video.{videoBody, answered}
 use Rattle.video.specs.Video as video
 use Rattle.matrix.specs.declared.Matrix.{Matrix}
-use Rattle.matrix.specs.Tests.{coefficientBytes}
+use Rattle.matrix.specs.Coefficient.{coefficientBytes}
 use Rattle.request.specs.declared.Sound.{Sound}
 use Rattle.request.specs.declared.Sound.the-variants.{Off, On}
 use Rattle.request.specs.declared.Request.{Request}

@@ -1,6 +1,6 @@
 -- What the tests of a video decide, and what they say of each field of one that is accepted. Assumes nothing.
 use mathlib.Core.Path.{_≡_, refl}
-use mathlib.Core.Logic.{_≢_}
+use mathlib.Core.Logic.{_≢_, inl, inr}
 use mathlib.Core.Bool.{Bool, true, false, cond, _&&_}
 use mathlib.Core.List.{List, [], _∷_}
 use Prim.Native.Nat.{ℕ, _<_, _≤_}
@@ -8,7 +8,7 @@ use native.Mathlib.Omega.{arith}
 use lib.Dec.{eqb, ltb, leb}
 use borrow.Author.Tests.{eqb-true, ltb-true, ltb-false, leb-true}
 use Rattle.lists.specs.Find.{every}
-use Rattle.lists.proofs.Both.{both-left, both-right, neither-left, neither-right}
+use Rattle.lists.proofs.Both.{both-left, both-right}
 use Rattle.lists.proofs.Decides.{Decides, equal, less, opposite, either, together}
 use Rattle.video.specs.declared.Mode.{Mode}
 use Rattle.video.specs.declared.Video.{Video}
@@ -42,16 +42,13 @@ row-small vic family (m ∷ ms) t h =
         (omega arith, omega arith)
     go false e s l ih = ih l
 
--- ---- a field that row 5 does not refuse
-
-module _ (v : Video) (inside : videoOutside v ≡ false) where
-  pub encoding-inside : v .encoding ≤ 2
-  unfolding videoOutside
-  encoding-inside = ltb-false 2 (v .encoding) (neither-left (ltb 2 (v .encoding)) (ltb 1 (v .link)) inside)
-
-  pub link-inside : v .link ≤ 1
-  unfolding videoOutside
-  link-inside = ltb-false 1 (v .link) (neither-right (ltb 2 (v .encoding)) (ltb 1 (v .link)) inside)
+-- not above is at most
+at-most : (m n : ℕ) → (m < n → ⊥) → n ≤ m
+at-most m n h = go (ltb m n) refl
+  where
+    go : (b : Bool) → ltb m n ≡ b → n ≤ m
+    go true e = absurd (h (ltb-true m n e))
+    go false e = ltb-false m n e
 
 module _ (v : Video) (f : VideoFits v) where
   in-table : (v .vic < 64) × (v .family < 2)
@@ -68,7 +65,7 @@ module _ (v : Video) (f : VideoFits v) where
   is-listed e = omega (arith, ltb-true (v .family) (modeOf (v .vic) .families) (f .offered))
 
   pub encoding-fits : v .encoding ≤ 2
-  encoding-fits = encoding-inside v (f .inside)
+  encoding-fits = at-most 2 (v .encoding) (λ h. f .inside (inl h))
 
   pub link-fits : v .link ≤ 1
-  link-fits = link-inside v (f .inside)
+  link-fits = at-most 1 (v .link) (λ h. f .inside (inr h))

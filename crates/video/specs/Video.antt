@@ -1,7 +1,7 @@
 -- Document 01, "The request": the video section. A later byte of it is a field here.
 use mathlib.Core.Path.{_≡_}
 use mathlib.Core.Logic.{_≢_, _⊎_}
-use mathlib.Core.Bool.{Bool, true, false, not, _&&_, _||_}
+use mathlib.Core.Bool.{Bool, true, not, _&&_, _||_}
 use mathlib.Core.List.{List, [], _∷_}
 use Prim.Native.Nat.{ℕ, _<_}
 use lib.Dec.{eqb, ltb}
@@ -56,5 +56,5 @@ videoCombined v = eqb (v .link) 0 && not (eqb (v .encoding) 0)
 -- what is known of the video of an accepted request
 pub record VideoFits (v : Video) : Type 0 where
   pub offered : offered v ≡ true
-  pub inside : videoOutside v ≡ false
-  pub apart : videoCombined v ≡ false
+  pub inside : VideoOutside v → ⊥
+  pub apart : VideoCombined v → ⊥

@@ -13,8 +13,7 @@ use Rattle.lists.proofs.Decides.{less}
 use Rattle.lists.proofs.Emit.{sets-front}
 use Rattle.refusals.specs.Rows.{Given}
 use Rattle.refusals.proofs.Tests.{lowest-given, numbered}
-use Rattle.matrix.specs.Coefficient.{word, field}
-use Rattle.matrix.specs.Tests.{highByte, coefficientBytes}
+use Rattle.matrix.specs.Coefficient.{word, field, highByte, coefficientBytes}
 use Rattle.matrix.specs.Matrix.{fields}
 use Rattle.matrix.proofs.Pairs.{two-left, fields-small, length-fields, length-bytes, fields-said}
 use Rattle.chip.specs.declared.Chip.{Chip}

@@ -7,7 +7,7 @@ use Prim.Native.Nat.{ℕ}
 use lib.Dec.{eqb, ltb}
 use lib.ListN.{length, drop}
 use Rattle.refusals.specs.Rows.{imageLength, bufferShort, Test, _if_, lowest, answer}
-use Rattle.matrix.specs.Tests.{coefficientBytes}
+use Rattle.matrix.specs.Coefficient.{coefficientBytes}
 use Rattle.chip.specs.Machine.{coefficients, modeInUse}
 use Rattle.views.specs.declared.converter.Count.{Count}
 use Rattle.views.specs.Entry.{lentAs}

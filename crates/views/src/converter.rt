@@ -3,7 +3,7 @@ ghost use mathlib.Core.Path.{_≡_};
 ghost use Prim.Native.Nat.{_≤_};
 ghost use lib.ListN.{length};
 ghost use lib.Seq.{sets};
-ghost use Rattle.matrix.specs.Tests.{coefficientBytes};
+ghost use Rattle.matrix.specs.Coefficient.{coefficientBytes};
 ghost use Rattle.matrix.specs.Matrix.{fields};
 ghost use Rattle.views.specs.Converter.{ShowsMatrix};
 use map::Map;

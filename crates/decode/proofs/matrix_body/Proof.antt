@@ -6,7 +6,7 @@ use native.Mathlib.Omega.{arith}
 use lib.ListN.{length, take}
 use lib.Seq.{sets}
 use borrow.Author.Needs.{needs}
-use Rattle.matrix.specs.Tests.{highByte, coefficientBytes}
+use Rattle.matrix.specs.Coefficient.{highByte, coefficientBytes}
 use Rattle.decode.proofs.Emitted.{turn-bytes, whole-matrix}
 use Rattle.decode.proofs.matrix_body.Statement.{statement}
 use Rattle.decode.proofs.matrix_body.Tie as tie

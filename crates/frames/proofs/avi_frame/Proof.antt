@@ -1,6 +1,6 @@
 -- `frames::avi_frame` meets its contract: the place of the checksum is 0 while the sum is taken. Assumes nothing.
 use Prim.Native.Nat.{_≤_}
-use Rattle.video.proofs.Fits.{encoding-inside}
+use borrow.Author.Tests.{ltb-false}
 use Rattle.frames.specs.Frames.{aviHeader, aviPayload, aviFrame}
 use Rattle.frames.proofs.Total.{kept}
 use Rattle.frames.proofs.Small.{Small, mode-small, colour-small}
@@ -8,25 +8,22 @@ use borrow.Author.Needs.{needs}
 use Rattle.frames.proofs.avi_frame.Statement.{statement}
 use Rattle.frames.proofs.avi_frame.Tie as tie
 
-mode-of-requires : tie.Need-mode-of-requires
-mode-of-requires c κs = search needs
-
 colour-requires : tie.Need-colour-requires
 colour-requires c κs = search needs
 
 -- Y, C and M have two bits
 record Small-fields (c : tie.After-colour) : Type 0 where
-  encoding : c .before .before .args .video .encoding ≤ 2
+  encoding : c .before .args .video .encoding ≤ 2
   colour : c .colour .result ≤ 2
-  aspect : c .before .mode-of .result .aspect ≤ 2
+  aspect : c .before .args .mode .aspect ≤ 2
 
 small : (c : tie.After-colour) → Small-fields c
 small c =
-    let v = c .before .before .args .video in
-    let m : Small (c .before .mode-of .result) = rw (c .before .mode-of .ensures) (mode-small (v .vic)) in
+    let v = c .before .args .video in
+    let m : Small (c .before .args .mode) = rw (c .before .pre .0) (mode-small (v .vic)) in
     record {
-      encoding = encoding-inside v (c .before .before .pre);
-      colour = rw (c .colour .ensures) (colour-small (c .before .mode-of .result) (v .encoding) m);
+      encoding = ltb-false 2 (v .encoding) (c .before .pre .1);
+      colour = rw (c .colour .ensures) (colour-small (c .before .args .mode) (v .encoding) m);
       aspect = m .aspect;
     }
 
@@ -61,13 +58,12 @@ returns : tie.Need-returns
 unfolding aviFrame
 returns c =
     let p = c .before .before in
-    simp (c .checksum .ensures, kept aviHeader (aviPayload (p .before .before .args .video)), p .colour .ensures, p .before .mode-of .ensures)
+    simp (c .checksum .ensures, kept aviHeader (aviPayload (p .before .args .video)), p .colour .ensures, p .before .pre .0)
 
 pub avi-frame-spec : {M : Type 1} → statement M
 avi-frame-spec =
     tie.close
     (tie.spec
-    mode-of-requires
     colour-requires
     mul-first
     add-first
