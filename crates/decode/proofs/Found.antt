@@ -1,7 +1,7 @@
 -- What the code tests of an image is `someEnds`, and what decoding answers, row by row. Assumes nothing.
-use mathlib.Core.Path.{_≡_, refl, ap, ap₂, _∙_}
+use mathlib.Core.Path.{_≡_, refl, sym, ap, ap₂, _∙_}
 use mathlib.Core.Logic.{_≢_}
-use mathlib.Core.Bool.{Bool, true, false, _&&_, _||_}
+use mathlib.Core.Bool.{Bool, true, false, false≢true, _&&_, _||_}
 use mathlib.Core.List.{List}
 use Prim.Native.Nat.{ℕ, _<_, _≤_}
 use lib.Dec.{eqb}
@@ -19,8 +19,9 @@ use Rattle.plan.specs.Wanted.{wanted}
 use Rattle.plan.specs.Plan.{standsIn}
 use Rattle.decode.specs.declared.Decoded.{Decoded}
 use Rattle.decode.specs.Extract.{extract}
-use Rattle.decode.specs.Decode.{endsIn, someEnds, decodeRefusal, notDecoded, decodeOf, inFront, decodedBuffer}
+use Rattle.decode.specs.Decode.{isCoherent, endsIn, someEnds, decodeRefusal, notDecoded, decodeOf, inFront, decodedBuffer}
 use Rattle.decode.proofs.Answers.{shaped}
+use Rattle.decode.proofs.Families.{spared}
 
 -- accepted on some image, and standing in this one: on the bytes, and on the request
 stands-ends : (r : Request) (family : ℕ) (image : List ℕ) → Shaped (r .matrix) → length image ≡ 256
@@ -35,8 +36,17 @@ stands-ends r family image s l = go (eqb (readOf (asBytes (inFamily family r)) .
     go false e = refl
     go true e = rw (said (inFamily family r) s (eqb-true _ _ e), eq-eqb (length image) 256 l)
 
+-- where the first family is not found, and the sound is not coherent, neither is the second
+pub not-second : (r : Request) (image : List ℕ) → Shaped (r .matrix) → length image ≡ 256 → isCoherent (r .sound) ≡ false
+    → standsIn (asBytes (inFamily 0 r)) image ≡ false → standsIn (asBytes (inFamily 1 r)) image ≡ false
+not-second r image s l n f = go (endsIn r 1 image) refl
+  where
+    go : (b : Bool) → endsIn r 1 image ≡ b → standsIn (asBytes (inFamily 1 r)) image ≡ false
+    go false e = stands-ends r 1 image s l ∙ e
+    go true e = absurd (false≢true (sym f ∙ stands-ends r 0 image s l ∙ spared r s image n e))
+
 module _ (image : List ℕ) (sized : length image ≡ 256) where
-  matrix-shaped : Shaped (extract image .matrix)
+  pub matrix-shaped : Shaped (extract image .matrix)
   unfolding extract
   matrix-shaped = shaped image sized
 

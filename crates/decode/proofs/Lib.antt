@@ -4,5 +4,6 @@ pub mod BitByBit
 pub mod Groups
 pub mod Extracted
 pub mod Answers
+pub mod Families
 pub mod Found
 pub mod Emitted

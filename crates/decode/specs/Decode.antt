@@ -1,11 +1,13 @@
 -- What decoding answers, as the code finds it: refusals 7, 10 and 11. `ExactlyWhen` and `Refusals` (Theorems) tie it to document 01.
 use mathlib.Core.Path.{_≡_}
-use mathlib.Core.Bool.{Bool, not, _&&_, _||_}
+use mathlib.Core.Bool.{Bool, false, not, _&&_, _||_}
 use mathlib.Core.List.{List, [], _∷_, _++_}
 use Prim.Native.Nat.{ℕ}
 use lib.Dec.{eqb, ltb}
 use lib.ListN.{length, drop}
 use Rattle.refusals.specs.Rows.{imageLength, bufferShort, noRequest, Test, _if_, lowest, answer}
+use Rattle.request.specs.declared.Sound.{Sound}
+use Rattle.request.specs.declared.Sound.the-variants.{Off, On}
 use Rattle.request.specs.declared.Request.{Request}
 use Rattle.request.specs.Sections.{longest}
 use Rattle.request.specs.Read.{readOf, pairFor}
@@ -20,6 +22,11 @@ unfoldable pub endsIn : Request → ℕ → List ℕ → Bool
 endsIn r family image =
     let q : Request = inFamily family r in
     eqb (readOf (asBytes q) .refusal) 0 && eqb (pairFor q .refusal) 0 && standsBelow (wanted q) image 256
+
+-- sound that is coherent: only its N and CTS differ between the families, so the code tries the second with no other
+abbrev pub isCoherent : Sound → Bool
+isCoherent Off = false
+isCoherent (On rate channels coherent) = eqb coherent 1
 
 unfoldable pub someEnds : List ℕ → Bool
 someEnds image = endsIn (extract image) 0 image || endsIn (extract image) 1 image

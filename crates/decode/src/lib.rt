@@ -9,9 +9,10 @@ ghost use Rattle.matrix.specs.Coefficient.{coefficientBytes};
 ghost use Rattle.request.specs.declared.Request.{Request};
 ghost use Rattle.request.specs.Sections.{audioCount, matrixCount, longest};
 ghost use Rattle.request.specs.Bytes.{audioBody, matrixBody, asBytes, inFamily};
+ghost use Rattle.request.specs.Theorems.{Shaped};
 ghost use Rattle.plan.specs.Plan.{standsIn};
 ghost use Rattle.decode.specs.Extract.{rateOf, soundIn, matrixIn, extract};
-ghost use Rattle.decode.specs.Decode.{inFront, notDecoded, Decodes};
+ghost use Rattle.decode.specs.Decode.{inFront, isCoherent, notDecoded, Decodes};
 ghost use Rattle.decode.specs.Theorems.{ExactlyWhen, BitByBit, AtMostOne, Refusals, ReadBack};
 use frames::AVI_COUNT;
 use map::Map;
@@ -195,14 +196,32 @@ fn ends_in(q: Request, family: u8, image: &[u8]) -> bool
     plan::stands(&bytes[..count], image)
 }
 
-// In one of its families.
+// Whether sound is coherent.
+fn is_coherent(sound: Sound) -> bool
+    ensures { λ r. ⌜ r ≡ isCoherent sound ⌝ }
+{
+    match sound {
+        Sound::Off => false,
+        Sound::On {
+            rate: _,
+            channels: _,
+            coherent,
+        } => coherent == 1,
+    }
+}
+
+// In one of its families. Where the sound is not coherent, the second wants what the first does.
 fn ends(q: Request, image: &[u8]) -> bool
-    requires { ⌜ ((i : ℕ) → getD (q .matrix .coefficients) i 0 < 8192) ⌝ }
+    requires { ⌜ Shaped (q .matrix) × (length (now image) ≡ 256) ⌝ }
     ensures { λ r. ⌜ r ≡ (standsIn (asBytes (inFamily 0 q)) (now (image .entry))
         || standsIn (asBytes (inFamily 1 q)) (now (image .entry))) ⌝ }
 {
+    let sound = q.sound;
     if ends_in(q, 0, image) {
         return true;
+    }
+    if !is_coherent(sound) {
+        return false;
     }
     ends_in(q, 1, image)
 }

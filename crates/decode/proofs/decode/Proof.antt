@@ -5,7 +5,7 @@ use lib.ListN.{length}
 use borrow.Author.Tests.{not-true, not-false}
 use borrow.Author.Needs.{needs}
 use Rattle.decode.specs.Decode.{someEnds}
-use Rattle.decode.proofs.Found.{small, found-by, seven, ten, eleven, none, refuses, accepts}
+use Rattle.decode.proofs.Found.{matrix-shaped, small, found-by, seven, ten, eleven, none, refuses, accepts}
 use Rattle.decode.proofs.decode.Statement.{statement}
 use Rattle.decode.proofs.decode.Tie as tie
 
@@ -37,7 +37,7 @@ extract-requires : tie.Need-extract-requires
 extract-requires c κs = search needs
 
 ends-requires : tie.Need-ends-requires
-ends-requires c κs = rw (c .extract .ensures) (small _ (sized (c .before)))
+ends-requires c κs = rw (c .extract .ensures) (matrix-shaped _ (sized (c .before)), sized (c .before))
 
 refused-requires-3 : tie.Need-refused-requires-3
 refused-requires-3 c κs = search needs

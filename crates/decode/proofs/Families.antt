@@ -1,0 +1,91 @@
+-- A request whose sound is not coherent wants the same registers in both families, so the second need not be tried. Assumes nothing.
+use mathlib.Core.Path.{_≡_, refl, sym, ap, subst, _∙_}
+use mathlib.Core.Bool.{Bool, true, false, _&&_}
+use mathlib.Core.List.{List, _++_}
+use Prim.Native.Nat.{ℕ, _<_, _≤_}
+use native.Mathlib.Omega.{arith}
+use lib.Dec.{eqb, ltb}
+use lib.ListN.{getD, replicate}
+use borrow.Author.Tests.{eqb-true, eq-eqb, ltb-true, lt-ltb}
+use Rattle.lists.proofs.Both.{both-left, both-right}
+use Rattle.map.specs.Map as reg
+use Rattle.video.specs.declared.Video.{Video}
+use Rattle.video.specs.Video.{videoOutside, videoCombined}
+use Rattle.video.specs.Video as video
+use Rattle.video.specs.Modes.{modeOf, offered}
+use Rattle.clock.specs.declared.Pair.{Pair}
+use Rattle.clock.proofs.Coherence.{pair-in}
+use Rattle.frames.specs.Frames.{aviFrame}
+use Rattle.request.specs.declared.Sound.{Sound}
+use Rattle.request.specs.declared.Sound.the-variants.{Off, On}
+use Rattle.request.specs.declared.Request.{Request}
+use Rattle.request.specs.declared.Checked.{Checked}
+use Rattle.request.specs.Read.{outside, combined, judged, readOf, pairIn, pairFor}
+use Rattle.request.specs.Bytes.{audioBody, matrixBody, asBytes, inFamily}
+use Rattle.request.specs.Theorems.{Shaped}
+use Rattle.request.specs.Fits.{SoundFits, Fits}
+use Rattle.request.proofs.Fits.{fits}
+use Rattle.request.proofs.Ordered.{accepted}
+use Rattle.request.proofs.Said.{read-judged, said}
+use Rattle.plan.specs.Wanted.{laid, stores, clockBytes, inputBytes, cscBytes, enableBytes, frameBytes, wantedImage, wanted}
+use Rattle.writes.specs.List.{standsBelow}
+use Rattle.decode.specs.Decode.{isCoherent, endsIn}
+
+-- ---- rows 4 to 6
+
+first-offered : (v : Video) → offered (video.inFamily 1 v) ≡ true → offered (video.inFamily 0 v) ≡ true
+first-offered v o = lt-ltb 0 (modeOf (v .vic) .families) (omega (arith, ltb-true 1 (modeOf (v .vic) .families) o))
+
+judged-first : (v : Video) (a m : List ℕ) → judged (video.inFamily 1 v) a m .refusal ≡ 0 → judged (video.inFamily 0 v) a m .refusal ≡ 0
+unfolding judged outside combined videoOutside videoCombined
+judged-first v a m z =
+    let j = accepted (video.inFamily 1 v) a m z in
+    let x : outside (video.inFamily 0 v) a m ≡ false = j .inside in
+    let c : combined (video.inFamily 0 v) a m ≡ false = j .apart in
+    rw (first-offered v (j .mode), x, c)
+
+module _ (r : Request) (s : Shaped (r .matrix)) where
+  read-first : readOf (asBytes (inFamily 1 r)) .refusal ≡ 0 → readOf (asBytes (inFamily 0 r)) .refusal ≡ 0
+  read-first z =
+      let n : Checked → ℕ = λ c. c .refusal in
+      ap n (read-judged (inFamily 0 r) s)
+      ∙ judged-first (r .video) (audioBody (r .sound)) (matrixBody (r .matrix)) (sym (ap n (read-judged (inFamily 1 r) s)) ∙ z)
+
+  -- ---- N and CTS
+
+  module _ (z : readOf (asBytes (inFamily 1 r)) .refusal ≡ 0) where
+    fitting : Fits (inFamily 1 r)
+    fitting = subst Fits (ap (λ (c : Checked). c .request) (said (inFamily 1 r) s z)) (fits (asBytes (inFamily 1 r)) z)
+
+    pair-same : (t : Sound) → isCoherent t ≡ false → SoundFits t → pairIn (inFamily 0 r) t ≡ pairIn (inFamily 1 r) t
+    pair-same Off n f = refl
+    pair-same (On rate channels coherent) n f =
+        let o : offered (video.inFamily 1 (r .video)) ≡ true = fitting .video .offered in
+        let h : rate < 7 = omega (arith, f .0) in
+        let k : coherent < 2 = omega (arith, f .2) in
+        let e = pair-in (video.inFamily 0 (r .video)) rate coherent (first-offered (r .video) o) h k in
+        let g = pair-in (video.inFamily 1 (r .video)) rate coherent o h k in
+        (rw n at e) ∙ sym (rw n at g)
+
+    same-pair : isCoherent (r .sound) ≡ false → pairFor (inFamily 0 r) ≡ pairFor (inFamily 1 r)
+    unfolding pairFor
+    same-pair n = pair-same (r .sound) n (fitting .sound)
+
+    -- ---- the wanted bytes
+
+    same-wanted : isCoherent (r .sound) ≡ false → wanted (inFamily 0 r) ≡ wanted (inFamily 1 r)
+    unfolding wanted wantedImage aviFrame
+    same-wanted n =
+        let with : Pair → ℕ → ℕ = λ p a. getD (stores (replicate 256 0)
+        (clockBytes p ++ inputBytes r ++ laid reg.csc (cscBytes (r .matrix)) ++ enableBytes r ++ frameBytes r)) a 0 in
+        ap with (same-pair n)
+
+  pub spared : (image : List ℕ) → isCoherent (r .sound) ≡ false → endsIn r 1 image ≡ true → endsIn r 0 image ≡ true
+  unfolding endsIn
+  spared image n t =
+      let q : Request = inFamily 1 r in
+      let u : (eqb (readOf (asBytes q) .refusal) 0 && eqb (pairFor q .refusal) 0) ≡ true = both-left _ (standsBelow (wanted q) image 256) t in
+      let z : readOf (asBytes q) .refusal ≡ 0 = eqb-true _ _ (both-left _ (eqb (pairFor q .refusal) 0) u) in
+      let p : eqb (pairFor q .refusal) 0 ≡ true = both-right (eqb (readOf (asBytes q) .refusal) 0) _ u in
+      let b : standsBelow (wanted q) image 256 ≡ true = both-right (eqb (readOf (asBytes q) .refusal) 0 && eqb (pairFor q .refusal) 0) _ t in
+      rw (eq-eqb (readOf (asBytes (inFamily 0 r)) .refusal) 0 (read-first z), same-pair z n, p, same-wanted z n) b
