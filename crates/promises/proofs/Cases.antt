@@ -46,6 +46,10 @@ cases =
       case11 = (refl, refl);
       case12 = (refl, refl);
       case13 = refl;
+      encodings = refl;
+      links = refl;
+      dviWithAudio = refl;
+      dviWithEncoding = refl;
       lengths = refl;
       longest = refl;
     }

@@ -64,6 +64,12 @@ pub record MarkedCases : Type 0 where
   pub case12 : (valueOf (field (word 0x19 0xD6)) ≡ negsuc 1577) × (valueOf (field (word 0x1F 0xFF)) ≡ negsuc 0)
   -- 13. Table 39 on 2048, 3760, 2048: 3759, 3760, 3760
   pub case13 : previewOf table39 2048 3760 2048 ≡ record { refusal = 0; a = 3759; b = 3760; c = 3760 }
+  -- "encoding (0 RGB, 1 YCbCr 4:2:2, 2 YCbCr 4:4:4); link (0 DVI, 1 HDMI)": the next number of each is refused 5
+  pub encodings : readOf (0x04 ∷ 0x10 ∷ 0x00 ∷ 0x03 ∷ 0x01 ∷ 0x00 ∷ 0x00 ∷ []) .refusal ≡ 5
+  pub links : readOf (0x04 ∷ 0x10 ∷ 0x00 ∷ 0x00 ∷ 0x02 ∷ 0x00 ∷ 0x00 ∷ []) .refusal ≡ 5
+  -- "DVI with audio or with encoding not 0": refused 6, with a matrix too
+  pub dviWithAudio : readOf (0x04 ∷ 0x10 ∷ 0x00 ∷ 0x00 ∷ 0x00 ∷ 0x03 ∷ 0x02 ∷ 0x02 ∷ 0x01 ∷ 0x00 ∷ []) .refusal ≡ 6
+  pub dviWithEncoding : readOf (0x04 ∷ 0x10 ∷ 0x00 ∷ 0x02 ∷ 0x00 ∷ 0x00 ∷ 0x19 ∷ table39) .refusal ≡ 6
   -- "Lengths are therefore 7, 10, 32 or 35."
   pub lengths : lengths ≡ 7 ∷ 10 ∷ 32 ∷ 35 ∷ []
   -- "the longest request, 35"

@@ -1,8 +1,11 @@
 -- Document 01, "Modes and clocks": the listed VICs, with their clocks in Hz, the families that they offer, and their picture aspect.
-use mathlib.Core.Bool.{Bool}
+use mathlib.Core.Path.{_≡_}
+use mathlib.Core.Bool.{Bool, false}
 use mathlib.Core.List.{List, [], _∷_, map}
-use Prim.Native.Nat.{ℕ}
+use Prim.Native.Nat.{ℕ, _<_}
 use lib.Dec.{eqb, ltb}
+use lib.ListN.{length, getD}
+use Rattle.lists.specs.Among.{among}
 use Rattle.lists.specs.Find.{find}
 use Rattle.video.specs.declared.Mode.{Mode}
 use Rattle.video.specs.declared.Video.{Video}
@@ -44,6 +47,11 @@ rowOf vic = find (λ m. eqb (m .vic) vic) unlisted
 
 unfoldable pub modeOf : ℕ → Mode
 modeOf vic = rowOf vic modes
+
+-- a listed VIC has its own row of the table, and no other VIC has one
+pub record ModeTable : Type 0 where
+  pub row : (i : ℕ) → i < length modes → modeOf (getD modes i unlisted .vic) ≡ getD modes i unlisted
+  pub none : (vic : ℕ) → among vic listed ≡ false → modeOf vic ≡ unlisted
 
 -- the VIC is listed, and offers the family
 abbrev pub offered : Video → Bool

@@ -1,6 +1,6 @@
 // The video section of a request and the listed modes: document 01, "The request" and "Modes and clocks".
 ghost use mathlib.Core.Path.{_≡_};
-ghost use Rattle.video.specs.Modes.{mode, modeOf};
+ghost use Rattle.video.specs.Modes.{mode, modeOf, ModeTable};
 ghost use Rattle.video.specs.Video.{videoIn, videoBody, noVideo, inFamily, videoOutside, videoCombined, Body};
 
 // The count of the video section.
@@ -120,6 +120,11 @@ pub fn combined(v: Video) -> bool
 {
     (v.link == 0) & (v.encoding != 0)
 }
+
+// The mode of each VIC is the table's.
+pub fn mode_table()
+    ensures { λ _. ⌜ ModeTable ⌝ }
+{}
 
 // A body and what it asks for say the same.
 pub fn body_rule()
