@@ -58,4 +58,5 @@ refusedWrite s number = record { refusal = number; chip = s }
 -- "Each write hands the state back with one byte changed in the image, and a buffer filled where a hold rises"
 unfoldable pub writeOf : Chip → ℕ → ℕ → Wrote
 writeOf s address value =
-    answer (lowest (writeTests s address value)) (refusedWrite s) (record { refusal = 0; chip = put address (stored address value (s .image)) s })
+    answer (lowest (writeTests s address value)) (refusedWrite s)
+    (record { refusal = 0; chip = put address (stored address value (s .image)) s })

@@ -1,4 +1,5 @@
--- How the code reads a request off an image: each section from some registers. `ExactlyWhen` and `AtMostOne` (Theorems) tie it to document 01.
+-- How the code reads a request off an image: each section from some registers. `ExactlyWhen` and `AtMostOne` (Theorems) tie it to
+-- document 01.
 use mathlib.Core.Bool.{cond}
 use mathlib.Core.List.{List, [], _∷_}
 use Prim.Native.Nat.{ℕ, _+_, _/_, _%_, _^_}

@@ -1,5 +1,5 @@
--- What is proved of the frames: document 01's words for the checksum, when the two calls on single fields are refused, and that an AVI frame
--- names the video that it was made for.
+-- What is proved of the frames: document 01's words for the checksum, when the two calls on single fields are refused, and that an AVI
+-- frame names the video that it was made for.
 use mathlib.Core.Path.{_≡_}
 use mathlib.Core.Logic.{_≢_}
 use mathlib.Core.Bool.{false}
