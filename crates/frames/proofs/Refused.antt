@@ -1,11 +1,12 @@
 -- The two calls on single fields give the first of their rows that applies. Assumes nothing.
 use mathlib.Core.Path.{refl, ap}
 use Prim.Native.Nat.{ℕ}
-use Rattle.lists.proofs.Decides.{equal, less, opposite, together}
+use Rattle.lists.proofs.Decides.{equal, less, opposite, either, together}
 use Rattle.refusals.specs.Rows.{lowest}
 use Rattle.refusals.proofs.Tests.{Decided, lowest-given, answer-given, answer-beside}
 use Rattle.video.specs.declared.Video.{Video}
 use Rattle.video.proofs.Listed.{not-listed}
+use Rattle.video.proofs.Fits.{is-full}
 use Rattle.frames.specs.declared.Avi.{Avi}
 use Rattle.frames.specs.declared.Audio.{Audio}
 use Rattle.frames.specs.Answers.{noAvi, noAudio, aviTests, channelsTests, aviOf, audioOf}
@@ -19,7 +20,8 @@ abbrev audioNumber : Audio → ℕ
 audioNumber a = a .refusal
 
 avi-decided : (video : Video) → Decided (aviTests video) (aviRules video)
-avi-decided video = (refl, not-listed (video .vic), λ _. (refl, less 2 (video .encoding), λ _. tt))
+avi-decided video =
+    (refl, not-listed (video .vic), λ _. (refl, either (less 2 (video .encoding)) (less 1 (video .range)), λ _. (refl, is-full video, λ _. tt)))
 
 audio-decided : (channels : ℕ) → Decided (channelsTests channels) (audioRules channels)
 audio-decided channels = (refl, together (opposite (equal channels 2)) (opposite (equal channels 8)), λ _. tt)

@@ -1,4 +1,4 @@
--- What every mode's row says of its aspect and its colorimetry: one test over the table. Assumes nothing.
+-- What every mode's row says of its aspect and its colorimetry: one test over the table; and how large C and Q are. Assumes nothing.
 use mathlib.Core.Path.{_≡_, refl}
 use mathlib.Core.Bool.{Bool, true, false, cond, _&&_}
 use Prim.Native.Nat.{ℕ, _≤_}
@@ -7,8 +7,9 @@ use borrow.Author.Tests.{leb-true}
 use Rattle.lists.proofs.Both.{both-left, both-right}
 use Rattle.lists.proofs.Find.{found}
 use Rattle.video.specs.declared.Mode.{Mode}
+use Rattle.video.specs.declared.Video.{Video}
 use Rattle.video.specs.Modes.{modes, unlisted, modeOf}
-use Rattle.frames.specs.Frames.{colorimetry}
+use Rattle.frames.specs.Frames.{colorimetry, quantisation}
 
 pub record Small (m : Mode) : Type 0 where
   pub aspect : m .aspect ≤ 2
@@ -32,3 +33,11 @@ colour-small m encoding s = go (eqb encoding 0)
     go : (b : Bool) → cond b 0 (m .colorimetry) ≤ 2
     go true = lit≤ tt
     go false = s .colorimetry
+
+pub quantisation-small : (v : Video) → quantisation v ≤ 2
+quantisation-small v = go (eqb (v .encoding) 0) (eqb (v .range) 0)
+  where
+    go : (b c : Bool) → cond b (cond c 1 2) 0 ≤ 2
+    go true true = lit≤ tt
+    go true false = lit≤ tt
+    go false c = lit≤ tt

@@ -5,9 +5,10 @@ use mathlib.Core.List.{List, [], _∷_}
 use Prim.Native.Nat.{ℕ}
 use lib.Dec.{eqb}
 use lib.ListN.{replicate}
-use Rattle.refusals.specs.Rows.{modeNotOffered, fieldOutOfRange, Test, _if_, lowest, answer}
+use Rattle.refusals.specs.Rows.{modeNotOffered, fieldOutOfRange, combination, Test, _if_, lowest, answer}
 use Rattle.video.specs.declared.Video.{Video}
 use Rattle.video.specs.Modes.{modeOf}
+use Rattle.video.specs.Video.{fullYCbCr}
 use Rattle.frames.specs.declared.Avi.{Avi}
 use Rattle.frames.specs.declared.Audio.{Audio}
 use Rattle.frames.specs.Frames.{framed, aviCount, aviFrame, aviOutside, audioCount, audioFrame}
@@ -19,9 +20,10 @@ noAvi number = record { refusal = number; bytes = replicate (framed aviCount) 0 
 abbrev pub noAudio : ℕ → Audio
 noAudio number = record { refusal = number; bytes = replicate (framed audioCount) 0 }
 
--- the AVI frame: the tests of rows 4 and 5
+-- the AVI frame: the tests of rows 4, 5 and 6
 abbrev pub aviTests : Video → List Test
-aviTests video = modeNotOffered if eqb (modeOf (video .vic) .families) 0 ∷ fieldOutOfRange if aviOutside video ∷ []
+aviTests video =
+    modeNotOffered if eqb (modeOf (video .vic) .families) 0 ∷ fieldOutOfRange if aviOutside video ∷ combination if fullYCbCr video ∷ []
 
 unfoldable pub aviOf : Video → Avi
 aviOf video = answer (lowest (aviTests video)) noAvi (record { refusal = 0; bytes = aviFrame video })

@@ -1,5 +1,6 @@
--- Document 01, "InfoFrames": the checksum, the AVI and the audio frame.
-use mathlib.Core.Bool.{Bool, cond}
+-- Document 01, "InfoFrames": the checksum, the AVI and the audio frame; Q is document 02's, request 01.
+use mathlib.Core.Logic.{_⊎_}
+use mathlib.Core.Bool.{Bool, cond, _||_}
 use mathlib.Core.List.{List, [], _∷_, _++_}
 use Prim.Native.Nat.{ℕ, _+_, _-_, _*_, _/_, _%_, _<_}
 use lib.Dec.{eqb, ltb}
@@ -29,6 +30,10 @@ framed count = 3 + 1 + count
 abbrev pub colorimetry : Mode → ℕ → ℕ
 colorimetry mode encoding = cond (eqb encoding 0) 0 (mode .colorimetry)
 
+-- request 01: "Q becomes 1 or 2 to match when the encoding is RGB, and stays 0 for YCbCr"; a range is "0 limited, 1 full"
+abbrev pub quantisation : Video → ℕ
+quantisation v = cond (eqb (v .encoding) 0) (cond (eqb (v .range) 0) 1 2) 0
+
 -- "AVI header 0x82, 0x02, 0x0D"
 abbrev pub aviCount : ℕ
 aviCount = 0x0D
@@ -36,14 +41,14 @@ aviCount = 0x0D
 abbrev pub aviHeader : List ℕ
 aviHeader = 0x82 ∷ 0x02 ∷ aviCount ∷ []
 
--- "Y is the encoding; A is 1; B, S, ITC, EC, SC, Q, PR and bars are 0; C ..; M from the aspect; R is 8; VIC as asked"
+-- "Y is the encoding; A is 1; B, S, ITC, EC, SC, .. PR and bars are 0; C ..; M from the aspect; R is 8; VIC as asked"
 -- Byte 1 is 0 Y1 Y0 A B1 B0 S1 S0, byte 2 C1 C0 M1 M0 R3 to R0, byte 3 ITC EC Q SC, byte 4 the VIC, byte 5 PR, bytes 6 to 13 the bars.
 abbrev pub aviPayload : Video → List ℕ
 aviPayload v =
     let mode : Mode = modeOf (v .vic) in
     (v .encoding * 32 + 16) ∷
     (colorimetry mode (v .encoding) * 64 + mode .aspect * 16 + 8) ∷
-    0 ∷
+    (quantisation v * 4) ∷
     v .vic ∷
     0 ∷
     replicate 8 0
@@ -53,14 +58,16 @@ aviFrame video = frame aviHeader (aviPayload video)
 
 -- row 5, "any other field outside its range", of the fields that the frame takes beside the VIC; and its test
 abbrev pub AviOutside : Video → Type 0
-AviOutside v = 2 < v .encoding
+AviOutside v = (2 < v .encoding) ⊎ (1 < v .range)
 
 abbrev pub aviOutside : Video → Bool
-aviOutside v = ltb 2 (v .encoding)
+aviOutside v = ltb 2 (v .encoding) || ltb 1 (v .range)
 
--- what the data bytes of an AVI frame name, over a link: Y of byte 1, and byte 4. "Family is answered as 0". `NamedBack` ties it to them.
+-- what the data bytes of an AVI frame name, over a link: Y of byte 1, the high bit of Q in byte 3, and byte 4. "Family is answered as 0".
+-- `NamedBack` ties it to them.
 abbrev pub videoNamed : ℕ → List ℕ → Video
-videoNamed link bytes = record { vic = getD bytes 3 0; family = 0; encoding = getD bytes 0 0 / 32 % 4; link = link }
+videoNamed link bytes =
+    record { vic = getD bytes 3 0; family = 0; encoding = getD bytes 0 0 / 32 % 4; link = link; range = getD bytes 2 0 / 8 % 2 }
 
 -- "CC is channels less one; CA is 0x00 for 2 and 0x13 for 8; the rest 0." Byte 1 is CT3 to CT0 0 CC2 to CC0, byte 4 is CA.
 abbrev pub audioPayload : ℕ → ℕ → List ℕ

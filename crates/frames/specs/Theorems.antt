@@ -7,17 +7,18 @@ use mathlib.Core.List.{List, [], _∷_}
 use Prim.Native.Nat.{ℕ, _+_, _%_, _<_}
 use lib.ListN.{replicate}
 use Rattle.lists.specs.Among.{among}
-use Rattle.refusals.specs.Rows.{modeNotOffered, fieldOutOfRange, Condition, _when_, Given}
+use Rattle.refusals.specs.Rows.{modeNotOffered, fieldOutOfRange, combination, Condition, _when_, Given}
 use Rattle.video.specs.declared.Video.{Video}
 use Rattle.video.specs.Modes.{listed}
-use Rattle.video.specs.Video.{answered, VideoFits}
+use Rattle.video.specs.Video.{answered, FullYCbCr, VideoFits}
 use Rattle.frames.specs.Frames.{total, checksumOf, frame, framed, aviCount, aviPayload, AviOutside, videoNamed, audioCount}
 use Rattle.frames.specs.Answers.{aviOf, audioOf}
 
--- "A call on single fields checks those .. whose fields it takes": the AVI frame row 4, "VIC not listed below", and row 5, "any other field
--- outside its range"; the audio frame row 5: the channels are 2 or 8
+-- "A call on single fields checks those .. whose fields it takes": the AVI frame row 4, "VIC not listed below", row 5, "any other field
+-- outside its range", and of row 6 "range 1 with YCbCr"; the audio frame row 5: the channels are 2 or 8
 abbrev pub aviRules : Video → List Condition
-aviRules video = modeNotOffered when (among (video .vic) listed ≡ false) ∷ fieldOutOfRange when AviOutside video ∷ []
+aviRules video =
+    modeNotOffered when (among (video .vic) listed ≡ false) ∷ fieldOutOfRange when AviOutside video ∷ combination when FullYCbCr video ∷ []
 
 abbrev pub audioRules : ℕ → List Condition
 audioRules channels = fieldOutOfRange when ((channels ≢ 2) × (channels ≢ 8)) ∷ []

@@ -1,9 +1,9 @@
-// The checksum, and the AVI and audio InfoFrames: document 01, "InfoFrames".
+// The checksum, and the AVI and audio InfoFrames: document 01, "InfoFrames"; document 02, request 01.
 ghost use mathlib.Core.Path.{_≡_};
 ghost use mathlib.Core.Bool.{false};
 ghost use Prim.Native.Nat.{_%_};
 ghost use Rattle.video.specs.Modes.{modeOf};
-ghost use Rattle.frames.specs.Frames.{total, checksumOf, frame, colorimetry};
+ghost use Rattle.frames.specs.Frames.{total, checksumOf, frame, colorimetry, quantisation};
 ghost use Rattle.frames.specs.Frames.{aviFrame, aviOutside, videoNamed, audioHeader, audioPayload, audioOffFrame};
 ghost use Rattle.frames.specs.Answers.{noAvi, GivesAvi, GivesAudio};
 ghost use Rattle.frames.specs.Theorems.{Checksum, FrameRefusals, NamedBack};
@@ -62,11 +62,24 @@ fn colour(mode: Mode, encoding: u8) -> u8
     mode.colorimetry
 }
 
+// Q of the AVI InfoFrame.
+fn quantised(video: Video) -> u8
+    ensures { λ r. ⌜ r ≡ quantisation video ⌝ }
+{
+    if video.encoding != 0 {
+        return 0;
+    }
+    if video.range == 0 {
+        return 1;
+    }
+    2
+}
+
 // Row 5, of the fields that the AVI InfoFrame takes beside the VIC.
 fn avi_outside(video: Video) -> bool
     ensures { λ r. ⌜ r ≡ aviOutside video ⌝ }
 {
-    2 < video.encoding
+    (2 < video.encoding) | (1 < video.range)
 }
 
 // The AVI InfoFrame of a video, and its mode.
@@ -77,9 +90,11 @@ fn avi_frame(video: Video, mode: Mode) -> [u8; AVI_FRAME]
     let encoding = video.encoding;
     let vic = video.vic;
     let colour = colour(mode, encoding);
+    let q = quantised(video);
     let aspect = mode.aspect;
     let first = encoding * 32 + 16;
     let second = colour * 64 + aspect * 16 + 8;
+    let third = q * 4;
     let mut bytes = [
         0x82,
         0x02,
@@ -87,7 +102,7 @@ fn avi_frame(video: Video, mode: Mode) -> [u8; AVI_FRAME]
         0,
         first,
         second,
-        0,
+        third,
         vic,
         0,
         0,
@@ -114,7 +129,7 @@ fn no_avi(number: u8) -> Avi
     }
 }
 
-// The AVI InfoFrame of a video: refusals 4 and 5.
+// The AVI InfoFrame of a video: refusals 4, 5 and 6.
 pub fn avi_of(video: Video) -> Avi
     ensures { λ r. ⌜ GivesAvi video r ⌝ }
 {
@@ -125,6 +140,9 @@ pub fn avi_of(video: Video) -> Avi
     }
     if avi_outside(video) {
         return no_avi(Refusal::FIELD_OUT_OF_RANGE);
+    }
+    if video::full_ycbcr(video) {
+        return no_avi(Refusal::COMBINATION);
     }
     let bytes = avi_frame(video, mode);
     Avi {
@@ -138,12 +156,14 @@ pub fn video_named(link: u8, bytes: &[u8]) -> Video
     ensures { λ r. ⌜ r ≡ videoNamed link (now (bytes .entry)) ⌝ }
 {
     let first = lists::byte_at(bytes, 0);
+    let third = lists::byte_at(bytes, 2);
     let vic = lists::byte_at(bytes, 3);
     Video {
         vic: vic,
         family: 0,
         encoding: first / 32 % 4,
         link: link,
+        range: third / 8 % 2,
     }
 }
 

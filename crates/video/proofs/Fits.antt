@@ -6,22 +6,26 @@ use mathlib.Core.List.{List, [], _∷_}
 use Prim.Native.Nat.{ℕ, _<_, _≤_}
 use native.Mathlib.Omega.{arith}
 use lib.Dec.{eqb, ltb, leb}
-use borrow.Author.Tests.{eqb-true, ltb-true, ltb-false, leb-true}
+use borrow.Author.Tests.{eqb-true, eqb-false, ltb-true, ltb-false, leb-true}
 use Rattle.lists.specs.Find.{every}
 use Rattle.lists.proofs.Both.{both-left, both-right}
 use Rattle.lists.proofs.Decides.{Decides, equal, less, opposite, either, together}
 use Rattle.video.specs.declared.Mode.{Mode}
 use Rattle.video.specs.declared.Video.{Video}
 use Rattle.video.specs.Modes.{modes, rowOf, modeOf, offered}
-use Rattle.video.specs.Video.{VideoOutside, VideoCombined, videoOutside, videoCombined, VideoFits}
+use Rattle.video.specs.Video.{VideoOutside, FullYCbCr, VideoCombined, videoOutside, fullYCbCr, videoCombined, VideoFits}
 
 pub is-outside : (v : Video) → Decides (videoOutside v) (VideoOutside v)
 unfolding videoOutside
-is-outside v = either (less 2 (v .encoding)) (less 1 (v .link))
+is-outside v = either (less 2 (v .encoding)) (either (less 1 (v .link)) (less 1 (v .range)))
+
+pub is-full : (v : Video) → Decides (fullYCbCr v) (FullYCbCr v)
+unfolding fullYCbCr
+is-full v = together (equal (v .range) 1) (opposite (equal (v .encoding) 0))
 
 pub is-combined : (v : Video) → Decides (videoCombined v) (VideoCombined v)
 unfolding videoCombined
-is-combined v = together (equal (v .link) 0) (opposite (equal (v .encoding) 0))
+is-combined v = either (together (equal (v .link) 0) (opposite (equal (v .encoding) 0))) (is-full v)
 
 -- ---- a mode that is offered is one of the table's
 
@@ -68,4 +72,14 @@ module _ (v : Video) (f : VideoFits v) where
   encoding-fits = at-most 2 (v .encoding) (λ h. f .inside (inl h))
 
   pub link-fits : v .link ≤ 1
-  link-fits = at-most 1 (v .link) (λ h. f .inside (inr h))
+  link-fits = at-most 1 (v .link) (λ h. f .inside (inr (inl h)))
+
+  pub range-fits : v .range ≤ 1
+  range-fits = at-most 1 (v .range) (λ h. f .inside (inr (inr h)))
+
+  pub range-limited : v .encoding ≢ 0 → v .range ≡ 0
+  range-limited h = go (eqb (v .range) 1) refl
+    where
+      go : (b : Bool) → eqb (v .range) 1 ≡ b → v .range ≡ 0
+      go true e = absurd (f .apart (inr (eqb-true (v .range) 1 e, h)))
+      go false e = omega (arith, range-fits, eqb-false (v .range) 1 e)

@@ -1,4 +1,4 @@
--- Document 01, "The request": the video section. A later byte of it is a field here.
+-- Document 01, "The request": the video section, with the range byte of document 02, request 01. A later byte of it is a field here.
 use mathlib.Core.Path.{_≡_}
 use mathlib.Core.Logic.{_≢_, _⊎_}
 use mathlib.Core.Bool.{Bool, true, not, _&&_, _||_}
@@ -9,16 +9,17 @@ use lib.ListN.{getD, length}
 use Rattle.video.specs.declared.Video.{Video}
 use Rattle.video.specs.Modes.{offered}
 
--- "Video, count 4: VIC; family ..; encoding ..; link .."
+-- "Video, count ..: VIC; family ..; encoding ..; link .."; request 01: "The video section gains a range byte (0 limited, 1 full; count 5)"
 abbrev pub videoCount : ℕ
-videoCount = 4
+videoCount = 5
 
 -- what a body asks for, and the body that asks for it
 abbrev pub videoIn : List ℕ → Video
-videoIn body = record { vic = getD body 0 0; family = getD body 1 0; encoding = getD body 2 0; link = getD body 3 0 }
+videoIn body =
+    record { vic = getD body 0 0; family = getD body 1 0; encoding = getD body 2 0; link = getD body 3 0; range = getD body 4 0 }
 
 abbrev pub videoBody : Video → List ℕ
-videoBody v = v .vic ∷ v .family ∷ v .encoding ∷ v .link ∷ []
+videoBody v = v .vic ∷ v .family ∷ v .encoding ∷ v .link ∷ v .range ∷ []
 
 -- what stands beside a refusal: each field 0
 abbrev pub noVideo : Video
@@ -26,7 +27,7 @@ noVideo = videoIn []
 
 -- the same in another family
 abbrev pub inFamily : ℕ → Video → Video
-inFamily family v = record { vic = v .vic; family = family; encoding = v .encoding; link = v .link }
+inFamily family v = record { vic = v .vic; family = family; encoding = v .encoding; link = v .link; range = v .range }
 
 -- "the same request, but for the frame-rate family": "Family is answered as 0"
 abbrev pub answered : Video → Video
@@ -38,20 +39,27 @@ pub record Body : Type 0 where
   pub back : (v : Video) → videoIn (videoBody v) ≡ v
   pub whole : (body : List ℕ) → length body ≡ videoCount → videoBody (videoIn body) ≡ body
 
--- row 5, of this section: "any other field outside its range". The VIC and the family are row 4's (`offered`, Modes).
+-- row 5, of this section: "any other field outside its range"; request 01: "range above 1 is refusal 5". The VIC and the family are row
+-- 4's (`offered`, Modes).
 abbrev pub VideoOutside : Video → Type 0
-VideoOutside v = (2 < v .encoding) ⊎ (1 < v .link)
+VideoOutside v = (2 < v .encoding) ⊎ (1 < v .link) ⊎ (1 < v .range)
 
--- row 6, of this section alone: "DVI .. with encoding not 0"
+-- row 6, of this section alone: "DVI .. with encoding not 0"; request 01: "range 1 with YCbCr is refusal 6"
+abbrev pub FullYCbCr : Video → Type 0
+FullYCbCr v = (v .range ≡ 1) × (v .encoding ≢ 0)
+
 abbrev pub VideoCombined : Video → Type 0
-VideoCombined v = (v .link ≡ 0) × (v .encoding ≢ 0)
+VideoCombined v = ((v .link ≡ 0) × (v .encoding ≢ 0)) ⊎ FullYCbCr v
 
 -- the tests that decide them
 unfoldable pub videoOutside : Video → Bool
-videoOutside v = ltb 2 (v .encoding) || ltb 1 (v .link)
+videoOutside v = ltb 2 (v .encoding) || (ltb 1 (v .link) || ltb 1 (v .range))
+
+unfoldable pub fullYCbCr : Video → Bool
+fullYCbCr v = eqb (v .range) 1 && not (eqb (v .encoding) 0)
 
 unfoldable pub videoCombined : Video → Bool
-videoCombined v = eqb (v .link) 0 && not (eqb (v .encoding) 0)
+videoCombined v = (eqb (v .link) 0 && not (eqb (v .encoding) 0)) || fullYCbCr v
 
 -- what is known of the video of an accepted request
 pub record VideoFits (v : Video) : Type 0 where

@@ -1,10 +1,10 @@
-// The video section of a request and the listed modes: document 01, "The request" and "Modes and clocks".
+// The video section of a request and the listed modes: document 01, "The request" and "Modes and clocks"; document 02, request 01.
 ghost use mathlib.Core.Path.{_≡_};
 ghost use Rattle.video.specs.Modes.{mode, modeOf, ModeTable};
-ghost use Rattle.video.specs.Video.{videoIn, videoBody, noVideo, inFamily, videoOutside, videoCombined, Body};
+ghost use Rattle.video.specs.Video.{videoIn, videoBody, noVideo, inFamily, videoOutside, fullYCbCr, videoCombined, Body};
 
 // The count of the video section.
-pub const VIDEO_COUNT: u8 = 4;
+pub const VIDEO_COUNT: u8 = 5;
 
 // What the video section asks for.
 pub struct Video {
@@ -12,6 +12,7 @@ pub struct Video {
     pub family: u8,
     pub encoding: u8,
     pub link: u8,
+    pub range: u8,
 }
 
 // A listed mode. A VIC that is not listed offers no family.
@@ -68,11 +69,13 @@ pub fn video_in(body: &[u8]) -> Video
     let family = lists::byte_at(body, 1);
     let encoding = lists::byte_at(body, 2);
     let link = lists::byte_at(body, 3);
+    let range = lists::byte_at(body, 4);
     Video {
         vic: vic,
         family: family,
         encoding: encoding,
         link: link,
+        range: range,
     }
 }
 
@@ -80,7 +83,7 @@ pub fn video_in(body: &[u8]) -> Video
 pub fn video_body(v: Video) -> [u8; VIDEO_COUNT as usize]
     ensures { λ r. ⌜ r ≡ videoBody v ⌝ }
 {
-    [v.vic, v.family, v.encoding, v.link]
+    [v.vic, v.family, v.encoding, v.link, v.range]
 }
 
 // What stands beside a refusal.
@@ -92,6 +95,7 @@ pub fn no_video() -> Video
         family: 0,
         encoding: 0,
         link: 0,
+        range: 0,
     }
 }
 
@@ -104,6 +108,7 @@ pub fn in_family(v: Video, family: u8) -> Video
         family: family,
         encoding: v.encoding,
         link: v.link,
+        range: v.range,
     }
 }
 
@@ -111,14 +116,22 @@ pub fn in_family(v: Video, family: u8) -> Video
 pub fn outside(v: Video) -> bool
     ensures { λ r. ⌜ r ≡ videoOutside v ⌝ }
 {
-    (2 < v.encoding) | (1 < v.link)
+    (2 < v.encoding) | ((1 < v.link) | (1 < v.range))
+}
+
+// Row 6: full range with YCbCr.
+pub fn full_ycbcr(v: Video) -> bool
+    ensures { λ r. ⌜ r ≡ fullYCbCr v ⌝ }
+{
+    (v.range == 1) & (v.encoding != 0)
 }
 
 // Row 6, of this section alone.
 pub fn combined(v: Video) -> bool
     ensures { λ r. ⌜ r ≡ videoCombined v ⌝ }
 {
-    (v.link == 0) & (v.encoding != 0)
+    let full = full_ycbcr(v);
+    ((v.link == 0) & (v.encoding != 0)) | full
 }
 
 // The mode of each VIC is the table's.

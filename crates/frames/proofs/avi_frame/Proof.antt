@@ -1,9 +1,11 @@
 -- `frames::avi_frame` meets its contract: the place of the checksum is 0 while the sum is taken. Assumes nothing.
 use Prim.Native.Nat.{_≤_}
+use lib.Dec.{ltb}
 use borrow.Author.Tests.{ltb-false}
+use Rattle.lists.proofs.Both.{neither-left}
 use Rattle.frames.specs.Frames.{aviHeader, aviPayload, aviFrame}
 use Rattle.frames.proofs.Total.{kept}
-use Rattle.frames.proofs.Small.{Small, mode-small, colour-small}
+use Rattle.frames.proofs.Small.{Small, mode-small, colour-small, quantisation-small}
 use borrow.Author.Needs.{needs}
 use Rattle.frames.proofs.avi_frame.Statement.{statement}
 use Rattle.frames.proofs.avi_frame.Tie as tie
@@ -11,20 +13,26 @@ use Rattle.frames.proofs.avi_frame.Tie as tie
 colour-requires : tie.Need-colour-requires
 colour-requires c κs = search needs
 
--- Y, C and M have two bits
-record Small-fields (c : tie.After-colour) : Type 0 where
-  encoding : c .before .args .video .encoding ≤ 2
-  colour : c .colour .result ≤ 2
-  aspect : c .before .args .mode .aspect ≤ 2
+quantised-requires : tie.Need-quantised-requires
+quantised-requires c κs = search needs
 
-small : (c : tie.After-colour) → Small-fields c
+-- Y, C, M and Q have two bits
+record Small-fields (c : tie.After-quantised) : Type 0 where
+  encoding : c .before .before .args .video .encoding ≤ 2
+  colour : c .before .colour .result ≤ 2
+  aspect : c .before .before .args .mode .aspect ≤ 2
+  q : c .quantised .result ≤ 2
+
+small : (c : tie.After-quantised) → Small-fields c
 small c =
-    let v = c .before .args .video in
-    let m : Small (c .before .args .mode) = rw (c .before .pre .0) (mode-small (v .vic)) in
+    let p = c .before .before in
+    let v = p .args .video in
+    let m : Small (p .args .mode) = rw (p .pre .0) (mode-small (v .vic)) in
     record {
-      encoding = ltb-false 2 (v .encoding) (c .before .pre .1);
-      colour = rw (c .colour .ensures) (colour-small (c .before .args .mode) (v .encoding) m);
+      encoding = ltb-false 2 (v .encoding) (neither-left (ltb 2 (v .encoding)) (ltb 1 (v .range)) (p .pre .1));
+      colour = rw (c .before .colour .ensures) (colour-small (p .args .mode) (v .encoding) m);
       aspect = m .aspect;
+      q = rw (c .quantised .ensures) (quantisation-small v);
     }
 
 mul-first : tie.Need-mul-first
@@ -45,6 +53,9 @@ add-second c = let s = small c in search needs
 add-second-2 : tie.Need-add-second-2
 add-second-2 c = let s = small c in search needs
 
+mul-third : tie.Need-mul-third
+mul-third c = let s = small c in search needs
+
 slice-aggregate-checksum : tie.Need-slice-aggregate-checksum
 slice-aggregate-checksum c = search needs
 
@@ -57,20 +68,23 @@ array-write-bytes c = search needs
 returns : tie.Need-returns
 unfolding aviFrame
 returns c =
-    let p = c .before .before in
-    simp (c .checksum .ensures, kept aviHeader (aviPayload (p .before .args .video)), p .colour .ensures, p .before .pre .0)
+    let q = c .before .before in
+    let p = q .before in
+    simp (c .checksum .ensures, kept aviHeader (aviPayload (p .before .args .video)), p .colour .ensures, q .quantised .ensures, p .before .pre .0)
 
 pub avi-frame-spec : {M : Type 1} → statement M
 avi-frame-spec =
     tie.close
     (tie.spec
     colour-requires
+    quantised-requires
     mul-first
     add-first
     mul-second
     mul-second-2
     add-second
     add-second-2
+    mul-third
     slice-aggregate-checksum
     checksum-requires
     array-write-bytes

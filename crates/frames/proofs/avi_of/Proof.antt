@@ -27,16 +27,59 @@ returns-2 c =
     let p = c .before .before in
     rw (← p .before .before .before .mode-of .ensures, ne-eqb _ _ (p .before .if1 .left), ← p .avi-outside .ensures, c .before .if2 .taken) (c .no-avi2 .ensures)
 
-avi-frame-requires : tie.Need-avi-frame-requires
-avi-frame-requires c κs = (c .before .before .before .before .mode-of .ensures, rw (← c .before .avi-outside .ensures) (c .if2 .left))
+full-ycbcr-requires : tie.Need-full-ycbcr-requires
+full-ycbcr-requires c κs = search needs
 
+no-avi-requires-3 : tie.Need-no-avi-requires-3
+no-avi-requires-3 c κs = search needs
+
+-- where neither of the first two rows applies
 returns-3 : tie.Need-returns-3
 unfolding aviOf
 returns-3 c =
-    let p = c .before .before in
-    rw (← p .before .before .before .mode-of .ensures, ne-eqb _ _ (p .before .if1 .left), ← p .avi-outside .ensures, c .before .if2 .left, c .avi-frame .ensures)
+    let o = c .before .before .before in
+    let p = o .before in
+    rw (
+      ← p .before .before .before .mode-of .ensures,
+      ne-eqb _ _ (p .before .if1 .left),
+      ← p .avi-outside .ensures,
+      o .if2 .left,
+      ← c .before .before .full-ycbcr .ensures,
+      c .before .if3 .taken,
+    ) (c .no-avi3 .ensures)
+
+avi-frame-requires : tie.Need-avi-frame-requires
+avi-frame-requires c κs =
+    let o = c .before .before in
+    (o .before .before .before .before .mode-of .ensures, rw (← o .before .avi-outside .ensures) (o .if2 .left))
+
+returns-4 : tie.Need-returns-4
+unfolding aviOf
+returns-4 c =
+    let o = c .before .before .before in
+    let p = o .before in
+    rw (
+      ← p .before .before .before .mode-of .ensures,
+      ne-eqb _ _ (p .before .if1 .left),
+      ← p .avi-outside .ensures,
+      o .if2 .left,
+      ← c .before .before .full-ycbcr .ensures,
+      c .before .if3 .left,
+      c .avi-frame .ensures,
+    )
 
 pub avi-of-spec : {M : Type 1} → statement M
 avi-of-spec =
     tie.close
-    (tie.spec mode-of-requires no-avi-requires returns avi-outside-requires no-avi-requires-2 returns-2 avi-frame-requires returns-3)
+    (tie.spec
+    mode-of-requires
+    no-avi-requires
+    returns
+    avi-outside-requires
+    no-avi-requires-2
+    returns-2
+    full-ycbcr-requires
+    no-avi-requires-3
+    returns-3
+    avi-frame-requires
+    returns-4)

@@ -4,9 +4,12 @@ use Rattle.video.specs.Video.{videoCombined}
 use Rattle.video.proofs.combined.Statement.{statement}
 use Rattle.video.proofs.combined.Tie as tie
 
+full-ycbcr-requires : tie.Need-full-ycbcr-requires
+full-ycbcr-requires c κs = search needs
+
 returns : tie.Need-returns
 unfolding videoCombined
-returns c = search needs
+returns c = rw (← c .before .before .full-ycbcr .ensures) (search needs)
 
 pub combined-spec : {M : Type 1} → statement M
-combined-spec = tie.close (tie.spec returns)
+combined-spec = tie.close (tie.spec full-ycbcr-requires returns)
