@@ -1,14 +1,18 @@
--- The two calls on single fields give the first of their rows that applies. Assumes nothing.
-use mathlib.Core.Path.{refl, ap}
+-- The two calls on single fields give the first of their rows that applies, and the AVI frame of a video that fits is given. Assumes nothing.
+use mathlib.Core.Path.{_≡_, refl, ap}
+use mathlib.Core.Logic.{inr}
 use Prim.Native.Nat.{ℕ}
-use Rattle.lists.proofs.Decides.{equal, less, opposite, either, together}
+use borrow.Author.Tests.{ne-eqb, le-ltb}
+use Rattle.lists.proofs.Decides.{equal, less, opposite, either, together, refuted}
 use Rattle.refusals.specs.Rows.{lowest}
 use Rattle.refusals.proofs.Tests.{Decided, lowest-given, answer-given, answer-beside}
 use Rattle.video.specs.declared.Video.{Video}
+use Rattle.video.specs.Video.{VideoFits}
 use Rattle.video.proofs.Listed.{not-listed}
-use Rattle.video.proofs.Fits.{is-full}
+use Rattle.video.proofs.Fits.{is-full, is-listed, encoding-fits, range-fits}
 use Rattle.frames.specs.declared.Avi.{Avi}
 use Rattle.frames.specs.declared.Audio.{Audio}
+use Rattle.frames.specs.Frames.{aviFrame}
 use Rattle.frames.specs.Answers.{noAvi, noAudio, aviTests, channelsTests, aviOf, audioOf}
 use Rattle.frames.specs.Theorems.{aviRules, audioRules, FrameRefusals}
 
@@ -25,6 +29,16 @@ avi-decided video =
 
 audio-decided : (channels : ℕ) → Decided (channelsTests channels) (audioRules channels)
 audio-decided channels = (refl, together (opposite (equal channels 2)) (opposite (equal channels 8)), λ _. tt)
+
+pub avi-given : (video : Video) → VideoFits video → aviOf video .bytes ≡ aviFrame video
+unfolding aviOf
+avi-given video f =
+    rw (
+      ne-eqb _ _ (is-listed video f),
+      le-ltb _ _ (encoding-fits video f),
+      le-ltb _ _ (range-fits video f),
+      refuted (is-full video) (λ h. f .apart (inr h)),
+    )
 
 pub refusals : FrameRefusals
 unfolding aviOf audioOf

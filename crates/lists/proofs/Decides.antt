@@ -55,3 +55,11 @@ one-fails s t {P} {Q} d e = go s d
 -- the same test for a statement that says the same
 pub restated : {b : Bool} {P Q : Type 0} → (P → Q) → (Q → P) → Decides b P → Decides b Q
 restated to from d = record { passes = λ t. to (d .passes t); fails = λ f q. d .fails f (from q) }
+
+-- the test of a statement that does not hold fails
+pub refuted : {b : Bool} {P : Type 0} → Decides b P → (P → ⊥) → b ≡ false
+refuted {b} {P} d n = go b d
+  where
+    go : (b : Bool) → Decides b P → b ≡ false
+    go true d = absurd (n (d .passes refl))
+    go false d = refl

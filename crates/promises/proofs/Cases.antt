@@ -20,9 +20,9 @@ use Rattle.request.specs.Sections.{walk, walked}
 use Rattle.request.specs.Read.{outside, combined, judged, readOf, pairFor, nctsOf}
 use Rattle.line.specs.Line.{lineOf}
 use Rattle.line.specs.Words.{digits, acceptedText, refusedText}
-use Rattle.promises.specs.Cases.{rgbOverHdmi, MarkedCases}
+use Rattle.promises.specs.Cases.{rgbOverHdmi, limited, MarkedCases}
 
-multiple : (n cts : ℕ) → reference 0 * cts * clockOf (rgbOverHdmi 4 1) .den ≡ clockOf (rgbOverHdmi 4 1) .num * n → 23296 ∣ n
+multiple : (n cts : ℕ) → reference 0 * cts * clockOf (rgbOverHdmi 4 1 limited) .den ≡ clockOf (rgbOverHdmi 4 1 limited) .num * n → 23296 ∣ n
 unfolding reference clockOf modeOf divisorOf steps
 multiple n cts e = divides 74250000000 4100096000 (lit< tt) n cts (omega arith)
 
@@ -33,7 +33,7 @@ cases =
       line = refl;
       empty = refl;
       case1 = refl;
-      case2 = refl;
+      case2 = (refl, refl);
       case3 = refl;
       case4 = (refl, refl);
       case5 = refl;
@@ -43,13 +43,19 @@ cases =
       case9 = refl;
       case9For = multiple;
       case10 = refl;
+      case10Full = refl;
       case11 = (refl, refl);
       case12 = (refl, refl);
       case13 = refl;
       encodings = refl;
       links = refl;
+      ranges = refl;
+      rangesOfYCbCr = refl;
       dviWithAudio = refl;
       dviWithEncoding = refl;
+      fullWithYCbCr = refl;
+      limitedWithYCbCr = refl;
+      fullWithRgb = refl;
       lengths = refl;
       longest = refl;
     }

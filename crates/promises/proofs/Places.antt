@@ -3,7 +3,7 @@ use mathlib.Core.Path.{_≡_, refl, ap, _∙_}
 use mathlib.Core.Logic.{⊎-elim}
 use mathlib.Core.Bool.{Bool, true, false, cond, not}
 use mathlib.Core.List.{List, [], _∷_, _++_}
-use Prim.Native.Nat.{ℕ, _+_, _-_, _*_, _/_, _%_, _<_, _≤_}
+use Prim.Native.Nat.{ℕ, zero, suc, _+_, _-_, _*_, _/_, _%_, _<_, _≤_}
 use native.Mathlib.Omega.{arith}
 use lib.Dec.{eqb, lit≤, lit<}
 use lib.ListN.{getD, drop}
@@ -15,7 +15,7 @@ use Rattle.bits.specs.Merge.{bitsIn}
 use Rattle.bits.proofs.Below.{at-below}
 use Rattle.registers.specs.Classes.{classAt}
 use Rattle.video.specs.Modes.{modeOf}
-use Rattle.video.proofs.Fits.{vic-small, encoding-fits, link-fits}
+use Rattle.video.proofs.Fits.{vic-small, encoding-fits, link-fits, range-fits}
 use Rattle.clock.specs.declared.Pair.{Pair}
 use Rattle.frames.specs.Frames as F
 use Rattle.frames.specs.Frames.{checksumOf, aviFrame, audioFrame, audioOffFrame}
@@ -31,7 +31,7 @@ use Rattle.plan.specs.Wanted.{laid, audioBytes, wanted, clockBytes, inputBytes,
 use Rattle.plan.specs.Wanted.{inputs, rateCode, ctsSelect, withAudio}
 use Rattle.decode.proofs.Stored.{look, stored}
 use Rattle.promises.specs.Finished.{Place, places, Shows, Each}
-use Rattle.promises.specs.Finished.{withSound, eightChannels, manualCts, rateCodeOf, inC, inM, inCC, inCA, audioPacket}
+use Rattle.promises.specs.Finished.{withSound, eightChannels, manualCts, rateCodeOf, inC, inM, inQ, inCC, inCA, audioPacket}
 use Rattle.writes.proofs.Named.{isField, small-address, field}
 
 -- ---- the byte that is wanted at an address
@@ -145,7 +145,7 @@ First x on mode h = (bitsIn 7 7 x ≡ on) × (bitsIn 6 5 x ≡ mode) × (bitsIn 
 first : (on mode h : ℕ) → on ≤ 1 → mode ≤ 2 → h < 32 → First (on * 128 + mode * 32 + h) on mode h
 first on mode h a b c = (omega arith, omega arith, omega arith)
 
--- data bytes 1 and 2 of the AVI InfoFrame
+-- data bytes 1, 2 and 3 of the AVI InfoFrame
 abbrev Byte1 : ℕ → ℕ → Type 0
 Byte1 x y = (bitsIn 7 7 x ≡ 0) × (bitsIn 6 5 x ≡ y) × (bitsIn 4 4 x ≡ 1) × (bitsIn 3 0 x ≡ 0)
 
@@ -157,6 +157,21 @@ Byte2 x c m = (bitsIn 7 6 x ≡ c) × (bitsIn 5 4 x ≡ m) × (bitsIn 3 0 x ≡ 
 
 byte2 : (x y c m : ℕ) → x ≡ c → y ≡ m → c ≤ 2 → m ≤ 2 → Byte2 (x * 64 + y * 16 + 8) c m
 byte2 x y c m e f h k = (omega arith, omega arith, omega arith)
+
+abbrev Byte3 : ℕ → ℕ → Type 0
+Byte3 x q = (bitsIn 7 4 x ≡ 0) × (bitsIn 3 2 x ≡ q) × (bitsIn 1 0 x ≡ 0)
+
+byte3 : (encoding range : ℕ) → range ≤ 1 → Byte3 (cond (eqb encoding 0) (cond (eqb range 0) 1 2) 0 * 4) (inQ encoding range)
+byte3 encoding range h = go (eqb encoding 0)
+  where
+    two : (range : ℕ) → range ≤ 1 → Byte3 (cond (eqb range 0) 1 2 * 4) (getD (1 ∷ 2 ∷ []) range 0)
+    two zero h = (refl, refl, refl)
+    two (suc zero) h = (refl, refl, refl)
+    two (suc (suc n)) h = absurd (omega arith)
+
+    go : (b : Bool) → Byte3 (cond b (cond (eqb range 0) 1 2) 0 * 4) (cond b (getD (1 ∷ 2 ∷ []) range 0) 0)
+    go true = two range h
+    go false = (refl, refl, refl)
 
 -- 20 bits in three registers
 abbrev Twenty : ℕ → Type 0
@@ -230,6 +245,7 @@ sources r image after ends g =
     let on = enables (r .sound) (r .video .link) link in
     let y = byte1 (r .video .encoding) (encoding-fits (r .video) (f .video)) in
     let z = byte2 _ _ _ _ (color r (pairFor r) g) (g .shape) (color-small (r .video .vic) (r .video .encoding)) (shape-small (r .video .vic)) in
+    let q = byte3 (r .video .encoding) (r .video .range) (range-fits (r .video) (f .video)) in
     let channels : inCC (r .sound) ≤ 7 = cc-small (r .sound) (f .sound) in
     n .0 ▸ n .1 ▸ n .2 ▸ c .0 ▸ c .1 ▸ c .2 ▸
     select .0 ▸ select .1 ▸ select .2 ▸
@@ -255,7 +271,7 @@ sources r image after ends g =
     refl ▸ refl ▸ byte-whole _ (sum-small _) ▸
     y .0 ▸ y .1 ▸ y .2 ▸ y .3 ▸
     z .0 ▸ z .1 ▸ z .2 ▸
-    refl ▸ byte-whole _ (omega (arith, vic)) ▸
+    q .0 ▸ q .1 ▸ q .2 ▸ byte-whole _ (omega (arith, vic)) ▸
     refl ▸ refl ▸ refl ▸ refl ▸ refl ▸ refl ▸ refl ▸ refl ▸ refl ▸
     refl ▸ refl ▸ byte-whole _ (sum-small _) ▸
     omega arith ▸ omega arith ▸ refl ▸ refl ▸ byte-whole _ (ca-small (r .sound)) ▸ refl ▸ tt

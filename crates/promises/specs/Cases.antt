@@ -1,5 +1,5 @@
 -- Document 01, "Marked cases, proved together as one table", the worked example of "What the station's library does", and the lengths that
--- "The request" says in numbers.
+-- "The request" says in numbers; with request 01 in: "Count 4 is no longer allowed, cases and example follow".
 use mathlib.Core.Path.{_≡_}
 use mathlib.Core.List.{List, [], _∷_}
 use Prim.Native.Nat.{ℕ, _*_, _∣_}
@@ -24,53 +24,67 @@ table39 =
     1 ∷ 0x0C ∷ 0x53 ∷ 0x08 ∷ 0x00 ∷ 0x00 ∷ 0x00 ∷ 0xF9 ∷ 0xD6 ∷ 0xFC ∷ 0x56 ∷ 0x08 ∷ 0x00 ∷ 0xFE ∷ 0x88 ∷ 0x02 ∷ 0x91 ∷
     0xFF ∷ 0xFF ∷ 0x08 ∷ 0x00 ∷ 0x0E ∷ 0x85 ∷ 0xF8 ∷ 0xBE ∷ []
 
--- a VIC in a family, RGB over HDMI
-abbrev pub rgbOverHdmi : ℕ → ℕ → Video
-rgbOverHdmi vic family = videoIn (vic ∷ family ∷ 0 ∷ 1 ∷ [])
+-- a VIC in a family, RGB over HDMI, and its range
+abbrev pub rgbOverHdmi : ℕ → ℕ → ℕ → Video
+rgbOverHdmi vic family range = videoIn (vic ∷ family ∷ 0 ∷ 1 ∷ range ∷ [])
 
--- "the ten bytes `04 10 00 00 01 03 02 02 01 00`"
+abbrev pub limited : ℕ
+limited = 0
+
+abbrev pub full : ℕ
+full = 1
+
+-- the bytes `05 10 00 00 01 00 03 02 02 01 00`
 abbrev pub example : List ℕ
-example = 0x04 ∷ 0x10 ∷ 0x00 ∷ 0x00 ∷ 0x01 ∷ 0x03 ∷ 0x02 ∷ 0x02 ∷ 0x01 ∷ 0x00 ∷ []
+example = 0x05 ∷ 0x10 ∷ 0x00 ∷ 0x00 ∷ 0x01 ∷ 0x00 ∷ 0x03 ∷ 0x02 ∷ 0x02 ∷ 0x01 ∷ 0x00 ∷ []
 
 pub record MarkedCases : Type 0 where
-  -- "For the ten bytes .. the whole output is `accepted vic 16 n 6144 cts 148500 avi 27 audio 70`"
-  pub line : lineText example ≡ ascii "accepted vic 16 n 6144 cts 148500 avi 27 audio 70\n"
+  -- "the whole output is `accepted vic 16 n 6144 cts 148500 ..`", with the AVI checksum of case 10
+  pub line : lineText example ≡ ascii "accepted vic 16 n 6144 cts 148500 avi 23 audio 70\n"
   -- "and for an empty input `refused 1`"
   pub empty : lineText [] ≡ ascii "refused 1\n"
-  -- 1. `04`: refused 1
-  pub case1 : readOf (0x04 ∷ []) .refusal ≡ 1
-  -- 2. `05 10 00 00 01`: refused 2
-  pub case2 : readOf (0x05 ∷ 0x10 ∷ 0x00 ∷ 0x00 ∷ 0x01 ∷ []) .refusal ≡ 2
-  -- 3. `04 10 00 00 01 00 00 00`: refused 3
-  pub case3 : readOf (0x04 ∷ 0x10 ∷ 0x00 ∷ 0x00 ∷ 0x01 ∷ 0x00 ∷ 0x00 ∷ 0x00 ∷ []) .refusal ≡ 3
+  -- 1. The first count alone: refused 1
+  pub case1 : readOf (0x05 ∷ []) .refusal ≡ 1
+  -- 2. A count that is not allowed: refused 2; request 01: "Count 4 is no longer allowed"
+  pub case2 : (readOf (0x04 ∷ 0x10 ∷ 0x00 ∷ 0x00 ∷ 0x01 ∷ []) .refusal ≡ 2) × (readOf (0x06 ∷ 0x10 ∷ 0x00 ∷ 0x00 ∷ 0x01 ∷ 0x00 ∷ []) .refusal ≡ 2)
+  -- 3. One byte too many: refused 3
+  pub case3 : readOf (0x05 ∷ 0x10 ∷ 0x00 ∷ 0x00 ∷ 0x01 ∷ 0x00 ∷ 0x00 ∷ 0x00 ∷ 0x00 ∷ []) .refusal ≡ 3
   -- 4. VIC 19, family 1: refused 4
-  pub case4 : (clockOf (rgbOverHdmi 19 1) .refusal ≡ 4) × (readOf (0x04 ∷ 19 ∷ 1 ∷ 0x00 ∷ 0x01 ∷ 0x00 ∷ 0x00 ∷ []) .refusal ≡ 4)
-  -- 5. `04 10 00 01 01 00 00`: refused 6
-  pub case5 : readOf (0x04 ∷ 0x10 ∷ 0x00 ∷ 0x01 ∷ 0x01 ∷ 0x00 ∷ 0x00 ∷ []) .refusal ≡ 6
+  pub case4 : (clockOf (rgbOverHdmi 19 1 limited) .refusal ≡ 4) × (readOf (0x05 ∷ 19 ∷ 1 ∷ 0x00 ∷ 0x01 ∷ 0x00 ∷ 0x00 ∷ 0x00 ∷ []) .refusal ≡ 4)
+  -- 5. YCbCr 4:2:2 without a matrix: refused 6
+  pub case5 : readOf (0x05 ∷ 0x10 ∷ 0x00 ∷ 0x01 ∷ 0x01 ∷ 0x00 ∷ 0x00 ∷ 0x00 ∷ []) .refusal ≡ 6
   -- 6. VIC 16, family 0, 48 kHz, coherent (so are 7 and 8): 6144, 148500. (Rates 0, 1, 2 are 32, 44.1 and 48 kHz.)
-  pub case6 : pairOf (rgbOverHdmi 16 0) 2 1 ≡ thePair 6144 148500
+  pub case6 : pairOf (rgbOverHdmi 16 0 limited) 2 1 ≡ thePair 6144 148500
   -- 7. VIC 60, family 0, 44.1 kHz: 5488, 57750
-  pub case7 : pairOf (rgbOverHdmi 60 0) 1 1 ≡ thePair 5488 57750
+  pub case7 : pairOf (rgbOverHdmi 60 0 limited) 1 1 ≡ thePair 5488 57750
   -- 8. VIC 60, family 1, 32 kHz: 5824, 84375
-  pub case8 : pairOf (rgbOverHdmi 60 1) 0 1 ≡ thePair 5824 84375
+  pub case8 : pairOf (rgbOverHdmi 60 1 limited) 0 1 ≡ thePair 5824 84375
   -- 9. VIC 4, family 1, 32 kHz, coherent: refused 9, for N would have to be a multiple of 23296
-  pub case9 : pairOf (rgbOverHdmi 4 1) 0 1 .refusal ≡ 9
-  pub case9For : (n cts : ℕ) → reference 0 * cts * clockOf (rgbOverHdmi 4 1) .den ≡ clockOf (rgbOverHdmi 4 1) .num * n → 23296 ∣ n
-  -- 10. AVI, VIC 16, RGB: checksum 0x27
-  pub case10 : getD (aviOf (rgbOverHdmi 16 0) .bytes) 3 0 ≡ 0x27
+  pub case9 : pairOf (rgbOverHdmi 4 1 limited) 0 1 .refusal ≡ 9
+  pub case9For : (n cts : ℕ) → reference 0 * cts * clockOf (rgbOverHdmi 4 1 limited) .den ≡ clockOf (rgbOverHdmi 4 1 limited) .num * n → 23296 ∣ n
+  -- 10. AVI, VIC 16, RGB: checksum; request 01: "case 10 becomes 0x23 when limited". Full range: Q 2 is 4 more than Q 1 in data byte 3
+  pub case10 : getD (aviOf (rgbOverHdmi 16 0 limited) .bytes) 3 0 ≡ 0x23
+  pub case10Full : getD (aviOf (rgbOverHdmi 16 0 full) .bytes) 3 0 ≡ 0x1F
   -- 11. Audio InfoFrame, 8 channels: 0x57; off: 0x71
   pub case11 : (getD (audioOf 8 .bytes) 3 0 ≡ 0x57) × (getD audioOffFrame 3 0 ≡ 0x71)
   -- 12. Table 39's A4 bytes 0x19, 0xD6: -1578; C1 0x1F, 0xFF: -1
   pub case12 : (valueOf (field (word 0x19 0xD6)) ≡ negsuc 1577) × (valueOf (field (word 0x1F 0xFF)) ≡ negsuc 0)
   -- 13. Table 39 on 2048, 3760, 2048: 3759, 3760, 3760
   pub case13 : previewOf table39 2048 3760 2048 ≡ record { refusal = 0; a = 3759; b = 3760; c = 3760 }
-  -- "encoding (0 RGB, 1 YCbCr 4:2:2, 2 YCbCr 4:4:4); link (0 DVI, 1 HDMI)": the next number of each is refused 5
-  pub encodings : readOf (0x04 ∷ 0x10 ∷ 0x00 ∷ 0x03 ∷ 0x01 ∷ 0x00 ∷ 0x00 ∷ []) .refusal ≡ 5
-  pub links : readOf (0x04 ∷ 0x10 ∷ 0x00 ∷ 0x00 ∷ 0x02 ∷ 0x00 ∷ 0x00 ∷ []) .refusal ≡ 5
-  -- "DVI with audio or with encoding not 0": refused 6, with a matrix too
-  pub dviWithAudio : readOf (0x04 ∷ 0x10 ∷ 0x00 ∷ 0x00 ∷ 0x00 ∷ 0x03 ∷ 0x02 ∷ 0x02 ∷ 0x01 ∷ 0x00 ∷ []) .refusal ≡ 6
-  pub dviWithEncoding : readOf (0x04 ∷ 0x10 ∷ 0x00 ∷ 0x02 ∷ 0x00 ∷ 0x00 ∷ 0x19 ∷ table39) .refusal ≡ 6
-  -- "Lengths are therefore 7, 10, 32 or 35."
-  pub lengths : lengths ≡ 7 ∷ 10 ∷ 32 ∷ 35 ∷ []
-  -- "the longest request, 35"
-  pub longest : longest ≡ 35
+  -- "encoding (0 RGB, 1 YCbCr 4:2:2, 2 YCbCr 4:4:4); link (0 DVI, 1 HDMI)"; "range above 1": the next number of each is refused 5, the
+  -- range's with RGB and, before 6, with YCbCr
+  pub encodings : readOf (0x05 ∷ 0x10 ∷ 0x00 ∷ 0x03 ∷ 0x01 ∷ 0x00 ∷ 0x00 ∷ 0x00 ∷ []) .refusal ≡ 5
+  pub links : readOf (0x05 ∷ 0x10 ∷ 0x00 ∷ 0x00 ∷ 0x02 ∷ 0x00 ∷ 0x00 ∷ 0x00 ∷ []) .refusal ≡ 5
+  pub ranges : readOf (0x05 ∷ 0x10 ∷ 0x00 ∷ 0x00 ∷ 0x01 ∷ 0x02 ∷ 0x00 ∷ 0x00 ∷ []) .refusal ≡ 5
+  pub rangesOfYCbCr : readOf (0x05 ∷ 0x10 ∷ 0x00 ∷ 0x02 ∷ 0x01 ∷ 0x02 ∷ 0x00 ∷ 0x00 ∷ []) .refusal ≡ 5
+  -- "DVI with audio or with encoding not 0", "range 1 with YCbCr": refused 6, with a matrix too
+  pub dviWithAudio : readOf (0x05 ∷ 0x10 ∷ 0x00 ∷ 0x00 ∷ 0x00 ∷ 0x00 ∷ 0x03 ∷ 0x02 ∷ 0x02 ∷ 0x01 ∷ 0x00 ∷ []) .refusal ≡ 6
+  pub dviWithEncoding : readOf (0x05 ∷ 0x10 ∷ 0x00 ∷ 0x02 ∷ 0x00 ∷ 0x00 ∷ 0x00 ∷ 0x19 ∷ table39) .refusal ≡ 6
+  pub fullWithYCbCr : readOf (0x05 ∷ 0x10 ∷ 0x00 ∷ 0x02 ∷ 0x01 ∷ 0x01 ∷ 0x00 ∷ 0x19 ∷ table39) .refusal ≡ 6
+  -- with that matrix YCbCr is accepted, limited; and RGB over HDMI is, in full range
+  pub limitedWithYCbCr : readOf (0x05 ∷ 0x10 ∷ 0x00 ∷ 0x02 ∷ 0x01 ∷ 0x00 ∷ 0x00 ∷ 0x19 ∷ table39) .refusal ≡ 0
+  pub fullWithRgb : readOf (0x05 ∷ 0x10 ∷ 0x00 ∷ 0x00 ∷ 0x01 ∷ 0x01 ∷ 0x00 ∷ 0x00 ∷ []) .refusal ≡ 0
+  -- Lengths follow from the counts: document 01 had 7, 10, 32, 35, and each has a byte more
+  pub lengths : lengths ≡ 8 ∷ 11 ∷ 33 ∷ 36 ∷ []
+  -- "the longest request"
+  pub longest : longest ≡ 36

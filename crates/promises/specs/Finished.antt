@@ -60,6 +60,10 @@ inC vic encoding = cond (eqb encoding 0) 0 (cond (among vic (1 ∷ 2 ∷ 3 ∷ 1
 abbrev pub inM : ℕ → ℕ
 inM vic = cond (among vic (1 ∷ 2 ∷ 17 ∷ [])) 1 2
 
+-- request 01: "Q becomes 1 or 2 to match when the encoding is RGB, and stays 0 for YCbCr"; the range is "0 limited, 1 full"
+abbrev pub inQ : ℕ → ℕ → ℕ
+inQ encoding range = cond (eqb encoding 0) (getD (1 ∷ 2 ∷ []) range 0) 0
+
 -- "CC is channels less one; CA is 0x00 for 2 and 0x13 for 8; the rest 0." "Audio off: payload all 0."
 abbrev pub inCC : Sound → ℕ
 inCC Off = 0
@@ -114,7 +118,7 @@ places r p =
     place 0x52 2 0 0x02 ∷ place 0x53 4 0 0x0D ∷ place 0x54 7 0 (getD (aviFrame (r .video)) 3 0) ∷
     place 0x55 7 7 0 ∷ place 0x55 6 5 (r .video .encoding) ∷ place 0x55 4 4 1 ∷ place 0x55 3 0 0 ∷
     place 0x56 7 6 (inC (r .video .vic) (r .video .encoding)) ∷ place 0x56 5 4 (inM (r .video .vic)) ∷ place 0x56 3 0 8 ∷
-    place 0x57 7 0 0 ∷ place 0x58 7 0 (r .video .vic) ∷ [] ++
+    place 0x57 7 4 0 ∷ place 0x57 3 2 (inQ (r .video .encoding) (r .video .range)) ∷ place 0x57 1 0 0 ∷ place 0x58 7 0 (r .video .vic) ∷ [] ++
     zeroPlaces 0x59 9 ++
     -- "the audio InfoFrame": byte 1 is CT 0 CC, byte 4 CA
     place 0x70 2 0 0x01 ∷ place 0x71 4 0 0x0A ∷ place 0x72 7 0 (getD (audioPacket (r .sound)) 3 0) ∷

@@ -20,7 +20,6 @@ unfolding videoOutside
 is-outside v = either (less 2 (v .encoding)) (either (less 1 (v .link)) (less 1 (v .range)))
 
 pub is-full : (v : Video) → Decides (fullYCbCr v) (FullYCbCr v)
-unfolding fullYCbCr
 is-full v = together (equal (v .range) 1) (opposite (equal (v .encoding) 0))
 
 pub is-combined : (v : Video) → Decides (videoCombined v) (VideoCombined v)

@@ -55,7 +55,7 @@ VideoCombined v = ((v .link ≡ 0) × (v .encoding ≢ 0)) ⊎ FullYCbCr v
 unfoldable pub videoOutside : Video → Bool
 videoOutside v = ltb 2 (v .encoding) || (ltb 1 (v .link) || ltb 1 (v .range))
 
-unfoldable pub fullYCbCr : Video → Bool
+abbrev pub fullYCbCr : Video → Bool
 fullYCbCr v = eqb (v .range) 1 && not (eqb (v .encoding) 0)
 
 unfoldable pub videoCombined : Video → Bool

@@ -1,5 +1,5 @@
 -- `plan::avi_bytes` meets its contract. Assumes nothing.
-use Rattle.plan.proofs.Frame.{avi-given}
+use Rattle.frames.proofs.Refused.{avi-given}
 use borrow.Author.Needs.{needs}
 use Rattle.plan.proofs.avi_bytes.Statement.{statement}
 use Rattle.plan.proofs.avi_bytes.Tie as tie
