@@ -12,7 +12,7 @@ use lib.Dec.{lit<}
 use lib.ListN.{getD, replicate}
 use Rattle.video.specs.declared.Video.{Video}
 use Rattle.video.specs.Modes.{modeOf}
-use Rattle.video.specs.Video.{VideoFits}
+use Rattle.video.specs.Fits.{VideoFits}
 use Rattle.video.proofs.Fits.{vic-small, encoding-fits}
 use Rattle.frames.specs.Frames.{checksumOf, frame, aviHeader, aviPayload, aviFrame, audioCount, audioHeader, audioPayload, allocation, audioFrame, audioOffFrame}
 use Rattle.frames.proofs.Small.{mode-small, colour-small, quantisation-small}

@@ -6,7 +6,7 @@ use native.Mathlib.Omega.{arith}
 use lib.Dec.{eqb}
 use borrow.Author.Tests.{eqb-true, eqb-false}
 use Rattle.video.specs.declared.Video.{Video}
-use Rattle.video.specs.Video.{VideoFits}
+use Rattle.video.specs.Fits.{VideoFits}
 use Rattle.video.proofs.Fits.{encoding-fits, range-fits, range-limited}
 use Rattle.frames.specs.Frames.{quantisation, aviPayload, videoNamed}
 use Rattle.frames.specs.Theorems.{NamedBack}

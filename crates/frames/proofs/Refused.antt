@@ -7,7 +7,7 @@ use Rattle.lists.proofs.Decides.{equal, less, opposite, either, together, refut
 use Rattle.refusals.specs.Rows.{lowest}
 use Rattle.refusals.proofs.Tests.{Decided, lowest-given, answer-given, answer-beside}
 use Rattle.video.specs.declared.Video.{Video}
-use Rattle.video.specs.Video.{VideoFits}
+use Rattle.video.specs.Fits.{VideoFits}
 use Rattle.video.proofs.Listed.{not-listed}
 use Rattle.video.proofs.Fits.{is-full, is-listed, encoding-fits, range-fits}
 use Rattle.frames.specs.declared.Avi.{Avi}

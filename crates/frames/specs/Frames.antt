@@ -1,9 +1,8 @@
 -- Document 01, "InfoFrames": the checksum, the AVI and the audio frame; Q is document 02's, request 01.
-use mathlib.Core.Logic.{_⊎_}
-use mathlib.Core.Bool.{Bool, cond, _||_}
+use mathlib.Core.Bool.{cond}
 use mathlib.Core.List.{List, [], _∷_, _++_}
-use Prim.Native.Nat.{ℕ, _+_, _-_, _*_, _/_, _%_, _<_}
-use lib.Dec.{eqb, ltb}
+use Prim.Native.Nat.{ℕ, _+_, _-_, _*_, _/_, _%_}
+use lib.Dec.{eqb}
 use lib.ListN.{getD, replicate}
 use Rattle.video.specs.declared.Mode.{Mode}
 use Rattle.video.specs.declared.Video.{Video}
@@ -55,13 +54,6 @@ aviPayload v =
 
 unfoldable pub aviFrame : Video → List ℕ
 aviFrame video = frame aviHeader (aviPayload video)
-
--- row 5, "any other field outside its range", of the fields that the frame takes beside the VIC; and its test
-abbrev pub AviOutside : Video → Type 0
-AviOutside v = (2 < v .encoding) ⊎ (1 < v .range)
-
-abbrev pub aviOutside : Video → Bool
-aviOutside v = ltb 2 (v .encoding) || ltb 1 (v .range)
 
 -- what the data bytes of an AVI frame name, over a link: Y of byte 1, the high bit of Q in byte 3, and byte 4. "Family is answered as 0".
 -- `NamedBack` ties it to them.

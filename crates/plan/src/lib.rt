@@ -6,7 +6,7 @@ ghost use Prim.Native.Nat.{ℕ, _+_, _/_, _%_, _<_, _≤_};
 ghost use lib.Dec.{eqb};
 ghost use lib.ListN.{getD, length};
 ghost use Rattle.map.specs.Map.{outputFormatMask};
-ghost use Rattle.video.specs.Video.{VideoFits};
+ghost use Rattle.video.specs.Fits.{VideoFits};
 ghost use Rattle.frames.specs.Frames.{aviFrame};
 ghost use Rattle.matrix.specs.Matrix.{Bytes};
 ghost use Rattle.request.specs.Read.{pairFor};

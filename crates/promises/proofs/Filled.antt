@@ -144,7 +144,7 @@ pick P test (f ∷ fs) e h = go (test f) h (pick P test fs (e .1))
     go true t more = e .0
     go false t more = more t
 
-picked : (P : Place → Type 0) (fs : List Place) → Each P fs → (address high : ℕ) → isThere (isAt address high) fs ≡ true
+pub picked : (P : Place → Type 0) (fs : List Place) → Each P fs → (address high : ℕ) → isThere (isAt address high) fs ≡ true
     → P (find (isAt address high) (place 0 0 0 0) fs)
 picked P fs e address high = pick P (isAt address high) fs e
 

@@ -7,3 +7,4 @@ pub mod Outcomes
 pub mod Example
 pub mod Places
 pub mod Filled
+pub mod Shown

@@ -1,21 +1,23 @@
 -- Demand 2, of the planning and the decoding entry.
 use mathlib.Core.Path.{_≡_}
-use mathlib.Core.Logic.{_↔_}
+use mathlib.Core.Logic.{_↔_, _≢_}
 use mathlib.Core.List.{List, _++_}
 use Prim.Native.Nat.{ℕ, _<_, _≤_}
-use lib.ListN.{length, drop, set}
+use lib.ListN.{length, getD, drop, set}
 use Rattle.refusals.specs.Rows.{Condition, at}
+use Rattle.bits.specs.Merge.{bitsIn}
 use Rattle.matrix.specs.Matrix.{Bytes}
 use Rattle.chip.specs.declared.Chip.{Chip}
 use Rattle.request.specs.declared.Request.{Request}
 use Rattle.request.specs.Sections.{longest}
 use Rattle.request.specs.Read.{readOf, nctsOf}
-use Rattle.request.specs.Bytes.{asBytes}
+use Rattle.request.specs.Bytes.{asBytes, inFamily}
 use Rattle.plan.specs.Wanted.{wanted}
 use Rattle.writes.specs.List.{writeList, flat, finishedImage}
 use Rattle.plan.specs.Plan.{planOf, planBuffer}
 use Rattle.plan.specs.Rules.{planRules}
-use Rattle.decode.specs.Ends.{Acceptable}
+use Rattle.decode.specs.Ends.{Acceptable, Ends}
+use Rattle.decode.specs.Decode.{decodeOf}
 use Rattle.decode.specs.Theorems.{Answered}
 use Rattle.cut.specs.Run.{run}
 use Rattle.cut.specs.Demand.{sent}
@@ -71,3 +73,11 @@ pub record Accepted (r : Request) : Type 0 where
 -- decoding's `Acceptable`, which speaks of the request alone, is that
 abbrev pub OnSomeImage : Request → Type 0
 OnSomeImage r = Acceptable r ↔ Accepted r
+
+-- an image in which a request ends has that request's numbers in its named fields, in the family in which it ends
+pub record FieldByField (image : List ℕ) : Type 0 where
+  pub stands : length image ≡ 256 → (r : Request) (e : Ends r image)
+      → let q : Request = inFamily (e .family) r in Finished q (nctsOf (asBytes q)) image
+  -- so RGB with a Q of neither 1 nor 2, as a list made before request 01 left it, decodes to nothing
+  pub noRange : length image ≡ 256 → bitsIn 6 5 (getD image 0x55 0) ≡ 0 → bitsIn 3 2 (getD image 0x57 0) ≢ 1 → bitsIn 3 2 (getD image 0x57 0) ≢ 2
+      → (room : List ℕ) → longest ≤ length room → decodeOf image room .refusal ≡ 11

@@ -10,7 +10,7 @@ ghost use Rattle.promises.specs.AnyInput.{Demand1};
 ghost use Rattle.promises.specs.Cases.{MarkedCases};
 ghost use Rattle.promises.specs.Example.{Example};
 ghost use Rattle.promises.specs.Finished.{AllNamed};
-ghost use Rattle.promises.specs.Rules.{Demand2, OnSomeImage};
+ghost use Rattle.promises.specs.Rules.{Demand2, OnSomeImage, FieldByField};
 ghost use Rattle.promises.specs.Settled.{Settled};
 
 // Document 01, "Marked cases, proved together as one table".
@@ -41,6 +41,11 @@ pub fn named_fields()
 // "accepted on some image": what decoding asks of a request, which no image decides.
 pub fn on_some_image()
     ensures { λ _. ⌜ ((r : Request) → OnSomeImage r) ⌝ }
+{}
+
+// An image that decodes, field by field.
+pub fn field_by_field()
+    ensures { λ _. ⌜ ((image : List ℕ) → FieldByField image) ⌝ }
 {}
 
 // Demand 3: whatever request is accepted, whatever the chip's two buffers hold, wherever the run is cut.

@@ -13,7 +13,8 @@ use Rattle.lists.proofs.Decides.{Decides, equal, less, opposite, either, togeth
 use Rattle.video.specs.declared.Mode.{Mode}
 use Rattle.video.specs.declared.Video.{Video}
 use Rattle.video.specs.Modes.{modes, rowOf, modeOf, offered}
-use Rattle.video.specs.Video.{VideoOutside, FullYCbCr, VideoCombined, videoOutside, fullYCbCr, videoCombined, VideoFits}
+use Rattle.video.specs.Video.{VideoOutside, FullYCbCr, VideoCombined}
+use Rattle.video.specs.Fits.{videoOutside, fullYCbCr, videoCombined, VideoFits}
 
 pub is-outside : (v : Video) → Decides (videoOutside v) (VideoOutside v)
 unfolding videoOutside

@@ -1,2 +1,3 @@
 pub mod Modes
 pub mod Video
+pub mod Fits

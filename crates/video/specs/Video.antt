@@ -1,13 +1,10 @@
 -- Document 01, "The request": the video section, with the range byte of document 02, request 01. A later byte of it is a field here.
 use mathlib.Core.Path.{_≡_}
 use mathlib.Core.Logic.{_≢_, _⊎_}
-use mathlib.Core.Bool.{Bool, true, not, _&&_, _||_}
 use mathlib.Core.List.{List, [], _∷_}
 use Prim.Native.Nat.{ℕ, _<_}
-use lib.Dec.{eqb, ltb}
 use lib.ListN.{getD, length}
 use Rattle.video.specs.declared.Video.{Video}
-use Rattle.video.specs.Modes.{offered}
 
 -- "Video, count ..: VIC; family ..; encoding ..; link .."; request 01: "The video section gains a range byte (0 limited, 1 full; count 5)"
 abbrev pub videoCount : ℕ
@@ -50,19 +47,3 @@ FullYCbCr v = (v .range ≡ 1) × (v .encoding ≢ 0)
 
 abbrev pub VideoCombined : Video → Type 0
 VideoCombined v = ((v .link ≡ 0) × (v .encoding ≢ 0)) ⊎ FullYCbCr v
-
--- the tests that decide them
-unfoldable pub videoOutside : Video → Bool
-videoOutside v = ltb 2 (v .encoding) || (ltb 1 (v .link) || ltb 1 (v .range))
-
-abbrev pub fullYCbCr : Video → Bool
-fullYCbCr v = eqb (v .range) 1 && not (eqb (v .encoding) 0)
-
-unfoldable pub videoCombined : Video → Bool
-videoCombined v = (eqb (v .link) 0 && not (eqb (v .encoding) 0)) || fullYCbCr v
-
--- what is known of the video of an accepted request
-pub record VideoFits (v : Video) : Type 0 where
-  pub offered : offered v ≡ true
-  pub inside : VideoOutside v → ⊥
-  pub apart : VideoCombined v → ⊥

@@ -1,7 +1,8 @@
 // The video section of a request and the listed modes: document 01, "The request" and "Modes and clocks"; document 02, request 01.
 ghost use mathlib.Core.Path.{_≡_};
 ghost use Rattle.video.specs.Modes.{mode, modeOf, ModeTable};
-ghost use Rattle.video.specs.Video.{videoIn, videoBody, noVideo, inFamily, videoOutside, fullYCbCr, videoCombined, Body};
+ghost use Rattle.video.specs.Video.{videoIn, videoBody, noVideo, inFamily, Body};
+ghost use Rattle.video.specs.Fits.{videoOutside, fullYCbCr, videoCombined};
 
 // The count of the video section.
 pub const VIDEO_COUNT: u8 = 5;

@@ -1,0 +1,81 @@
+-- An image in which a request ends shows the request's numbers. Assumes nothing.
+use mathlib.Core.Path.{_≡_, refl, sym, ap, subst, _∙_}
+use mathlib.Core.Logic.{_≢_}
+use mathlib.Core.List.{List, []}
+use Prim.Native.Nat.{ℕ, zero, suc, _<_, _≤_}
+use native.Mathlib.Omega.{arith}
+use lib.ListN.{length, getD}
+use Rattle.bits.specs.Merge.{bitsIn}
+use Rattle.refusals.specs.Rows.{number, at, First}
+use Rattle.video.proofs.Fits.{range-fits}
+use Rattle.request.specs.declared.Request.{Request}
+use Rattle.request.specs.declared.Checked.{Checked}
+use Rattle.request.specs.Sections.{longest}
+use Rattle.request.specs.Read.{readOf, pairFor, nctsOf}
+use Rattle.request.specs.Bytes.{asBytes, inFamily}
+use Rattle.request.specs.Fits.{Fits}
+use Rattle.request.proofs.Fits.{fits}
+use Rattle.plan.specs.Wanted.{wanted}
+use Rattle.writes.specs.List.{finished}
+use Rattle.decode.specs.Ends.{Ends}
+use Rattle.decode.specs.Decode.{decodeOf}
+use Rattle.decode.specs.Theorems.{decodeRules}
+use Rattle.decode.proofs.Answers.{exactly, refusals}
+use Rattle.promises.specs.Finished.{Place, place, places, Shows, inQ, Finished}
+use Rattle.promises.specs.Rules.{FieldByField}
+use Rattle.promises.proofs.Filled.{filled, picked}
+
+module _ (image : List ℕ) (sized : length image ≡ 256) where
+  module _ (r : Request) (e : Ends r image) where
+    abbrev q : Request
+    q = inFamily (e .family) r
+
+    said : readOf (asBytes q) .request ≡ q
+    said = ap (λ (c : Checked). c .request) (e .acceptable .read)
+
+    in-fields : Finished q (nctsOf (asBytes q)) image
+    in-fields =
+        let z : readOf (asBytes q) .refusal ≡ 0 = ap (λ (c : Checked). c .refusal) (e .acceptable .read) in
+        let y : pairFor (readOf (asBytes q) .request) .refusal ≡ 0 = ap (λ (x : Request). pairFor x .refusal) said ∙ e .acceptable .paired in
+        let ends : (a : ℕ) → a < 256 → getD image a 0 ≡ finished (wanted (readOf (asBytes q) .request)) image a
+        = λ a h. sym (e .stands a h) ∙ ap (λ (x : Request). finished (wanted x) image a) (sym said) in
+        subst (λ (x : Request). Finished x (nctsOf (asBytes q)) image) said (filled (asBytes q) image z y image sized ends)
+
+    -- the range, and Q
+    in-range : r .video .range ≤ 1
+    in-range =
+        let f : Fits q = subst Fits said (fits (asBytes q) (ap (λ (c : Checked). c .refusal) (e .acceptable .read))) in
+        range-fits (q .video) (f .video)
+
+    in-q : bitsIn 6 5 (getD image 0x55 0) ≡ 0 → bitsIn 3 2 (getD image 0x57 0) ≢ 1 → bitsIn 3 2 (getD image 0x57 0) ≢ 2 → ⊥
+    in-q rgb not-1 not-2 =
+        let at = picked (Shows image) (places q (nctsOf (asBytes q))) (in-fields .fields) in
+        let y : bitsIn 6 5 (getD image 0x55 0) ≡ r .video .encoding = at 0x55 6 refl in
+        let x : bitsIn 3 2 (getD image 0x57 0) ≡ inQ (r .video .encoding) (r .video .range) = at 0x57 3 refl in
+        let w : bitsIn 3 2 (getD image 0x57 0) ≡ inQ 0 (r .video .range) = x ∙ ap (λ (n : ℕ). inQ n (r .video .range)) (sym y ∙ rgb) in
+        two (r .video .range) in-range w
+      where
+        two : (range : ℕ) → range ≤ 1 → bitsIn 3 2 (getD image 0x57 0) ≡ inQ 0 range → ⊥
+        two zero h w = not-1 w
+        two (suc zero) h w = not-2 w
+        two (suc (suc n)) h w = omega arith
+
+-- neither 7 nor 10 applies
+eleven : (image room : List ℕ) → length image ≡ 256 → longest ≤ length room → First (decodeRules image room) (decodeOf image room .refusal)
+    → decodeOf image room .refusal ≡ 11
+eleven image room sized long f = go (f .place) (f .within) (f .numbered) (f .applies)
+  where
+    go : (place : ℕ) → place < 3 → decodeOf image room .refusal ≡ number (at (decodeRules image room) place .row)
+        → at (decodeRules image room) place .When → decodeOf image room .refusal ≡ 11
+    go zero h n w = absurd (w sized)
+    go (suc zero) h n w = omega arith
+    go (suc (suc zero)) h n w = n
+    go (suc (suc (suc p))) h n w = omega arith
+
+pub shown : (image : List ℕ) → FieldByField image
+shown image = record {
+  stands = in-fields image;
+  noRange = λ sized rgb not-1 not-2 room long.
+      eleven image room sized long (refusals image room .given .some (λ z.
+      let a = exactly image room .only z in in-q image sized (a .request) (a .ends) rgb not-1 not-2));
+}
