@@ -10,7 +10,7 @@ use borrow.Author.Tests.{eqb-true, eq-eqb, ltb-true, lt-ltb}
 use Rattle.lists.proofs.Both.{both-left, both-right}
 use Rattle.map.specs.Map as reg
 use Rattle.video.specs.declared.Video.{Video}
-use Rattle.video.specs.Fits.{videoOutside, videoCombined}
+use Rattle.video.specs.Video.{videoOutside, videoCombined}
 use Rattle.video.specs.Video as video
 use Rattle.video.specs.Modes.{modeOf, offered}
 use Rattle.clock.specs.declared.Pair.{Pair}

@@ -2,14 +2,14 @@
 use mathlib.Core.Path.{_≡_, refl, ap}
 use mathlib.Core.Logic.{inr}
 use Prim.Native.Nat.{ℕ}
-use borrow.Author.Tests.{ne-eqb, le-ltb}
-use Rattle.lists.proofs.Decides.{equal, less, opposite, either, together, refuted}
+use borrow.Author.Tests.{ne-eqb}
+use Rattle.lists.proofs.Decides.{equal, opposite, together, refuted}
 use Rattle.refusals.specs.Rows.{lowest}
 use Rattle.refusals.proofs.Tests.{Decided, lowest-given, answer-given, answer-beside}
 use Rattle.video.specs.declared.Video.{Video}
 use Rattle.video.specs.Fits.{VideoFits}
 use Rattle.video.proofs.Listed.{not-listed}
-use Rattle.video.proofs.Fits.{is-full, is-listed, encoding-fits, range-fits}
+use Rattle.video.proofs.Fits.{is-shown-outside, is-full, is-listed}
 use Rattle.frames.specs.declared.Avi.{Avi}
 use Rattle.frames.specs.declared.Audio.{Audio}
 use Rattle.frames.specs.Frames.{aviFrame}
@@ -25,7 +25,7 @@ audioNumber a = a .refusal
 
 avi-decided : (video : Video) → Decided (aviTests video) (aviRules video)
 avi-decided video =
-    (refl, not-listed (video .vic), λ _. (refl, either (less 2 (video .encoding)) (less 1 (video .range)), λ _. (refl, is-full video, λ _. tt)))
+    (refl, not-listed (video .vic), λ _. (refl, is-shown-outside video, λ _. (refl, is-full video, λ _. tt)))
 
 audio-decided : (channels : ℕ) → Decided (channelsTests channels) (audioRules channels)
 audio-decided channels = (refl, together (opposite (equal channels 2)) (opposite (equal channels 8)), λ _. tt)
@@ -35,8 +35,7 @@ unfolding aviOf
 avi-given video f =
     rw (
       ne-eqb _ _ (is-listed video f),
-      le-ltb _ _ (encoding-fits video f),
-      le-ltb _ _ (range-fits video f),
+      refuted (is-shown-outside video) (λ h. f .inside (inr h)),
       refuted (is-full video) (λ h. f .apart (inr h)),
     )
 

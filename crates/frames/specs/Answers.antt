@@ -1,14 +1,14 @@
 -- What the two calls on single fields answer, as the code finds it: tied to document 01's rows by `FrameRefusals`.
 use mathlib.Core.Path.{_≡_}
-use mathlib.Core.Bool.{Bool, not, _&&_, _||_}
+use mathlib.Core.Bool.{not, _&&_}
 use mathlib.Core.List.{List, [], _∷_}
 use Prim.Native.Nat.{ℕ}
-use lib.Dec.{eqb, ltb}
+use lib.Dec.{eqb}
 use lib.ListN.{replicate}
 use Rattle.refusals.specs.Rows.{modeNotOffered, fieldOutOfRange, combination, Test, _if_, lowest, answer}
 use Rattle.video.specs.declared.Video.{Video}
 use Rattle.video.specs.Modes.{modeOf}
-use Rattle.video.specs.Fits.{fullYCbCr}
+use Rattle.video.specs.Video.{shownOutside, fullYCbCr}
 use Rattle.frames.specs.declared.Avi.{Avi}
 use Rattle.frames.specs.declared.Audio.{Audio}
 use Rattle.frames.specs.Frames.{framed, aviCount, aviFrame, audioCount, audioFrame}
@@ -21,12 +21,9 @@ abbrev pub noAudio : ℕ → Audio
 noAudio number = record { refusal = number; bytes = replicate (framed audioCount) 0 }
 
 -- the AVI frame: the tests of rows 4, 5 and 6
-abbrev pub aviOutside : Video → Bool
-aviOutside v = ltb 2 (v .encoding) || ltb 1 (v .range)
-
 abbrev pub aviTests : Video → List Test
 aviTests video =
-    modeNotOffered if eqb (modeOf (video .vic) .families) 0 ∷ fieldOutOfRange if aviOutside video ∷ combination if fullYCbCr video ∷ []
+    modeNotOffered if eqb (modeOf (video .vic) .families) 0 ∷ fieldOutOfRange if shownOutside video ∷ combination if fullYCbCr video ∷ []
 
 unfoldable pub aviOf : Video → Avi
 aviOf video = answer (lowest (aviTests video)) noAvi (record { refusal = 0; bytes = aviFrame video })

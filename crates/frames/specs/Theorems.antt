@@ -1,7 +1,7 @@
 -- What is proved of the frames: document 01's words for the checksum, when the two calls on single fields are refused, and that an AVI
 -- frame names the video that it was made for.
 use mathlib.Core.Path.{_≡_}
-use mathlib.Core.Logic.{_≢_, _⊎_}
+use mathlib.Core.Logic.{_≢_}
 use mathlib.Core.Bool.{false}
 use mathlib.Core.List.{List, [], _∷_}
 use Prim.Native.Nat.{ℕ, _+_, _%_, _<_}
@@ -10,19 +10,16 @@ use Rattle.lists.specs.Among.{among}
 use Rattle.refusals.specs.Rows.{modeNotOffered, fieldOutOfRange, combination, Condition, _when_, Given}
 use Rattle.video.specs.declared.Video.{Video}
 use Rattle.video.specs.Modes.{listed}
-use Rattle.video.specs.Video.{answered, FullYCbCr}
+use Rattle.video.specs.Video.{answered, ShownOutside, FullYCbCr}
 use Rattle.video.specs.Fits.{VideoFits}
 use Rattle.frames.specs.Frames.{total, checksumOf, frame, framed, aviCount, aviPayload, videoNamed, audioCount}
 use Rattle.frames.specs.Answers.{aviOf, audioOf}
 
 -- "A call on single fields checks those .. whose fields it takes": the AVI frame row 4, "VIC not listed below", row 5, "any other field
 -- outside its range", and of row 6 "range 1 with YCbCr"; the audio frame row 5: the channels are 2 or 8
-abbrev pub AviOutside : Video → Type 0
-AviOutside v = (2 < v .encoding) ⊎ (1 < v .range)
-
 abbrev pub aviRules : Video → List Condition
 aviRules video =
-    modeNotOffered when (among (video .vic) listed ≡ false) ∷ fieldOutOfRange when AviOutside video ∷ combination when FullYCbCr video ∷ []
+    modeNotOffered when (among (video .vic) listed ≡ false) ∷ fieldOutOfRange when ShownOutside video ∷ combination when FullYCbCr video ∷ []
 
 abbrev pub audioRules : ℕ → List Condition
 audioRules channels = fieldOutOfRange when ((channels ≢ 2) × (channels ≢ 8)) ∷ []

@@ -3,9 +3,10 @@ ghost use mathlib.Core.Path.{_≡_};
 ghost use mathlib.Core.Bool.{false};
 ghost use Prim.Native.Nat.{_%_};
 ghost use Rattle.video.specs.Modes.{modeOf};
+ghost use Rattle.video.specs.Video.{shownOutside};
 ghost use Rattle.frames.specs.Frames.{total, checksumOf, frame, colorimetry, quantisation};
 ghost use Rattle.frames.specs.Frames.{aviFrame, videoNamed, audioHeader, audioPayload, audioOffFrame};
-ghost use Rattle.frames.specs.Answers.{aviOutside, noAvi, GivesAvi, GivesAudio};
+ghost use Rattle.frames.specs.Answers.{noAvi, GivesAvi, GivesAudio};
 ghost use Rattle.frames.specs.Theorems.{Checksum, FrameRefusals, NamedBack};
 use refusals::Refusal;
 use video::Mode;
@@ -75,16 +76,9 @@ fn quantised(video: Video) -> u8
     2
 }
 
-// Row 5, of the fields that the AVI InfoFrame takes beside the VIC.
-fn avi_outside(video: Video) -> bool
-    ensures { λ r. ⌜ r ≡ aviOutside video ⌝ }
-{
-    (2 < video.encoding) | (1 < video.range)
-}
-
 // The AVI InfoFrame of a video, and its mode.
 fn avi_frame(video: Video, mode: Mode) -> [u8; AVI_FRAME]
-    requires { ⌜ (mode ≡ modeOf (video .vic)) × (aviOutside video ≡ false) ⌝ }
+    requires { ⌜ (mode ≡ modeOf (video .vic)) × (shownOutside video ≡ false) ⌝ }
     ensures { λ r. ⌜ r ≡ aviFrame video ⌝ }
 {
     let encoding = video.encoding;
@@ -138,7 +132,7 @@ pub fn avi_of(video: Video) -> Avi
     if mode.families == 0 {
         return no_avi(Refusal::MODE_NOT_OFFERED);
     }
-    if avi_outside(video) {
+    if video::shown_outside(video) {
         return no_avi(Refusal::FIELD_OUT_OF_RANGE);
     }
     if video::full_ycbcr(video) {

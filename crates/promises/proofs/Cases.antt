@@ -6,7 +6,7 @@ use native.Mathlib.Omega.{arith}
 use lib.Dec.{lit<}
 use Rattle.ratio.specs.Lowest.{steps, divisorOf}
 use Rattle.video.specs.Modes.{modeOf}
-use Rattle.video.specs.Fits.{videoOutside, videoCombined}
+use Rattle.video.specs.Video.{videoOutside, videoCombined}
 use Rattle.clock.specs.Clocks.{clockOf}
 use Rattle.clock.specs.Pairs.{reference, recommendedOf}
 use Rattle.clock.specs.Found.{nearestK, nearestIn, nearestOf, exactly, coherentOf, pairOf}
@@ -20,9 +20,9 @@ use Rattle.request.specs.Sections.{walk, walked}
 use Rattle.request.specs.Read.{outside, combined, judged, readOf, pairFor, nctsOf}
 use Rattle.line.specs.Line.{lineOf}
 use Rattle.line.specs.Words.{digits, acceptedText, refusedText}
-use Rattle.promises.specs.Cases.{rgbOverHdmi, limited, MarkedCases}
+use Rattle.promises.specs.Cases.{rgbOverHdmi, MarkedCases}
 
-multiple : (n cts : ℕ) → reference 0 * cts * clockOf (rgbOverHdmi 4 1 limited) .den ≡ clockOf (rgbOverHdmi 4 1 limited) .num * n → 23296 ∣ n
+multiple : (n cts : ℕ) → reference 0 * cts * clockOf (rgbOverHdmi 4 1) .den ≡ clockOf (rgbOverHdmi 4 1) .num * n → 23296 ∣ n
 unfolding reference clockOf modeOf divisorOf steps
 multiple n cts e = divides 74250000000 4100096000 (lit< tt) n cts (omega arith)
 

@@ -24,15 +24,9 @@ table39 =
     1 ∷ 0x0C ∷ 0x53 ∷ 0x08 ∷ 0x00 ∷ 0x00 ∷ 0x00 ∷ 0xF9 ∷ 0xD6 ∷ 0xFC ∷ 0x56 ∷ 0x08 ∷ 0x00 ∷ 0xFE ∷ 0x88 ∷ 0x02 ∷ 0x91 ∷
     0xFF ∷ 0xFF ∷ 0x08 ∷ 0x00 ∷ 0x0E ∷ 0x85 ∷ 0xF8 ∷ 0xBE ∷ []
 
--- a VIC in a family, RGB over HDMI, and its range
-abbrev pub rgbOverHdmi : ℕ → ℕ → ℕ → Video
-rgbOverHdmi vic family range = videoIn (vic ∷ family ∷ 0 ∷ 1 ∷ range ∷ [])
-
-abbrev pub limited : ℕ
-limited = 0
-
-abbrev pub full : ℕ
-full = 1
+-- a VIC in a family, RGB over HDMI, limited
+abbrev pub rgbOverHdmi : ℕ → ℕ → Video
+rgbOverHdmi vic family = videoIn (vic ∷ family ∷ 0 ∷ 1 ∷ 0 ∷ [])
 
 -- the bytes `05 10 00 00 01 00 03 02 02 01 00`
 abbrev pub example : List ℕ
@@ -50,21 +44,21 @@ pub record MarkedCases : Type 0 where
   -- 3. One byte too many: refused 3
   pub case3 : readOf (0x05 ∷ 0x10 ∷ 0x00 ∷ 0x00 ∷ 0x01 ∷ 0x00 ∷ 0x00 ∷ 0x00 ∷ 0x00 ∷ []) .refusal ≡ 3
   -- 4. VIC 19, family 1: refused 4
-  pub case4 : (clockOf (rgbOverHdmi 19 1 limited) .refusal ≡ 4) × (readOf (0x05 ∷ 19 ∷ 1 ∷ 0x00 ∷ 0x01 ∷ 0x00 ∷ 0x00 ∷ 0x00 ∷ []) .refusal ≡ 4)
+  pub case4 : (clockOf (rgbOverHdmi 19 1) .refusal ≡ 4) × (readOf (0x05 ∷ 19 ∷ 1 ∷ 0x00 ∷ 0x01 ∷ 0x00 ∷ 0x00 ∷ 0x00 ∷ []) .refusal ≡ 4)
   -- 5. YCbCr 4:2:2 without a matrix: refused 6
   pub case5 : readOf (0x05 ∷ 0x10 ∷ 0x00 ∷ 0x01 ∷ 0x01 ∷ 0x00 ∷ 0x00 ∷ 0x00 ∷ []) .refusal ≡ 6
   -- 6. VIC 16, family 0, 48 kHz, coherent (so are 7 and 8): 6144, 148500. (Rates 0, 1, 2 are 32, 44.1 and 48 kHz.)
-  pub case6 : pairOf (rgbOverHdmi 16 0 limited) 2 1 ≡ thePair 6144 148500
+  pub case6 : pairOf (rgbOverHdmi 16 0) 2 1 ≡ thePair 6144 148500
   -- 7. VIC 60, family 0, 44.1 kHz: 5488, 57750
-  pub case7 : pairOf (rgbOverHdmi 60 0 limited) 1 1 ≡ thePair 5488 57750
+  pub case7 : pairOf (rgbOverHdmi 60 0) 1 1 ≡ thePair 5488 57750
   -- 8. VIC 60, family 1, 32 kHz: 5824, 84375
-  pub case8 : pairOf (rgbOverHdmi 60 1 limited) 0 1 ≡ thePair 5824 84375
+  pub case8 : pairOf (rgbOverHdmi 60 1) 0 1 ≡ thePair 5824 84375
   -- 9. VIC 4, family 1, 32 kHz, coherent: refused 9, for N would have to be a multiple of 23296
-  pub case9 : pairOf (rgbOverHdmi 4 1 limited) 0 1 .refusal ≡ 9
-  pub case9For : (n cts : ℕ) → reference 0 * cts * clockOf (rgbOverHdmi 4 1 limited) .den ≡ clockOf (rgbOverHdmi 4 1 limited) .num * n → 23296 ∣ n
-  -- 10. AVI, VIC 16, RGB: checksum; request 01: "case 10 becomes 0x23 when limited". Full range: Q 2 is 4 more than Q 1 in data byte 3
-  pub case10 : getD (aviOf (rgbOverHdmi 16 0 limited) .bytes) 3 0 ≡ 0x23
-  pub case10Full : getD (aviOf (rgbOverHdmi 16 0 full) .bytes) 3 0 ≡ 0x1F
+  pub case9 : pairOf (rgbOverHdmi 4 1) 0 1 .refusal ≡ 9
+  pub case9For : (n cts : ℕ) → reference 0 * cts * clockOf (rgbOverHdmi 4 1) .den ≡ clockOf (rgbOverHdmi 4 1) .num * n → 23296 ∣ n
+  -- 10. AVI, VIC 16, RGB: checksum; request 01: "case 10 becomes 0x23 when limited"; and in full range
+  pub case10 : getD (aviOf (rgbOverHdmi 16 0) .bytes) 3 0 ≡ 0x23
+  pub case10Full : getD (aviOf (videoIn (16 ∷ 0 ∷ 0 ∷ 1 ∷ 1 ∷ [])) .bytes) 3 0 ≡ 0x1F
   -- 11. Audio InfoFrame, 8 channels: 0x57; off: 0x71
   pub case11 : (getD (audioOf 8 .bytes) 3 0 ≡ 0x57) × (getD audioOffFrame 3 0 ≡ 0x71)
   -- 12. Table 39's A4 bytes 0x19, 0xD6: -1578; C1 0x1F, 0xFF: -1

@@ -7,8 +7,7 @@ use lib.Dec.{eqb, ltb}
 use lib.ListN.{length}
 use Rattle.clock.specs.declared.Pair.{Pair}
 use Rattle.video.specs.declared.Video.{Video}
-use Rattle.video.specs.Video.{noVideo}
-use Rattle.video.specs.Fits.{videoOutside, videoCombined}
+use Rattle.video.specs.Video.{noVideo, videoOutside, videoCombined}
 use Rattle.video.specs.Modes.{offered}
 use Rattle.clock.specs.Pairs.{noPair, audioOff}
 use Rattle.clock.specs.Found.{pairOf}

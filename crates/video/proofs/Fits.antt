@@ -13,12 +13,16 @@ use Rattle.lists.proofs.Decides.{Decides, equal, less, opposite, either, togeth
 use Rattle.video.specs.declared.Mode.{Mode}
 use Rattle.video.specs.declared.Video.{Video}
 use Rattle.video.specs.Modes.{modes, rowOf, modeOf, offered}
-use Rattle.video.specs.Video.{VideoOutside, FullYCbCr, VideoCombined}
-use Rattle.video.specs.Fits.{videoOutside, fullYCbCr, videoCombined, VideoFits}
+use Rattle.video.specs.Video.{ShownOutside, VideoOutside, FullYCbCr, VideoCombined}
+use Rattle.video.specs.Video.{shownOutside, videoOutside, fullYCbCr, videoCombined}
+use Rattle.video.specs.Fits.{VideoFits}
+
+pub is-shown-outside : (v : Video) → Decides (shownOutside v) (ShownOutside v)
+is-shown-outside v = either (less 2 (v .encoding)) (less 1 (v .range))
 
 pub is-outside : (v : Video) → Decides (videoOutside v) (VideoOutside v)
 unfolding videoOutside
-is-outside v = either (less 2 (v .encoding)) (either (less 1 (v .link)) (less 1 (v .range)))
+is-outside v = either (less 1 (v .link)) (is-shown-outside v)
 
 pub is-full : (v : Video) → Decides (fullYCbCr v) (FullYCbCr v)
 is-full v = together (equal (v .range) 1) (opposite (equal (v .encoding) 0))
@@ -69,10 +73,10 @@ module _ (v : Video) (f : VideoFits v) where
   is-listed e = omega (arith, ltb-true (v .family) (modeOf (v .vic) .families) (f .offered))
 
   pub encoding-fits : v .encoding ≤ 2
-  encoding-fits = at-most 2 (v .encoding) (λ h. f .inside (inl h))
+  encoding-fits = at-most 2 (v .encoding) (λ h. f .inside (inr (inl h)))
 
   pub link-fits : v .link ≤ 1
-  link-fits = at-most 1 (v .link) (λ h. f .inside (inr (inl h)))
+  link-fits = at-most 1 (v .link) (λ h. f .inside (inl h))
 
   pub range-fits : v .range ≤ 1
   range-fits = at-most 1 (v .range) (λ h. f .inside (inr (inr h)))

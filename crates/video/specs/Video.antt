@@ -1,8 +1,10 @@
 -- Document 01, "The request": the video section, with the range byte of document 02, request 01. A later byte of it is a field here.
 use mathlib.Core.Path.{_≡_}
 use mathlib.Core.Logic.{_≢_, _⊎_}
+use mathlib.Core.Bool.{Bool, not, _&&_, _||_}
 use mathlib.Core.List.{List, [], _∷_}
 use Prim.Native.Nat.{ℕ, _<_}
+use lib.Dec.{eqb, ltb}
 use lib.ListN.{getD, length}
 use Rattle.video.specs.declared.Video.{Video}
 
@@ -36,14 +38,30 @@ pub record Body : Type 0 where
   pub back : (v : Video) → videoIn (videoBody v) ≡ v
   pub whole : (body : List ℕ) → length body ≡ videoCount → videoBody (videoIn body) ≡ body
 
--- row 5, of this section: "any other field outside its range"; request 01: "range above 1 is refusal 5". The VIC and the family are row
--- 4's (`offered`, Modes).
-abbrev pub VideoOutside : Video → Type 0
-VideoOutside v = (2 < v .encoding) ⊎ (1 < v .link) ⊎ (1 < v .range)
+-- row 5, of this section: "any other field outside its range"; request 01: "range above 1 is refusal 5". First of the fields that the AVI
+-- InfoFrame shows, then of all; the VIC and the family are row 4's (`offered`, Modes).
+abbrev pub ShownOutside : Video → Type 0
+ShownOutside v = (2 < v .encoding) ⊎ (1 < v .range)
 
--- row 6, of this section alone: "DVI .. with encoding not 0"; request 01: "range 1 with YCbCr is refusal 6"
+abbrev pub VideoOutside : Video → Type 0
+VideoOutside v = (1 < v .link) ⊎ ShownOutside v
+
+-- row 6, of this section alone: request 01, "range 1 with YCbCr is refusal 6"; "DVI .. with encoding not 0"
 abbrev pub FullYCbCr : Video → Type 0
 FullYCbCr v = (v .range ≡ 1) × (v .encoding ≢ 0)
 
 abbrev pub VideoCombined : Video → Type 0
 VideoCombined v = ((v .link ≡ 0) × (v .encoding ≢ 0)) ⊎ FullYCbCr v
+
+-- the tests that decide them
+abbrev pub shownOutside : Video → Bool
+shownOutside v = ltb 2 (v .encoding) || ltb 1 (v .range)
+
+unfoldable pub videoOutside : Video → Bool
+videoOutside v = ltb 1 (v .link) || shownOutside v
+
+abbrev pub fullYCbCr : Video → Bool
+fullYCbCr v = eqb (v .range) 1 && not (eqb (v .encoding) 0)
+
+unfoldable pub videoCombined : Video → Bool
+videoCombined v = (eqb (v .link) 0 && not (eqb (v .encoding) 0)) || fullYCbCr v

@@ -2,7 +2,7 @@
 ghost use mathlib.Core.Path.{_≡_};
 ghost use Rattle.video.specs.Modes.{mode, modeOf, ModeTable};
 ghost use Rattle.video.specs.Video.{videoIn, videoBody, noVideo, inFamily, Body};
-ghost use Rattle.video.specs.Fits.{videoOutside, fullYCbCr, videoCombined};
+ghost use Rattle.video.specs.Video.{shownOutside, videoOutside, fullYCbCr, videoCombined};
 
 // The count of the video section.
 pub const VIDEO_COUNT: u8 = 5;
@@ -113,14 +113,22 @@ pub fn in_family(v: Video, family: u8) -> Video
     }
 }
 
-// Row 5: a field outside its range.
+// Row 5, of the fields that the AVI InfoFrame shows.
+pub fn shown_outside(v: Video) -> bool
+    ensures { λ r. ⌜ r ≡ shownOutside v ⌝ }
+{
+    (2 < v.encoding) | (1 < v.range)
+}
+
+// Row 5, of this section.
 pub fn outside(v: Video) -> bool
     ensures { λ r. ⌜ r ≡ videoOutside v ⌝ }
 {
-    (2 < v.encoding) | ((1 < v.link) | (1 < v.range))
+    let shown = shown_outside(v);
+    (1 < v.link) | shown
 }
 
-// Row 6: full range with YCbCr.
+// Row 6: range 1 with YCbCr.
 pub fn full_ycbcr(v: Video) -> bool
     ensures { λ r. ⌜ r ≡ fullYCbCr v ⌝ }
 {

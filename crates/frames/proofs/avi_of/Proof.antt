@@ -15,8 +15,8 @@ returns : tie.Need-returns
 unfolding aviOf
 returns c = simp (← c .before .before .before .mode-of .ensures, eq-eqb _ _ (c .before .if1 .taken)) (c .no-avi .ensures)
 
-avi-outside-requires : tie.Need-avi-outside-requires
-avi-outside-requires c κs = search needs
+shown-outside-requires : tie.Need-shown-outside-requires
+shown-outside-requires c κs = search needs
 
 no-avi-requires-2 : tie.Need-no-avi-requires-2
 no-avi-requires-2 c κs = search needs
@@ -25,7 +25,7 @@ returns-2 : tie.Need-returns-2
 unfolding aviOf
 returns-2 c =
     let p = c .before .before in
-    rw (← p .before .before .before .mode-of .ensures, ne-eqb _ _ (p .before .if1 .left), ← p .avi-outside .ensures, c .before .if2 .taken) (c .no-avi2 .ensures)
+    rw (← p .before .before .before .mode-of .ensures, ne-eqb _ _ (p .before .if1 .left), ← p .shown-outside .ensures, c .before .if2 .taken) (c .no-avi2 .ensures)
 
 full-ycbcr-requires : tie.Need-full-ycbcr-requires
 full-ycbcr-requires c κs = search needs
@@ -42,7 +42,7 @@ returns-3 c =
     rw (
       ← p .before .before .before .mode-of .ensures,
       ne-eqb _ _ (p .before .if1 .left),
-      ← p .avi-outside .ensures,
+      ← p .shown-outside .ensures,
       o .if2 .left,
       ← c .before .before .full-ycbcr .ensures,
       c .before .if3 .taken,
@@ -51,7 +51,7 @@ returns-3 c =
 avi-frame-requires : tie.Need-avi-frame-requires
 avi-frame-requires c κs =
     let o = c .before .before in
-    (o .before .before .before .before .mode-of .ensures, rw (← o .before .avi-outside .ensures) (o .if2 .left))
+    (o .before .before .before .before .mode-of .ensures, rw (← o .before .shown-outside .ensures) (o .if2 .left))
 
 returns-4 : tie.Need-returns-4
 unfolding aviOf
@@ -61,7 +61,7 @@ returns-4 c =
     rw (
       ← p .before .before .before .mode-of .ensures,
       ne-eqb _ _ (p .before .if1 .left),
-      ← p .avi-outside .ensures,
+      ← p .shown-outside .ensures,
       o .if2 .left,
       ← c .before .before .full-ycbcr .ensures,
       c .before .if3 .left,
@@ -75,7 +75,7 @@ avi-of-spec =
     mode-of-requires
     no-avi-requires
     returns
-    avi-outside-requires
+    shown-outside-requires
     no-avi-requires-2
     returns-2
     full-ycbcr-requires

@@ -1,12 +1,15 @@
 -- `video::outside` meets its contract. Assumes nothing.
 use borrow.Author.Needs.{needs}
-use Rattle.video.specs.Fits.{videoOutside}
+use Rattle.video.specs.Video.{videoOutside}
 use Rattle.video.proofs.outside.Statement.{statement}
 use Rattle.video.proofs.outside.Tie as tie
 
+shown-outside-requires : tie.Need-shown-outside-requires
+shown-outside-requires c κs = search needs
+
 returns : tie.Need-returns
 unfolding videoOutside
-returns c = search needs
+returns c = rw (← c .before .shown-outside .ensures) (search needs)
 
 pub outside-spec : {M : Type 1} → statement M
-outside-spec = tie.close (tie.spec returns)
+outside-spec = tie.close (tie.spec shown-outside-requires returns)
