@@ -23,7 +23,9 @@ noAudio number = record { refusal = number; bytes = replicate (framed audioCount
 -- the AVI frame: the tests of rows 4, 5 and 6
 abbrev pub aviTests : Video → List Test
 aviTests video =
-    modeNotOffered if eqb (modeOf (video .vic) .families) 0 ∷ fieldOutOfRange if shownOutside video ∷ combination if fullYCbCr video ∷ []
+    modeNotOffered if eqb (modeOf (video .vic) .families) 0 ∷
+    fieldOutOfRange if shownOutside video ∷
+    combination if fullYCbCr video ∷ []
 
 unfoldable pub aviOf : Video → Avi
 aviOf video = answer (lowest (aviTests video)) noAvi (record { refusal = 0; bytes = aviFrame video })

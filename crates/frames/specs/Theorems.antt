@@ -19,7 +19,9 @@ use Rattle.frames.specs.Answers.{aviOf, audioOf}
 -- outside its range", and of row 6 "range 1 with YCbCr"; the audio frame row 5: the channels are 2 or 8
 abbrev pub aviRules : Video → List Condition
 aviRules video =
-    modeNotOffered when (among (video .vic) listed ≡ false) ∷ fieldOutOfRange when ShownOutside video ∷ combination when FullYCbCr video ∷ []
+    modeNotOffered when (among (video .vic) listed ≡ false) ∷
+    fieldOutOfRange when ShownOutside video ∷
+    combination when FullYCbCr video ∷ []
 
 abbrev pub audioRules : ℕ → List Condition
 audioRules channels = fieldOutOfRange when ((channels ≢ 2) × (channels ≢ 8)) ∷ []

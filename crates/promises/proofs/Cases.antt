@@ -31,9 +31,10 @@ unfolding flatMap steps divisorOf modeOf clockOf reference recommendedOf nearest
 cases =
     record {
       line = refl;
+      lineFull = refl;
       empty = refl;
       case1 = refl;
-      case2 = (refl, refl);
+      case2 = refl;
       case3 = refl;
       case4 = (refl, refl);
       case5 = refl;
@@ -55,7 +56,6 @@ cases =
       dviWithEncoding = refl;
       fullWithYCbCr = refl;
       limitedWithYCbCr = refl;
-      fullWithRgb = refl;
       lengths = refl;
       longest = refl;
     }

@@ -4,7 +4,7 @@ use mathlib.Core.Path.{_≡_}
 use mathlib.Core.List.{List, [], _∷_}
 use Prim.Native.Nat.{ℕ, _*_, _∣_}
 use lib.IntN.{negsuc}
-use lib.ListN.{getD}
+use lib.ListN.{getD, set}
 use Rattle.video.specs.declared.Video.{Video}
 use Rattle.video.specs.Video.{videoIn}
 use Rattle.clock.specs.Clocks.{clockOf}
@@ -35,12 +35,14 @@ example = 0x05 ∷ 0x10 ∷ 0x00 ∷ 0x00 ∷ 0x01 ∷ 0x00 ∷ 0x03 ∷ 0x02 �
 pub record MarkedCases : Type 0 where
   -- "the whole output is `accepted vic 16 n 6144 cts 148500 ..`", with the AVI checksum of case 10
   pub line : lineText example ≡ ascii "accepted vic 16 n 6144 cts 148500 avi 23 audio 70\n"
+  -- and in full range
+  pub lineFull : lineText (set example 5 1) ≡ ascii "accepted vic 16 n 6144 cts 148500 avi 1f audio 70\n"
   -- "and for an empty input `refused 1`"
   pub empty : lineText [] ≡ ascii "refused 1\n"
   -- 1. The first count alone: refused 1
   pub case1 : readOf (0x05 ∷ []) .refusal ≡ 1
   -- 2. A count that is not allowed: refused 2; request 01: "Count 4 is no longer allowed"
-  pub case2 : (readOf (0x04 ∷ 0x10 ∷ 0x00 ∷ 0x00 ∷ 0x01 ∷ []) .refusal ≡ 2) × (readOf (0x06 ∷ 0x10 ∷ 0x00 ∷ 0x00 ∷ 0x01 ∷ 0x00 ∷ []) .refusal ≡ 2)
+  pub case2 : readOf (0x04 ∷ 0x10 ∷ 0x00 ∷ 0x00 ∷ 0x01 ∷ []) .refusal ≡ 2
   -- 3. One byte too many: refused 3
   pub case3 : readOf (0x05 ∷ 0x10 ∷ 0x00 ∷ 0x00 ∷ 0x01 ∷ 0x00 ∷ 0x00 ∷ 0x00 ∷ 0x00 ∷ []) .refusal ≡ 3
   -- 4. VIC 19, family 1: refused 4
@@ -75,9 +77,8 @@ pub record MarkedCases : Type 0 where
   pub dviWithAudio : readOf (0x05 ∷ 0x10 ∷ 0x00 ∷ 0x00 ∷ 0x00 ∷ 0x00 ∷ 0x03 ∷ 0x02 ∷ 0x02 ∷ 0x01 ∷ 0x00 ∷ []) .refusal ≡ 6
   pub dviWithEncoding : readOf (0x05 ∷ 0x10 ∷ 0x00 ∷ 0x02 ∷ 0x00 ∷ 0x00 ∷ 0x00 ∷ 0x19 ∷ table39) .refusal ≡ 6
   pub fullWithYCbCr : readOf (0x05 ∷ 0x10 ∷ 0x00 ∷ 0x02 ∷ 0x01 ∷ 0x01 ∷ 0x00 ∷ 0x19 ∷ table39) .refusal ≡ 6
-  -- with that matrix YCbCr is accepted, limited; and RGB over HDMI is, in full range
+  -- with that matrix YCbCr is accepted, limited
   pub limitedWithYCbCr : readOf (0x05 ∷ 0x10 ∷ 0x00 ∷ 0x02 ∷ 0x01 ∷ 0x00 ∷ 0x00 ∷ 0x19 ∷ table39) .refusal ≡ 0
-  pub fullWithRgb : readOf (0x05 ∷ 0x10 ∷ 0x00 ∷ 0x00 ∷ 0x01 ∷ 0x01 ∷ 0x00 ∷ 0x00 ∷ []) .refusal ≡ 0
   -- Lengths follow from the counts: document 01 had 7, 10, 32, 35, and each has a byte more
   pub lengths : lengths ≡ 8 ∷ 11 ∷ 33 ∷ 36 ∷ []
   -- "the longest request"

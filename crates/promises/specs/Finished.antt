@@ -118,7 +118,8 @@ places r p =
     place 0x52 2 0 0x02 ∷ place 0x53 4 0 0x0D ∷ place 0x54 7 0 (getD (aviFrame (r .video)) 3 0) ∷
     place 0x55 7 7 0 ∷ place 0x55 6 5 (r .video .encoding) ∷ place 0x55 4 4 1 ∷ place 0x55 3 0 0 ∷
     place 0x56 7 6 (inC (r .video .vic) (r .video .encoding)) ∷ place 0x56 5 4 (inM (r .video .vic)) ∷ place 0x56 3 0 8 ∷
-    place 0x57 7 4 0 ∷ place 0x57 3 2 (inQ (r .video .encoding) (r .video .range)) ∷ place 0x57 1 0 0 ∷ place 0x58 7 0 (r .video .vic) ∷ [] ++
+    place 0x57 7 4 0 ∷ place 0x57 3 2 (inQ (r .video .encoding) (r .video .range)) ∷ place 0x57 1 0 0 ∷
+    place 0x58 7 0 (r .video .vic) ∷ [] ++
     zeroPlaces 0x59 9 ++
     -- "the audio InfoFrame": byte 1 is CT 0 CC, byte 4 CA
     place 0x70 2 0 0x01 ∷ place 0x71 4 0 0x0A ∷ place 0x72 7 0 (getD (audioPacket (r .sound)) 3 0) ∷

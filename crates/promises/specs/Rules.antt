@@ -79,5 +79,5 @@ pub record FieldByField (image : List ℕ) : Type 0 where
   pub stands : length image ≡ 256 → (r : Request) (e : Ends r image)
       → let q : Request = inFamily (e .family) r in Finished q (nctsOf (asBytes q)) image
   -- so RGB with a Q of neither 1 nor 2, as a list made before request 01 left it, decodes to nothing
-  pub noRange : length image ≡ 256 → bitsIn 6 5 (getD image 0x55 0) ≡ 0 → bitsIn 3 2 (getD image 0x57 0) ≢ 1 → bitsIn 3 2 (getD image 0x57 0) ≢ 2
-      → (room : List ℕ) → longest ≤ length room → decodeOf image room .refusal ≡ 11
+  pub noRange : length image ≡ 256 → bitsIn 6 5 (getD image 0x55 0) ≡ 0 → bitsIn 3 2 (getD image 0x57 0) ≢ 1
+      → bitsIn 3 2 (getD image 0x57 0) ≢ 2 → (room : List ℕ) → longest ≤ length room → decodeOf image room .refusal ≡ 11
