@@ -184,7 +184,7 @@ void any_start(uint8_t *image, uint8_t *packet, uint8_t *coefficients) {
 }
 
 /* A kind for each combination of values, or for so many of them by chance where there are more than so many. */
-enum { COMBINATIONS = 40000 };
+enum { COMBINATIONS = 50000 };
 static uint64_t combinations(void) {
     uint64_t all = 2 * 2;
     for (int i = 0; i < FIELDS; i++)

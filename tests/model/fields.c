@@ -9,6 +9,12 @@ static int rate_of_code(int code) {
     return NO_VALUE;
 }
 
+/* Of RGB, 1 is limited and 2 is full; YCbCr has 0, and its range is 0. */
+static int range_of_q(int encoding, int q) {
+    if (encoding != 0) return q == 0 ? 0 : NO_VALUE;
+    return q == 1 ? 0 : q == 2 ? 1 : NO_VALUE;
+}
+
 #define SHOWN(section, byte, low, bits, name, values, shown) \
     static int shown_##name(const uint8_t *image) { return (void)image, shown; }
 MODEL_FIELDS(SHOWN)

@@ -1,14 +1,16 @@
-/* The fields of a request, a row each, in the order of document 01. All that the model knows of a field is its row, beside what it does:
+/* The fields of a request, a row each, in the order of documents 01 and 02. All that the model knows of a field is its row, beside what it
+ * does:
  *   FIELD(section, byte, low, bits, name, values, shown)
  * its section; the byte of the section's body that it is in, from 0, and the bits of that byte, from bit `low` on; its name in `struct
- * fields`; the values that document 01 allows, ONE_OF(..) or BELOW(..); and what a finished image shows of it, NO_REGISTER where no register
- * names it. The counts of the sections and the longest request follow. The twelve coefficients are no rows: they follow the rows of the
- * matrix section. */
+ * fields`; the values that the documents allow, ONE_OF(..) or BELOW(..); and what a finished image shows of it, NO_REGISTER where no
+ * register names it. The counts of the sections and the longest request follow. The twelve coefficients are no rows: they follow the rows
+ * of the matrix section. */
 #define MODEL_FIELDS(FIELD) \
     FIELD(OF_VIDEO, 0, 0, 8, vic, ONE_OF(model_vics), image[0x3C] & 0x3F) \
     FIELD(OF_VIDEO, 1, 0, 8, family, BELOW(2), NO_REGISTER) \
     FIELD(OF_VIDEO, 2, 0, 8, encoding, BELOW(3), image[0x55] >> 5 & 3) \
     FIELD(OF_VIDEO, 3, 0, 8, link, BELOW(2), image[0xAF] >> 1 & 1) \
+    FIELD(OF_VIDEO, 4, 0, 8, range, BELOW(2), range_of_q(image[0x55] >> 5 & 3, image[0x57] >> 2 & 3)) \
     FIELD(OF_SOUND, 0, 0, 8, rate, BELOW(RATES), rate_of_code(image[0x15] >> 4)) \
     FIELD(OF_SOUND, 1, 0, 8, channels, ONE_OF(two_or_eight), (image[0x73] & 7) + 1) \
     FIELD(OF_SOUND, 2, 0, 8, coherent, BELOW(2), image[0x0A] >> 7) \

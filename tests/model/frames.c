@@ -24,11 +24,13 @@ void model_avi(const struct fields *f, uint8_t *registers) {
     int c = f->encoding == 0 ? 0 : one_of(f->vic, itu601, 5) ? 1 : 2;
     int m = one_of(f->vic, narrow, 3) ? 1 : 2;
     int r = 8;
+    int q = f->encoding != 0 ? 0 : f->range == 0 ? 1 : 2;     /* document 02, request 01: 1 limited, 2 full */
     for (int i = 0; i < AVI_BYTES; i++) registers[i] = 0;
     registers[0] = 0x02;
     registers[1] = 0x0D;
     registers[3] = (uint8_t)(y * 32 + a * 16);
     registers[4] = (uint8_t)(c * 64 + m * 16 + r);
+    registers[5] = (uint8_t)(q * 4);
     registers[6] = (uint8_t)f->vic;
     checksum(0x82, registers, AVI_BYTES);
 }

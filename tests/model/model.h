@@ -1,5 +1,6 @@
-/* A model of document 01 in C, written from the document, its readings and its sources, and not from the library. It is slow on purpose:
- * each rule stands as the document has it. The harness compares the library with it. */
+/* A model in C of document 01 and of the requests of document 02 that have landed, written from the documents, their readings and their
+ * sources, and not from the library. It is slow on purpose: each rule stands as the documents have it. The harness compares the library
+ * with it. */
 #ifndef MODEL_H
 #define MODEL_H
 

@@ -41,6 +41,7 @@ uint32_t model_read(const uint8_t *request, size_t length, struct fields *f) {
 
     if (f->encoding != 0 && !f->matrix) return 6;
     if (f->link == 0 && (f->sound || f->encoding != 0)) return 6;
+    if (f->encoding != 0 && f->range != 0) return 6;
     return 0;
 }
 
