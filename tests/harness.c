@@ -169,7 +169,15 @@ static void classes(void) {
     }
 }
 
-/* Document 01's marked cases: its own numbers, not the model's. */
+/* The byte that a list leaves in a register, or -1 where it does not write it. */
+static int left_in(uint8_t address, const uint8_t *writes, struct station_count c) {
+    int byte = -1;
+    for (uint32_t w = 0; w < c.count && w < 128; w++)
+        if (writes[2 * w] == address) byte = writes[2 * w + 1];
+    return byte;
+}
+
+/* Document 01's marked cases, as document 02 changes them: their own numbers, not the model's. */
 static void marked_case(size_t number, const uint8_t *bytes, size_t length, uint32_t refusal, uint32_t n, uint32_t cts) {
     uint8_t image[256] = { 0 }, writes[256];
     run.now->cases++;
@@ -196,19 +204,19 @@ static void marked(void) {
     marked_case(2, bytes, 1 + VIDEO_BYTES, 2, 0, 0);        /* the count one too large */
     for (size_t i = 0; i < sizeof cases / sizeof cases[0]; i++)
         marked_case(4 + i, bytes, model_bytes(&cases[i].f, bytes), cases[i].refusal, cases[i].n, cases[i].cts);
-    /* 10 and 11: checksums, read off the list's bytes for 0x54 and 0x72. */
+    /* 10 and 11: checksums, read off the list's bytes for 0x54 and 0x72. 10 is of limited range, the last row of full. */
     static const struct { struct fields f; uint8_t avi, audio; } sums[] = {
-        { { .vic = 16, .link = 1, .sound = 1, .rate = 2, .channels = 8, .coherent = 1 }, 0x27, 0x57 },
-        { { .vic = 16, .link = 1 }, 0x27, 0x71 },
-        { { .vic = 16, .link = 1, .sound = 1, .rate = 2, .channels = 2, .coherent = 1 }, 0x27, 0x70 },
+        { { .vic = 16, .link = 1, .sound = 1, .rate = 2, .channels = 8, .coherent = 1 }, 0x23, 0x57 },
+        { { .vic = 16, .link = 1 }, 0x23, 0x71 },
+        { { .vic = 16, .link = 1, .sound = 1, .rate = 2, .channels = 2, .coherent = 1 }, 0x23, 0x70 },
+        { { .vic = 16, .link = 1, .range = 1, .sound = 1, .rate = 2, .channels = 2, .coherent = 1 }, 0x1F, 0x70 },
     };
-    for (int i = 0; i < 3; i++) {
+    for (size_t i = 0; i < sizeof sums / sizeof sums[0]; i++) {
         run.now->cases++;
         struct station_count c = run.f->plan(bytes, model_bytes(&sums[i].f, bytes), image, 256, writes, 256);
-        for (uint32_t w = 0; w < c.count && w < 128; w++) {
-            if (writes[2 * w] == 0x54 && writes[2 * w + 1] != sums[i].avi) differs("case 10: AVI checksum %02x", writes[2 * w + 1]);
-            if (writes[2 * w] == 0x72 && writes[2 * w + 1] != sums[i].audio) differs("case 11: audio checksum %02x", writes[2 * w + 1]);
-        }
+        int avi = left_in(0x54, writes, c), audio = left_in(0x72, writes, c);
+        if (avi != sums[i].avi) differs("case 10: AVI checksum %02x", avi);
+        if (audio != sums[i].audio) differs("case 11: audio checksum %02x", audio);
     }
     /* 12: -1578 and -1 as the chip has them in 13 bits. */
     run.now->cases++;
@@ -222,7 +230,7 @@ static void marked(void) {
 
 /* Whether a kind of request is tried: all of them where there are few, and else about so many of them, by chance. Every value of every
  * field comes among them; `met` counts. */
-enum { KINDS = 3000, EVERY = 24, FREE_COMBINATIONS = 20000 };
+enum { KINDS = 3000, EVERY = 24, FREE_COMBINATIONS = 40000 };
 static uint32_t met[FIELDS][VALUES];
 
 static int is_kind(uint32_t number, struct fields *f) {
@@ -382,6 +390,92 @@ static void flips(void) {
             image[bit / 8] ^= (uint8_t)(1 << bit % 8);
         }
     }
+}
+
+/* Document 02, request 01, by its own numbers: the refusal of a range, and Q in the list, 0x57[3:2]. */
+static void answered_range(const struct fields *f, uint32_t refusal, int q) {
+    uint8_t bytes[LONGEST], image[256] = { 0 }, writes[256] = { 0 };
+    size_t length = model_bytes(f, bytes);
+    run.now->cases++;
+    struct station_pair p = run.f->ncts(bytes, length);
+    struct station_count c = run.f->plan(bytes, length, image, 256, writes, 256);
+    if (p.refusal != refusal || c.refusal != refusal)
+        differs("range %d, encoding %d: %u and %u, not %u", f->range, f->encoding, p.refusal, c.refusal, refusal);
+    else if (!refusal && (left_in(0x57, writes, c) & 0x0C) != q << 2)
+        differs("range %d, encoding %d: Q is %d, not %d", f->range, f->encoding, left_in(0x57, writes, c) >> 2 & 3, q);
+}
+
+/* A request as it was before the video section had its last byte: that byte is gone, and the count is one less. */
+static void older_request(const struct fields *f) {
+    uint8_t bytes[LONGEST], image[256] = { 0 }, writes[256] = { 0 };
+    size_t length = model_bytes(f, bytes) - 1;
+    bytes[0]--;
+    memmove(bytes + VIDEO_BYTES, bytes + VIDEO_BYTES + 1, length - VIDEO_BYTES);
+    check_ncts(bytes, length);
+    check_plan(bytes, length, image, 256, writes, 256);
+    if (run.f->ncts(bytes, length).refusal != 2) differs("a count of %d is not refused 2", VIDEO_BYTES - 1);
+}
+
+/* A finished image with each Q in it, the checksum as it was and made right: RGB with 1 or 2 is a request's, and YCbCr with 0; no other is.
+ * Planning takes any of them. */
+static void every_q(const struct fields *f, const uint8_t *finished) {
+    uint8_t bytes[LONGEST], image[256], writes[256] = { 0 }, buffer[LONGEST] = { 0 };
+    size_t length = model_bytes(f, bytes);
+    for (int q = 0; q < 4; q++)
+        for (int right = 0; right < 2; right++) {
+            struct fields back = *f;
+            memcpy(image, finished, 256);
+            image[0x57] = (uint8_t)((finished[0x57] & ~0x0C) | q << 2);
+            if (right) image[0x54] = (uint8_t)(finished[0x54] + finished[0x57] - image[0x57]);
+            int sum_is_right = right || image[0x57] == finished[0x57], of_a_request = f->encoding == 0 ? q == 1 || q == 2 : q == 0;
+            uint32_t refusal = sum_is_right && of_a_request ? 0 : 11;
+            check_decode(image, 256, buffer, sizeof buffer);
+            check_plan(bytes, length, image, 256, writes, 256);
+            struct station_count d = run.f->decode(image, 256, buffer, sizeof buffer);
+            if (d.refusal != refusal) differs("encoding %d with Q %d is decoded as %u, not %u", f->encoding, q, d.refusal, refusal);
+            else if (!refusal && (model_read(buffer, d.count, &back) != 0 || back.range != (f->encoding == 0 ? q - 1 : 0)))
+                differs("encoding %d with Q %d is decoded as range %d", f->encoding, q, back.range);
+        }
+}
+
+/* Every range, with every encoding and link and one beyond, with and without sound and matrix; VIC 1 is the one whose RGB a screen takes as
+ * full where Q is 0. */
+static void ranges(void) {
+    static const struct { int encoding, link; } kinds_of_picture[] = { { 0, 0 }, { 0, 1 }, { 1, 1 }, { 2, 1 } };
+    static const int vics[] = { 1, 16 };
+    uint8_t bytes[LONGEST], image[256] = { 0 }, writes[256] = { 0 };
+    struct fields f;
+    for (int matrix = 0; matrix < 2; matrix++)
+        for (int sound = 0; sound < 2; sound++)
+            for (int v = 0; v < 2; v++) {
+                f = (struct fields){ .vic = vics[v], .sound = sound, .channels = 2, .matrix = matrix };
+                for (f.link = 0; f.link < 3; f.link++)
+                    for (f.encoding = 0; f.encoding < 4; f.encoding++)
+                        for (f.range = 0; f.range < (run.share < 1000 ? 4 : 256); f.range++) {
+                            size_t length = model_bytes(&f, bytes);
+                            check_ncts(bytes, length);
+                            check_plan(bytes, length, image, 256, writes, 256);
+                        }
+                for (size_t k = 0; k < sizeof kinds_of_picture / sizeof kinds_of_picture[0]; k++) {
+                    f.encoding = kinds_of_picture[k].encoding, f.link = kinds_of_picture[k].link, f.range = 0;
+                    older_request(&f);
+                    if ((f.encoding && !matrix) || (!f.link && sound)) continue;
+                    answered_range(&f, 0, f.encoding ? 0 : 1);
+                    f.range = 1;
+                    answered_range(&f, f.encoding ? 6 : 0, 2);
+                    for (f.range = 2; f.range < 256; f.range += 23) answered_range(&f, 5, 0);
+                }
+            }
+    for (uint32_t i = times(30); i > 0; i--)
+        for (size_t k = 0; k < sizeof kinds_of_picture / sizeof kinds_of_picture[0]; k++) {
+            seed(0xC00000u + 4 * i + (uint32_t)k);
+            any_bytes(image, 256);
+            do any_fields(&f);
+            while (f.encoding != kinds_of_picture[k].encoding || f.link != kinds_of_picture[k].link || !model_pair(&f).exists);
+            finish(image, &f);
+            image[0x4A] &= 0x8F;
+            every_q(&f, image);
+        }
 }
 
 /* The model's own short cut in decoding: against the search with one field free, for each field, with the sections free, and, on fewer
@@ -650,6 +744,7 @@ static const struct { const char *name; void (*run)(void); } sections[SECTIONS] 
     { "every length", lengths },
     { "decoding", decode },
     { "every bit of finished images", flips },
+    { "range and Q", ranges },
     { "the model's search", search },
     { "machine writes", writes },
     { "views", views },
