@@ -62,6 +62,27 @@ DECODE(family_1_refused) {
 }
 PUT(decode, family_1_refused)
 
+/* An image as it was finished when Q was always 0. */
+DECODE(no_range_is_limited) {
+    uint8_t other[256];
+    if (il != 256 || (i[0x55] & 0x60) || (i[0x57] & 0x0C)) return RIGHT;
+    memcpy(other, i, 256);
+    other[0x57] |= 0x04;
+    other[0x54] -= 0x04;
+    return model_decode(other, 256, r, rl);
+}
+PUT(decode, no_range_is_limited)
+
+DECODE(range_dropped) {
+    struct station_count c = RIGHT;
+    if (c.refusal) return c;
+    struct fields f = asked(r, c.count);
+    f.range = 0;
+    model_bytes(&f, r);
+    return c;
+}
+PUT(decode, range_dropped)
+
 DECODE(matrix_dropped) {
     struct station_count c = RIGHT;
     if (c.refusal) return c;
@@ -122,6 +143,8 @@ const struct wrong wrong_decodes[] = {
     { "decoding minds read-only bits", put_read_only_counts, 0 },
     { "decoding answers family 1", put_family_1, 1 },
     { "decoding knows family 0 alone", put_family_1_refused, 1 },
+    { "decoding answers range 0 for Q 0", put_no_range_is_limited, 0 },
+    { "decoding answers range 0 for each Q", put_range_dropped, 1 },
     { "decoding drops a matrix of mode 2", put_matrix_dropped, 0 },
     { "decoding clears the rest of the buffer", put_rest_cleared, 0 },
     { "refusal 11 writes the buffer", put_refusal_writes, 0 },

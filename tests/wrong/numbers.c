@@ -58,6 +58,24 @@ NCTS(five_before_four) {
 }
 PUT(ncts, five_before_four)
 
+NCTS(six_before_five) {
+    struct station_pair p = RIGHT;
+    struct fields f = asked(r, rl);
+    if (p.refusal == 5 && f.range > 1 && f.encoding != 0) p.refusal = 6;
+    return p;
+}
+PUT(ncts, six_before_five)
+
+/* The count one less, and no range. */
+NCTS(no_range_byte) {
+    uint8_t whole[LONGEST] = { VIDEO_BYTES };
+    if (rl < VIDEO_BYTES || rl >= LONGEST || r[0] != VIDEO_BYTES - 1) return RIGHT;
+    memcpy(whole + 1, r + 1, VIDEO_BYTES - 1);
+    memcpy(whole + 1 + VIDEO_BYTES, r + VIDEO_BYTES, rl - VIDEO_BYTES);
+    return model_ncts(whole, rl + 1);
+}
+PUT(ncts, no_range_byte)
+
 NCTS(long_request_cut) { return model_ncts(r, rl > LONGEST ? LONGEST : rl); }
 PUT(ncts, long_request_cut)
 
@@ -109,6 +127,8 @@ const struct wrong wrong_numbers[] = {
     { "N 0 with sound off", put_off_is_zero, 0 },
     { "refusal 2 for an empty request", put_count_before_end, 0 },
     { "refusal 5 before 4", put_five_before_four, 0 },
+    { "refusal 6 before 5", put_six_before_five, 0 },
+    { "a request without its range taken as limited", put_no_range_byte, 0 },
     { "a long request read only as far as the longest", put_long_request_cut, 0 },
     { "a preview that rounds to the nearest", put_rounds_up, 0 },
     { "a preview that takes mode 3", put_mode_3, 0 },

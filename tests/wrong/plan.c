@@ -139,6 +139,69 @@ PLAN(colorimetry_always) {
 }
 PUT(plan, colorimetry_always)
 
+/* Planning of another request in place of the lent one. */
+static struct station_count in_place(struct fields f, const uint8_t *i, size_t il, uint8_t *w, size_t wl) {
+    uint8_t other[LONGEST];
+    return model_plan(other, model_bytes(&f, other), i, il, w, wl);
+}
+
+PLAN(ranges_exchanged) {
+    struct fields f = asked(r, rl);
+    struct station_count c = RIGHT;
+    if (c.refusal || f.encoding != 0) return c;
+    f.range = !f.range;
+    return in_place(f, i, il, w, wl);
+}
+PUT(plan, ranges_exchanged)
+
+/* Q as a list has it, and the checksum with it. */
+static void set_q(uint8_t *w, uint32_t count, int q) {
+    uint8_t *byte = &w[2 * place(w, count, 0x57, 0) + 1], *sum = &w[2 * place(w, count, 0x54, 0) + 1], was = *byte;
+    *byte = (uint8_t)((was & ~0x0C) | q << 2);
+    *sum = (uint8_t)(*sum + was - *byte);
+}
+
+PLAN(range_of_ycbcr) {
+    struct station_count c = RIGHT;
+    if (!c.refusal && asked(r, rl).encoding != 0) set_q(w, c.count, 1);
+    return c;
+}
+PUT(plan, range_of_ycbcr)
+
+PLAN(no_range_with_dvi) {
+    struct station_count c = RIGHT;
+    if (!c.refusal && asked(r, rl).link == 0) set_q(w, c.count, 0);
+    return c;
+}
+PUT(plan, no_range_with_dvi)
+
+/* By CEA-861-D a screen takes RGB with Q 0 as full with VIC 1, as limited with the others. */
+PLAN(usual_range_not_said) {
+    struct fields f = asked(r, rl);
+    struct station_count c = RIGHT;
+    if (!c.refusal && f.encoding == 0 && f.range == (f.vic == 1)) set_q(w, c.count, 0);
+    return c;
+}
+PUT(plan, usual_range_not_said)
+
+PLAN(range_in_bit_0) {
+    struct fields f = asked(r, rl);
+    struct station_count c = RIGHT;
+    if (c.refusal != 5) return c;
+    f.range &= 1;
+    return in_place(f, i, il, w, wl);
+}
+PUT(plan, range_in_bit_0)
+
+PLAN(full_ycbcr) {
+    struct fields f = asked(r, rl);
+    struct station_count c = RIGHT;
+    if (c.refusal != 6 || f.range != 1) return c;
+    f.range = 0;
+    return in_place(f, i, il, w, wl);
+}
+PUT(plan, full_ycbcr)
+
 PLAN(count_invented) {
     struct station_count c = RIGHT;
     if (!c.refusal) c.count++;
@@ -268,6 +331,12 @@ const struct wrong wrong_plans[] = {
     { "the coefficient hold never raised", put_hold_never_raised, 1 },
     { "a checksum one too small", put_checksum_off, 1 },
     { "colorimetry given for RGB", put_colorimetry_always, 1 },
+    { "Q 1 and 2 exchanged", put_ranges_exchanged, 1 },
+    { "Q set for YCbCr too", put_range_of_ycbcr, 1 },
+    { "Q 0 with DVI", put_no_range_with_dvi, 1 },
+    { "Q 0 for the range that a screen takes anyway", put_usual_range_not_said, 1 },
+    { "the range taken from bit 0 of its byte", put_range_in_bit_0, 0 },
+    { "full range with YCbCr accepted", put_full_ycbcr, 0 },
     { "an invented count", put_count_invented, 0 },
     { "the buffer cleared after the list", put_rest_cleared, 0 },
     { "a refusal that writes the buffer", put_refusal_writes, 0 },
