@@ -5,7 +5,7 @@
 
 /* The places of the video section's fields in a request, behind its count, and that of the next count. The bytes of each section and of
  * the longest request, with its three counts; the VICs have six bits. */
-enum { VIC = 1, FAMILY, ENCODING, LINK, NEXT };
+enum { VIC = 1, FAMILY, ENCODING, LINK, RANGE, NEXT };
 enum { VIDEO = NEXT - 1, SOUND = 3, MATRIX = STATION_MATRIX, LONGEST = 3 + VIDEO + SOUND + MATRIX, VICS = 64, RATES = 7 };
 
 /* For each VIC: the row of `pairs` at family 0 and 1 (0 where it is not offered), 4:3, ITU-R 601, the clock at family 0 in Hz. */
@@ -87,7 +87,7 @@ static const uint8_t always[256] = {
     [0x9A] = 0xE0, [0x9C] = 0x30, [0x9D] = 0x61, [0xA2] = 0xA4, [0xA3] = 0xA4, [0xE0] = 0xD0, [0xAF] = 0x04,
 };
 
-struct asked { uint8_t vic, family, encoding, link; const uint8_t *sound, *matrix; };
+struct asked { uint8_t vic, family, encoding, link, range; const uint8_t *sound, *matrix; };
 
 static uint32_t read(const uint8_t *r, size_t length, struct asked *q) {
     size_t at = NEXT;
@@ -109,16 +109,16 @@ static uint32_t read(const uint8_t *r, size_t length, struct asked *q) {
     } else if (r[at] != 0) return 2;
     at++;
     if (length != at) return 3;
-    q->vic = r[VIC], q->family = r[FAMILY], q->encoding = r[ENCODING], q->link = r[LINK];
+    q->vic = r[VIC], q->family = r[FAMILY], q->encoding = r[ENCODING], q->link = r[LINK], q->range = r[RANGE];
     if (q->vic >= VICS || q->family > 1 || !modes[q->vic].row[q->family]) return 4;
-    if (q->encoding > 2 || q->link > 1) return 5;
+    if (q->encoding > 2 || q->link > 1 || q->range > 1) return 5;
     if (q->sound && (q->sound[0] > 6 || (q->sound[1] != 2 && q->sound[1] != 8) || q->sound[2] > 1)) return 5;
     if (q->matrix) {
         if (q->matrix[0] > 2) return 5;
         for (int k = 1; k < MATRIX; k += 2)
             if (q->matrix[k] > 0x0F && q->matrix[k] < 0xF0) return 5;
     }
-    if ((q->encoding && !q->matrix) || (!q->link && (q->sound || q->encoding))) return 6;
+    if ((q->encoding && (!q->matrix || q->range)) || (!q->link && (q->sound || q->encoding))) return 6;
     return 0;
 }
 
@@ -190,8 +190,9 @@ static inline int want(const struct asked *q, find_pair *find, uint8_t *b) {
     if (q->link) b[0x40] = 0x80, b[0x44] = q->sound ? 0x78 : 0x10, b[0xAF] |= 0x02;
     b[0x55] = (uint8_t)(q->encoding << 5 | 0x10);
     b[0x56] = (uint8_t)((q->encoding ? modes[q->vic].itu601 ? 0x40 : 0x80 : 0) | (modes[q->vic].narrow ? 0x18 : 0x28));
+    b[0x57] = q->encoding ? 0x00 : q->range ? 0x08 : 0x04;
     b[0x58] = q->vic;
-    sum = 0x82 + 0x02 + 0x0D + b[0x55] + b[0x56] + b[0x58];
+    sum = 0x82 + 0x02 + 0x0D + b[0x55] + b[0x56] + b[0x57] + b[0x58];
     b[0x54] = (uint8_t)-sum;
     sum = 0x84 + 0x01 + 0x0A + b[0x73] + b[0x76];
     b[0x72] = (uint8_t)-sum;
@@ -236,6 +237,7 @@ static inline struct station_count decode(const uint8_t *image, size_t image_len
     r[VIC] = image[0x3C] & 0x3F;
     r[ENCODING] = image[0x55] >> 5 & 3;
     r[LINK] = image[0xAF] >> 1 & 1;
+    r[RANGE] = image[0x57] >> 3 & 1;
     if (image[0x44] & 0x20) {
         r[at++] = SOUND;
         r[at++] = rates[image[0x15] >> 4];
