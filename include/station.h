@@ -6,12 +6,13 @@
  * length 0 was tried and behaves as an empty slice; it is not promised.
  *
  * A request is three sections in this order, each after a byte that counts its bytes:
- *   video   4        VIC (1 to 5, 16 to 20, 31, 32, 34, 60, 62); family (0 whole frame rate, 1 divided by 1.001, which VIC 17 to 20 and 31
- *                    do not offer); encoding (0 RGB, 1 YCbCr 4:2:2, 2 YCbCr 4:4:4); link (0 DVI, 1 HDMI)
+ *   video   5        VIC (1 to 5, 16 to 20, 31, 32, 34, 60, 62); family (0 whole frame rate, 1 divided by 1.001, which VIC 17 to 20 and 31
+ *                    do not offer); encoding (0 RGB, 1 YCbCr 4:2:2, 2 YCbCr 4:4:4); link (0 DVI, 1 HDMI); range (0 limited, 1 full: what
+ *                    the screen is told of RGB; with YCbCr it is 0)
  *   audio   0 or 3   rate (0 to 6 for 32, 44.1, 48, 88.2, 96, 176.4, 192 kHz); channels (2 or 8); coherent (0 or 1)
  *   matrix  0 or 25  mode (0 to 2); coefficients A1 to A4, B1 to B4, C1 to C4, two bytes each, high byte first, two's complement, from
  *                    -4096 to 4095
- * So 04 10 00 00 01 03 02 02 01 00 is 1080p at 60 Hz, RGB over HDMI, coherent stereo at 48 kHz, no matrix.
+ * So 05 10 00 00 01 00 03 02 02 01 00 is 1080p at 60 Hz, RGB over HDMI, limited range, coherent stereo at 48 kHz, no matrix.
  */
 #ifndef STATION_H
 #define STATION_H
@@ -20,17 +21,17 @@
 #include <stdint.h>
 
 /* The version of this header, one for each landing; CHANGELOG.md says what came with it. */
-#define STATION_VERSION "1.1.1"
-#define STATION_MAJOR 1
-#define STATION_MINOR 1
-#define STATION_PATCH 1
+#define STATION_VERSION "2.0.0"
+#define STATION_MAJOR 2
+#define STATION_MINOR 0
+#define STATION_PATCH 0
 
 /* Lengths in bytes. */
 #define STATION_IMAGE 256       /* a register image, the bytes of registers 0x00 to 0xFF */
 #define STATION_PACKET 32       /* the chip machine's packet buffer */
 #define STATION_COEFFICIENTS 24 /* its coefficient buffer */
 #define STATION_WRITES 256      /* the least room for a write list */
-#define STATION_REQUEST 35      /* the longest request, and the least room for one */
+#define STATION_REQUEST 36      /* the longest request, and the least room for one */
 #define STATION_MATRIX 25       /* a matrix as a request has it: its mode and twelve coefficients */
 
 #ifdef __cplusplus
@@ -45,8 +46,8 @@ enum station_refusal {
     STATION_COUNT_NOT_ALLOWED = 2,  /* a count the section does not allow */
     STATION_BYTES_AFTER = 3,        /* bytes after the matrix section */
     STATION_MODE_NOT_OFFERED = 4,   /* VIC not listed, or family not offered by it */
-    STATION_FIELD_OUT_OF_RANGE = 5, /* any other field outside its range (matrix mode above 2) */
-    STATION_COMBINATION = 6,        /* encoding not 0 without a matrix; DVI with audio or with encoding not 0 */
+    STATION_FIELD_OUT_OF_RANGE = 5, /* any other field outside its range (matrix mode above 2, range above 1) */
+    STATION_COMBINATION = 6,        /* encoding not 0 without a matrix or with range 1; DVI with audio or with encoding not 0 */
     STATION_IMAGE_LENGTH = 7,       /* image not of 256 bytes; in the machine also packet buffer not of 32, coefficient buffer not of 24 */
     STATION_HOLDS_UP = 8,           /* GC hold up, or AVI and audio holds both up */
     STATION_NO_EXACT_PAIR = 9,      /* coherent audio, and no exact pair exists */
