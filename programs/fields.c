@@ -50,6 +50,8 @@ static const struct field {
     { IN_VIDEO, 1, 0, 8, "family", "whole", { { "whole", 0, "whole frame rate" }, { "/1.001", 1, "frame rate divided by 1.001" } } },
     { IN_VIDEO, 2, 0, 8, "encoding", NULL, { { "rgb", 0, "RGB" }, { "ycbcr422", 1, "YCbCr 4:2:2" }, { "ycbcr444", 2, "YCbCr 4:4:4" } } },
     { IN_VIDEO, 3, 0, 8, "link", NULL, { { "dvi", 0, "DVI" }, { "hdmi", 1, "HDMI" } } },
+    { IN_VIDEO, 4, 0, 8, "range", "limited",
+      { { "limited", 0, "limited: RGB from 16 to 235; of YCbCr nothing is said" }, { "full", 1, "full: RGB from 0 to 255" } } },
     { IN_AUDIO, 0, 0, 8, "rate", NULL,
       { { "32kHz", 0, "32 kHz" }, { "44.1kHz", 1, "44.1 kHz" }, { "48kHz", 2, "48 kHz" }, { "88.2kHz", 3, "88.2 kHz" },
         { "96kHz", 4, "96 kHz" }, { "176.4kHz", 5, "176.4 kHz" }, { "192kHz", 6, "192 kHz" } } },
