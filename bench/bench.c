@@ -28,14 +28,14 @@ static uint32_t noise(void) {
     return x;
 }
 
-/* Requests over HDMI that are accepted, three of four with sound, half of these coherent, half of all with a matrix; the image that each
- * ends in; and that image with one mandated bit turned over. */
+/* Requests over HDMI that are accepted, three of four with sound, half of these coherent, half of all with a matrix, half of those with RGB
+ * in full range; the image that each ends in; and that image with one mandated bit turned over. */
 static void make_inputs(void) {
     for (int i = 0; i < INPUTS; ) {
         uint8_t list[STATION_WRITES];
         char sound[64] = "", matrix[TEXT_OF_A_REQUEST / 2] = "";
         unsigned with_matrix = noise() % 2, vic = modes[noise() % number_of_modes].vic, family = noise() % 2;
-        unsigned encoding = with_matrix ? noise() % 3 : 0;
+        unsigned encoding = with_matrix ? noise() % 3 : 0, range = encoding ? 0 : noise() % 2;
         if (noise() % 4) {
             unsigned rate = noise() % 7, channels = noise() % 2 ? 8 : 2, coherent = noise() % 2;
             snprintf(sound, sizeof sound, "audio rate=%u channels=%u coherent=%u", rate, channels, coherent);
@@ -44,7 +44,7 @@ static void make_inputs(void) {
             int used = snprintf(matrix, sizeof matrix, "matrix mode=%u", noise() % 3);
             for (int k = 0; k < 12; k++) used += snprintf(matrix + used, sizeof matrix - used, " %d", (int)(noise() % 8192) - 4096);
         }
-        in[i].request = request_of_text("vic %u family=%u encoding=%u hdmi %s %s", vic, family, encoding, sound, matrix);
+        in[i].request = request_of_text("vic %u family=%u encoding=%u hdmi range=%u %s %s", vic, family, encoding, range, sound, matrix);
         for (int a = 0; a < STATION_IMAGE; a++) in[i].start[a] = (uint8_t)noise();
         in[i].start[0x4A] &= noise() % 2 ? 0xCF : 0xAF;
         struct station_count c = plain_plan(in[i].request.bytes, in[i].request.length, in[i].start, STATION_IMAGE, list, STATION_WRITES);
