@@ -55,6 +55,7 @@ cases =
       dviWithAudio = refl;
       dviWithEncoding = refl;
       fullWithYCbCr = refl;
+      fullWithYCbCrAvi = refl;
       limitedWithYCbCr = refl;
       lengths = refl;
       longest = refl;
