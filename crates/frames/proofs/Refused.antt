@@ -5,7 +5,7 @@ use Prim.Native.Nat.{ℕ}
 use borrow.Author.Tests.{ne-eqb}
 use Rattle.lists.proofs.Decides.{equal, opposite, together, refuted}
 use Rattle.refusals.specs.Rows.{lowest}
-use Rattle.refusals.proofs.Tests.{Decided, lowest-given, answer-given, answer-beside}
+use Rattle.refusals.proofs.Tests.{Decided, lowest-given, answer-given, answer-beside, answer-none, none-in-stages}
 use Rattle.video.specs.declared.Video.{Video}
 use Rattle.video.specs.Fits.{VideoFits}
 use Rattle.video.proofs.Listed.{not-listed}
@@ -47,8 +47,14 @@ refusals =
           λ video. answer-given noAvi _ aviNumber (aviRules video) (lowest (aviTests video)) refl (λ _. refl)
           (lowest-given (aviTests video) (aviRules video) refl (avi-decided video));
       noAvi = λ video h. ap (λ (a : Avi). a .bytes) (answer-beside noAvi _ aviNumber (lowest (aviTests video)) (λ _. refl) h);
+      aviGiven =
+          λ video z. ap (λ (a : Avi). a .bytes)
+          (answer-none noAvi _ (lowest (aviTests video)) (none-in-stages noAvi _ aviNumber (lowest (aviTests video)) refl z .0));
       audio =
           λ channels. answer-given noAudio _ audioNumber (audioRules channels) (lowest (channelsTests channels)) refl (λ _. refl)
           (lowest-given (channelsTests channels) (audioRules channels) refl (audio-decided channels));
       noAudio = λ channels h. ap (λ (a : Audio). a .bytes) (answer-beside noAudio _ audioNumber (lowest (channelsTests channels)) (λ _. refl) h);
+      audioGiven =
+          λ channels z. ap (λ (a : Audio). a .bytes)
+          (answer-none noAudio _ (lowest (channelsTests channels)) (none-in-stages noAudio _ audioNumber (lowest (channelsTests channels)) refl z .0));
     }

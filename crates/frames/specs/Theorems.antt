@@ -12,7 +12,7 @@ use Rattle.video.specs.declared.Video.{Video}
 use Rattle.video.specs.Modes.{listed}
 use Rattle.video.specs.Video.{answered, ShownOutside, FullYCbCr}
 use Rattle.video.specs.Fits.{VideoFits}
-use Rattle.frames.specs.Frames.{total, checksumOf, frame, framed, aviCount, aviPayload, videoNamed, audioCount}
+use Rattle.frames.specs.Frames.{total, checksumOf, frame, framed, aviCount, aviPayload, aviFrame, videoNamed, audioCount, audioFrame}
 use Rattle.frames.specs.Answers.{aviOf, audioOf}
 
 -- "A call on single fields checks those .. whose fields it takes": the AVI frame row 4, "VIC not listed below", row 5, "any other field
@@ -26,12 +26,14 @@ aviRules video =
 abbrev pub audioRules : ℕ → List Condition
 audioRules channels = fieldOutOfRange when ((channels ≢ 2) × (channels ≢ 8)) ∷ []
 
--- the refusals of the two calls, and zeros beside them
+-- the refusals of the two calls, zeros beside them, and the frame where none is given
 pub record FrameRefusals : Type 0 where
   pub avi : (video : Video) → Given (aviRules video) (aviOf video .refusal)
   pub noAvi : (video : Video) → aviOf video .refusal ≢ 0 → aviOf video .bytes ≡ replicate (framed aviCount) 0
+  pub aviGiven : (video : Video) → aviOf video .refusal ≡ 0 → aviOf video .bytes ≡ aviFrame video
   pub audio : (channels : ℕ) → Given (audioRules channels) (audioOf channels .refusal)
   pub noAudio : (channels : ℕ) → audioOf channels .refusal ≢ 0 → audioOf channels .bytes ≡ replicate (framed audioCount) 0
+  pub audioGiven : (channels : ℕ) → audioOf channels .refusal ≡ 0 → audioOf channels .bytes ≡ audioFrame channels
 
 -- The checksum does what document 01 says, whatever the header and the payload; and no other byte does.
 pub record Checksum : Type 0 where

@@ -1,10 +1,12 @@
 -- An image in which a request ends shows the request's numbers. Assumes nothing.
 use mathlib.Core.Path.{_≡_, refl, sym, ap, subst, _∙_}
-use mathlib.Core.Logic.{_≢_}
-use mathlib.Core.List.{List, []}
+use mathlib.Core.Bool.{Bool, true, false, false≢true, cond}
+use mathlib.Core.List.{List, [], _∷_}
 use Prim.Native.Nat.{ℕ, zero, suc, _<_, _≤_}
 use native.Mathlib.Omega.{arith}
+use lib.Dec.{eqb}
 use lib.ListN.{length, getD}
+use Rattle.lists.specs.Among.{among}
 use Rattle.bits.specs.Merge.{bitsIn}
 use Rattle.refusals.specs.Rows.{number, at, First}
 use Rattle.video.proofs.Fits.{range-fits}
@@ -24,6 +26,22 @@ use Rattle.decode.proofs.Answers.{exactly, refusals}
 use Rattle.promises.specs.Finished.{Place, place, places, Shows, inQ, Finished}
 use Rattle.promises.specs.Rules.{FieldByField}
 use Rattle.promises.proofs.Filled.{filled, picked}
+
+-- the Q that an encoding allows
+abbrev allowed : ℕ → List ℕ
+allowed encoding = cond (eqb encoding 0) (1 ∷ 2 ∷ []) (0 ∷ [])
+
+is-allowed : (encoding range : ℕ) → range ≤ 1 → among (inQ encoding range) (allowed encoding) ≡ true
+is-allowed encoding range h = go (eqb encoding 0)
+  where
+    two : (range : ℕ) → range ≤ 1 → among (getD (1 ∷ 2 ∷ []) range 0) (1 ∷ 2 ∷ []) ≡ true
+    two zero h = refl
+    two (suc zero) h = refl
+    two (suc (suc n)) h = absurd (omega arith)
+
+    go : (b : Bool) → among (cond b (getD (1 ∷ 2 ∷ []) range 0) 0) (cond b (1 ∷ 2 ∷ []) (0 ∷ [])) ≡ true
+    go true = two range h
+    go false = refl
 
 module _ (image : List ℕ) (sized : length image ≡ 256) where
   module _ (r : Request) (e : Ends r image) where
@@ -47,18 +65,12 @@ module _ (image : List ℕ) (sized : length image ≡ 256) where
         let f : Fits q = subst Fits said (fits (asBytes q) (ap (λ (c : Checked). c .refusal) (e .acceptable .read))) in
         range-fits (q .video) (f .video)
 
-    in-q : bitsIn 6 5 (getD image 0x55 0) ≡ 0 → bitsIn 3 2 (getD image 0x57 0) ≢ 1 → bitsIn 3 2 (getD image 0x57 0) ≢ 2 → ⊥
-    in-q rgb not-1 not-2 =
+    in-q : among (bitsIn 3 2 (getD image 0x57 0)) (allowed (bitsIn 6 5 (getD image 0x55 0))) ≡ true
+    in-q =
         let at = picked (Shows image) (places q (nctsOf (asBytes q))) (in-fields .fields) in
         let y : bitsIn 6 5 (getD image 0x55 0) ≡ r .video .encoding = at 0x55 6 refl in
         let x : bitsIn 3 2 (getD image 0x57 0) ≡ inQ (r .video .encoding) (r .video .range) = at 0x57 3 refl in
-        let w : bitsIn 3 2 (getD image 0x57 0) ≡ inQ 0 (r .video .range) = x ∙ ap (λ (n : ℕ). inQ n (r .video .range)) (sym y ∙ rgb) in
-        two (r .video .range) in-range w
-      where
-        two : (range : ℕ) → range ≤ 1 → bitsIn 3 2 (getD image 0x57 0) ≡ inQ 0 range → ⊥
-        two zero h w = not-1 w
-        two (suc zero) h w = not-2 w
-        two (suc (suc n)) h w = omega arith
+        rw (x, y) (is-allowed (r .video .encoding) (r .video .range) in-range)
 
 -- neither 7 nor 10 applies
 eleven : (image room : List ℕ) → length image ≡ 256 → longest ≤ length room → First (decodeRules image room) (decodeOf image room .refusal)
@@ -75,7 +87,7 @@ eleven image room sized long f = go (f .place) (f .within) (f .numbered) (f .app
 pub shown : (image : List ℕ) → FieldByField image
 shown image = record {
   stands = in-fields image;
-  noRange = λ sized rgb not-1 not-2 room long.
+  noRange = λ sized none room long.
       eleven image room sized long (refusals image room .given .some (λ z.
-      let a = exactly image room .only z in in-q image sized (a .request) (a .ends) rgb not-1 not-2));
+      let a = exactly image room .only z in false≢true (sym none ∙ in-q image sized (a .request) (a .ends))));
 }

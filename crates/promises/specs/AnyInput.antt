@@ -36,7 +36,7 @@ pub record Demand1 : Type 0 where
   pub request : (request : List ℕ) → Rows request
   pub line : (request : List ℕ) → Bytes request → Given (nctsRules (walked request)) (lineOf request .refusal)
   pub pair : (request : List ℕ) → nctsOf request .refusal ≢ 0 → (nctsOf request .n ≡ 0) × (nctsOf request .cts ≡ 0)
-  -- the calls on single fields: a clock 4, a pair 4, 5 and 9; the AVI InfoFrame 4 and 5, the audio InfoFrame 5
+  -- the calls on single fields: a clock 4, a pair 4, 5 and 9; the AVI InfoFrame 4, 5 and 6, the audio InfoFrame 5
   pub clock : ClockRefusals
   pub frames : FrameRefusals
   -- the preview, 5 and 12

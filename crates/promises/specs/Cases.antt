@@ -61,6 +61,8 @@ pub record MarkedCases : Type 0 where
   -- 10. AVI, VIC 16, RGB: checksum; request 01: "case 10 becomes 0x23 when limited"; and in full range
   pub case10 : getD (aviOf (rgbOverHdmi 16 0) .bytes) 3 0 ≡ 0x23
   pub case10Full : getD (aviOf (videoIn (0x10 ∷ 0x00 ∷ 0x00 ∷ 0x01 ∷ 0x01 ∷ [])) .bytes) 3 0 ≡ 0x1F
+  -- and YCbCr 4:4:4, whose Q "stays 0"
+  pub case10YCbCr : getD (aviOf (videoIn (0x10 ∷ 0x00 ∷ 0x02 ∷ 0x01 ∷ 0x00 ∷ [])) .bytes) 3 0 ≡ 0x67
   -- 11. Audio InfoFrame, 8 channels: 0x57; off: 0x71
   pub case11 : (getD (audioOf 8 .bytes) 3 0 ≡ 0x57) × (getD audioOffFrame 3 0 ≡ 0x71)
   -- 12. Table 39's A4 bytes 0x19, 0xD6: -1578; C1 0x1F, 0xFF: -1
@@ -68,17 +70,22 @@ pub record MarkedCases : Type 0 where
   -- 13. Table 39 on 2048, 3760, 2048: 3759, 3760, 3760
   pub case13 : previewOf table39 2048 3760 2048 ≡ record { refusal = 0; a = 3759; b = 3760; c = 3760 }
   -- "encoding (0 RGB, 1 YCbCr 4:2:2, 2 YCbCr 4:4:4); link (0 DVI, 1 HDMI)"; "range above 1": the next number of each is refused 5, the
-  -- range's with RGB and, before 6, with YCbCr
+  -- range's with RGB and, before 6, with YCbCr, and in the AVI call
   pub encodings : readOf (0x05 ∷ 0x10 ∷ 0x00 ∷ 0x03 ∷ 0x01 ∷ 0x00 ∷ 0x00 ∷ 0x00 ∷ []) .refusal ≡ 5
   pub links : readOf (0x05 ∷ 0x10 ∷ 0x00 ∷ 0x00 ∷ 0x02 ∷ 0x00 ∷ 0x00 ∷ 0x00 ∷ []) .refusal ≡ 5
   pub ranges : readOf (0x05 ∷ 0x10 ∷ 0x00 ∷ 0x00 ∷ 0x01 ∷ 0x02 ∷ 0x00 ∷ 0x00 ∷ []) .refusal ≡ 5
   pub rangesOfYCbCr : readOf (0x05 ∷ 0x10 ∷ 0x00 ∷ 0x02 ∷ 0x01 ∷ 0x02 ∷ 0x00 ∷ 0x00 ∷ []) .refusal ≡ 5
+  pub rangesAvi : aviOf (videoIn (0x10 ∷ 0x00 ∷ 0x00 ∷ 0x01 ∷ 0x02 ∷ [])) .refusal ≡ 5
   -- "DVI with audio or with encoding not 0", "range 1 with YCbCr": refused 6, with a matrix too
   pub dviWithAudio : readOf (0x05 ∷ 0x10 ∷ 0x00 ∷ 0x00 ∷ 0x00 ∷ 0x00 ∷ 0x03 ∷ 0x02 ∷ 0x02 ∷ 0x01 ∷ 0x00 ∷ []) .refusal ≡ 6
   pub dviWithEncoding : readOf (0x05 ∷ 0x10 ∷ 0x00 ∷ 0x02 ∷ 0x00 ∷ 0x00 ∷ 0x00 ∷ 0x19 ∷ table39) .refusal ≡ 6
   pub fullWithYCbCr : readOf (0x05 ∷ 0x10 ∷ 0x00 ∷ 0x02 ∷ 0x01 ∷ 0x01 ∷ 0x00 ∷ 0x19 ∷ table39) .refusal ≡ 6
+  pub fullWithYCbCr422 : readOf (0x05 ∷ 0x10 ∷ 0x00 ∷ 0x01 ∷ 0x01 ∷ 0x01 ∷ 0x00 ∷ 0x19 ∷ table39) .refusal ≡ 6
   pub fullWithYCbCrAvi : aviOf (videoIn (0x10 ∷ 0x00 ∷ 0x02 ∷ 0x01 ∷ 0x01 ∷ [])) .refusal ≡ 6
-  -- with that matrix YCbCr is accepted, limited
+  -- full range is accepted with RGB: with a matrix ("our matrix gives full-range RGB"), over DVI, with VIC 1; and YCbCr, limited
+  pub fullWithMatrix : readOf (0x05 ∷ 0x10 ∷ 0x00 ∷ 0x00 ∷ 0x01 ∷ 0x01 ∷ 0x00 ∷ 0x19 ∷ table39) .refusal ≡ 0
+  pub fullOverDvi : readOf (0x05 ∷ 0x10 ∷ 0x00 ∷ 0x00 ∷ 0x00 ∷ 0x01 ∷ 0x00 ∷ 0x00 ∷ []) .refusal ≡ 0
+  pub fullWithVic1 : readOf (0x05 ∷ 0x01 ∷ 0x00 ∷ 0x00 ∷ 0x01 ∷ 0x01 ∷ 0x00 ∷ 0x00 ∷ []) .refusal ≡ 0
   pub limitedWithYCbCr : readOf (0x05 ∷ 0x10 ∷ 0x00 ∷ 0x02 ∷ 0x01 ∷ 0x00 ∷ 0x00 ∷ 0x19 ∷ table39) .refusal ≡ 0
   -- Lengths follow from the counts: document 01 had 7, 10, 32, 35, and each has a byte more
   pub lengths : lengths ≡ 8 ∷ 11 ∷ 33 ∷ 36 ∷ []

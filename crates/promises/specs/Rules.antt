@@ -1,9 +1,12 @@
 -- Demand 2, of the planning and the decoding entry.
 use mathlib.Core.Path.{_≡_}
-use mathlib.Core.Logic.{_↔_, _≢_}
-use mathlib.Core.List.{List, _++_}
+use mathlib.Core.Logic.{_↔_}
+use mathlib.Core.Bool.{false, cond}
+use mathlib.Core.List.{List, [], _∷_, _++_}
 use Prim.Native.Nat.{ℕ, _<_, _≤_}
+use lib.Dec.{eqb}
 use lib.ListN.{length, getD, drop, set}
+use Rattle.lists.specs.Among.{among}
 use Rattle.refusals.specs.Rows.{Condition, at}
 use Rattle.bits.specs.Merge.{bitsIn}
 use Rattle.matrix.specs.Matrix.{Bytes}
@@ -78,6 +81,7 @@ OnSomeImage r = Acceptable r ↔ Accepted r
 pub record FieldByField (image : List ℕ) : Type 0 where
   pub stands : length image ≡ 256 → (r : Request) (e : Ends r image)
       → let q : Request = inFamily (e .family) r in Finished q (nctsOf (asBytes q)) image
-  -- so RGB with a Q of neither 1 nor 2, as a list made before request 01 left it, decodes to nothing
-  pub noRange : length image ≡ 256 → bitsIn 6 5 (getD image 0x55 0) ≡ 0 → bitsIn 3 2 (getD image 0x57 0) ≢ 1
-      → bitsIn 3 2 (getD image 0x57 0) ≢ 2 → (room : List ℕ) → longest ≤ length room → decodeOf image room .refusal ≡ 11
+  -- so RGB with a Q of neither 1 nor 2, as a list made before request 01 left it, decodes to nothing, and YCbCr with a Q that is not 0
+  pub noRange : length image ≡ 256
+      → among (bitsIn 3 2 (getD image 0x57 0)) (cond (eqb (bitsIn 6 5 (getD image 0x55 0)) 0) (1 ∷ 2 ∷ []) (0 ∷ [])) ≡ false
+      → (room : List ℕ) → longest ≤ length room → decodeOf image room .refusal ≡ 11

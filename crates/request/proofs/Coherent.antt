@@ -1,24 +1,26 @@
 -- Row 9 of a request, and both calls' rules in order. Assumes nothing.
-use mathlib.Core.Path.{_≡_, refl, sym, _∙_}
-use mathlib.Core.Logic.{_⊎_, inl, inr}
+use mathlib.Core.Path.{_≡_, refl, sym, ap, _∙_}
+use mathlib.Core.Logic.{_≢_, _⊎_, inl, inr}
 use mathlib.Core.Bool.{Bool, true, false, false≢true, cond}
 use mathlib.Core.List.{List, [], _∷_}
 use Prim.Native.Nat.{ℕ, zero, suc, _+_, _<_}
-use lib.Dec.{leb, lit<}
+use lib.Dec.{eqb, leb, lit<}
 use lib.ListN.{length, take, drop}
 use lib.Seq.{getD-drop}
 use Rattle.lists.specs.Among.{among}
-use Rattle.refusals.specs.Rows.{noExactPair, _when_, Given, _if_}
-use Rattle.refusals.proofs.Tests.{lowest-given, in-stages, later, reworded}
+use Rattle.refusals.specs.Rows.{noExactPair, _when_, Given, _if_, lowest}
+use Rattle.refusals.proofs.Tests.{lowest-given, answer-beside, in-stages, later, reworded}
 use Rattle.clock.specs.declared.Pair.{Pair}
 use Rattle.video.specs.declared.Video.{Video}
+use Rattle.video.specs.Video.{noVideo}
 use Rattle.clock.specs.Pairs.{noPair}
 use Rattle.clock.proofs.Rows.{refusals}
 use Rattle.request.specs.declared.Sound.the-variants.{Off, On}
-use Rattle.matrix.specs.Matrix.{Bytes}
+use Rattle.request.specs.declared.Checked.{Checked}
+use Rattle.matrix.specs.Matrix.{noMatrix, Bytes}
 use Rattle.request.specs.Sections.{Walk, ends, notAllowed, whole, after, walk, walked, sections, bodyOf, audioSection, matrixSection}
 use Rattle.request.specs.Request.{Present, present, videoOf, rate, channels, coherent, Outside, requestIn, NoPair, readRules}
-use Rattle.request.specs.Read.{checked, pairIn, pairFor, readOf, nctsOf}
+use Rattle.request.specs.Read.{emptied, bodyTests, judged, walkTests, checked, pairIn, pairFor, readOf, nctsOf}
 use Rattle.request.specs.Theorems.{Rows}
 use Rattle.request.proofs.Ordered.{read-given, Judged, passed, full, is-outside}
 
@@ -94,6 +96,19 @@ parts (c ∷ cs) (n ∷ s) b k = go (among n c) (leb n (length s)) (joined (take
     go true false h = none-there
     go false u h = none-there
 
+-- beside a refusal, of the walk or of the bodies
+beside : (w : Walk) → checked w .refusal ≢ 0 → checked w .request ≡ record { video = noVideo; sound = Off; matrix = noMatrix }
+unfolding judged
+beside w = go (eqb (lowest (walkTests w)) 0)
+  where
+    bodies : Checked
+    bodies = judged (videoOf w) (audioSection w) (matrixSection w)
+
+    go : (b : Bool) → cond b bodies (emptied (lowest (walkTests w))) .refusal ≢ 0
+        → cond b bodies (emptied (lowest (walkTests w))) .request ≡ record { video = noVideo; sound = Off; matrix = noMatrix }
+    go true h = ap (λ (c : Checked). c .request) (answer-beside emptied _ (λ (c : Checked). c .refusal) (lowest (bodyTests (videoOf w) (audioSection w) (matrixSection w))) (λ _. refl) h)
+    go false h = refl
+
 pub rows : (input : List ℕ) → Rows input
 unfolding readOf nctsOf walked
 rows input =
@@ -105,6 +120,7 @@ rows input =
           in-stages noPair (pairFor (checked w .request)) numberOf (readRules w) (noExactPair when NoPair w ∷ []) (checked w .refusal) refl refl (read-given w (bytes b))
           (λ z. let j = passed w z in rw (j .request) (nine w (bytes b) j));
       said = λ z. passed w z .request;
+      none = beside w;
     }
 
 -- row 9 of an input that rows 1 to 6 let pass

@@ -1,14 +1,16 @@
 -- What is proved of a request: document 01, "The request" and "Refusal numbers".
 use mathlib.Core.Path.{_≡_}
-use mathlib.Core.Logic.{_⊎_}
+use mathlib.Core.Logic.{_≢_, _⊎_}
 use mathlib.Core.Bool.{true}
 use mathlib.Core.List.{List, [], _∷_}
 use Prim.Native.Nat.{ℕ, _<_}
 use lib.ListN.{length, getD, take, set}
 use Rattle.lists.specs.Among.{among}
 use Rattle.refusals.specs.Rows.{Given}
+use Rattle.video.specs.Video.{noVideo}
 use Rattle.matrix.specs.declared.Matrix.{Matrix}
 use Rattle.matrix.specs.Matrix.{noMatrix, Bytes}
+use Rattle.request.specs.declared.Sound.the-variants.{Off}
 use Rattle.request.specs.declared.Request.{Request}
 use Rattle.request.specs.Sections.{walk, whole, lengthsOf, lengths, longest, walked, audioSection, matrixSection}
 use Rattle.request.specs.Request.{videoOf, requestIn, readRules, nctsRules}
@@ -22,6 +24,8 @@ pub record Rows (input : List ℕ) : Type 0 where
   -- the request that is read is what the three sections say
   pub said : readOf input .refusal ≡ 0
       → readOf input .request ≡ requestIn (videoOf (walked input)) (audioSection (walked input)) (matrixSection (walked input))
+  -- beside a refusal stands an empty one
+  pub none : readOf input .refusal ≢ 0 → readOf input .request ≡ record { video = noVideo; sound = Off; matrix = noMatrix }
 
 -- "Lengths are therefore .." (`MarkedCases`, promises, has the numbers)
 pub record Lengths (input : List ℕ) : Type 0 where

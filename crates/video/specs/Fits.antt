@@ -1,4 +1,5 @@
--- What is known of the video of an accepted request: neither row 4 nor what rows 5 and 6 say of the video section applies.
+-- What is known of the video of an accepted request (`request::accepted_fits`): neither row 4 nor what rows 5 and 6 say of the video section
+-- applies.
 use mathlib.Core.Path.{_≡_}
 use mathlib.Core.Bool.{true}
 use Rattle.video.specs.declared.Video.{Video}

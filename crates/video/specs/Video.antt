@@ -53,7 +53,7 @@ FullYCbCr v = (v .range ≡ 1) × (v .encoding ≢ 0)
 abbrev pub VideoCombined : Video → Type 0
 VideoCombined v = ((v .link ≡ 0) × (v .encoding ≢ 0)) ⊎ FullYCbCr v
 
--- the tests that decide them
+-- the tests that decide them, as `request::rows` and `frames::frame_refusals` say
 abbrev pub shownOutside : Video → Bool
 shownOutside v = ltb 2 (v .encoding) || ltb 1 (v .range)
 
