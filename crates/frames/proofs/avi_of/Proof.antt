@@ -1,6 +1,9 @@
 -- `frames::avi_of` meets its contract. Assumes nothing.
+use mathlib.Core.Path.{_≡_}
+use mathlib.Core.Bool.{cond}
 use borrow.Author.Tests.{eq-eqb, ne-eqb}
-use Rattle.frames.specs.Answers.{aviOf}
+use Rattle.refusals.specs.Rows.{lowest}
+use Rattle.frames.specs.Answers.{aviTests, aviOf}
 use borrow.Author.Needs.{needs}
 use Rattle.frames.proofs.avi_of.Statement.{statement}
 use Rattle.frames.proofs.avi_of.Tie as tie
@@ -33,20 +36,22 @@ full-ycbcr-requires c κs = search needs
 no-avi-requires-3 : tie.Need-no-avi-requires-3
 no-avi-requires-3 c κs = search needs
 
--- where neither of the first two rows applies
-returns-3 : tie.Need-returns-3
-unfolding aviOf
-returns-3 c =
-    let o = c .before .before .before in
+-- where neither of the first two rows applies, row 6 decides
+sixth : (c : tie.After-full-ycbcr) → lowest (aviTests (c .before .before .before .before .before .before .args .video)) ≡ cond (c .full-ycbcr .result) 6 0
+sixth c =
+    let o = c .before in
     let p = o .before in
     rw (
       ← p .before .before .before .mode-of .ensures,
       ne-eqb _ _ (p .before .if1 .left),
       ← p .shown-outside .ensures,
       o .if2 .left,
-      ← c .before .before .full-ycbcr .ensures,
-      c .before .if3 .taken,
-    ) (c .no-avi3 .ensures)
+      ← c .full-ycbcr .ensures,
+    )
+
+returns-3 : tie.Need-returns-3
+unfolding aviOf
+returns-3 c = rw (sixth (c .before .before), c .before .if3 .taken) (c .no-avi3 .ensures)
 
 avi-frame-requires : tie.Need-avi-frame-requires
 avi-frame-requires c κs =
@@ -55,18 +60,7 @@ avi-frame-requires c κs =
 
 returns-4 : tie.Need-returns-4
 unfolding aviOf
-returns-4 c =
-    let o = c .before .before .before in
-    let p = o .before in
-    rw (
-      ← p .before .before .before .mode-of .ensures,
-      ne-eqb _ _ (p .before .if1 .left),
-      ← p .shown-outside .ensures,
-      o .if2 .left,
-      ← c .before .before .full-ycbcr .ensures,
-      c .before .if3 .left,
-      c .avi-frame .ensures,
-    )
+returns-4 c = rw (sixth (c .before .before), c .before .if3 .left, c .avi-frame .ensures)
 
 pub avi-of-spec : {M : Type 1} → statement M
 avi-of-spec =
