@@ -37,7 +37,8 @@ no-avi-requires-3 : tie.Need-no-avi-requires-3
 no-avi-requires-3 c κs = search needs
 
 -- where neither of the first two rows applies, row 6 decides
-sixth : (c : tie.After-full-ycbcr) → lowest (aviTests (c .before .before .before .before .before .before .args .video)) ≡ cond (c .full-ycbcr .result) 6 0
+sixth : (c : tie.After-full-ycbcr)
+    → lowest (aviTests (c .before .before .before .before .before .before .args .video)) ≡ cond (c .full-ycbcr .result) 6 0
 sixth c =
     let o = c .before in
     let p = o .before in
