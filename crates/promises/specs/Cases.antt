@@ -82,10 +82,13 @@ pub record MarkedCases : Type 0 where
   pub fullWithYCbCr : readOf (0x05 ∷ 0x10 ∷ 0x00 ∷ 0x02 ∷ 0x01 ∷ 0x01 ∷ 0x00 ∷ 0x19 ∷ table39) .refusal ≡ 6
   pub fullWithYCbCr422 : readOf (0x05 ∷ 0x10 ∷ 0x00 ∷ 0x01 ∷ 0x01 ∷ 0x01 ∷ 0x00 ∷ 0x19 ∷ table39) .refusal ≡ 6
   pub fullWithYCbCrAvi : aviOf (videoIn (0x10 ∷ 0x00 ∷ 0x02 ∷ 0x01 ∷ 0x01 ∷ [])) .refusal ≡ 6
-  -- full range is accepted with RGB: with a matrix ("our matrix gives full-range RGB"), over DVI, with VIC 1; and YCbCr, limited
+  -- full range is accepted with RGB: with a matrix ("our matrix gives full-range RGB"), and over DVI and with VIC 1, with Q 2; and YCbCr,
+  -- limited
   pub fullWithMatrix : readOf (0x05 ∷ 0x10 ∷ 0x00 ∷ 0x00 ∷ 0x01 ∷ 0x01 ∷ 0x00 ∷ 0x19 ∷ table39) .refusal ≡ 0
-  pub fullOverDvi : readOf (0x05 ∷ 0x10 ∷ 0x00 ∷ 0x00 ∷ 0x00 ∷ 0x01 ∷ 0x00 ∷ 0x00 ∷ []) .refusal ≡ 0
-  pub fullWithVic1 : readOf (0x05 ∷ 0x01 ∷ 0x00 ∷ 0x00 ∷ 0x01 ∷ 0x01 ∷ 0x00 ∷ 0x00 ∷ []) .refusal ≡ 0
+  pub fullOverDvi : lineText (0x05 ∷ 0x10 ∷ 0x00 ∷ 0x00 ∷ 0x00 ∷ 0x01 ∷ 0x00 ∷ 0x00 ∷ [])
+      ≡ ascii "accepted vic 16 n 6144 cts 0 avi 1f audio 71\n"
+  pub fullWithVic1 : lineText (0x05 ∷ 0x01 ∷ 0x00 ∷ 0x00 ∷ 0x01 ∷ 0x01 ∷ 0x00 ∷ 0x00 ∷ [])
+      ≡ ascii "accepted vic 1 n 6144 cts 0 avi 3e audio 71\n"
   pub limitedWithYCbCr : readOf (0x05 ∷ 0x10 ∷ 0x00 ∷ 0x02 ∷ 0x01 ∷ 0x00 ∷ 0x00 ∷ 0x19 ∷ table39) .refusal ≡ 0
   -- Lengths follow from the counts: document 01 had 7, 10, 32, 35, and each has a byte more
   pub lengths : lengths ≡ 8 ∷ 11 ∷ 33 ∷ 36 ∷ []
