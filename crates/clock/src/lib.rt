@@ -202,7 +202,7 @@ fn least_k(f: u64, v: u64) -> u64
     requires { ⌜ (0 < v) × (v ≤ partsMost) ⌝ }
     ensures { λ r. ⌜ r ≡ leastK f v ⌝ }
 {
-    (f + (1500 * v - 1)) / (1500 * v)
+    ratio::quotient(f + (1500 * v - 1), 1500 * v)
 }
 
 // The last k whose N is in range and whose CTS is at most 1,048,575.
@@ -210,7 +210,9 @@ fn most_k(f: u64, u: u64, v: u64) -> u64
     requires { ⌜ (0 < u) × (0 < v) × (v ≤ partsMost) ⌝ }
     ensures { λ r. ⌜ r ≡ mostK f u v ⌝ }
 {
-    lesser(f / (300 * v), 1048575 / u)
+    let range = ratio::quotient(f, 300 * v);
+    let fits = ratio::quotient(1048575, u);
+    lesser(range, fits)
 }
 
 // The nearest of the pairs (k·v, k·u), or refusal 9.
@@ -225,7 +227,8 @@ fn nearest_in(f: u64, u: u64, v: u64) -> Pair
     if most < least {
         return no_pair(Refusal::NO_EXACT_PAIR);
     }
-    let k = nearest_k(f, v, least, most, f / (1000 * v));
+    let below = ratio::quotient(f, 1000 * v);
+    let k = nearest_k(f, v, least, most, below);
     the_pair((k * v) as u32, (k * u) as u32)
 }
 

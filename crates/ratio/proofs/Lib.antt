@@ -1,3 +1,5 @@
 pub mod Divisor
+pub mod Halving
 pub mod Multiples
+pub mod Sizes
 pub mod Unique

@@ -1,5 +1,8 @@
-// A fraction in lowest terms: document 01, "N and CTS". Nothing above this crate knows how it is found.
+// A fraction in lowest terms, and the whole quotient of two numbers, by halving and subtraction alone: document 01, "N and CTS", and document
+// 02, request 05. Nothing above this crate knows how they are found.
 ghost use mathlib.Core.Path.{_≡_};
+ghost use mathlib.Core.Logic.{_≢_};
+ghost use Prim.Native.Nat.{_+_, _/_, _%_};
 ghost use Rattle.ratio.specs.Lowest.{Reduces, divisorOf, LowestTerms};
 
 // The fraction u / v.
@@ -8,26 +11,84 @@ pub struct Ratio {
     pub v: u64,
 }
 
-// The greatest common divisor, by Euclid's rule.
-fn gcd(a: u64, b: u64) -> u64
-    ensures { λ r. ⌜ r ≡ divisorOf a b ⌝ }
+// The whole quotient a / b; 0 where b is 0. b is doubled as long as it fits into a, and then halved back to b: at each size it is taken
+// off what is left, if it still fits there.
+pub fn quotient(a: u64, b: u64) -> u64
+    ensures { λ r. ⌜ r ≡ a / b ⌝ }
 {
     if b == 0 {
-        return a;
+        return 0;
     }
-    gcd(b, a % b)
+    let mut part = b;
+    let mut sizes: u64 = 1;
+    while part <= a / 2 {
+        part = 2 * part;
+        sizes = sizes + 1;
+    }
+    let mut left = a;
+    let mut q: u64 = 0;
+    while sizes > 0 {
+        let tried = part;
+        part = part / 2;
+        sizes = sizes - 1;
+        if tried <= left {
+            left = left - tried;
+            q = 2 * q + 1;
+        } else {
+            q = 2 * q;
+        }
+    }
+    q
 }
 
-// num / den in lowest terms.
+// The greatest common divisor of a and an odd b. A difference of two odd numbers is even, and a half has the same odd divisors.
+fn odd_gcd(a: u64, b: u64) -> u64
+    requires { ⌜ b % 2 ≡ 1 ⌝ }
+    ensures { λ r. ⌜ r ≡ divisorOf a b ⌝ }
+{
+    let mut x = a;
+    let mut y = b;
+    while x != 0 {
+        if x % 2 == 0 {
+            x = x / 2;
+        } else if x < y {
+            let z = x;
+            x = (y - x) / 2;
+            y = z;
+        } else {
+            x = (x - y) / 2;
+        }
+    }
+    y
+}
+
+// The greatest common divisor, where one of the two is odd.
+fn gcd(a: u64, b: u64) -> u64
+    requires { ⌜ (a % 2) + (b % 2) ≢ 0 ⌝ }
+    ensures { λ r. ⌜ r ≡ divisorOf a b ⌝ }
+{
+    if b % 2 == 0 {
+        return odd_gcd(b, a);
+    }
+    odd_gcd(a, b)
+}
+
+// num / den in lowest terms: both are halved until one is odd, and then divided by their greatest common divisor.
 pub fn reduced(num: u64, den: u64) -> Ratio
     ensures { λ r. ⌜ Reduces num den r ⌝ }
 {
     if den == 0 {
         return Ratio { u: 0, v: 0 };
     }
-    let g = gcd(num, den);
-    let u = num / g;
-    let v = den / g;
+    let mut a = num;
+    let mut b = den;
+    while a % 2 + b % 2 == 0 {
+        a = a / 2;
+        b = b / 2;
+    }
+    let g = gcd(a, b);
+    let u = quotient(a, g);
+    let v = quotient(b, g);
     Ratio { u: u, v: v }
 }
 

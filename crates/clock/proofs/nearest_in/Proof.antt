@@ -1,6 +1,6 @@
 -- `clock::nearest_in` meets its contract. Assumes nothing.
 use mathlib.Core.Path.{subst}
-use Prim.Native.Nat.{ℕ, _*_, _/_, _≤_}
+use Prim.Native.Nat.{ℕ, _*_, _≤_}
 use native.Mathlib.Omega.{arith}
 use borrow.Author.Needs.{needs}
 use borrow.Author.Tests.{lt-ltb, le-ltb}
@@ -24,26 +24,27 @@ returns c =
     let p = c .before .before in
     rw (c .no-pair .ensures, ← p .before .least-k .ensures, ← p .most-k .ensures, lt-ltb _ _ (c .before .if1 .taken))
 
-mul-nearest-k : tie.Need-mul-nearest-k
-mul-nearest-k c = search needs
+mul-quotient : tie.Need-mul-quotient
+mul-quotient c = search needs
 
-div-nearest-k : tie.Need-div-nearest-k
-div-nearest-k c = search needs
+quotient-requires : tie.Need-quotient-requires
+quotient-requires c κs = search needs
 
 nearest-k-requires : tie.Need-nearest-k-requires
 nearest-k-requires c κs =
-    let a = c .before .before .before .args in
-    let q = c .before .before .before .pre in
-    ((q .1 .1 .1, q .0), (below-low (a .f) (a .v), below-high (a .f) (a .v) (q .1 .1 .0)))
-
--- what is taken is in range, so both products are small
-small : (c : tie.After-nearest-k) → let a = c .before .before .before .before .args in (300 * (c .nearest-k .result * a .v) ≤ a .f) × (c .nearest-k .result * a .u ≤ 1048575)
-small c =
     let a = c .before .before .before .before .args in
     let q = c .before .before .before .before .pre in
-    let b = between (a .f) (a .v) _ _ (a .f / (1000 * a .v)) (c .before .if1 .left) .1 in
+    rw (c .quotient .ensures) ((q .1 .1 .1, q .0), (below-low (a .f) (a .v), below-high (a .f) (a .v) (q .1 .1 .0)))
+
+-- what is taken is in range, so both products are small
+small : (c : tie.After-nearest-k) → let a = c .before .before .before .before .before .args in (300 * (c .nearest-k .result * a .v) ≤ a .f) × (c .nearest-k .result * a .u ≤ 1048575)
+small c =
+    let p = c .before .before in
+    let a = p .before .before .before .args in
+    let q = p .before .before .before .pre in
+    let b = between (a .f) (a .v) _ _ (c .before .quotient .result) (p .if1 .left) .1 in
     most-in (a .f) (a .u) (a .v) (c .nearest-k .result) (q .1 .0 .0) (q .1 .1 .0) .0
-    (subst (λ (m : ℕ). c .nearest-k .result ≤ m) (c .before .before .most-k .ensures) (rw (← c .nearest-k .ensures) at b))
+    (subst (λ (m : ℕ). c .nearest-k .result ≤ m) (p .before .most-k .ensures) (rw (← c .nearest-k .ensures) at b))
 
 mul-the-pair : tie.Need-mul-the-pair
 mul-the-pair c = let s = small c in omega arith
@@ -63,8 +64,9 @@ the-pair-requires c κs = search needs
 returns-2 : tie.Need-returns-2
 unfolding nearestIn
 returns-2 c =
-    let p = c .before .before in
-    rw (c .the-pair .ensures, c .before .nearest-k .ensures, ← p .before .before .least-k .ensures, ← p .before .most-k .ensures, le-ltb _ _ (p .if1 .left))
+    let p = c .before .before .before in
+    let k = c .before in
+    rw (c .the-pair .ensures, k .nearest-k .ensures, k .before .quotient .ensures, ← p .before .before .least-k .ensures, ← p .before .most-k .ensures, le-ltb _ _ (p .if1 .left))
 
 pub nearest-in-spec : {M : Type 1} → statement M
 nearest-in-spec =
@@ -74,8 +76,8 @@ nearest-in-spec =
     most-k-requires
     no-pair-requires
     returns
-    mul-nearest-k
-    div-nearest-k
+    mul-quotient
+    quotient-requires
     nearest-k-requires
     mul-the-pair
     cast-the-pair
