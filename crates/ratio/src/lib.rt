@@ -20,34 +20,34 @@ pub fn quotient(a: u64, b: u64) -> u64
         return 0;
     }
     let mut part = b;
-    let mut sizes: u64 = 1;
     while part <= a / 2 {
         part = 2 * part;
-        sizes = sizes + 1;
     }
     let mut left = a;
     let mut q: u64 = 0;
-    while sizes > 0 {
-        let tried = part;
-        part = part / 2;
-        sizes = sizes - 1;
-        if tried <= left {
-            left = left - tried;
-            q = 2 * q + 1;
-        } else {
-            q = 2 * q;
+    while b <= part {
+        q = 2 * q;
+        if part <= left {
+            left = left - part;
+            q = q + 1;
         }
+        part = part / 2;
     }
     q
 }
 
-// The greatest common divisor of a and an odd b. A difference of two odd numbers is even, and a half has the same odd divisors.
-fn odd_gcd(a: u64, b: u64) -> u64
-    requires { ⌜ b % 2 ≡ 1 ⌝ }
+// The greatest common divisor, where one of the two is odd: y is odd throughout. A difference of two odd numbers is even, and a half has
+// the same divisors in common with an odd number.
+fn gcd(a: u64, b: u64) -> u64
+    requires { ⌜ (a % 2) + (b % 2) ≢ 0 ⌝ }
     ensures { λ r. ⌜ r ≡ divisorOf a b ⌝ }
 {
     let mut x = a;
     let mut y = b;
+    if b % 2 == 0 {
+        x = b;
+        y = a;
+    }
     while x != 0 {
         if x % 2 == 0 {
             x = x / 2;
@@ -60,17 +60,6 @@ fn odd_gcd(a: u64, b: u64) -> u64
         }
     }
     y
-}
-
-// The greatest common divisor, where one of the two is odd.
-fn gcd(a: u64, b: u64) -> u64
-    requires { ⌜ (a % 2) + (b % 2) ≢ 0 ⌝ }
-    ensures { λ r. ⌜ r ≡ divisorOf a b ⌝ }
-{
-    if b % 2 == 0 {
-        return odd_gcd(b, a);
-    }
-    odd_gcd(a, b)
 }
 
 // num / den in lowest terms: both are halved until one is odd, and then divided by their greatest common divisor.
