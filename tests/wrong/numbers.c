@@ -79,6 +79,46 @@ PUT(ncts, no_range_byte)
 NCTS(long_request_cut) { return model_ncts(r, rl > LONGEST ? LONGEST : rl); }
 PUT(ncts, long_request_cut)
 
+/* The nearest exact pair by another way than the model's, by multiples of the ratio in lowest terms, with a fault in the ratio or in its
+ * quotients. Where the pair is the recommended one and not the nearest it stays. */
+enum { NO_FAULT, TWOS_KEPT, STOPS_EARLY, ONE_LESS_AT_MULTIPLES };
+static uint64_t quotient(uint64_t a, uint64_t b, int fault) { return a / b - (fault == ONE_LESS_AT_MULTIPLES && a % b == 0 && a != 0); }
+static struct station_pair by_multiples(const struct fields *f, int fault) {
+    static const uint64_t rates[] = { 32000, 44100, 48000, 88200, 96000, 176400, 192000 };
+    uint64_t reference = 128 * rates[f->rate], u = (uint64_t)model_hertz(f->vic) * (f->family ? 1000 : 1), v = reference * (f->family ? 1001 : 1);
+    uint64_t x = u, y = v;
+    if (fault == TWOS_KEPT) {
+        while (x % 2 == 0) x /= 2;
+        while (y % 2 == 0) y /= 2;
+    }
+    while (fault == STOPS_EARLY ? y != 0 && x % y != 0 : y != 0) {
+        uint64_t rest = x % y;
+        x = y, y = rest;
+    }
+    u = quotient(u, x, fault), v = quotient(v, x, fault);
+    uint64_t least = quotient(reference + 1500 * v - 1, 1500 * v, fault);
+    uint64_t most = quotient(reference, 300 * v, fault), fits = quotient(1048575, u, fault), k = quotient(reference, 1000 * v, fault);
+    if (fits < most) most = fits;
+    if (most < least) return (struct station_pair){ 9, 0, 0 };
+    if (k < most && 1000 * (k + 1) * v - reference < reference - 1000 * k * v) k++;
+    if (k > most) k = most;
+    if (k < least) k = least;
+    return (struct station_pair){ 0, (uint32_t)(k * v), (uint32_t)(k * u) };
+}
+static struct station_pair nearest_by(const uint8_t *r, size_t rl, int fault) {
+    struct station_pair p = RIGHT;
+    struct fields f = asked(r, rl);
+    if ((p.refusal && p.refusal != 9) || !f.coherent) return p;
+    struct station_pair same = by_multiples(&f, NO_FAULT);
+    return same.refusal == p.refusal && same.n == p.n && same.cts == p.cts ? by_multiples(&f, fault) : p;
+}
+NCTS(twos_kept) { return nearest_by(r, rl, TWOS_KEPT); }
+PUT(ncts, twos_kept)
+NCTS(stops_early) { return nearest_by(r, rl, STOPS_EARLY); }
+PUT(ncts, stops_early)
+NCTS(one_less_at_multiples) { return nearest_by(r, rl, ONE_LESS_AT_MULTIPLES); }
+PUT(ncts, one_less_at_multiples)
+
 #define PREVIEW(name) static struct station_pixel name(const uint8_t *m, size_t ml, uint32_t a, uint32_t b, uint32_t c)
 
 PREVIEW(rounds_up) {
@@ -130,6 +170,9 @@ const struct wrong wrong_numbers[] = {
     { "refusal 6 before 5", put_six_before_five, 0 },
     { "a request without its range taken as limited", put_no_range_byte, 0 },
     { "a long request read only as far as the longest", put_long_request_cut, 0 },
+    { "the ratio's common power of two forgotten", put_twos_kept, 0 },
+    { "the ratio's divisor one step too early", put_stops_early, 0 },
+    { "a quotient one too small at exact multiples", put_one_less_at_multiples, 0 },
     { "a preview that rounds to the nearest", put_rounds_up, 0 },
     { "a preview that takes mode 3", put_mode_3, 0 },
     { "a preview that takes an input of 4096", put_input_of_4096, 0 },

@@ -1,5 +1,6 @@
--- Document 01, "N and CTS": "Each clock ratio is brought to lowest terms by Euclid's rule, each call on a smaller remainder." `Lowest` is
--- to be believed; `steps` follows the code, and `LowestTerms` ties it to `Lowest`.
+-- Document 01, "N and CTS": "Each clock ratio is brought to lowest terms", and document 02, request 05: by "halving and subtraction only",
+-- where document 01 has Euclid's rule. `Lowest` is to be believed, and is what the code promises (`Reduces`). `steps` is how the definitions
+-- find it, by Euclid's rule; the code goes another way, and `LowestTerms` says that there is nothing else to find.
 use mathlib.Core.Path.{_≡_}
 use Prim.Native.Nat.{ℕ, zero, suc, _*_, _/_, _%_, _<_, _∣_}
 use Rattle.ratio.specs.declared.Ratio.{Ratio}
@@ -15,7 +16,7 @@ pub record Reduces (num den : ℕ) (r : Ratio) : Type 0 where
   pub none : den ≡ 0 → (r .u ≡ 0) × (r .v ≡ 0)
 
 -- Euclid's rule, by which definitions compute: the divisor of (a, 0) is a, and that of (a, b) is that of (b, a % b). At most b steps are
--- taken; any other way finds the same.
+-- taken.
 unfoldable pub steps : ℕ → ℕ → ℕ → ℕ
 steps zero a b = a
 steps (suc n) a zero = a

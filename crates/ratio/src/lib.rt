@@ -11,8 +11,8 @@ pub struct Ratio {
     pub v: u64,
 }
 
-// The whole quotient a / b; 0 where b is 0. b is doubled as long as it fits into a, and then halved back to b: at each size it is taken
-// off what is left, if it still fits there.
+// The whole quotient a / b; 0 where b is 0. b is doubled as long as it fits into a, and halved back to b; on the way back it is taken off
+// what is left wherever it fits there.
 pub fn quotient(a: u64, b: u64) -> u64
     ensures { λ r. ⌜ r ≡ a / b ⌝ }
 {

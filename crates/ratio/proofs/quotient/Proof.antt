@@ -51,7 +51,7 @@ step : (c : tie.In-loop2 Inv-loop μ-loop Inv-loop2 μ-loop2) → let a = c .bef
 step c =
     let s = c .before .before .before .before in
     let l = c .before .loop2 in
-    next (s .before .args .a) (s .before .args .b) (l .part) (l .left) (l .q) (pos-of-ne-zero (s .if1 .left)) (c .loop2-test .taken) (l .inv)
+    next (s .before .args .a) (s .before .args .b) (l .part) (l .left) (l .q) (pos-of-ne-zero (s .if1 .left)) (omega arith) (l .inv)
 
 mul-q : tie.Need-mul-q Inv-loop μ-loop Inv-loop2 μ-loop2
 mul-q c = let s = step c in omega arith
