@@ -21,10 +21,10 @@
 #include <stdint.h>
 
 /* The version of this header, one for each landing; CHANGELOG.md says what came with it. */
-#define STATION_VERSION "2.0.0"
+#define STATION_VERSION "2.0.1"
 #define STATION_MAJOR 2
 #define STATION_MINOR 0
-#define STATION_PATCH 0
+#define STATION_PATCH 1
 
 /* Lengths in bytes. */
 #define STATION_IMAGE 256       /* a register image, the bytes of registers 0x00 to 0xFF */

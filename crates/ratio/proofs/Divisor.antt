@@ -7,29 +7,9 @@ use native.Mathlib.Nat.{mod-lt, div-add-mod, mul-div-cancel', mul-add, mul-assoc
 use native.Mathlib.Omega.{arith}
 use Rattle.ratio.specs.Lowest.{steps, divisorOf, Lowest}
 
--- more steps than b change nothing
-enough : (n m a b : ℕ) → b ≤ n → b ≤ m → steps n a b ≡ steps m a b
-unfolding steps
-enough zero zero a b h k = refl
-enough zero (suc m) a zero h k = refl
-enough zero (suc m) a (suc b) h k = absurd (not-suc-le-zero h)
-enough (suc n) zero a zero h k = refl
-enough (suc n) zero a (suc b) h k = absurd (not-suc-le-zero k)
-enough (suc n) (suc m) a zero h k = refl
-enough (suc n) (suc m) a (suc b) h k =
-    let l : a % suc b < suc b = mod-lt a (zero-lt-suc b) in
-    enough n m (suc b) (a % suc b) (omega arith) (omega arith)
-
 pub gcd-zero : (a : ℕ) → divisorOf a 0 ≡ a
 unfolding divisorOf steps
 gcd-zero a = refl
-
-pub gcd-step : (a b : ℕ) → 0 < b → divisorOf a b ≡ divisorOf b (a % b)
-unfolding divisorOf steps
-gcd-step a zero h = absurd (not-suc-le-zero h)
-gcd-step a (suc b) h =
-    let l : a % suc b < suc b = mod-lt a (zero-lt-suc b) in
-    enough b (a % suc b) (suc b) (a % suc b) (omega arith) (omega arith)
 
 -- it divides both, and every common divisor divides it
 pub record Greatest (g a b : ℕ) : Type 0 where
