@@ -80,8 +80,8 @@ NCTS(long_request_cut) { return model_ncts(r, rl > LONGEST ? LONGEST : rl); }
 PUT(ncts, long_request_cut)
 
 /* The nearest exact pair by another way than the model's, by multiples of the ratio in lowest terms, with a fault in the ratio or in its
- * quotients. Where the pair is the recommended one and not the nearest it stays. */
-enum { NO_FAULT, TWOS_KEPT, STOPS_EARLY, ONE_LESS_AT_MULTIPLES };
+ * quotients. Only where no recommended pair is exact: VIC 60, whose clock the tables do not have, and where there is no pair at all. */
+enum { TWOS_KEPT, STOPS_EARLY, ONE_LESS_AT_MULTIPLES };
 static uint64_t quotient(uint64_t a, uint64_t b, int fault) { return a / b - (fault == ONE_LESS_AT_MULTIPLES && a % b == 0 && a != 0); }
 static struct station_pair by_multiples(const struct fields *f, int fault) {
     static const uint64_t rates[] = { 32000, 44100, 48000, 88200, 96000, 176400, 192000 };
@@ -108,9 +108,8 @@ static struct station_pair by_multiples(const struct fields *f, int fault) {
 static struct station_pair nearest_by(const uint8_t *r, size_t rl, int fault) {
     struct station_pair p = RIGHT;
     struct fields f = asked(r, rl);
-    if ((p.refusal && p.refusal != 9) || !f.coherent) return p;
-    struct station_pair same = by_multiples(&f, NO_FAULT);
-    return same.refusal == p.refusal && same.n == p.n && same.cts == p.cts ? by_multiples(&f, fault) : p;
+    if ((p.refusal && p.refusal != 9) || !f.coherent || (f.vic != 60 && !p.refusal)) return p;
+    return by_multiples(&f, fault);
 }
 NCTS(twos_kept) { return nearest_by(r, rl, TWOS_KEPT); }
 PUT(ncts, twos_kept)

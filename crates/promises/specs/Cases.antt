@@ -58,6 +58,12 @@ pub record MarkedCases : Type 0 where
   -- 9. VIC 4, family 1, 32 kHz, coherent: refused 9, for N would have to be a multiple of 23296
   pub case9 : pairOf (rgbOverHdmi 4 1) 0 1 .refusal ≡ 9
   pub case9For : (n cts : ℕ) → reference 0 * cts * clockOf (rgbOverHdmi 4 1) .den ≡ clockOf (rgbOverHdmi 4 1) .num * n → 23296 ∣ n
+  -- and each number of "N and CTS" where it decides: the most that CTS is, the middle of N's range, its two ends, a row of the tables
+  pub pairFits : pairOf (rgbOverHdmi 16 1) 0 1 ≡ thePair 11648 421875
+  pub pairMiddle : pairOf (rgbOverHdmi 60 0) 2 1 ≡ thePair 6144 59400
+  pub pairLeast : pairOf (rgbOverHdmi 60 1) 1 1 ≡ thePair 4459 46875
+  pub pairMost : pairOf (rgbOverHdmi 4 1) 1 1 ≡ thePair 17836 234375
+  pub pairRow : pairOf (rgbOverHdmi 1 0) 1 1 ≡ thePair 6272 28000
   -- 10. AVI, VIC 16, RGB: checksum; request 01: "case 10 becomes 0x23 when limited"; and in full range
   pub case10 : getD (aviOf (rgbOverHdmi 16 0) .bytes) 3 0 ≡ 0x23
   pub case10Full : getD (aviOf (videoIn (0x10 ∷ 0x00 ∷ 0x00 ∷ 0x01 ∷ 0x01 ∷ [])) .bytes) 3 0 ≡ 0x1F
