@@ -22,7 +22,10 @@ int model_offers(int vic, int family) {
     return model_hertz(vic) != 0 && (family == 0 || (family == 1 && !only_0));
 }
 
-static const uint64_t rates[RATES] = { 32000, 44100, 48000, 88200, 96000, 176400, 192000 };
+uint64_t model_rate(int rate) {
+    static const uint64_t rates[RATES] = { 32000, 44100, 48000, 88200, 96000, 176400, 192000 };
+    return rates[rate];
+}
 
 /* The row "Other" of Tables 80 to 82. */
 static const uint32_t other[RATES] = { 4096, 6272, 6144, 12544, 12288, 25088, 24576 };
@@ -52,7 +55,7 @@ static int exact(uint64_t hertz, uint64_t top, uint64_t bottom, uint64_t fs, uin
 }
 
 static struct pair coherent(int vic, int family, int rate) {
-    uint64_t hertz = model_hertz(vic), top = family ? 1000 : 1, bottom = family ? 1001 : 1, fs = rates[rate];
+    uint64_t hertz = model_hertz(vic), top = family ? 1000 : 1, bottom = family ? 1001 : 1, fs = model_rate(rate);
     for (size_t i = 0; i < sizeof recommended / sizeof recommended[0]; i++) {
         uint32_t n = recommended[i].n[rate], cts = recommended[i].cts[rate];
         int same_clock = hertz * top * recommended[i].bottom == recommended[i].hertz * recommended[i].top * bottom;

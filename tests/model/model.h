@@ -59,6 +59,7 @@ struct pair { int exists; uint32_t n, cts; };
 enum { VICS = 15, RATES = 7 };
 extern const int model_vics[VICS];
 uint32_t    model_hertz(int vic);                   /* at family 0; 0 where the VIC is not listed */
+uint64_t    model_rate(int rate);                   /* in Hz, of the rates 0 to 6 */
 int         model_offers(int vic, int family);
 struct pair model_pair(const struct fields *f);
 

@@ -84,8 +84,7 @@ PUT(ncts, long_request_cut)
 enum { TWOS_KEPT, STOPS_EARLY, ONE_LESS_AT_MULTIPLES };
 static uint64_t quotient(uint64_t a, uint64_t b, int fault) { return a / b - (fault == ONE_LESS_AT_MULTIPLES && a % b == 0 && a != 0); }
 static struct station_pair by_multiples(const struct fields *f, int fault) {
-    static const uint64_t rates[] = { 32000, 44100, 48000, 88200, 96000, 176400, 192000 };
-    uint64_t reference = 128 * rates[f->rate], u = (uint64_t)model_hertz(f->vic) * (f->family ? 1000 : 1), v = reference * (f->family ? 1001 : 1);
+    uint64_t reference = 128 * model_rate(f->rate), u = (uint64_t)model_hertz(f->vic) * (f->family ? 1000 : 1), v = reference * (f->family ? 1001 : 1);
     uint64_t x = u, y = v;
     if (fault == TWOS_KEPT) {
         while (x % 2 == 0) x /= 2;

@@ -8,8 +8,8 @@ use lib.ListN.{getD, set}
 use Rattle.video.specs.declared.Video.{Video}
 use Rattle.video.specs.Video.{videoIn}
 use Rattle.clock.specs.Clocks.{clockOf}
-use Rattle.clock.specs.Pairs.{reference, thePair}
-use Rattle.clock.specs.Found.{pairOf}
+use Rattle.clock.specs.Pairs.{reference, thePair, noPair}
+use Rattle.clock.specs.Found.{coherentOf, pairOf}
 use Rattle.frames.specs.Frames.{audioOffFrame}
 use Rattle.frames.specs.Answers.{aviOf, audioOf}
 use Rattle.matrix.specs.Coefficient.{word, field, valueOf}
@@ -58,12 +58,18 @@ pub record MarkedCases : Type 0 where
   -- 9. VIC 4, family 1, 32 kHz, coherent: refused 9, for N would have to be a multiple of 23296
   pub case9 : pairOf (rgbOverHdmi 4 1) 0 1 .refusal ≡ 9
   pub case9For : (n cts : ℕ) → reference 0 * cts * clockOf (rgbOverHdmi 4 1) .den ≡ clockOf (rgbOverHdmi 4 1) .num * n → 23296 ∣ n
-  -- and each number of "N and CTS" where it decides: the most that CTS is, the middle of N's range, its two ends, a row of the tables
-  pub pairFits : pairOf (rgbOverHdmi 16 1) 0 1 ≡ thePair 11648 421875
-  pub pairMiddle : pairOf (rgbOverHdmi 60 0) 2 1 ≡ thePair 6144 59400
-  pub pairLeast : pairOf (rgbOverHdmi 60 1) 1 1 ≡ thePair 4459 46875
-  pub pairMost : pairOf (rgbOverHdmi 4 1) 1 1 ≡ thePair 17836 234375
-  pub pairRow : pairOf (rgbOverHdmi 1 0) 1 1 ≡ thePair 6272 28000
+  -- "the recommended pair .., if there is one and it is exact", where another is nearer: VIC 1, family 0, 44.1 kHz
+  pub recommended : pairOf (rgbOverHdmi 1 0) 1 1 ≡ thePair 6272 28000
+  -- "N lies between 128·fs/1500 and 128·fs/300, ends included. CTS is at most 1,048,575": on both sides of each, at 48 kHz, where N lies
+  -- between 4096 and 20480, for clocks of u/v times 128·fs, whose exact pairs are N = k·v, CTS = k·u
+  pub leastN : coherentOf (record { refusal = 0; num = reference 2 * 1048575; den = 4096 }) 2 ≡ thePair 4096 1048575
+  pub belowIt : coherentOf (record { refusal = 0; num = reference 2 * 1048574; den = 4095 }) 2 ≡ noPair 9
+  pub mostN : coherentOf (record { refusal = 0; num = reference 2 * 1048573; den = 20480 }) 2 ≡ thePair 20480 1048573
+  pub aboveIt : coherentOf (record { refusal = 0; num = reference 2 * 1048573; den = 20481 }) 2 ≡ noPair 9
+  pub aboveCts : coherentOf (record { refusal = 0; num = reference 2 * 1048576; den = 4097 }) 2 ≡ noPair 9
+  -- "nearest to 128·fs/1000, the smaller N on a tie": to 6144, with 8192 as near, and with 4914 less near by 3
+  pub tie : coherentOf (record { refusal = 0; num = reference 2; den = 4096 }) 2 ≡ thePair 4096 1
+  pub nearer : coherentOf (record { refusal = 0; num = reference 2; den = 2457 }) 2 ≡ thePair 7371 3
   -- 10. AVI, VIC 16, RGB: checksum; request 01: "case 10 becomes 0x23 when limited"; and in full range
   pub case10 : getD (aviOf (rgbOverHdmi 16 0) .bytes) 3 0 ≡ 0x23
   pub case10Full : getD (aviOf (videoIn (0x10 ∷ 0x00 ∷ 0x00 ∷ 0x01 ∷ 0x01 ∷ [])) .bytes) 3 0 ≡ 0x1F

@@ -52,7 +52,7 @@ halved a b even odd =
     (λ d p q. (doubled d b (a / 2) odd q (subst (λ (m : ℕ). d ∣ m) (sym e) p), q))
 
 -- and so has a difference
-pub less : (a b : ℕ) → b ≤ a → divisorOf (a - b) b ≡ divisorOf a b
+less : (a b : ℕ) → b ≤ a → divisorOf (a - b) b ≡ divisorOf a b
 less a b h = same (a - b) b a b (λ d p q. (dvd-sub-iff-left d h q .0 p, q)) (λ d p q. (dvd-sub-iff-left d h q .1 p, q))
 
 -- of two odd numbers, half the difference

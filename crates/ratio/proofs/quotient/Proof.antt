@@ -22,7 +22,10 @@ abbrev μ-loop2 : tie.MeasureT-loop2
 μ-loop2 a b part₀ left₀ q₀ part left q = part
 
 returns : tie.Need-returns Inv-loop μ-loop Inv-loop2 μ-loop2
-returns c = rw (c .if1 .taken) (sym (div-zero (c .before .args .a)))
+returns c =
+    let a = c .before .args in
+    let none : a .a / a .b ≡ 0 = rw (c .if1 .taken) (div-zero (a .a)) in
+    omega (arith, none)
 
 loop-holds : tie.Need-loop-holds Inv-loop μ-loop Inv-loop2 μ-loop2
 loop-holds c = (pos-of-ne-zero (c .if1 .left), (0, sym (mul-one _)))
