@@ -1,5 +1,6 @@
-/* The planner and the decoder as a C programmer would write them with speed in mind: constant tables, one pass. Nothing is proved of it;
- * the tests compare its answers with the model's, the benchmark with the library's before it takes the time. */
+/* The planner, the decoder and the vet as a C programmer would write them with speed in mind: constant tables, one pass, two for a vendor's
+ * list. Nothing is proved of it; the tests compare its answers with the model's, the benchmark with the library's before it takes the
+ * time. */
 #include "plain.h"
 #include <string.h>
 
@@ -261,13 +262,98 @@ static inline struct station_count decode(const uint8_t *image, size_t image_len
     return (struct station_count){ 0, (uint32_t)at };
 }
 
+/* A vendor's list: the registers that it may write, their mandated and free bits. */
+#define MANDATED(a, mask, value, free) [a] = { 1, mask, value, free }
+#define FIXED(a, value) MANDATED(a, 0xFF, value, 0)
+#define NAMED(a, free) MANDATED(a, 0, 0, free)
+#define EIGHT(a) NAMED(a, 0)
+#define FOUR(a) EIGHT(a), EIGHT(a + 1), EIGHT(a + 2), EIGHT(a + 3)
+#define TWO_COEFFICIENTS(a) NAMED(a, 0xE0), EIGHT(a + 1), NAMED(a + 2, 0xE0), EIGHT(a + 3)
+static const struct { uint8_t ours, mandated, value, free; } rules[256] = {
+    NAMED(0x01, 0xF0), EIGHT(0x02), EIGHT(0x03), NAMED(0x07, 0xF0), EIGHT(0x08), EIGHT(0x09), NAMED(0x0A, 0x03), NAMED(0x0C, 0xC0),
+    EIGHT(0x15), MANDATED(0x16, 0x40, 0, 0x3F), EIGHT(0x18), EIGHT(0x19), NAMED(0x1A, 0xC0), EIGHT(0x1B),
+    TWO_COEFFICIENTS(0x1C), TWO_COEFFICIENTS(0x20), TWO_COEFFICIENTS(0x24), TWO_COEFFICIENTS(0x28), TWO_COEFFICIENTS(0x2C),
+    MANDATED(0x3B, 0x81, 0x80, 0), NAMED(0x3C, 0xC0), NAMED(0x40, 0x7F), MANDATED(0x44, 0x86, 0, 0x01),
+    NAMED(0x4A, 0x1F), NAMED(0x4B, 0x3F),
+    NAMED(0x52, 0xF8), NAMED(0x53, 0xE0), EIGHT(0x54), EIGHT(0x55), FOUR(0x56), FOUR(0x5A), FOUR(0x5E),
+    NAMED(0x70, 0xF8), NAMED(0x71, 0xE0), EIGHT(0x72), EIGHT(0x73), FOUR(0x74),
+    FIXED(0x78, 0), FIXED(0x79, 0), FIXED(0x7A, 0), FIXED(0x7B, 0), FIXED(0x7C, 0),
+    FIXED(0x98, 0x03), MANDATED(0x9A, 0xFE, 0xE0, 0x01), FIXED(0x9C, 0x30), MANDATED(0x9D, 0xF3, 0x61, 0x0C),
+    FIXED(0xA2, 0xA4), FIXED(0xA3, 0xA4), MANDATED(0xAF, 0x6D, 0x04, 0x90), FIXED(0xE0, 0xD0), FIXED(0xF9, 0),
+};
+
+struct machine { uint8_t image[256], packet[STATION_PACKET], matrix[STATION_COEFFICIENTS]; };
+
+/* One write. Read-only bits are in registers that no list may write and that no group and no request has: they need not stay. Answers 0,
+ * and writes nothing, where two packet holds would be up. */
+static inline int put(struct machine *m, uint8_t address, uint8_t value) {
+    if (address == 0x4A) {
+        uint8_t up = value & 0x70, rises = value & (uint8_t)~m->image[0x4A];
+        if (up & (up - 1)) return 0;
+        if (rises & 0x40) memcpy(m->packet, m->image + 0x52, 16);
+        else if (rises & 0x20) memcpy(m->packet, m->image + 0x70, 13);
+        else if (rises & 0x10) m->packet[0] = m->image[0x4B];
+    } else if (address == 0x1A && (value & ~m->image[0x1A] & 0x20)) memcpy(m->matrix, m->image + 0x18, sizeof m->matrix);
+    m->image[address] = value;
+    return 1;
+}
+
+/* The groups in use. */
+static inline const uint8_t *avi(const struct machine *m) { return m->image[0x4A] & 0x40 ? m->packet : m->image + 0x52; }
+static inline const uint8_t *audio(const struct machine *m) { return m->image[0x4A] & 0x20 ? m->packet : m->image + 0x70; }
+static inline const uint8_t *matrix(const struct machine *m) { return m->image[0x1A] & 0x20 ? m->matrix : m->image + 0x18; }
+
+static inline int same_matrix(const uint8_t *a, const uint8_t *b) {
+    unsigned other = 0;
+    for (int k = 0; k < STATION_COEFFICIENTS; k += 2) other |= ((a[k] ^ b[k]) & 0x1Fu) | (unsigned)(a[k + 1] ^ b[k + 1]);
+    return other == 0;
+}
+
+/* One pass for the end, one for the tests. A group is looked at after a write that may have changed it. The GC hold needs no look: it is
+ * down at the start, and it is a free bit. */
+static inline struct station_verdict vet(const uint8_t *image, size_t image_length, const uint8_t *packet, size_t packet_length,
+                                         const uint8_t *coefficients, size_t coefficients_length, const uint8_t *list, size_t list_length,
+                                         find_pair *find) {
+    struct machine start, now, last;
+    uint8_t request[LONGEST];
+    uint32_t count = (uint32_t)(list_length / 2), ends = 0;
+    if (image_length != 256 || packet_length != sizeof start.packet || coefficients_length != sizeof start.matrix)
+        return (struct station_verdict){ 7, 0 };
+    if ((image[0x4A] & 0x10) || (image[0x4A] & 0x60) == 0x60) return (struct station_verdict){ 8, 0 };
+    if (list_length % 2 || list_length > STATION_LIST) return (struct station_verdict){ 14, 0 };
+    memcpy(start.image, image, sizeof start.image);
+    memcpy(start.packet, packet, sizeof start.packet);
+    memcpy(start.matrix, coefficients, sizeof start.matrix);
+    last = now = start;
+    while (ends < count && put(&last, list[2 * ends], list[2 * ends + 1])) ends++;
+    for (uint32_t i = 0; i < count; i++) {
+        uint8_t a = list[2 * i], v = list[2 * i + 1];
+        if (!rules[a].ours || (v & rules[a].mandated) != rules[a].value || ((v ^ now.image[a]) & rules[a].free) || !put(&now, a, v))
+            return (struct station_verdict){ 15, i };
+        if (i + 1 >= ends) continue;
+        if ((now.image[0x4B] & 0xC0) != 0x40) return (struct station_verdict){ 15, i };
+        if (((a == 0x4A || (a >= 0x52 && a <= 0x61)) && memcmp(avi(&now), avi(&start), 16) && memcmp(avi(&now), avi(&last), 16)) ||
+            ((a == 0x4A || (a >= 0x70 && a <= 0x7C)) && memcmp(audio(&now), audio(&start), 13) && memcmp(audio(&now), audio(&last), 13)) ||
+            (a >= 0x18 && a <= 0x2F && !same_matrix(matrix(&now), matrix(&start)) && !same_matrix(matrix(&now), matrix(&last))))
+            return (struct station_verdict){ 15, i };
+    }
+    return (struct station_verdict){ decode(last.image, 256, request, sizeof request, find).refusal ? 16 : 0, 0 };
+}
+
 #define PLAN(name, find) \
     struct station_count name(const uint8_t *r, size_t rl, const uint8_t *i, size_t il, uint8_t *w, size_t wl) { \
         return plan(r, rl, i, il, w, wl, find); \
     }
 #define DECODE(name, find) \
     struct station_count name(const uint8_t *i, size_t il, uint8_t *r, size_t rl) { return decode(i, il, r, rl, find); }
+#define VET(name, find) \
+    struct station_verdict name(const uint8_t *i, size_t il, const uint8_t *p, size_t pl, const uint8_t *c, size_t cl, const uint8_t *l, \
+                                size_t ll) { \
+        return vet(i, il, p, pl, c, cl, l, ll, find); \
+    }
 PLAN(plain_plan, looked_up)
 PLAN(rule_plan, by_rule)
 DECODE(plain_decode, looked_up)
 DECODE(rule_decode, by_rule)
+VET(plain_vet, looked_up)
+VET(rule_vet, by_rule)

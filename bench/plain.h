@@ -1,5 +1,5 @@
-/* The same planner and decoder in plain C, for the benchmark to compare with. They check as much and answer the same; the tests hold them
- * to that. Two versions: one looks N and CTS up in a table of the results, one row for each clock; the other finds them as the library
+/* The same planner, decoder and vet in plain C, for the benchmark to compare with. They check as much and answer the same; the tests hold
+ * them to that. Two versions: one looks N and CTS up in a table of the results, one row for each clock; the other finds them as the library
  * does, by the rule of document 01. */
 #ifndef PLAIN_H
 #define PLAIN_H
@@ -9,9 +9,13 @@
 struct station_count plain_plan(const uint8_t *request, size_t request_length, const uint8_t *image, size_t image_length, uint8_t *writes,
                                 size_t writes_length);
 struct station_count plain_decode(const uint8_t *image, size_t image_length, uint8_t *request, size_t request_length);
+struct station_verdict plain_vet(const uint8_t *image, size_t image_length, const uint8_t *packet, size_t packet_length,
+                                 const uint8_t *coefficients, size_t coefficients_length, const uint8_t *list, size_t list_length);
 
 struct station_count rule_plan(const uint8_t *request, size_t request_length, const uint8_t *image, size_t image_length, uint8_t *writes,
                                size_t writes_length);
 struct station_count rule_decode(const uint8_t *image, size_t image_length, uint8_t *request, size_t request_length);
+struct station_verdict rule_vet(const uint8_t *image, size_t image_length, const uint8_t *packet, size_t packet_length,
+                                const uint8_t *coefficients, size_t coefficients_length, const uint8_t *list, size_t list_length);
 
 #endif

@@ -21,10 +21,10 @@
 #include <stdint.h>
 
 /* The version of this header, one for each landing; CHANGELOG.md says what came with it. */
-#define STATION_VERSION "2.0.1"
+#define STATION_VERSION "2.1.0"
 #define STATION_MAJOR 2
-#define STATION_MINOR 0
-#define STATION_PATCH 1
+#define STATION_MINOR 1
+#define STATION_PATCH 0
 
 /* Lengths in bytes. */
 #define STATION_IMAGE 256       /* a register image, the bytes of registers 0x00 to 0xFF */
@@ -33,13 +33,14 @@
 #define STATION_WRITES 256      /* the least room for a write list */
 #define STATION_REQUEST 36      /* the longest request, and the least room for one */
 #define STATION_MATRIX 25       /* a matrix as a request has it: its mode and twelve coefficients */
+#define STATION_LIST 1024       /* the longest list of a vendor's, 512 pairs */
 
 #ifdef __cplusplus
 extern "C" {
 #endif
 
 /* Why a call refuses. Of those that a call gives, the lowest that applies, in this order, is given; then every other field of the answer
- * is 0, and no lent byte is changed. station_text.h has these lines as strings. */
+ * is 0 (but for the place beside 15), and no lent byte is changed. station_text.h has these lines as strings. */
 enum station_refusal {
     STATION_ACCEPTED = 0,           /* none */
     STATION_INPUT_ENDS = 1,         /* input ends before a count or inside a section */
@@ -54,7 +55,10 @@ enum station_refusal {
     STATION_BUFFER_SHORT = 10,      /* write buffer shorter than 256 bytes; request buffer shorter than STATION_REQUEST; matrix buffer shorter than 25 */
     STATION_NO_REQUEST = 11,        /* no request ends in this image */
     STATION_INPUT_ABOVE = 12,       /* an input above 4095 */
-    STATION_TWO_HOLDS = 13          /* two packet holds are up, or the write would leave two up */
+    STATION_TWO_HOLDS = 13,         /* two packet holds are up, or the write would leave two up */
+    STATION_LIST_LENGTH = 14,       /* a list of an odd length, or of more than 512 pairs */
+    STATION_BAD_PAIR = 15,          /* a bad pair in a list; the first one's place stands beside the number */
+    STATION_BAD_END = 16            /* a list that ends in an image in which no request ends */
 };
 
 struct station_count { uint32_t refusal, count; };
@@ -63,6 +67,7 @@ struct station_part { uint32_t refusal, held, start, len; };
 struct station_pixel { uint32_t refusal, a, b, c; };
 struct station_state { uint32_t refusal, mute; };
 struct station_masks { uint32_t read_only, mandated, named, free_bits, value; };
+struct station_verdict { uint32_t refusal, place; };
 
 /* The write list of a request on a register image of 256 bytes: `count` pairs of address and value at the front of `writes`, which has at
  * least 256 bytes; the bytes after them stay. Refusals 1 to 10. */
@@ -103,6 +108,15 @@ struct station_state station_mute(const uint8_t *image, size_t image_length, con
  * stay. The mode is the register's two bits and may be 3, which no request has. Refusals 7 and 10. */
 struct station_count station_matrix(const uint8_t *image, size_t image_length, const uint8_t *coefficients, size_t coefficients_length,
                                     uint8_t *matrix, size_t matrix_length);
+
+/* Whether a list that a vendor brings, pairs of address and value, may be run on the chip from this state: accepted exactly if each pair
+ * touches only registers of ours (with a named bit, of the AVI or the audio packet, of Table 14), carries the mandated bits, keeps the free
+ * bits and never leaves two packet holds up; at every cut after the first write and before the last the picture is muted and each group in
+ * use is as it began or as the list ends; and it ends in an image in which a request ends. At most 512 pairs. No lent byte is changed.
+ * Refusals 7, 8, 14, 15 with the `place` of the first bad pair, counted from 0, and 16; `place` is 0 beside any other. A pair is bad also
+ * where the cut after it, with another pair to follow, is not as above. */
+struct station_verdict station_vet(const uint8_t *image, size_t image_length, const uint8_t *packet, size_t packet_length,
+                                   const uint8_t *coefficients, size_t coefficients_length, const uint8_t *list, size_t list_length);
 
 /* The class of a register's bits: the masks of read-only, mandated, named and free bits, and the value of the mandated ones. */
 struct station_masks station_class(uint8_t address);

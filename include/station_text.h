@@ -23,7 +23,10 @@ static inline const char *station_text(uint32_t refusal) {
         "write buffer shorter than 256 bytes; request buffer shorter than " STATION_TEXT(STATION_REQUEST) "; matrix buffer shorter than 25",
         "no request ends in this image",
         "an input above 4095",
-        "two packet holds are up, or the write would leave two up"
+        "two packet holds are up, or the write would leave two up",
+        "a list of an odd length, or of more than 512 pairs",
+        "a bad pair in a list; the first one's place stands beside the number",
+        "a list that ends in an image in which no request ends"
     };
     return refusal < sizeof texts / sizeof texts[0] ? texts[refusal] : "a number that this header does not know";
 }

@@ -246,6 +246,13 @@ static void add(char *text, const char *format, ...) {
     va_end(list);
 }
 
+/* The word of a field's value, or NULL. */
+static const char *word_of(const struct field *f, int value) {
+    for (size_t w = 0; w < WORDS_OF_A_FIELD && f->words[w].word; w++)
+        if (f->words[w].value == value) return f->words[w].word;
+    return NULL;
+}
+
 int words_of_request(const uint8_t *request, size_t length, char text[TEXT_OF_A_REQUEST]) {
     size_t at = 0;
     *text = 0;
@@ -264,9 +271,7 @@ int words_of_request(const uint8_t *request, size_t length, char text[TEXT_OF_A_
         for (size_t f = 0; f < FIELDS; f++) {
             if (fields[f].section != s) continue;
             int value = value_in(&fields[f], body);
-            const char *word = NULL;
-            for (size_t w = 0; w < WORDS_OF_A_FIELD && fields[f].words[w].word; w++)
-                if (fields[f].words[w].value == value) word = fields[f].words[w].word;
+            const char *word = word_of(&fields[f], value);
             if (word && fields[f].usual && !strcmp(word, fields[f].usual)) continue;
             if (word) add(text, " %s", word);
             else add(text, fields[f].words[0].word ? " %s=%d" : " %s %d", fields[f].name, value);
@@ -330,6 +335,33 @@ void explain_request(FILE *to, const uint8_t *request, size_t length) {
         at += want;
     }
     if (at < length) fprintf(to, "  and %u bytes more\n", (unsigned)(length - at));
+}
+
+/* A field's value as a word or a number; "none" in a section that is left out. */
+static void short_of(const struct field *f, const uint8_t *section, char *text, size_t room) {
+    const char *word = section[0] ? word_of(f, value_in(f, section + 1)) : "none";
+    if (word) snprintf(text, room, "%s", word);
+    else snprintf(text, room, "%d", value_in(f, section + 1));
+}
+
+int explain_changes(FILE *to, const uint8_t *before, const uint8_t *after) {
+    char was[32], is[32];
+    int changes = 0;
+    for (int s = 0; s < SECTIONS; before += 1 + before[0], after += 1 + after[0], s++) {
+        if (before[0] == 0 && after[0] == 0) continue;
+        for (size_t f = 0; f < FIELDS; f++) {
+            if (fields[f].section != s) continue;
+            short_of(&fields[f], before, was, sizeof was);
+            short_of(&fields[f], after, is, sizeof is);
+            if (strcmp(was, is)) fprintf(to, "  %-8s  %s -> %s\n", fields[f].name, was, is), changes++;
+        }
+        for (size_t n = 0; n < sections[s].numbers && before[0] && after[0]; n++) {
+            size_t at = 1 + bytes_of_fields(s) + 2 * n;
+            int old = number_in(before + at), new = number_in(after + at);
+            if (old != new) fprintf(to, "  %c%u        %d -> %d\n", "ABC"[n / 4], (unsigned)n % 4 + 1, old, new), changes++;
+        }
+    }
+    return changes;
 }
 
 void explain_words(FILE *to) {

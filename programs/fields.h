@@ -19,6 +19,9 @@ int words_of_request(const uint8_t *request, size_t length, char text[TEXT_OF_A_
 /* A line for each byte, as far as there are sections. */
 void explain_request(FILE *to, const uint8_t *request, size_t length);
 
+/* A line for each field that two requests, both whole, have otherwise, and for each number where both have the section; how many lines. */
+int explain_changes(FILE *to, const uint8_t *before, const uint8_t *after);
+
 /* The words that there are, a line for each field. */
 void explain_words(FILE *to);
 

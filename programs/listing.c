@@ -1,12 +1,11 @@
 /* A reader's listing: the write list of a request as a table, with the chip after each write. What it prints is compared with listing.out.
  * The request and the registers may be a stranger's: they go through the exported calls and nowhere else. */
 #include "chip.h"
-#include "registers.h"
 #include "station_text.h"
+#include "table.h"
 #include "words.h"
 #include <stdio.h>
 #include <stdlib.h>
-#include <string.h>
 
 const char *program = "tools/listing";
 
@@ -32,61 +31,16 @@ static const char help[] =
     "\n"
     "  tools/listing " EXAMPLE "\n";
 
-/* The holds, by their bit; a write to 0x4A tells of the first that is up before or after it. */
-static const struct { uint8_t address, mask; const char *name; } holds[] = {
-    { 0x1A, 0x20, "hold " },
-    { 0x4A, 0x40, "AVI " },
-    { 0x4A, 0x20, "audio " },
-};
-static const char *const hold_words[2][2] = { { "down", "up" }, { "down", "kept" } };    /* before, after */
-
-/* "Muted: set bit 1, clear bit 0. Open: set 0, clear 1." By 0x4B[7:6], as written and as station_mute has it. */
-enum { GC = 0x4B, MUTE_SHIFT = 6 };
-static const char *const mute_words[4] = { "neither", "mute", "open", "neither" };
-static const char *const picture_words[4] = { "neither", "muted", "open", "neither" };
-
-static const char *const age_words[] = { [NEITHER] = "torn", [OLD] = "old", [NEW] = "new", [BOTH] = "both" };
-
-/* ---- The table. */
-
-enum { TEXT = 64 };
-
-/* One more of the fields that a write sets. */
-static void add(char *text, const char *first, const char *second) {
-    size_t length = strlen(text);
-    if (*first || *second) snprintf(text + length, TEXT - length, "%s%s%s", length ? ", " : "", first, second);
-}
-
-/* What a write sets, in short words: a hold or the mute with its value, the other named fields, and whether there are mandated bits. */
-static void sets(char *text, uint8_t address, uint8_t old, uint8_t new) {
-    struct station_masks c = station_class(address);
-    *text = 0;
-    if (c.named) {
-        size_t last = sizeof holds / sizeof holds[0], hold = last;
-        for (size_t h = last; h-- > 0; )
-            if (holds[h].address == address && (hold == last || ((old | new) & holds[h].mask))) hold = h;
-        if (hold < last) add(text, holds[hold].name, hold_words[(old & holds[hold].mask) != 0][(new & holds[hold].mask) != 0]);
-        if (address == GC) add(text, mute_words[new >> MUTE_SHIFT & 3], "");
-        add(text, registers[address].fields ? registers[address].fields : "named", "");
-    }
-    if (c.mandated) add(text, "mandated", "");
-}
-
 static void print_list(struct chip c, const uint8_t *pairs, uint32_t count) {
     struct chip end = c;
     for (uint32_t w = 0; w < count; w++) chip_write(&end, pairs + 2 * w);
     struct sent old = chip_sent(&c), new = chip_sent(&end);
-    printf("%3s %-4s %-16s %-3s %-3s %-20s %-7s %-4s %-5s %s\n", "no", "addr", "register", "old", "new", "sets", "picture", "AVI", "audio",
-           "matrix");
+    table_head("no");
     for (uint32_t w = 0; w < count; w++) {
         uint8_t address = pairs[2 * w], before = c.image[address];
-        char text[TEXT];
         chip_write(&c, pairs + 2 * w);
         struct sent s = chip_sent(&c);
-        sets(text, address, before, c.image[address]);
-        printf("%3u 0x%02X %-16s %02X  %02X  %-20s %-7s %-4s %-5s %s\n", (unsigned)w + 1, address,
-               registers[address].name ? registers[address].name : "", before, c.image[address], text, picture_words[s.mute & 3],
-               age_words[age(AVI, &s, &old, &new)], age_words[age(AUDIO, &s, &old, &new)], age_words[age(MATRIX, &s, &old, &new)]);
+        table_row((unsigned)w + 1, address, before, c.image[address], &s, &old, &new);
     }
 }
 

@@ -2,6 +2,8 @@
  * file beside it. The request and the registers may be a stranger's: they go through the exported calls and nowhere else. */
 #include "chip.h"
 #include "fields.h"
+#include "judge.h"
+#include "list.h"
 #include "may.h"
 #include "registers.h"
 #include "station_text.h"
@@ -14,6 +16,7 @@ const char *program = "tools/picture";
 
 static const char help[] =
     "tools/picture [OPTIONS] BYTES.. >run.html\n"
+    "tools/picture [OPTIONS] --list FILE >run.html\n"
     "tools/picture --accident >run.html\n"
     "\n"
     "Writes a page that shows a run: time goes from the first write to the last, with\n"
@@ -21,7 +24,11 @@ static const char help[] =
     "and the holds, and the step that each write belongs to. BYTES is the request: a\n"
     "byte is exactly two hex digits, with or without blanks between.\n"
     "\n"
-    "  --cut K              also the run that is cut after K writes and planned again\n"
+    "  --list FILE          no request, but a list of writes that somebody brings, in\n"
+    "                       the forms that tools/review reads (- is the standard\n"
+    "                       input): its run, the verdict, and the bad pairs\n"
+    "  --cut K              also the run that is cut after K writes and planned\n"
+    "                       again; of a list, cut and left so\n"
     "  --before BYTES       the request that the chip shows before, in one word;\n"
     "                       where none is given, 720p YCbCr 4:4:4 with eight\n"
     "                       channels and the matrix of Table 43\n"
@@ -32,8 +39,9 @@ static const char help[] =
     "                       no mute, cut after five coefficients; and our list, cut\n"
     "                       at the same register\n"
     "\n"
-    "The status is 0 for a page, 1 for a request that is refused (it is said on the\n"
-    "error stream), 2 for a command that is not as above.\n"
+    "The status is 0 for a page, 1 for a request that is refused, and for a list that\n"
+    "cannot be run, refused 8 or 14 (it is said on the error stream), 2 for a command\n"
+    "or a list's text that is not as above.\n"
     "\n"
     "  tools/picture --cut 40 " EXAMPLE " >run.html\n";
 
@@ -60,7 +68,8 @@ static const struct { const char *name; int height; const struct look *looks; ui
     [HOLD_AUDIO] = { "hold: audio", 15, of_hold, 0x4A, 0x20 },
 };
 
-enum { REST = 8, MOMENTS = 2 * STATION_WRITES + 8, NO_STEP = STEPS };
+/* Room for two lists of ours, and for the longest that somebody may bring. */
+enum { REST = 8, MOMENTS = 2 * STATION_WRITES + STATION_LIST / 2 + 8, NO_STEP = STEPS };
 struct moment { int width, number, step, value[LANES]; uint8_t address, before, after; };
 struct run { struct chip chip; struct sent old, new; int count, cut; struct moment moments[MOMENTS]; };
 
@@ -363,6 +372,72 @@ static void page_of_accident(void) {
     printf("</body></html>\n");
 }
 
+/* The pairs that are bad, each with the rules that it breaks. */
+static void say_bad_pairs(const struct list *l, const struct judgement *j) {
+    char text[TEXT_OF_FAULTS];
+    uint32_t bad = 0;
+    for (uint32_t i = 0; i < j->count; i++) bad += is_bad(&j->pairs[i]) != 0;
+    if (!bad) return;
+    printf("<details%s><summary>Bad pairs: %u of %u</summary>\n<ul>\n", bad > REST ? "" : " open", (unsigned)bad, (unsigned)j->count);
+    for (uint32_t i = 0; i < j->count; i++) {
+        if (!is_bad(&j->pairs[i])) continue;
+        text_of_faults(l->bytes[2 * i], &j->pairs[i], text);
+        printf("<li>write %u (place %u from 0, line %lu), 0x%02X: %s</li>\n", (unsigned)i + 1, (unsigned)i, l->line[i], l->bytes[2 * i],
+               text);
+    }
+    printf("</ul></details>\n");
+}
+
+/* The page of a list that somebody brings; it is played as far as the machine takes it. */
+static void page_of_list(const struct chip *c, const struct list *l, const uint8_t *before, size_t length, long cut_at) {
+    static struct run r;
+    static struct judgement j;
+    char text[TEXT_OF_A_VERDICT], of_cut[48];
+    uint8_t request[STATION_REQUEST];
+    struct station_verdict v = vet(c, l->bytes, l->length);
+    judge(c, l->bytes, l->length, &j);
+    text_of_verdict(v, text);
+    if (v.refusal != j.verdict.refusal || v.place != j.verdict.place)
+        misuse("the reasons and the library's verdict ('%s') differ: no page", text);
+    if (v.refusal == STATION_HOLDS_UP || v.refusal == STATION_LIST_LENGTH) {
+        fprintf(stderr, "%s\n", text);
+        exit(REFUSED);
+    }
+    if (cut_at > (long)j.end) misuse("--cut %ld: the list has %u writes", cut_at, (unsigned)j.end);
+
+    printf("%s<h1>A list that somebody brings, write by write</h1>\n", head);
+    if (before) say_request("On show before:", before, length);
+    struct station_count n = station_decode(j.last.image, STATION_IMAGE, request, STATION_REQUEST);
+    if (n.refusal) printf("<p>It ends in no request.</p>\n");
+    else say_request("It ends in:", request, n.count);
+    printf("<p>The verdict: <b>%s</b>", text);
+    if (v.refusal == STATION_BAD_PAIR) printf(" (counted from 0; write %u of this page)", (unsigned)v.place + 1);
+    printf(".</p>\n");
+    key();
+    begin(&r, c, &j.old, &j.new);
+    play(&r, l->bytes, j.end, j.end);
+    draw(&r, "The list, from the first write to the last", "");
+    if (j.end < j.count)
+        printf("<p>Write %u would leave two packet holds up: the list ends before it, and %u of its %u writes are shown.</p>\n",
+               (unsigned)j.end + 1, (unsigned)j.end, (unsigned)j.count);
+    say_bad_pairs(l, &j);
+    table(&r);
+    if (cut_at >= 0) {
+        begin(&r, c, &j.old, &j.new);
+        play(&r, l->bytes, j.end, (uint32_t)cut_at);
+        cut(&r);
+        look(&r, 4 * REST);
+        snprintf(of_cut, sizeof of_cut, "cut after write %ld", cut_at);
+        draw(&r, "The list, cut, and left so", of_cut);
+        printf("<p>From the cut on, until somebody comes: ");
+        say(&r.moments[r.cut]);
+        printf("</p>\n");
+    }
+    printf("</body></html>\n");
+}
+
+static void take_list(const char *word, struct option *o) { list_of_file(word, o->into); }
+
 static void take_bytes(const char *word, struct option *o) {
     o->into = malloc(strlen(word) + 1);
     if (!o->into) misuse("no memory");
@@ -371,6 +446,7 @@ static void take_bytes(const char *word, struct option *o) {
 
 int main(int count, char **words) {
     static struct run r;
+    static struct list l;
     struct chip c = { { 0 }, { 0 }, { 0 } };
     struct request before = request_of_text(MAY_ASKED);
     long cut_at = -1;
@@ -380,10 +456,11 @@ int main(int count, char **words) {
         { "--packet", take_file, c.packet, STATION_PACKET, 0 },
         { "--coefficients", take_file, c.coefficients, STATION_COEFFICIENTS, 0 },
         { "--before", take_bytes, before.bytes, before.length, 0 },
-        { "--cut", take_number, &cut_at, STATION_WRITES, 0 },
+        { "--cut", take_number, &cut_at, LIST_PAIRS, 0 },
+        { "--list", take_list, &l, 0, 0 },
         { "--accident", NULL, &accident, 0, 0 },
     };
-    enum { BY_IMAGE, BY_PACKET, BY_COEFFICIENTS, BY_BEFORE, BY_CUT, BY_ACCIDENT, OPTIONS };
+    enum { BY_IMAGE, BY_PACKET, BY_COEFFICIENTS, BY_BEFORE, BY_CUT, BY_LIST, BY_ACCIDENT, OPTIONS };
     size_t length;
     uint8_t *request = request_of_command(count, words, help, options, OPTIONS, &length), pairs[STATION_WRITES];
     if (accident) {
@@ -391,6 +468,7 @@ int main(int count, char **words) {
         page_of_accident();
         return printed(ACCEPTED);
     }
+    if (options[BY_LIST].given && length) misuse("--list and a request exclude each other");
     if (options[BY_IMAGE].given && options[BY_BEFORE].given) misuse("--image and --before exclude each other");
     if (!options[BY_IMAGE].given && (options[BY_PACKET].given || options[BY_COEFFICIENTS].given))
         misuse("a buffer is given, and no --image");
@@ -398,6 +476,11 @@ int main(int count, char **words) {
     if (!options[BY_IMAGE].given) {
         writes = plan(options[BY_BEFORE].into, options[BY_BEFORE].length, &c, pairs);
         c = finished(c, pairs, writes);
+    }
+    if (options[BY_LIST].given) {
+        int told = !options[BY_IMAGE].given;
+        page_of_list(&c, &l, told ? options[BY_BEFORE].into : NULL, options[BY_BEFORE].length, cut_at);
+        return printed(ACCEPTED);
     }
     writes = plan(request, length, &c, pairs);
     if (cut_at > (long)writes) misuse("--cut %ld: the list has %u writes", cut_at, (unsigned)writes);

@@ -98,15 +98,16 @@ static const struct { uint8_t first, last; enum step step; } places[] = {
     { 0x98, 0x9D, TO_FIX },    { 0xA2, 0xA3, TO_FIX },    { 0xE0, 0xE0, TO_FIX }, { 0xF9, 0xF9, TO_FIX },
 };
 
-/* A hold belongs to what it holds: where it goes up, to the step after it, and where it goes down, to the step before it. */
-enum { HOLDS = 0x4A, UP = 0x60 };
+/* A hold belongs to what it holds: where one goes up, to the step after it, and where it goes down, to the step before it. */
+enum { HOLDS = 0x4A, UP = 0x60, OPEN = 2, MUTE_SHIFT = 6 };
 
 enum step step_of(const uint8_t *pairs, uint32_t count, uint32_t write) {
-    uint8_t address = pairs[2 * write];
-    if (address == HOLDS && (pairs[2 * write + 1] & UP) && write + 1 < count) return step_of(pairs, count, write + 1);
-    if (address == HOLDS && write > 0) return step_of(pairs, count, write - 1);
+    uint32_t of = write;
+    int up = pairs[2 * write] == HOLDS && (pairs[2 * write + 1] & UP);
+    while (pairs[2 * of] == HOLDS && (up ? of + 1 < count : of > 0)) of = up ? of + 1 : of - 1;
+    const uint8_t *pair = pairs + 2 * of;
     for (size_t p = 0; p < sizeof places / sizeof places[0]; p++)
-        if (address >= places[p].first && address <= places[p].last)
-            return places[p].step == TO_MUTE && write + 1 == count ? TO_OPEN : places[p].step;
+        if (pair[0] >= places[p].first && pair[0] <= places[p].last)
+            return places[p].step == TO_MUTE && pair[1] >> MUTE_SHIFT == OPEN ? TO_OPEN : places[p].step;
     return TO_OTHERS;
 }

@@ -68,19 +68,14 @@ void take_file(const char *word, struct option *o) { bytes_of_file(word, o->into
 
 void take_number(const char *word, struct option *o) { *(long *)o->into = number_of_word(word, o->name + 2, 0, (long)o->length); }
 
-uint8_t *request_of_command(int count, char **words, const char *help, struct option *options, size_t number, size_t *length) {
-    size_t letters = 1;
-    for (int i = 1; i < count; i++) {
+void words_of_command(int count, char **words, const char *help, struct option *options, size_t number,
+                      void (*other)(const char *word, void *into), void *into) {
+    for (int i = 1; i < count; i++)
         if (!strcmp(words[i], "--help")) exit(printf("%s", help) < 0);
-        letters += strlen(words[i]);
-    }
-    uint8_t *request = malloc(letters);
-    if (!request) misuse("no memory");
-    *length = 0;
     for (int i = 1; i < count; i++) {
         size_t o = 0;
-        if (words[i][0] != '-') {
-            *length += bytes_of_word(words[i], request + *length);
+        if (words[i][0] != '-' || !words[i][1]) {
+            other(words[i], into);
             continue;
         }
         while (o < number && strcmp(words[i], options[o].name)) o++;
@@ -90,5 +85,20 @@ uint8_t *request_of_command(int count, char **words, const char *help, struct op
         else if (++i == count) misuse("%s has nothing after it", options[o].name);
         else options[o].take(words[i], &options[o]);
     }
-    return request;
+}
+
+struct bytes { uint8_t *at; size_t length; };
+static void more_bytes(const char *word, void *into) {
+    struct bytes *b = into;
+    b->length += bytes_of_word(word, b->at + b->length);
+}
+
+uint8_t *request_of_command(int count, char **words, const char *help, struct option *options, size_t number, size_t *length) {
+    size_t letters = 1;
+    for (int i = 1; i < count; i++) letters += strlen(words[i]);
+    struct bytes b = { malloc(letters), 0 };
+    if (!b.at) misuse("no memory");
+    words_of_command(count, words, help, options, number, more_bytes, &b);
+    *length = b.length;
+    return b.at;
 }

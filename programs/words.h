@@ -31,9 +31,13 @@ long number_of_word(const char *word, const char *what, long least, long most);
 void bytes_of_file(const char *name, uint8_t *bytes, size_t length);
 
 /* The options of a command: each with a word after it that `take` reads into `into`, or a mark alone (take is NULL, `into` an int that
- * becomes 1). Each may be given once, anywhere; "--help" prints the help and ends the program. What is no option is a byte of the
- * request, which is handed back in memory of its own, its length at `length`. */
+ * becomes 1). Each may be given once, anywhere; "--help" prints the help and ends the program. Every other word, and "-", goes to
+ * `other`. */
 struct option { const char *name; void (*take)(const char *word, struct option *o); void *into; size_t length; int given; };
+void words_of_command(int count, char **words, const char *help, struct option *options, size_t number,
+                      void (*other)(const char *word, void *into), void *into);
+
+/* The same, where every other word is a byte of the request, which is handed back in memory of its own, its length at `length`. */
 uint8_t *request_of_command(int count, char **words, const char *help, struct option *options, size_t number, size_t *length);
 void take_file(const char *word, struct option *o);             /* exactly `length` bytes */
 void take_number(const char *word, struct option *o);           /* a long, from 0 to `length` */

@@ -15,6 +15,7 @@ struct face {
     struct station_count (*matrix)(const uint8_t *, size_t, const uint8_t *, size_t, uint8_t *, size_t);
     struct station_pixel (*preview)(const uint8_t *, size_t, uint32_t, uint32_t, uint32_t);
     struct station_masks (*class_of)(uint8_t);
+    struct station_verdict (*vet)(const uint8_t *, size_t, const uint8_t *, size_t, const uint8_t *, size_t, const uint8_t *, size_t);
 };
 
 #endif

@@ -1,7 +1,7 @@
-/* The library's nine calls at every alignment, in threads at a time, and on a painted stack; and the sizes and names of station.h against
+/* The library's ten calls at every alignment, in threads at a time, and on a painted stack; and the sizes and names of station.h against
  * what the calls take. */
 #include "facts.h"
-#include "gen.h"
+#include "lists.h"
 #include "station_text.h"
 #include <pthread.h>
 #include <stdio.h>
@@ -11,7 +11,11 @@
 
 /* ---- The calls, each on slices of one kind of input; an answer is its bytes. */
 
-struct slices { uint8_t *request, *image, *packet, *coefficients, *matrix, *writes, *back; size_t length; uint8_t address, value; };
+struct slices {
+    uint8_t *request, *image, *packet, *coefficients, *matrix, *writes, *back, *list;
+    size_t length, list_length;
+    uint8_t address, value;
+};
 struct answer { uint8_t bytes[32]; };
 #define ANSWER(type, call) do { type t = call; memcpy(a->bytes, &t, sizeof t); } while (0)
 
@@ -39,13 +43,18 @@ static void matrix(const struct slices *s, struct answer *a) {
     ANSWER(struct station_count, station_matrix(s->image, STATION_IMAGE, s->coefficients, STATION_COEFFICIENTS, s->matrix, STATION_MATRIX));
 }
 static void class_of(const struct slices *s, struct answer *a) { ANSWER(struct station_masks, station_class(s->address)); }
+static void vet(const struct slices *s, struct answer *a) {
+    ANSWER(struct station_verdict, station_vet(s->image, STATION_IMAGE, s->packet, STATION_PACKET, s->coefficients, STATION_COEFFICIENTS,
+                                               s->list, s->list_length));
+}
 
 static const struct { const char *name; void (*call)(const struct slices *, struct answer *); } calls[] = {
-    { "station_plan", plan },       { "station_decode", decode }, { "station_ncts", ncts },
+    { "station_plan", plan },       { "station_decode", decode },   { "station_ncts", ncts },
     { "station_preview", preview }, { "station_write", write_one }, { "station_sent", sent },
-    { "station_mute", mute },       { "station_matrix", matrix }, { "station_class", class_of },
+    { "station_mute", mute },       { "station_matrix", matrix },   { "station_class", class_of },
+    { "station_vet", vet },
 };
-enum { CALLS = sizeof calls / sizeof calls[0], INPUTS = 300, OFFSETS = 16 };
+enum { CALLS = sizeof calls / sizeof calls[0], INPUTS = 300, OFFSETS = 16, SLICES = 8 };
 
 /* ---- Inputs, and the slices of one, each at an offset of its own. */
 
@@ -53,7 +62,18 @@ static struct input {
     uint8_t request[LEAST_ROOM], image[STATION_IMAGE], packet[STATION_PACKET], coefficients[STATION_COEFFICIENTS], matrix[STATION_MATRIX];
     size_t length;
     uint8_t address, value;
+    struct pairs list;
 } inputs[INPUTS];
+
+/* A list of ours for the image, some of them as long as a list may be. */
+static void make_list(struct input *n, int longest) {
+    struct chip c;
+    struct fields f;
+    memcpy(c.image, n->image, sizeof c.image);
+    accepted_fields(&f);
+    our_list(&c, &f, &n->list);
+    if (longest) stretch(&c, &n->list, MOST_PAIRS);
+}
 
 static void make_inputs(void) {
     seed(11);
@@ -69,33 +89,35 @@ static void make_inputs(void) {
         memcpy(n->matrix, table_39, sizeof n->matrix);
         if (i % 4 == 0) any_bytes(n->matrix + 1, sizeof n->matrix - 1);
         n->address = (uint8_t)any(256), n->value = (uint8_t)any(256);
+        make_list(n, i % 5 == 0);
     }
 }
 
-struct room { uint8_t bytes[7][STATION_IMAGE + 64]; } __attribute__((aligned(16)));
+struct room { uint8_t bytes[SLICES][STATION_LIST + 64]; } __attribute__((aligned(16)));
 
 static struct slices lay(struct room *r, const struct input *n, int offset) {
     memset(r, 0x5A, sizeof *r);
-    struct slices s = { NULL, NULL, NULL, NULL, NULL, NULL, NULL, n->length, n->address, n->value };
-    uint8_t **const at[7] = { &s.request, &s.image, &s.packet, &s.coefficients, &s.matrix, &s.writes, &s.back };
-    for (int k = 0; k < 7; k++) *at[k] = r->bytes[k] + (offset ? (offset + k) % OFFSETS : 0);
+    struct slices s = { .length = n->length, .list_length = n->list.length, .address = n->address, .value = n->value };
+    uint8_t **const at[SLICES] = { &s.request, &s.image, &s.packet, &s.coefficients, &s.matrix, &s.writes, &s.back, &s.list };
+    for (int k = 0; k < SLICES; k++) *at[k] = r->bytes[k] + (offset ? (offset + k) % OFFSETS : 0);
     memcpy(s.request, n->request, n->length);
     memcpy(s.image, n->image, sizeof n->image);
     memcpy(s.packet, n->packet, sizeof n->packet);
     memcpy(s.coefficients, n->coefficients, sizeof n->coefficients);
     memcpy(s.matrix, n->matrix, sizeof n->matrix);
+    memcpy(s.list, n->list.bytes, n->list.length);
     return s;
 }
 
 /* One call on one input: its answer, and what it left in the slices, brought to one place. */
-struct outcome { struct answer a; uint8_t left[7][STATION_IMAGE]; };
+struct outcome { struct answer a; uint8_t left[SLICES][STATION_IMAGE]; };
 static void run_one(int call, const struct input *n, int offset, struct outcome *o) {
     struct room r;
     struct slices s = lay(&r, n, offset);
-    const uint8_t *const at[7] = { s.request, s.image, s.packet, s.coefficients, s.matrix, s.writes, s.back };
+    const uint8_t *const at[SLICES] = { s.request, s.image, s.packet, s.coefficients, s.matrix, s.writes, s.back, s.list };
     memset(o, 0, sizeof *o);
     calls[call].call(&s, &o->a);
-    for (int k = 0; k < 7; k++) memcpy(o->left[k], at[k], STATION_IMAGE);
+    for (int k = 0; k < SLICES; k++) memcpy(o->left[k], at[k], STATION_IMAGE);
 }
 
 static struct outcome aligned[CALLS][INPUTS];
@@ -216,7 +238,16 @@ static void names(void) {
     tell(station_preview(m, STATION_MATRIX - 1, 0, 0, 0).refusal == STATION_FIELD_OUT_OF_RANGE, "STATION_MATRIX is a matrix's length");
     snprintf(version, sizeof version, "%d.%d.%d", STATION_MAJOR, STATION_MINOR, STATION_PATCH);
     tell(!strcmp(version, STATION_VERSION), "STATION_VERSION is of its three numbers");
-    tell(strcmp(station_text(STATION_TWO_HOLDS), station_text(STATION_TWO_HOLDS + 1)) != 0, "station_text knows its last number");
+    struct chip chip;
+    struct pairs l;
+    finished_state(&chip, &example);
+    our_list(&chip, &example, &l);
+    stretch(&chip, &l, STATION_LIST / 2);
+#define VET(length) \
+    station_vet(chip.image, STATION_IMAGE, chip.packet, STATION_PACKET, chip.coefficients, STATION_COEFFICIENTS, l.bytes, length).refusal
+    tell(VET(STATION_LIST) == STATION_ACCEPTED, "a list of STATION_LIST bytes passes");
+    tell(VET(STATION_LIST + 2) == STATION_LIST_LENGTH, "STATION_LIST is the longest list");
+    tell(strcmp(station_text(STATION_BAD_END), station_text(STATION_BAD_END + 1)) != 0, "station_text knows its last number");
 }
 
 int facts(void) {

@@ -1,6 +1,7 @@
 #include "harness.h"
 #include "gen.h"
 #include "lent.h"
+#include "lists.h"
 #include <setjmp.h>
 #include <signal.h>
 #include <stdarg.h>
@@ -149,6 +150,37 @@ static void check_preview(const uint8_t *matrix, size_t ml, uint32_t a, uint32_t
     if (got.refusal != want.refusal || got.a != want.a || got.b != want.b || got.c != want.c)
         differs("%u: %u, %u, %u, the model has %u: %u, %u, %u", got.refusal, got.a, got.b, got.c, want.refusal, want.a, want.b, want.c);
     else if (!holds(MATRIX, matrix)) differs("the input was changed");
+}
+
+/* How often each verdict was met: by its number, 15 by the rule that is broken. */
+enum { VERDICTS = 17 };
+static uint32_t verdicts[VERDICTS], broken[RULES];
+
+static void check_vet(const uint8_t *image, size_t il, const uint8_t *packet, size_t pl, const uint8_t *coefficients, size_t cl,
+                      const uint8_t *list, size_t ll) {
+    run.now->cases++;
+    struct station_verdict want = model_vet(image, il, packet, pl, coefficients, cl, list, ll);
+    struct station_verdict got = run.f->vet(lend(IMAGE, image, il, side()), il, lend(PACKET, packet, pl, side()), pl,
+                                            lend(COEFFICIENTS, coefficients, cl, side()), cl, lend(LIST, list, ll, side()), ll);
+    verdicts[want.refusal]++;
+    if (got.refusal != want.refusal || got.place != want.place)
+        differs("%zu bytes: %u, place %u, the model has %u, place %u", ll, got.refusal, got.place, want.refusal, want.place);
+    else if (!holds(IMAGE, image) || !holds(PACKET, packet) || !holds(COEFFICIENTS, coefficients) || !holds(LIST, list))
+        differs("an input was changed");
+}
+
+/* On a state whose lengths are right: the library's verdict; and the comparison, with the rule that is broken, which answers the model's
+ * number. */
+static struct station_verdict vetted(const struct chip *c, const struct pairs *l) {
+    return run.f->vet(c->image, 256, c->packet, PACKET_BYTES, c->coefficients, COEFFICIENT_BYTES, l->bytes, l->length);
+}
+
+static uint32_t check_list(const struct chip *c, const struct pairs *l) {
+    enum rule rule;
+    uint32_t refusal = model_judge(c, l->bytes, l->length, &rule).refusal;
+    broken[rule] += refusal == 15;
+    check_vet(c->image, 256, c->packet, PACKET_BYTES, c->coefficients, COEFFICIENT_BYTES, l->bytes, l->length);
+    return refusal;
 }
 
 /* Sections. ------------------------------------------------------------------------------------------------------------------------- */
@@ -351,12 +383,16 @@ static void lengths(void) {
             check_matrix(image, n, coefficients, 24, buffer, MATRIX_BYTES - 1);
             check_matrix(image, 256, coefficients, 24, buffer, n);
             check_preview(buffer, n, 1, 2, 3);
+            check_vet(image, n, packet, 32, coefficients, 24, buffer, n % 4);
+            check_vet(image, 256, packet, 32, coefficients, 24, buffer, n);
             if (n >= 64) continue;
             check_write(image, 256, packet, n, coefficients, 24, 0x4A, 0xA0);
             check_write(image, 256, packet, 32, coefficients, n, 0x1A, 0x20);
             check_sent(image, 256, packet, n, n % 3);
             check_mute(image, 256, packet, n);
             check_matrix(image, 256, coefficients, n, buffer, MATRIX_BYTES);
+            check_vet(image, 256, packet, n, coefficients, 24, buffer, n % 4);
+            check_vet(image, 256, packet, 32, coefficients, n, buffer, n % 4);
         }
     }
 }
@@ -581,7 +617,6 @@ static void preview(void) {
 
 /* Demand 3, with the library's own planning, machine and views. --------------------------------------------------------------------- */
 
-struct chip { uint8_t image[256], packet[PACKET_BYTES], coefficients[COEFFICIENT_BYTES]; };
 struct groups { uint8_t avi[AVI_BYTES], audio[AUDIO_BYTES], matrix[24]; uint32_t mute; };
 
 /* What is in use, by the library's views. The chip lies at guard pages. */
@@ -735,6 +770,260 @@ static void chains(void) {
     }
 }
 
+/* A vendor's list: document 02, request 03. ----------------------------------------------------------------------------------------- */
+
+/* By their own numbers, not the model's: on an image that document 01's example has finished over zeros, no hold up. */
+static void marked_lists(void) {
+    static const struct { uint32_t refusal, place; size_t length; uint8_t bytes[16]; const char *what; } cases[] = {
+        { 0, 0, 0, { 0 }, "the empty list on a finished image" },
+        { 0, 0, 2, { 0x4B, 0x80 }, "one pair, the opening write" },
+        { 0, 0, 2, { 0x3C, 0x10 }, "one pair, and never muted: it has no cut" },
+        { 16, 0, 2, { 0x4B, 0x40 }, "one pair, the mute" },
+        { 16, 0, 2, { 0x3C, 0x04 }, "one pair, another VIC" },
+        { 15, 0, 2, { 0x30, 0x00 }, "one pair, no register of ours" },
+        { 15, 0, 2, { 0x4A, 0xE0 }, "one pair, two holds" },
+        { 0, 0, 4, { 0x4B, 0x40, 0x4B, 0x80 }, "muted and opened" },
+        { 15, 0, 4, { 0x4B, 0x80, 0x4B, 0x80 }, "not muted" },
+        { 15, 0, 4, { 0x4B, 0x00, 0x4B, 0x80 }, "neither muted nor open" },
+        { 15, 0, 4, { 0x4B, 0xC0, 0x4B, 0x80 }, "set and clear both 1" },
+        { 16, 0, 4, { 0x4B, 0x40, 0x3C, 0x10 }, "muted to the end" },
+        { 15, 0, 4, { 0x3C, 0x10, 0x4B, 0x40 }, "muted too late, and a bad end" },
+        { 15, 1, 6, { 0x4B, 0x40, 0x4C, 0x00, 0x4B, 0x80 }, "a register that is read-only" },
+        { 15, 1, 6, { 0x4B, 0x40, 0x62, 0x00, 0x4B, 0x80 }, "a register after the AVI packet" },
+        { 15, 1, 6, { 0x4B, 0x40, 0x7D, 0x00, 0x4B, 0x80 }, "a register after the audio packet" },
+        { 15, 1, 6, { 0x4B, 0x40, 0x99, 0x02, 0x4B, 0x80 }, "a register that is fixed by the map and not in Table 14" },
+        { 0, 0, 6, { 0x4B, 0x40, 0x7C, 0x00, 0x4B, 0x80 }, "a reserved register of the audio packet" },
+        { 0, 0, 6, { 0x4B, 0x40, 0xE0, 0xD0, 0x4B, 0x80 }, "a register of Table 14" },
+        { 15, 1, 8, { 0x4B, 0x40, 0xE0, 0xD1, 0xE0, 0xD0, 0x4B, 0x80 }, "mandated bits, made right after" },
+        { 15, 1, 8, { 0x4B, 0x40, 0x0C, 0x84, 0x0C, 0x04, 0x4B, 0x80 }, "a free bit, made right after" },
+        { 15, 0, 4, { 0x4B, 0x41, 0x4B, 0x80 }, "a free bit of the mute register" },
+        { 15, 1, 8, { 0x4B, 0x40, 0x4A, 0x90, 0x4A, 0x80, 0x4B, 0x80 }, "the GC hold raised" },
+        { 0, 0, 8, { 0x4B, 0x40, 0x3C, 0x04, 0x3C, 0x10, 0x4B, 0x80 }, "a VIC that is put right: no group has it" },
+        { 15, 1, 8, { 0x4B, 0x40, 0x55, 0x30, 0x55, 0x10, 0x4B, 0x80 }, "an AVI byte without its hold" },
+        { 0, 0, 12, { 0x4B, 0x40, 0x4A, 0xC0, 0x55, 0x30, 0x55, 0x10, 0x4A, 0x80, 0x4B, 0x80 }, "the same, with its hold" },
+        { 16, 0, 10, { 0x4B, 0x40, 0x4A, 0xC0, 0x55, 0x30, 0x4A, 0xA0, 0x4B, 0x80 }, "a new AVI group, and a bad end" },
+        { 15, 1, 8, { 0x4B, 0x40, 0x73, 0x07, 0x73, 0x01, 0x4B, 0x80 }, "an audio byte without its hold" },
+        { 15, 1, 8, { 0x4B, 0x40, 0x18, 0x2C, 0x18, 0x28, 0x4B, 0x80 }, "a coefficient without its hold" },
+        { 0, 0, 8, { 0x4B, 0x40, 0x18, 0x48, 0x18, 0x28, 0x4B, 0x80 }, "the matrix mode, which is in no group" },
+        { 0, 0, 10, { 0x4B, 0x40, 0x4A, 0xC0, 0x4A, 0xA0, 0x4A, 0x80, 0x4B, 0x80 }, "the AVI hold, then the audio hold" },
+        { 15, 2, 10, { 0x4B, 0x40, 0x4A, 0xC0, 0x4A, 0xE0, 0x4A, 0x80, 0x4B, 0x80 }, "the audio hold over the AVI hold" },
+        { 15, 3, 10, { 0x4B, 0x40, 0x4A, 0xA0, 0x4B, 0x80, 0x4A, 0xE0, 0x4B, 0x80 }, "opened just before two holds: no cut there" },
+        { 15, 1, 10, { 0x4B, 0x40, 0x4B, 0x80, 0x4A, 0xC0, 0x4A, 0xE0, 0x4B, 0x80 }, "opened earlier: a cut there" },
+        { 15, 2, 10, { 0x4B, 0x40, 0x55, 0x30, 0x4A, 0xE0, 0x55, 0x10, 0x4B, 0x80 }, "two holds end the list: an AVI byte is new" },
+        { 15, 1, 10, { 0x4B, 0x40, 0x55, 0x30, 0x30, 0x01, 0x55, 0x10, 0x4B, 0x80 }, "another bad pair does not end it" },
+        { 15, 1, 10, { 0x4B, 0x40, 0x4A, 0x90, 0x4A, 0xD0, 0x4A, 0x80, 0x4B, 0x80 }, "the GC hold, then two" },
+        { 14, 0, 1, { 0x4B }, "half a pair" },
+        { 14, 0, 3, { 0x4B, 0x80, 0x4B }, "a pair and a half" },
+    };
+    struct chip c = { { 0 }, { 0 }, { 0 } };
+    finish(c.image, &example);
+    for (size_t i = 0; i < sizeof cases / sizeof cases[0]; i++) {
+        struct pairs l = { .length = cases[i].length };
+        memcpy(l.bytes, cases[i].bytes, sizeof cases[i].bytes);
+        struct station_verdict v = vetted(&c, &l);
+        if (v.refusal != cases[i].refusal || v.place != cases[i].place)
+            differs("%s: %u, place %u, not %u, place %u", cases[i].what, v.refusal, v.place, cases[i].refusal, cases[i].place);
+        check_list(&c, &l);
+        c.image[0x4A] |= 0x10;                          /* 8 comes before 14 and 15, 7 before 8 */
+        v = vetted(&c, &l);
+        if (v.refusal != 8 || v.place != 0) differs("%s, the GC hold up: %u", cases[i].what, v.refusal);
+        check_list(&c, &l);
+        check_vet(c.image, 256, c.packet, PACKET_BYTES - 1, c.coefficients, COEFFICIENT_BYTES, l.bytes, l.length);
+        c.image[0x4A] &= 0xEF;
+    }
+}
+
+/* The accident of May: Table 39's bytes, copied to 0x18 onward without a hold; and under a hold that the third byte drops. */
+static void accident_of_may(void) {
+    for (int held = 0; held < 2; held++) {
+        struct chip c = { { 0 }, { 0 }, { 0 } };
+        struct pairs l = { .length = 0 };
+        finish(c.image, &example);
+        put_in(&l, 0, 0x4B, 0x40);
+        if (held) put_in(&l, 1, 0x1A, 0x20);
+        for (uint8_t k = 0; k < 24; k++) {
+            uint8_t byte = table_39[1 + k] & (k % 2 ? 0xFF : 0x1F);
+            put_in(&l, count_of(&l), (uint8_t)(0x18 + k), k == 0 ? byte | 0xA0 : byte);
+        }
+        put_in(&l, count_of(&l), 0x4B, 0x80);
+        struct station_verdict v = vetted(&c, &l);
+        if (v.refusal != 15 || v.place != (held ? 4 : 1)) differs("the accident of May: %u, place %u", v.refusal, v.place);
+        check_list(&c, &l);
+    }
+}
+
+/* What a passing list gives, by the library's own machine and views: muted and old or new at each cut, a request at the end; and at each
+ * cut another request is planned, accepted, and finishes as ever. */
+static void gives(const struct chip *start, const struct pairs *l) {
+    uint8_t bytes[LONGEST], list[256];
+    struct chip c = *start, end = *start, redone;
+    struct groups old, new, g;
+    struct fields f;
+    uint32_t count = (uint32_t)count_of(l);
+    if (!sent_to(&end, l->bytes, 0, count) || !look(start, &old) || !look(&end, &new)) {
+        differs("a write of a passing list refused");
+        return;
+    }
+    if (run.f->decode(end.image, 256, bytes, sizeof bytes).refusal) differs("a passing list ends in no request");
+    for (uint32_t cut = 1; cut <= count; cut++) {
+        run.now->cases++;
+        if (!sent_to(&c, l->bytes, cut - 1, cut) || !look(&c, &g)) {
+            differs("a view refused after pair %u of a passing list", cut);
+            return;
+        }
+        if (cut < count && g.mute != 1) differs("not muted after pair %u of a passing list of %u", cut, count);
+        if (!old_or_new(&g, &old, &new)) differs("a group is neither old nor new after pair %u of a passing list", cut);
+        accepted_fields(&f);
+        size_t length = model_bytes(&f, bytes);
+        redone = c;
+        struct station_count n = planned(bytes, length, &c, list);
+        if (n.refusal || n.count > 128 || !sent_to(&redone, list, 0, n.count) || !look(&redone, &g))
+            differs("planned after pair %u of a passing list: refused %u", cut, n.refusal);
+        else finished(bytes, length, &f, &c, &redone, &g);
+    }
+}
+
+/* Every kind of request, planned by the library on a state of every kind: its own list passes. */
+static void own_lists(void) {
+    struct fields f;
+    uint32_t count = 0;
+    marked_lists();
+    accident_of_may();
+    for (uint32_t i = 0; i < kinds(); i++) {
+        uint8_t bytes[LONGEST];
+        struct chip c;
+        struct pairs l;
+        if (!tries_kind(i, times(KINDS), &f) || !model_pair(&f).exists) continue;
+        any_state(&c);
+        struct station_count n = planned(bytes, model_bytes(&f, bytes), &c, l.bytes);
+        l.length = n.count <= 128 ? 2 * n.count : 0;
+        struct station_verdict v = vetted(&c, &l);
+        if (n.refusal || v.refusal || v.place)
+            differs("VIC %d: planned %u, our own list is refused %u at %u", f.vic, n.refusal, v.refusal, v.place);
+        check_list(&c, &l);
+        if (count++ % EVERY == 0) gives(&c, &l);
+    }
+    if (run.share >= 1000) every_value_met();
+}
+
+/* A list of ours with one change at each place. */
+static void changed_lists(void) {
+    static const uint8_t holds_up[] = { 0x60, 0x50, 0x30, 0x70, 0x10 };     /* two of them, and the GC hold alone */
+    for (uint32_t i = times(60); i > 0; i--) {
+        struct chip c;
+        struct pairs ours, l;
+        struct fields f;
+        uint8_t pair[2];
+        seed(0xE00000u + i);
+        accepted_fields(&f);
+        any_state(&c);
+        our_list(&c, &f, &ours);
+        size_t n = count_of(&ours);
+        for (size_t at = 0; at < n; at++) {
+            l = ours, take_out(&l, at, at + 1), check_list(&c, &l);
+            l = ours, put_in(&l, at, ours.bytes[2 * at], ours.bytes[2 * at + 1]), check_list(&c, &l);
+            if (at + 1 < n) l = ours, exchange(&l, at), check_list(&c, &l);
+            for (int bit = 0; bit < 16; bit++) {
+                if (i > times(6) && any(8)) continue;   /* every bit of some lists */
+                l = ours, l.bytes[2 * at + (size_t)bit / 8] ^= (uint8_t)(1 << bit % 8), check_list(&c, &l);
+            }
+            l = ours, any_bad_pair(&c, pair), put_in(&l, at, pair[0], pair[1]), check_list(&c, &l);
+            any_bad_pair(&c, pair), put_in(&l, any((uint32_t)n), pair[0], pair[1]), check_list(&c, &l);
+            l = ours, put_in(&l, at, 0x4A, (uint8_t)((c.image[0x4A] & 0x8F) | holds_up[any(5)])), check_list(&c, &l);
+            any_bad_pair(&c, pair), put_in(&l, any((uint32_t)n), pair[0], pair[1]), check_list(&c, &l);
+            l = ours, l.length = 2 * at, check_list(&c, &l);        /* cut off */
+            l.length++, check_list(&c, &l);                         /* in a pair */
+        }
+        l = ours, put_in(&l, n, 0x4A, (uint8_t)((c.image[0x4A] & 0x8F) | holds_up[any(5)])), check_list(&c, &l);
+        /* Each register, with the byte that stands there, put in at one place. */
+        for (int a = 0; a < 256; a++)
+            l = ours, put_in(&l, any((uint32_t)n + 1), (uint8_t)a, kept_value(c.image, (uint8_t)a, c.image[a])), check_list(&c, &l);
+        /* Passing lists as long as is allowed, and longer. */
+        for (size_t count = MOST_PAIRS - 1; count <= MOST_PAIRS + 1; count++) {
+            l = ours, stretch(&c, &l, count);
+            if (check_list(&c, &l) != (count <= MOST_PAIRS ? 0 : 14)) differs("a list of %zu fair pairs is not what it should be", count);
+            l.length++, check_list(&c, &l);
+        }
+    }
+}
+
+/* Lists of one pair: each address with each value, on some states, finished ones among them. */
+static void single_pairs(void) {
+    for (uint32_t i = times(2); i > 0; i--) {
+        struct chip c;
+        struct fields f;
+        struct pairs l = { .length = 2 };
+        seed(0x1200000u + i);
+        accepted_fields(&f);
+        any_state(&c);
+        if (i % 2) finished_state(&c, &f);
+        for (uint32_t v = run.share < 1000 ? any(13) : 0; v < 65536; v += run.share < 1000 ? 13 : 1) {
+            l.bytes[0] = (uint8_t)(v >> 8), l.bytes[1] = (uint8_t)v;
+            check_list(&c, &l);
+        }
+    }
+}
+
+static void never_met(uint32_t count, const char *what) {
+    if (run.loud) printf("    %9u lists: %s\n", count, what);
+    if (!count) differs("no list was met: %s", what);
+}
+
+/* Lists of every kind; the empty one against decoding; lengths that are wrong, more than one at a time. */
+static void vendors(void) {
+    static struct pairs l;
+    static uint8_t image[300], packet[64], coefficients[64], longest[ROOM];
+    struct chip c;
+    for (uint32_t i = times(24000), given = times(500); i > 0; i--) {
+        seed(0xF00000u + i);
+        any_vendors(&c, &l);
+        if (check_list(&c, &l) == 0 && given > 0 && any(4) == 0) given--, gives(&c, &l);
+    }
+    for (uint32_t i = times(6000); i > 0; i--) {
+        struct station_count d;
+        uint8_t bytes[LONGEST];
+        seed(0x1000000u + i);
+        any_image(c.image);
+        l.length = 0;
+        any_bytes(c.packet, PACKET_BYTES);
+        any_bytes(c.coefficients, COEFFICIENT_BYTES);
+        uint32_t refusal = check_list(&c, &l);
+        d = run.f->decode(c.image, 256, bytes, sizeof bytes);
+        if (refusal != 8 && (refusal == 0) != (d.refusal == 0)) differs("the empty list: %u, decoding: %u", refusal, d.refusal);
+    }
+    for (uint32_t i = times(6000); i > 0; i--) {
+        seed(0x1100000u + i);
+        any_vendors(&c, &l);
+        any_bytes(image, sizeof image);
+        any_bytes(packet, sizeof packet);
+        any_bytes(coefficients, sizeof coefficients);
+        memcpy(image, c.image, 256);
+        memcpy(packet, c.packet, PACKET_BYTES);
+        memcpy(coefficients, c.coefficients, COEFFICIENT_BYTES);
+        if (any(2)) image[0x4A] |= (const uint8_t[]){ 0x60, 0x10, 0x70, 0x50 }[any(4)];
+        if (any(2)) l.length = any(2) ? l.length + 1 : 2 * MOST_PAIRS - 1 + any(4);
+        check_vet(image, any_length(256, sizeof image), packet, any_length(PACKET_BYTES, sizeof packet), coefficients,
+                  any_length(COEFFICIENT_BYTES, sizeof coefficients), l.bytes, l.length);
+    }
+    single_pairs();
+    any_state(&c);
+    for (size_t less = 0; less < 2; less++)             /* a very long one */
+        check_vet(c.image, 256, c.packet, PACKET_BYTES, c.coefficients, COEFFICIENT_BYTES, longest, ROOM - 64 - less);
+    if (run.share >= 1000) {
+        static const struct { uint32_t number; const char *what; } numbers[] = {
+            { 0, "accepted" }, { 7, "refused 7" }, { 8, "refused 8" }, { 14, "refused 14" }, { 16, "refused 16" },
+        };
+        for (size_t k = 0; k < sizeof numbers / sizeof numbers[0]; k++) never_met(verdicts[numbers[k].number], numbers[k].what);
+        for (int rule = NO_RULE + 1; rule < RULES; rule++) {
+            char what[40];
+            snprintf(what, sizeof what, "refused 15, %s", model_rules[rule]);
+            never_met(broken[rule], what);
+        }
+    }
+    memset(verdicts, 0, sizeof verdicts);
+    memset(broken, 0, sizeof broken);
+}
+
 static const struct { const char *name; void (*run)(void); } sections[SECTIONS] = {
     { "class table", classes },
     { "marked cases", marked },
@@ -749,6 +1038,9 @@ static const struct { const char *name; void (*run)(void); } sections[SECTIONS] 
     { "machine writes", writes },
     { "views", views },
     { "preview", preview },
+    { "lists: by hand, and our own", own_lists },
+    { "lists of ours, a change each", changed_lists },
+    { "lists of a vendor", vendors },
     { "every cut of every mode", cuts },
     { "more than one cut", chains },
 };

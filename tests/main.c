@@ -1,7 +1,7 @@
 /* tests: `tests lib` compares the library with the model; `tests self` the model with itself, which tries the harness; `tests wrong` runs
- * every wrong library of tests/wrong and says how many were caught, after three right ones (the model, and the two plain ones of bench/).
- * `tests facts` is what station.h says of sizes, alignment, threads and stack. Each ends with 'N passed, M failed'. `tests line` prints
- * what the small program should print. */
+ * every wrong library of tests/wrong and says how many were caught, after four right ones (the model, the two plain ones of bench/, and the
+ * judge of wrong/vet.c without a fault). `tests facts` is what station.h says of sizes, alignment, threads and stack. Each ends with
+ * 'N passed, M failed'. `tests line` prints what the small program should print. */
 #include "../bench/plain.h"
 #include "facts.h"
 #include "harness.h"
@@ -11,10 +11,10 @@
 #include <stdlib.h>
 #include <string.h>
 
-static const struct face model = { model_plan, model_decode, model_ncts,    model_write,  model_sent,
-                                   model_mute, model_matrix, model_preview, model_class };
-static const struct face library = { station_plan, station_decode, station_ncts,    station_write,  station_sent,
-                                     station_mute, station_matrix, station_preview, station_class };
+static const struct face model = { model_plan, model_decode, model_ncts,    model_write, model_sent,
+                                   model_mute, model_matrix, model_preview, model_class, model_vet };
+static const struct face library = { station_plan, station_decode, station_ncts,    station_write, station_sent,
+                                     station_mute, station_matrix, station_preview, station_class, station_vet };
 
 static int compared(const char *what, const struct face *f, unsigned share) {
     struct section s[SECTIONS];
@@ -41,17 +41,21 @@ static int caught(void) {
     int control = harness(&model, ALL, SHARE, 1, 0, s);
     printf("  the right one: %s\n", control ? first_difference : "no difference");
     struct face plain = model, rule = model;
-    plain.plan = plain_plan, plain.decode = plain_decode;
-    rule.plan = rule_plan, rule.decode = rule_decode;
+    plain.plan = plain_plan, plain.decode = plain_decode, plain.vet = plain_vet;
+    rule.plan = rule_plan, rule.decode = rule_decode, rule.vet = rule_vet;
     control += harness(&plain, ALL, 5 * SHARE, 1, 0, s);
-    printf("  the plain planner and decoder of bench/: %s\n", first_difference[0] ? first_difference : "no difference");
+    printf("  the plain planner, decoder and vet of bench/: %s\n", first_difference[0] ? first_difference : "no difference");
     control += harness(&rule, ALL, 5 * SHARE, 1, 0, s);
     printf("  the same, N and CTS by the rule: %s\n", first_difference[0] ? first_difference : "no difference");
-    for (const struct wrong *const *set = wrong_sets; *set; set++)
-        for (const struct wrong *w = *set; w->fault; w++, all++) {
+    struct face judge = model;
+    put_right_judge(&judge);
+    control += harness(&judge, ALL, 5 * SHARE, 1, 0, s);
+    printf("  the judge of wrong/vet.c without a fault: %s\n", first_difference[0] ? first_difference : "no difference");
+    for (const struct wrong_set *set = wrong_sets; set->rows; set++)
+        for (const struct wrong *w = set->rows; w->fault; w++, all++) {
             struct face f = model;
             w->put(&f);
-            int bad = harness(&f, ALL, SHARE, 1, 0, s);
+            int bad = harness(&f, set->first, SHARE, 1, 0, s);
             printf("  %-6s %-48.48s %.100s\n", bad ? "caught" : "MISSED", w->fault, first_difference);
             if (bad && w->on_cuts) {        /* demand 3 must show it too, without the model's list */
                 bad = harness(&f, ON_CUTS, SHARE, 1, 0, s);
@@ -62,7 +66,7 @@ static int caught(void) {
             fflush(stdout);
         }
     printf("  %d of %d wrong libraries caught, %d of them by demand 3 alone as well\n", all - missed, all, cuts);
-    printf("%d passed, %d failed\n", all - missed + 3 - control, missed + control);
+    printf("%d passed, %d failed\n", all - missed + 4 - control, missed + control);
     return missed != 0 || control != 0;
 }
 

@@ -80,3 +80,15 @@ struct station_masks model_class(uint8_t address) {
     const struct model_class *c = &model_classes[address];
     return (struct station_masks){ c->read_only, c->mandated, c->named, c->free, c->bits };
 }
+
+struct station_verdict model_vet(const uint8_t *image, size_t image_length, const uint8_t *packet, size_t packet_length,
+                                 const uint8_t *coefficients, size_t coefficients_length, const uint8_t *list, size_t list_length) {
+    struct chip c;
+    enum rule rule;
+    if (image_length != IMAGE_BYTES || packet_length != PACKET_BYTES || coefficients_length != COEFFICIENT_BYTES)
+        return (struct station_verdict){ 7, 0 };
+    for (int i = 0; i < IMAGE_BYTES; i++) c.image[i] = image[i];
+    for (int i = 0; i < PACKET_BYTES; i++) c.packet[i] = packet[i];
+    for (int i = 0; i < COEFFICIENT_BYTES; i++) c.coefficients[i] = coefficients[i];
+    return model_judge(&c, list, list_length, &rule);
+}

@@ -87,6 +87,22 @@ uint32_t model_step(uint8_t *image, uint8_t *packet, uint8_t *coefficients, uint
 enum { NONE_FREE = 0, SECTIONS_FREE = 1 << 30 };
 int model_ends(const uint8_t *image, uint32_t free, struct fields *f);
 
+/* vet.c: the verdict on a vendor's list, and the rule that its first bad pair breaks. What is in use: the GC byte, the two packets, and the
+ * coefficients as numbers of 13 bits. */
+enum { MOST_PAIRS = 512 };
+enum rule { NO_RULE, OTHER_REGISTER, MANDATED_BITS, FREE_BITS, TWO_HOLDS, NOT_MUTED, AVI_GROUP, AUDIO_GROUP, MATRIX_GROUP, RULES };
+extern const char *const model_rules[RULES];        /* in words */
+struct chip { uint8_t image[IMAGE_BYTES], packet[PACKET_BYTES], coefficients[COEFFICIENT_BYTES]; };
+struct in_use { uint8_t gc, avi[AVI_BYTES], audio[AUDIO_BYTES]; int coefficient[12]; };
+uint32_t      model_run(struct chip *c, uint8_t address, uint8_t value);
+struct in_use model_in_use(const struct chip *c);
+int           model_muted(const struct in_use *u);
+int           model_same_avi(const struct in_use *a, const struct in_use *b);
+int           model_same_audio(const struct in_use *a, const struct in_use *b);
+int           model_same_matrix(const struct in_use *a, const struct in_use *b);
+enum rule     model_cut_breaks(const struct in_use *now, const struct in_use *old, const struct in_use *end);
+struct station_verdict model_judge(const struct chip *c, const uint8_t *list, size_t length, enum rule *rule);     /* 8 and 14 to 16 */
+
 /* face.c: the C face, by the model. */
 struct station_count model_plan(const uint8_t *, size_t, const uint8_t *, size_t, uint8_t *, size_t);
 struct station_count model_decode(const uint8_t *, size_t, uint8_t *, size_t);
@@ -97,5 +113,6 @@ struct station_state model_mute(const uint8_t *, size_t, const uint8_t *, size_t
 struct station_count model_matrix(const uint8_t *, size_t, const uint8_t *, size_t, uint8_t *, size_t);
 struct station_pixel model_preview(const uint8_t *, size_t, uint32_t, uint32_t, uint32_t);
 struct station_masks model_class(uint8_t);
+struct station_verdict model_vet(const uint8_t *, size_t, const uint8_t *, size_t, const uint8_t *, size_t, const uint8_t *, size_t);
 
 #endif

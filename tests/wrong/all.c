@@ -1,3 +1,8 @@
 #include "wrong.h"
+#include "../harness.h"
 
-const struct wrong *const wrong_sets[] = { wrong_plans, wrong_numbers, wrong_decodes, wrong_machines, wrong_views, NULL };
+const struct wrong_set wrong_sets[] = {
+    { wrong_plans, ALL },    { wrong_numbers, ALL }, { wrong_decodes, ALL },
+    { wrong_machines, ALL }, { wrong_views, ALL },   { wrong_vets, ON_LISTS },
+    { NULL, ALL },
+};

@@ -20,7 +20,7 @@ use Rattle.registers.specs.Classes.{readOnly}
 use Rattle.chip.specs.declared.Chip.{Chip}
 use Rattle.chip.specs.declared.Wrote.{Wrote}
 use Rattle.chip.specs.Machine.{Group, Buffer, avi, audio, gc, matrix, packets, converter, up, registersOf, holdsOf}
-use Rattle.chip.specs.Write.{filled, bufferAfter, put, stored, imageAfter, two, refuses, writeTests, refusedWrite, writeOf}
+use Rattle.chip.specs.Write.{filled, bufferAfter, put, stored, imageAfter, two, refuses, writeTests, refusedWrite, writeOf, holdsAfter, Stores}
 use Rattle.chip.specs.Step.{TwoUp, writeRules, Keeps, Step}
 
 -- a test for two packet holds decides that two are up
@@ -38,6 +38,10 @@ filled-none (g ∷ gs) n n′ image buffer t =
     let r : Bool = up g n′ && not (up g n) in
     let more : Bool = every (λ g. not (up g n′ && not (up g n))) gs in
     rw (not-true r (both-left (not r) more t)) (filled-none gs n n′ image buffer (both-right (not r) more t))
+
+not-not : (b : Bool) → not (not b) ≡ b
+not-not true = refl
+not-not false = refl
 
 quiet : (b : Bool) → not (b && not b) ≡ true
 quiet true = refl
@@ -75,6 +79,14 @@ alone false true true t = absurd (false≢true (sym t))
 alone false true false t = ((λ e. refl), (λ e. absurd (false≢true e)))
 alone false false c t = ((λ e. refl), (λ e. (refl, refl)))
 
+-- the packet holds after a byte is stored are those in the image then
+pub holds-stored : (image : List ℕ) (address byte : ℕ) → length image ≡ 256 → holdsAfter address byte image ≡ holdsOf packets (set image address byte)
+holds-stored image address byte whole = go (eqb address (packets .register)) refl
+  where
+    go : (t : Bool) → eqb address (packets .register) ≡ t → cond t byte (holdsOf packets image) ≡ holdsOf packets (set image address byte)
+    go true e = sym (rw (eqb-true address (packets .register) e) (getD-set-same image (packets .register) byte 0 (rw whole (lit< tt))))
+    go false e = sym (getD-set-other image address (packets .register) byte 0 (λ q. eqb-false _ _ e (sym q)))
+
 -- a bit that is not 0
 odd : (n : ℕ) → n % 2 ≢ 0 → n % 2 ≡ 1
 odd n h = omega arith
@@ -88,6 +100,19 @@ module _ (s : Chip) (address value : ℕ) where
   unfolding writeOf
   written-as true e = rw e
   written-as false e = rw e
+
+  -- a write by what `store` answers and leaves
+  module _ (whole : length (s .image) ≡ 256) (done : Bool) (left : Chip)
+      (h : Stores s address (stored address value (s .image)) done left) where
+    said : refuses s address value ≡ not done
+    unfolding refuses
+    said = rw (h .0, ← holds-stored (s .image) address (stored address value (s .image)) whole) (sym (not-not _))
+
+    pub refused-write : done ≡ false → record { refusal = 13; chip = s } ≡ writeOf s address value
+    refused-write e = sym (written-as true (said ∙ ap not e))
+
+    pub taken-write : done ≡ true → record { refusal = 0; chip = left } ≡ writeOf s address value
+    taken-write e = ap (λ (c : Chip). record { refusal = 0; chip = c }) (h .1 ∙ rw e) ∙ sym (written-as false (said ∙ ap not e))
 
   -- a write that has no refusal is taken, and leaves the image that it would leave
   pub allowed : writeOf s address value .refusal ≡ 0 → refuses s address value ≡ false
@@ -243,23 +268,6 @@ module _ (s : Chip) (address value : ℕ) where
         go : (b : Bool) → refuses s address value ≡ b → length (writeOf s address value .chip .coefficients) ≡ 24
         go true e = ap (λ (w : Wrote). length (w .chip .coefficients)) (written-as true e) ∙ l
         go false e = ap length (coefficients-after e) ∙ filled-length (converter .groups) (holdsOf converter (s .image)) (holdsOf converter (imageAfter s address value)) 24 (s .image) (s .coefficients) whole l refl
-
-    -- what a write is refused by, and the byte that it stores, as code has them
-    pub tested : (byte : ℕ) → byte ≡ stored address value (s .image) → (held holds : Bool) → held ≡ two (holdsOf packets (s .image))
-        → holds ≡ two (holdsOf packets (set (s .image) address byte)) → refuses s address value ≡ (held || holds)
-    unfolding refuses
-    tested byte e held holds p q = rw (p, q, e)
-
-    -- the answer of a write, by its parts
-    pub taken-write : (packet coefficients : List ℕ) → refuses s address value ≡ false
-        → packet ≡ full packets (rw whole (lit< tt)) → coefficients ≡ full converter (rw whole (lit< tt))
-        → record { refusal = 0; chip = record { image = imageAfter s address value; packet = packet; coefficients = coefficients } } ≡ writeOf s address value
-    unfolding put
-    taken-write packet coefficients e p q =
-        sym (written-as false e ∙ rw (p, q, refreshed packets (rw whole (lit< tt)), refreshed converter (rw whole (lit< tt))))
-
-    pub refused-write : refuses s address value ≡ true → record { refusal = 13; chip = s } ≡ writeOf s address value
-    refused-write e = sym (written-as true e)
 
     pub stepped : Step s address value
     stepped =

@@ -1,4 +1,5 @@
 -- How the code makes a write: `Step` says of it, bit by bit, what document 01 does ("The chip machine").
+use mathlib.Core.Path.{_≡_}
 use mathlib.Core.Bool.{Bool, cond, not, _&&_, _||_}
 use mathlib.Core.List.{List, [], _∷_, _++_}
 use Prim.Native.Nat.{ℕ}
@@ -23,6 +24,10 @@ abbrev pub bufferAfter : Buffer → ℕ → ℕ → Chip → List ℕ
 bufferAfter b address byte s =
     cond (eqb address (b .register)) (filled (b .groups) (holdsOf b (s .image)) byte (s .image) (b .bytes s)) (b .bytes s)
 
+-- three lent slices as a state
+abbrev pub lentAs : List ℕ → List ℕ → List ℕ → Chip
+lentAs image packet coefficients = record { image = image; packet = packet; coefficients = coefficients }
+
 -- a byte stored as it is
 unfoldable pub put : ℕ → ℕ → Chip → Chip
 put address byte s = record {
@@ -42,6 +47,15 @@ imageAfter s address value = set (s .image) address (stored address value (s .im
 -- two packet holds are up
 abbrev pub two : ℕ → Bool
 two holds = (up avi holds && up audio holds) || ((up avi holds && up gc holds) || (up audio holds && up gc holds))
+
+-- the packet holds after a byte is stored at an address
+abbrev pub holdsAfter : ℕ → ℕ → List ℕ → ℕ
+holdsAfter address byte image = cond (eqb address (packets .register)) byte (holdsOf packets image)
+
+-- what `store` promises: a byte is stored as it is, but where two packet holds are up or would be
+abbrev pub Stores : Chip → ℕ → ℕ → Bool → Chip → Type 0
+Stores s address byte done left =
+    (done ≡ not (two (holdsOf packets (s .image)) || two (holdsAfter address byte (s .image)))) × (left ≡ cond done (put address byte s) s)
 
 -- refusal 13: "two packet holds are up, or the write would leave two up"
 unfoldable pub refuses : Chip → ℕ → ℕ → Bool

@@ -1,11 +1,14 @@
 // The chip machine: document 01, "The chip machine".
 ghost use mathlib.Core.Path.{_≡_};
+ghost use mathlib.Core.Bool.{cond, _||_};
 ghost use mathlib.Core.List.{_++_};
 ghost use Prim.Native.Nat.{ℕ, _+_, _≤_};
-ghost use lib.ListN.{length, take, drop};
+ghost use lib.Dec.{eqb};
+ghost use lib.ListN.{length, getD, take, drop};
+ghost use Rattle.map.specs.Map.{infoframeUpdate, coefficientUpdate};
 ghost use Rattle.chip.specs.declared.Chip.{Chip};
 ghost use Rattle.chip.specs.Machine.{packets, converter};
-ghost use Rattle.chip.specs.Write.{filled, two};
+ghost use Rattle.chip.specs.Write.{lentAs, filled, two, Stores};
 ghost use Rattle.chip.specs.Step.{Hands, Step};
 use map::Map;
 use refusals::Refusal;
@@ -32,66 +35,110 @@ fn fill(image: &[u8], first: usize, count: usize, buffer: &mut [u8])
     lists::copy(&image[first..end], buffer);
 }
 
-// Whether two packet holds are up in a byte of 0x4A.
+// Whether two packet holds are up in a byte of 0x4A. The three stand side by side, GC the lowest: two are up in 3, 5, 6 and 7.
 pub fn two_up(holds: u8) -> bool
     ensures { λ r. ⌜ r ≡ two holds ⌝ }
 {
-    let avi = holds / Map::AVI_PACKET_UPDATE_MASK % 2 == 1;
-    let audio = holds / Map::AUDIO_INFOFRAME_PACKET_UPDATE_MASK % 2 == 1;
-    let gc = holds / Map::GC_PACKET_UPDATE_MASK % 2 == 1;
-    (avi & audio) | ((avi & gc) | (audio & gc))
+    let up = holds / Map::GC_PACKET_UPDATE_MASK % 8;
+    (up == 3) | (4 < up)
 }
 
 // The packet buffer as the holds in 0x4A go from one byte to another.
-fn packet_after(packet: [u8; 32], image: [u8; 256], old: u8, new: u8) -> [u8; 32]
-    ensures { λ r. ⌜ r ≡ filled (packets .groups) old new image packet ⌝ }
+fn fill_packet(image: &[u8; 256], packet: &mut [u8; 32], old: u8, new: u8)
+    ensures { λ _. ⌜ now (packet .exit) ≡ filled (packets .groups) old new (now (image .entry)) (now (packet .entry)) ⌝ }
 {
-    let mut next = packet;
     if (new / Map::AVI_PACKET_UPDATE_MASK % 2 == 1)
         & !(old / Map::AVI_PACKET_UPDATE_MASK % 2 == 1)
     {
         fill(
-            &image,
+            image,
             Map::AVI_INFOFRAME_VERSION as usize,
             Map::AVI_INFOFRAME_COUNT as usize,
-            &mut next,
+            packet,
         );
-        return next;
+        return;
     }
     if (new / Map::AUDIO_INFOFRAME_PACKET_UPDATE_MASK % 2 == 1)
         & !(old / Map::AUDIO_INFOFRAME_PACKET_UPDATE_MASK % 2 == 1)
     {
         fill(
-            &image,
+            image,
             Map::AUDIO_INFOFRAME_VERSION as usize,
             Map::AUDIO_INFOFRAME_COUNT as usize,
-            &mut next,
+            packet,
         );
-        return next;
+        return;
     }
     if (new / Map::GC_PACKET_UPDATE_MASK % 2 == 1) & !(old / Map::GC_PACKET_UPDATE_MASK % 2 == 1) {
-        fill(&image, Map::AV_MUTE as usize, 1, &mut next);
-        return next;
+        fill(image, Map::AV_MUTE as usize, 1, packet);
     }
-    next
 }
 
-// The coefficient buffer as the hold in 0x1A goes from one byte to another.
-fn coefficients_after(coefficients: [u8; 24], image: [u8; 256], old: u8, new: u8) -> [u8; 24]
-    ensures { λ r. ⌜ r ≡ filled (converter .groups) old new image coefficients ⌝ }
+// The packet buffer after a byte is stored at an address.
+fn hold_packet(image: &[u8; 256], packet: &mut [u8; 32], address: u8, byte: u8)
+    ensures { λ _. ⌜ now (packet .exit) ≡ cond (eqb address infoframeUpdate)
+        (filled (packets .groups) (getD (now (image .entry)) infoframeUpdate 0) byte (now (image .entry)) (now (packet .entry)))
+        (now (packet .entry)) ⌝ }
 {
-    let mut next = coefficients;
-    if (new / Map::COEFFICIENT_UPDATE_MASK % 2 == 1)
-        & !(old / Map::COEFFICIENT_UPDATE_MASK % 2 == 1)
-    {
-        fill(
-            &image,
-            Map::CSC as usize,
-            Map::CSC_COUNT as usize,
-            &mut next,
-        );
+    if address == Map::INFOFRAME_UPDATE {
+        let held = image[Map::INFOFRAME_UPDATE as usize];
+        fill_packet(image, packet, held, byte);
     }
-    next
+}
+
+// The coefficient buffer likewise.
+fn hold_coefficients(image: &[u8; 256], coefficients: &mut [u8; 24], address: u8, byte: u8)
+    ensures { λ _. ⌜ now (coefficients .exit) ≡ cond (eqb address coefficientUpdate)
+        (filled (converter .groups) (getD (now (image .entry)) coefficientUpdate 0) byte (now (image .entry)) (now (coefficients .entry)))
+        (now (coefficients .entry)) ⌝ }
+{
+    if address == Map::COEFFICIENT_UPDATE {
+        let held = image[Map::COEFFICIENT_UPDATE as usize];
+        if (byte / Map::COEFFICIENT_UPDATE_MASK % 2 == 1)
+            & !(held / Map::COEFFICIENT_UPDATE_MASK % 2 == 1)
+        {
+            fill(
+                image,
+                Map::CSC as usize,
+                Map::CSC_COUNT as usize,
+                coefficients,
+            );
+        }
+    }
+}
+
+// Whether two packet holds are up, or would be after a byte is stored at an address.
+fn leaves_two(held: u8, address: u8, byte: u8) -> bool
+    ensures { λ r. ⌜ r ≡ (two held || two (cond (eqb address infoframeUpdate) byte held)) ⌝ }
+{
+    if two_up(held) {
+        return true;
+    }
+    if address != Map::INFOFRAME_UPDATE {
+        return false;
+    }
+    two_up(byte)
+}
+
+// A byte stored as it is, in a state that is lent, and whether it is: not where two packet holds are up or would be.
+pub fn store(
+    image: &mut [u8; 256],
+    packet: &mut [u8; 32],
+    coefficients: &mut [u8; 24],
+    address: u8,
+    byte: u8,
+) -> bool
+    ensures { λ r. ⌜ Stores (lentAs (now (image .entry)) (now (packet .entry)) (now (coefficients .entry))) address byte r
+        (lentAs (now (image .exit)) (now (packet .exit)) (now (coefficients .exit))) ⌝ }
+{
+    let held = image[Map::INFOFRAME_UPDATE as usize];
+    if leaves_two(held, address, byte) {
+        return false;
+    }
+    hold_packet(image, packet, address, byte);
+    hold_coefficients(image, coefficients, address, byte);
+    image[address as usize] = byte;
+    true
 }
 
 impl Chip {
@@ -99,25 +146,17 @@ impl Chip {
     pub fn write(self, address: u8, value: u8) -> Wrote
         ensures { λ r. ⌜ Hands self address value r ⌝ }
     {
-        let before = self.image;
-        let at = address as usize;
-        let byte = bits::merge(registers::read_only(address), before[at], value);
-        let mut image = before;
-        image[at] = byte;
-        let held = before[Map::INFOFRAME_UPDATE as usize];
-        let holds = image[Map::INFOFRAME_UPDATE as usize];
-        if two_up(held) | two_up(holds) {
+        let mut image = self.image;
+        let mut packet = self.packet;
+        let mut coefficients = self.coefficients;
+        let keep = registers::read_only(address);
+        let byte = bits::merge(keep, image[address as usize], value);
+        if !store(&mut image, &mut packet, &mut coefficients, address, byte) {
             return Wrote {
                 refusal: Refusal::TWO_HOLDS,
                 chip: self,
             };
         }
-        let sent = self.packet;
-        let packet = packet_after(sent, before, held, holds);
-        let kept = before[Map::COEFFICIENT_UPDATE as usize];
-        let hold = image[Map::COEFFICIENT_UPDATE as usize];
-        let used = self.coefficients;
-        let coefficients = coefficients_after(used, before, kept, hold);
         Wrote {
             refusal: Refusal::NONE,
             chip: Chip {

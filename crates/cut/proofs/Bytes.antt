@@ -146,7 +146,7 @@ module _ (want : ℕ → ℕ) (image : List ℕ) (B : Buffer) (g : Group) (see :
 
 -- ---- two images with the same read-only and free bits everywhere
 
-pub Agree : List ℕ → List ℕ → Type 0
+unfoldable pub Agree : List ℕ → List ℕ → Type 0
 Agree image image₀ = (a : ℕ) → Kept a (getD image a 0) (getD image₀ a 0)
 
 pub agree-self : (image : List ℕ) → Agree image image

@@ -127,7 +127,7 @@ pub record Near (s u : Chip) : Type 0 where
 pub near-self : (s : Chip) → Ready (s .image) → Near s s
 near-self s r = record { ready = r; kept = agree-self (s .image); rest = λ a h t. refl }
 
-finished-near : (want : ℕ → ℕ) (s u : Chip) → Near s u → (a : ℕ) → a < 256 → finished want (u .image) a ≡ finished want (s .image) a
+pub finished-near : (want : ℕ → ℕ) (s u : Chip) → Near s u → (a : ℕ) → a < 256 → finished want (u .image) a ≡ finished want (s .image) a
 unfolding finished
 finished-near want s u near a h = go (isWritten a) refl
   where
@@ -382,7 +382,7 @@ module _ (mid : (ℕ → ℕ) → List ℕ → List Step)
   near-cuts want s u [] near = near
   near-cuts want s u (k ∷ ks) near = near-cuts want s (cutOf P want u k) ks (near-cut want s u k near)
 
-  same-end : (want : ℕ → ℕ) (s u : Chip) → Ready (s .image) → Near s u → Same (endOf P want s) (endOf P want u)
+  pub same-end : (want : ℕ → ℕ) (s u : Chip) → Ready (s .image) → Near s u → Same (endOf P want s) (endOf P want u)
   same-end want s u r near = record {
     registers = ends-alike want s u r near;
     avi = avi-latched .ending want s u r near;

@@ -21,7 +21,7 @@ use Rattle.cut.specs.Run.{Event, write, happens, run, cut, event, Fair, 
 use Rattle.cut.proofs.Bytes.{at-set}
 
 -- what holds of the image as it is, and of the image that a write would leave, holds after the write, taken or refused
-after-write : (P : List ℕ → Type 0) (s : Chip) (a v : ℕ) → P (s .image) → P (imageAfter s a v) → P (writeOf s a v .chip .image)
+pub after-write : (P : List ℕ → Type 0) (s : Chip) (a v : ℕ) → P (s .image) → P (imageAfter s a v) → P (writeOf s a v .chip .image)
 unfolding put
 after-write P s a v p q = rw (written-as s a v (refuses s a v) refl) (go (refuses s a v))
   where
@@ -59,20 +59,20 @@ module _ (w : Write) (s : Chip) (fair : Fair (s .image) w) where
       (λ e. absurd (false≢true (sym t ∙ ap isWritten e ∙ fair .itsRegister))) refl)
 
 -- every event of a list is fair where it happens
-abbrev Fairly : List Event → Chip → Type 0
+abbrev pub Fairly : List Event → Chip → Type 0
 Fairly es s = (k : ℕ) → k < length es → IsFair (event es k) (cut es s k)
 
-later : (e : Event) (es : List Event) (s : Chip) → Fairly (e ∷ es) s → Fairly es (happens e s .chip)
+pub later : (e : Event) (es : List Event) (s : Chip) → Fairly (e ∷ es) s → Fairly es (happens e s .chip)
 later e es s fair k h = fair (suc k) (suc-le-suc h)
 
-keeps : (es : List Event) (s : Chip) → Fairly es s → (a j k : ℕ) → j < 8 → (bit j (free a) ≡ 1) ⊎ (bit j (readOnly a) ≡ 1)
+pub keeps : (es : List Event) (s : Chip) → Fairly es s → (a j k : ℕ) → j < 8 → (bit j (free a) ≡ 1) ⊎ (bit j (readOnly a) ≡ 1)
     → Stays a j s (cut es s k)
 keeps es s fair a j zero h f = refl
 keeps [] s fair a j (suc k) h f = refl
 keeps (write w ∷ es) s fair a j (suc k) h f =
     keeps es (happens (write w) s .chip) (later (write w) es s fair) a j k h f ∙ write-keeps w s (fair 0 (zero-lt-suc _)) a j h f
 
-leaves : (es : List Event) (s : Chip) → Fairly es s → (a k : ℕ) → isWritten a ≡ false → getD (cut es s k .image) a 0 ≡ getD (s .image) a 0
+pub leaves : (es : List Event) (s : Chip) → Fairly es s → (a k : ℕ) → isWritten a ≡ false → getD (cut es s k .image) a 0 ≡ getD (s .image) a 0
 leaves es s fair a zero t = refl
 leaves [] s fair a (suc k) t = refl
 leaves (write w ∷ es) s fair a (suc k) t =

@@ -9,3 +9,5 @@ pub mod Planned
 pub mod Cut
 pub mod Fairness
 pub mod WriteList
+pub mod Mended
+pub mod CoveredRun

@@ -91,10 +91,10 @@ abbrev Whole : Chip → Type 0
 Whole s = length (s .image) ≡ 256
 
 -- none is refused where it happens
-abbrev Taken : List Event → Chip → Type 0
+abbrev pub Taken : List Event → Chip → Type 0
 Taken es s = (k : ℕ) → k < length es → happens (event es k) (cut es s k) .refusal ≡ 0
 
-sized-happens : (e : Event) (s : Chip) → Whole s → Whole (happens e s .chip)
+pub sized-happens : (e : Event) (s : Chip) → Whole s → Whole (happens e s .chip)
 sized-happens (write w) s z = sized-after s (w .address) (w .value) z
 
 again : (e : Event) (s : Chip) → Whole s → happens e s .refusal ≡ 0

@@ -7,7 +7,7 @@ ghost use lib.ListN.{length};
 ghost use Rattle.chip.specs.declared.Chip.{Chip};
 ghost use Rattle.writes.specs.List.{writeList, ready};
 ghost use Rattle.cut.specs.Run.{Event, event, happens, cut, IsFair, Untouched, Retried};
-ghost use Rattle.cut.specs.Demand.{sent, Demand3};
+ghost use Rattle.cut.specs.Demand.{sent, Mended, Demand3};
 
 // "a chip in a state from which it was accepted, and a cut after any write": whatever is wanted and whatever the two buffers hold.
 pub fn any_cut()
@@ -19,6 +19,14 @@ pub fn any_cut()
 pub fn fair_run()
     ensures { λ _. ⌜ ((es : List Event) (s : Chip)
         → ((k : ℕ) → k < length es → IsFair (event es k) (cut es s k)) → Untouched es s) ⌝ }
+{}
+
+// A list of somebody else's, whose events are fair and taken, cut anywhere: a list planned there ends as one planned at its start.
+pub fn mended_run()
+    ensures { λ _. ⌜ ((want : ℕ → ℕ) (es : List Event) (s : Chip) → length (s .image) ≡ 256 → ready (s .image) ≡ true
+        → ((k : ℕ) → k < length es → IsFair (event es k) (cut es s k))
+        → ((k : ℕ) → k < length es → happens (event es k) (cut es s k) .refusal ≡ 0)
+        → Mended (λ image. sent (writeList want image)) es s) ⌝ }
 {}
 
 // A bus that retries: of any list, from any state, as long as none of its events is refused.

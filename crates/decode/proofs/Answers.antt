@@ -107,7 +107,7 @@ module _ (image : List ℕ) (long : length image ≡ 256) where
         small = fields-small (take reg.cscCount (drop reg.csc image));
       })
 
-  found-ends : someEnds image ≡ true → Ends (extract image) image
+  pub found-ends : someEnds image ≡ true → Ends (extract image) image
   unfolding someEnds extract
   found-ends t = go (endsIn (extract image) 0 image) refl t
     where
@@ -138,7 +138,7 @@ at-most-one image long r q e f = sym (is-extracted image long r e) ∙ is-extrac
 -- ---- the refusals
 
 module _ (image buffer : List ℕ) where
-  none-ends : length image ≡ 256 → Decides (not (someEnds image)) ((r : Request) → Ends r image → ⊥)
+  pub none-ends : length image ≡ 256 → Decides (not (someEnds image)) ((r : Request) → Ends r image → ⊥)
   none-ends long = record {
     passes = λ t r e. false≢true (sym (not-true (someEnds image) t) ∙ ends-found image long r e);
     fails = λ f n. n (extract image) (found-ends image long (not-false (someEnds image) f));
@@ -151,7 +151,7 @@ module _ (image buffer : List ℕ) where
     λ m. (refl, less (length buffer) longest, λ _. (refl, none-ends (eqb-true _ _ (not-false (eqb (length image) 256) m)), λ _. tt)),
   )
 
-  number-given : decodeOf image buffer .refusal ≡ decodeRefusal image buffer
+  pub number-given : decodeOf image buffer .refusal ≡ decodeRefusal image buffer
   unfolding decodeOf
   number-given = numbered notDecoded _ (λ d. d .refusal) (decodeRefusal image buffer) (λ _. refl) refl
 
@@ -168,13 +168,13 @@ module _ (image buffer : List ℕ) where
   unfolding decodeOf decodedBuffer
   answers z = record { counted = answer-none notDecoded _ (decodeRefusal image buffer) z; left = answer-none (λ n. buffer) _ (decodeRefusal image buffer) z }
 
-  accepted : decodeRefusal image buffer ≡ 0 → (length image ≡ 256) × (someEnds image ≡ true)
+  pub accepted : decodeRefusal image buffer ≡ 0 → (length image ≡ 256) × (someEnds image ≡ true)
   unfolding decodeRefusal
   accepted z =
       let tests : List Test = decodeTests image buffer in
       (eqb-true _ _ (not-false (eqb (length image) 256) (none-at tests 0 z)), not-false (someEnds image) (none-at tests 2 z))
 
-  none : length image ≡ 256 → longest ≤ length buffer → someEnds image ≡ true → decodeRefusal image buffer ≡ 0
+  pub none : length image ≡ 256 → longest ≤ length buffer → someEnds image ≡ true → decodeRefusal image buffer ≡ 0
   unfolding decodeRefusal
   none l h f = rw (eq-eqb (length image) 256 l, le-ltb (length buffer) longest h, f)
 

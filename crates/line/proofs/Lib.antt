@@ -1,3 +1,4 @@
 pub mod Digits
 pub mod Stored
 pub mod Given
+pub mod Told

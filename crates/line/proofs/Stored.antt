@@ -7,7 +7,8 @@ use native.Mathlib.Omega.{arith}
 use lib.ListN.{length, getD, take, drop, set, replicate, length-append, length-replicate}
 use lib.Seq.{sets, take-suc, length-take-le}
 use Rattle.lists.proofs.Emit.{sets-append, sets-front}
-use Rattle.line.specs.Words.{Stores, lineBytes}
+use Rattle.line.specs.declared.Printed.{Printed}
+use Rattle.line.specs.Words.{Stores, lineBytes, Leaves}
 
 -- a byte more
 pub one-more : (xs d : List ℕ) (at n v : ℕ) → at + length xs ≡ n → set (sets d at xs) n v ≡ sets d at (xs ++ (v ∷ []))
@@ -30,3 +31,10 @@ at-front xs n e (p, q) h =
     let l : n ≡ length xs = omega arith in
     let f : e ≡ xs ++ drop (length xs) (replicate 80 0) = q ∙ sets-front xs (replicate 80 0) (omega (arith, length-replicate {A = ℕ} 80 0)) in
     rw (l, f)
+
+-- what a call that leaves them there promises
+pub left : (xs : List ℕ) {n : ℕ} {e : List ℕ} → Stores (replicate 80 0) 0 xs n e → n ≤ 80 → Leaves xs n e × (n ≤ length e)
+left xs {n} {e} s h =
+    let r = at-front xs n e s h in
+    let f : e ≡ lineBytes xs .bytes = ap (λ (p : Printed). p .bytes) r in
+    ((ap (λ (p : Printed). p .count) r, f), omega (arith, s .0, simp length-append at (ap length f)))

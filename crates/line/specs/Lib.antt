@@ -1,2 +1,3 @@
 pub mod Line
+pub mod Verdict
 pub mod Words

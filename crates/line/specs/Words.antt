@@ -58,9 +58,13 @@ lineText input = textOf (lineOf input)
 abbrev pub lineBytes : List ℕ → Printed
 lineBytes text = record { bytes = text ++ drop (length text) (replicate 80 0); count = length text }
 
--- what the program's call promises: the count, and what it leaves in the lent bytes
+-- what a call that prints a text promises: the count, and what it leaves in the lent bytes
+abbrev pub Leaves : List ℕ → ℕ → List ℕ → Type 0
+Leaves text count left = (count ≡ lineBytes text .count) × (left ≡ lineBytes text .bytes)
+
+-- the program's call
 abbrev pub Prints : List ℕ → ℕ → List ℕ → Type 0
-Prints input count left = (count ≡ lineBytes (lineText input) .count) × (left ≡ lineBytes (lineText input) .bytes)
+Prints input count left = Leaves (lineText input) count left
 
 -- the number that decimal digits say, read from the left
 abbrev pub said : ℕ → List ℕ → ℕ

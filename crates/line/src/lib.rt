@@ -1,9 +1,10 @@
-// The small program's line: document 01, "What the station's library does".
+// The small programs' lines: document 01, "What the station's library does", and document 02, request 03.
 ghost use mathlib.Core.Path.{_≡_};
 ghost use mathlib.Core.List.{List, _++_};
 ghost use Prim.Native.Nat.{ℕ, _+_, _<_, _≤_};
 ghost use lib.ListN.{length};
 ghost use Rattle.line.specs.Line.{audioChecksum, lineOf, Lines};
+ghost use Rattle.line.specs.Verdict.{placedText, PrintsVerdict, Verdicts};
 ghost use Rattle.line.specs.Words.{digit, decimal, hex, acceptedText, refusedText, Stores, textOf, lineBytes, Prints, Numeral};
 use refusals::Refusal;
 use request::Sound;
@@ -188,6 +189,31 @@ pub fn print(s: &[u8], out: &mut [u8; 80]) -> usize
     text.count
 }
 
+// The line of a vendor's list that is refused for one of its pairs.
+fn placed(out: &mut [u8; 80], number: u8, place: u32) -> usize
+    ensures { λ r. ⌜ Stores (now (out .entry)) 0 (placedText number place) r (now (out .exit)) ⌝ }
+    ensures { λ r. ⌜ r ≤ 80 ⌝ }
+{
+    let at = named(out, 0, b"refused ", number as u32);
+    let end = named(out, at, b" at ", place);
+    text(out, end, b"\n")
+}
+
+// What is printed of a verdict on a vendor's list, at the front of the lent bytes, and its count.
+pub fn print_verdict(refusal: u8, place: u32, out: &mut [u8; 80]) -> usize
+    ensures { λ r. ⌜ PrintsVerdict refusal place r (now (out .exit)) ⌝ }
+    ensures { λ r. ⌜ r ≤ length (now (out .exit)) ⌝ }
+{
+    *out = [0u8; 80];
+    if refusal == Refusal::NONE {
+        return text(out, 0, b"accepted\n");
+    }
+    if refusal == Refusal::BAD_PAIR {
+        return placed(out, refusal, place);
+    }
+    refused(out, refusal)
+}
+
 // A number in decimal is its numeral.
 pub fn numerals()
     ensures { λ _. ⌜ ((n : ℕ) → Numeral n) ⌝ }
@@ -196,4 +222,9 @@ pub fn numerals()
 // What the line refuses, and that one byte more than the longest request decides it.
 pub fn lines()
     ensures { λ _. ⌜ ((input : List ℕ) → Lines input) ⌝ }
+{}
+
+// The line of each verdict, in plain words.
+pub fn verdicts()
+    ensures { λ _. ⌜ ((place : ℕ) → Verdicts place) ⌝ }
 {}

@@ -4,3 +4,4 @@ pub mod Find
 pub mod Decides
 pub mod Copied
 pub mod Emit
+pub mod Compared

@@ -1,3 +1,4 @@
 pub mod Among
 pub mod Find
 pub mod Over
+pub mod Same

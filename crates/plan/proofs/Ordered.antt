@@ -27,7 +27,7 @@ one-of true b = refl
 one-of false true = refl
 one-of false false = refl
 
-holds-up : (image : List ℕ) → Decides (not (ready image)) (HoldsUp image)
+pub holds-up : (image : List ℕ) → Decides (not (ready image)) (HoldsUp image)
 holds-up image =
     let n : ℕ = holdsOf packets image in
     subst (λ (b : Bool). Decides b (HoldsUp image)) (one-of (up gc n) (up avi n && up audio n))

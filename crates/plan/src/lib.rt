@@ -256,7 +256,7 @@ fn wanted_image(r: Request, pair: Pair) -> [u8; 256]
 }
 
 // GC hold down, and not both other holds up.
-fn is_ready(holds: u8) -> bool
+pub fn is_ready(holds: u8) -> bool
     ensures { λ r. ⌜ r ≡ (not (up gc holds) && not (up avi holds && up audio holds)) ⌝ }
 {
     let gc = holds / Map::GC_PACKET_UPDATE_MASK % 2 == 1;

@@ -40,7 +40,7 @@ use Rattle.promises.specs.LentBytes.{pairsLeft, entered, enteredCuts, He
 use Rattle.promises.proofs.LentBytes.{left, sized-entered, sized-cuts, entered-cut, entered-run, followed}
 use Rattle.promises.specs.AnyCut.{listOf, Again, AnyCut}
 
-listed : (input image buffer : List ℕ) → Fine input image buffer → Listed input image buffer
+pub listed : (input image buffer : List ℕ) → Fine input image buffer → Listed input image buffer
 listed input image buffer f =
     let count = ap (λ (p : Planned). p .count) (accepts input image buffer f) in
     let list = leaves input image buffer f in
@@ -50,7 +50,7 @@ pub accepted : (input image buffer : List ℕ) → Fine input image buffer → p
 accepted input image buffer f = ap (λ (p : Planned). p .refusal) (accepts input image buffer f)
 
 -- planned again: what is asked of the registers and of the buffer is all that moves
-again-fine : (input image buffer : List ℕ) → Fine input image buffer → (after room : List ℕ) → length after ≡ 256 → ready after ≡ true
+pub again-fine : (input image buffer : List ℕ) → Fine input image buffer → (after room : List ℕ) → length after ≡ 256 → ready after ≡ true
     → 256 ≤ length room → Fine input after room
 again-fine input image buffer f after room whole clear long =
     record { read = f .read; whole = whole; clear = clear; paired = f .paired; long = le-ltb (length room) 256 long }

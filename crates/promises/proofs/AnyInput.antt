@@ -20,11 +20,13 @@ use Rattle.views.specs.declared.view.Part.{Part}
 use Rattle.views.proofs.Lent as entry
 use Rattle.views.proofs.Seen as view
 use Rattle.views.proofs.Used as converter
+use Rattle.vendor.proofs.Judged.{vetted}
 use Rattle.station.specs.declared.CountOut.{CountOut}
 use Rattle.station.specs.declared.PairOut.{PairOut}
 use Rattle.station.specs.declared.PixelOut.{PixelOut}
 use Rattle.station.specs.declared.machine.PartOut.{PartOut}
 use Rattle.station.specs.declared.machine.StateOut.{StateOut}
+use Rattle.station.specs.declared.machine.VerdictOut.{VerdictOut}
 use Rattle.plan.specs.Plan.{planOf}
 use Rattle.plan.proofs.Ordered as planning
 use Rattle.decode.proofs.Answers as decoding
@@ -63,6 +65,7 @@ any-input = record {
   write = entry.refusals;
   view = view.refusals;
   matrix = converter.refusals;
+  vet = λ s list. vetted s list .given;
   stationPlan = λ request image writes left out b p h.
       let r = planning.refusals request b image writes in
       let n : planOf request image writes .refusal ≢ 0 = λ z. h (ap (λ (o : CountOut). o .refusal) (p .0) ∙ z) in
@@ -90,4 +93,6 @@ any-input = record {
   stationMatrix = λ image coefficients matrix left out p h.
       let u = converter.refusals image coefficients matrix .kept (λ z. h (ap (λ (o : CountOut). o .refusal) (p .0) ∙ z)) in
       (ap (λ (o : CountOut). o .count) (p .0) ∙ u .0, p .1 ∙ u .1);
+  stationVet = λ s list out p h.
+      ap (λ (o : VerdictOut). o .place) p ∙ vetted s list .zero (λ z. h (ap (λ (o : VerdictOut). o .refusal) p ∙ z));
 }

@@ -20,22 +20,16 @@ use Rattle.views.specs.declared.view.Mute.{Mute}
 use Rattle.views.specs.Entry.{enterOf}
 use Rattle.views.specs.Theorems.{Sized, Faces, Entered}
 use Rattle.views.proofs.Shown as views
-use Rattle.writes.specs.List.{flat, writeList}
+use Rattle.writes.specs.List.{flat, pairsOf, writeList}
 use Rattle.plan.specs.Plan.{planOf, planBuffer}
-use Rattle.writes.proofs.Pairs.{length-flat}
-use Rattle.cut.specs.Run.{Event, write, run, cut, event, happens}
+use Rattle.writes.proofs.Pairs.{length-flat, pairs-flat}
+use Rattle.cut.specs.Run.{Event, write, run, cut, event, happens, Careful}
 use Rattle.cut.specs.Demand.{sent, toItsEnd, Demand3}
 use Rattle.cut.proofs.Taken.{neat-two}
 use Rattle.promises.specs.Finished.{audioPacket}
 use Rattle.promises.specs.Rules.{asked}
 use Rattle.promises.specs.AnyCut.{listOf}
-use Rattle.promises.specs.LentBytes.{pairsOf, pairsLeft, entered, enteredCuts, matrixSaid, Headed, Followed}
-
--- the pairs of a list's bytes are the list
-pairs-flat : (ws : List Write) → pairsOf (flat ws) ≡ ws
-unfolding flat
-pairs-flat [] = refl
-pairs-flat (w ∷ ws) = ap (λ (l : List Write). w ∷ l) (pairs-flat ws)
+use Rattle.promises.specs.LentBytes.{pairsLeft, entered, enteredCuts, muteSaid, matrixSaid, Headed, Entering, Followed}
 
 pub left : (input image buffer : List ℕ) → let ws : List Write = writeList (asked input) image in
     planOf input image buffer .count ≡ length ws → planBuffer input image buffer ≡ flat ws ++ drop (length (flat ws)) buffer
@@ -75,27 +69,23 @@ entered-run (w ∷ ws) s z =
     let e : Entered s (w .address) (w .value) = views.entered s z (w .address) (w .value) in
     entered-run ws (enterOf s (w .address) (w .value) .chip) (e .sized) ∙ ap (λ (x : Wrote). run (sent ws) (x .chip)) (e .same)
 
-module _ (input : List ℕ) (s : Chip) (z : Sized s) (d : Demand3 (listOf input) (asked input) s) where
-  abbrev r : Request
-  r = readOf input .request
-
-  abbrev ws : List Write
-  ws = writeList (asked input) (s .image)
-
+-- a careful list, whoever made it, in a state of which no cut has two packet holds up
+module _ (ws : List Write) (s : Chip) (z : Sized s) (c : Careful (sent ws) s)
+    (single : (k : ℕ) → two (holdsOf packets (cut (sent ws) s k .image)) ≡ false) where
   abbrev end : Chip
-  end = toItsEnd (listOf input) s
+  end = run (sent ws) s
 
   at-end : cut (sent ws) s (length (sent ws)) ≡ end
   at-end = ap (λ (es : List Event). run es s) (take-length (sent ws))
 
   -- what the calls answer at a cut, and at the end
-  sized-cut : (k : ℕ) → Sized (cut (sent ws) s k)
+  pub sized-cut : (k : ℕ) → Sized (cut (sent ws) s k)
   sized-cut k = subst Sized (entered-cut ws s k z) (sized-entered (take k ws) s z)
 
-  faces : (k : ℕ) → Faces (cut (sent ws) s k)
-  faces k = views.shown (cut (sent ws) s k) (sized-cut k) (neat-two (holdsOf packets (cut (sent ws) s k .image)) (d .ready (k ∷ [])))
+  pub faces : (k : ℕ) → Faces (cut (sent ws) s k)
+  faces k = views.shown (cut (sent ws) s k) (sized-cut k) (single k)
 
-  faces-end : Faces end
+  pub faces-end : Faces end
   faces-end = subst Faces at-end (faces (length (sent ws)))
 
   -- the coefficients that the matrix call answers are those in use
@@ -103,37 +93,62 @@ module _ (input : List ℕ) (s : Chip) (z : Sized s) (d : Demand3 (listOf input)
       → drop 1 (matrixSaid out t) ≡ coefficientBytes (coefficients t) ++ drop 25 out
   twelve t f out h = ap (drop 1) (f .matrix out h)
 
-  module _ (newAvi : drop 2 (inUse packets avi end) ≡ drop 3 (aviFrame (r .video)))
-      (newAudio : drop 2 (inUse packets audio end) ≡ drop 3 (audioPacket (r .sound)))
-      (headAvi : Headed 0x02 0x0D (inUse packets avi end)) (headAudio : Headed 0x01 0x0A (inUse packets audio end))
-      (newMatrix : coefficients end ≡ r .matrix .coefficients) (newMode : modeInUse end ≡ r .matrix .mode) where
-    pub followed : Followed r ws s
+  pub entering : Entering ws s
+  entering = record {
+    taken = λ k h.
+        let w : Write = getD ws k (0 gets 0) in
+        let at : event (sent ws) k ≡ write w = List·getD-map write ws k (0 gets 0) in
+        let t : happens (event (sent ws) k) (cut (sent ws) s k) .refusal ≡ 0 = c .taken k (rw (length-map ws write) h) in
+        rw (entered-cut ws s k z)
+        (ap (λ (x : Wrote). x .refusal) (views.entered (cut (sent ws) s k) (sized-cut k) (w .address) (w .value) .same)
+        ∙ ap (λ (e : Event). happens e (cut (sent ws) s k) .refusal) (sym at) ∙ t);
+    sized = λ k. sized-entered (take k ws) s z;
+    start = refl;
+    between = λ k lo hi.
+        let b = c .between k lo (rw (length-map ws write) hi) in
+        let f : Faces (cut (sent ws) s k) = faces k in
+        rw (entered-cut ws s k z, entered-run ws s z) (record {
+          muted = f .mute ∙ ap (λ (m : ℕ). record { refusal = 0; mute = m }) (one (cut (sent ws) s k) (b .muted));
+          avi = rw (f .avi, faces 0 .avi, faces-end .avi) (b .avi);
+          audio = rw (f .audio, faces 0 .audio, faces-end .audio) (b .audio);
+          matrix = λ out h. rw (twelve (cut (sent ws) s k) f out h, twelve s (faces 0) out h, twelve end faces-end out h)
+              (let laid : List ℕ → List ℕ = λ c. coefficientBytes c ++ drop 25 out in ⊎-map (ap laid) (ap laid) (b .matrix));
+        });
+  }
+
+  -- open, by the call
+  pub said-open : Open end → muteSaid (entered ws s) ≡ record { refusal = 0; mute = 2 }
+  said-open o = ap muteSaid (entered-run ws s z) ∙ faces-end .mute ∙ ap (λ (m : ℕ). record { refusal = 0; mute = m }) (two-of end o)
+
+module _ (input : List ℕ) (s : Chip) (z : Sized s) (d : Demand3 (listOf input) (asked input) s) where
+  abbrev r : Request
+  r = readOf input .request
+
+  abbrev own : List Write
+  own = writeList (asked input) (s .image)
+
+  abbrev ending : Chip
+  ending = toItsEnd (listOf input) s
+
+  single : (k : ℕ) → two (holdsOf packets (cut (sent own) s k .image)) ≡ false
+  single k = neat-two (holdsOf packets (cut (sent own) s k .image)) (d .ready (k ∷ []))
+
+  at-its-end : Faces ending
+  at-its-end = faces-end own s z (d .careful) single
+
+  module _ (newAvi : drop 2 (inUse packets avi ending) ≡ drop 3 (aviFrame (r .video)))
+      (newAudio : drop 2 (inUse packets audio ending) ≡ drop 3 (audioPacket (r .sound)))
+      (headAvi : Headed 0x02 0x0D (inUse packets avi ending)) (headAudio : Headed 0x01 0x0A (inUse packets audio ending))
+      (newMatrix : coefficients ending ≡ r .matrix .coefficients) (newMode : modeInUse ending ≡ r .matrix .mode) where
+    pub followed : Followed r own s
     followed = record {
-      taken = λ k h.
-          let w : Write = getD ws k (0 gets 0) in
-          let at : event (sent ws) k ≡ write w = List·getD-map write ws k (0 gets 0) in
-          let t : happens (event (sent ws) k) (cut (sent ws) s k) .refusal ≡ 0 = d .careful .taken k (rw (length-map ws write) h) in
-          rw (entered-cut ws s k z)
-          (ap (λ (x : Wrote). x .refusal) (views.entered (cut (sent ws) s k) (sized-cut k) (w .address) (w .value) .same)
-          ∙ ap (λ (e : Event). happens e (cut (sent ws) s k) .refusal) (sym at) ∙ t);
-      sized = λ k. sized-entered (take k ws) s z;
-      start = refl;
-      between = λ k lo hi.
-          let b = d .careful .between k lo (rw (length-map ws write) hi) in
-          let f : Faces (cut (sent ws) s k) = faces k in
-          rw (entered-cut ws s k z, entered-run ws s z) (record {
-            muted = f .mute ∙ ap (λ (m : ℕ). record { refusal = 0; mute = m }) (one (cut (sent ws) s k) (b .muted));
-            avi = rw (f .avi, faces 0 .avi, faces-end .avi) (b .avi);
-            audio = rw (f .audio, faces 0 .audio, faces-end .audio) (b .audio);
-            matrix = λ out h. rw (twelve (cut (sent ws) s k) f out h, twelve s (faces 0) out h, twelve end faces-end out h)
-                (let laid : List ℕ → List ℕ = λ c. coefficientBytes c ++ drop 25 out in ⊎-map (ap laid) (ap laid) (b .matrix));
-          });
-      ended = rw (entered-run ws s z) (record {
-        opened = faces-end .mute ∙ ap (λ (m : ℕ). record { refusal = 0; mute = m }) (two-of end (d .ended .opened));
-        headAvi = rw (faces-end .avi) headAvi;
-        headAudio = rw (faces-end .audio) headAudio;
-        avi = ap (drop 2) (faces-end .avi) ∙ newAvi;
-        audio = ap (drop 2) (faces-end .audio) ∙ newAudio;
-        matrix = λ out h. faces-end .matrix out h ∙ rw (newMatrix, newMode);
+      entering = entering own s z (d .careful) single;
+      ended = rw (entered-run own s z) (record {
+        opened = at-its-end .mute ∙ ap (λ (m : ℕ). record { refusal = 0; mute = m }) (two-of ending (d .ended .opened));
+        headAvi = rw (at-its-end .avi) headAvi;
+        headAudio = rw (at-its-end .audio) headAudio;
+        avi = ap (drop 2) (at-its-end .avi) ∙ newAvi;
+        audio = ap (drop 2) (at-its-end .audio) ∙ newAudio;
+        matrix = λ out h. at-its-end .matrix out h ∙ rw (newMatrix, newMode);
       });
     }

@@ -8,3 +8,5 @@ pub mod Example
 pub mod Places
 pub mod Filled
 pub mod Shown
+pub mod Vendors
+pub mod VendorCases

@@ -18,13 +18,16 @@ use Rattle.chip.specs.declared.Chip.{Chip}
 use Rattle.views.specs.Theorems.{ViewRefusals, WriteRefusals, MatrixRefusals}
 use Rattle.plan.specs.Rules.{PlanRefusals}
 use Rattle.decode.specs.Theorems.{Refusals}
+use Rattle.vendor.specs.Vendor.{vetRules}
+use Rattle.vendor.specs.Found.{vetOf}
 use Rattle.station.specs.declared.CountOut.{CountOut}
 use Rattle.station.specs.declared.PairOut.{PairOut}
 use Rattle.station.specs.declared.PixelOut.{PixelOut}
 use Rattle.station.specs.declared.machine.PartOut.{PartOut}
 use Rattle.station.specs.declared.machine.StateOut.{StateOut}
+use Rattle.station.specs.declared.machine.VerdictOut.{VerdictOut}
 use Rattle.station.specs.Face.{StationPlan, StationDecode, StationNcts, StationPreview}
-use Rattle.station.specs.Machine.{StationWrite, StationSent, StationMute, StationMatrix}
+use Rattle.station.specs.Machine.{StationWrite, StationSent, StationMute, StationMatrix, StationVet}
 
 -- "A bad request gets a numbered refusal from the list in document 01, a count of zero, and every lent buffer unchanged." Each of these
 -- says that the number given is that of the first row that applies (`Given`), and what is left beside it. `Bytes` is true of every slice.
@@ -46,6 +49,8 @@ pub record Demand1 : Type 0 where
   -- a view, 5, 7 and 13; the matrix in use, 7 and 10
   pub view : (image packet : List ℕ) → ViewRefusals image packet
   pub matrix : (image buffer out : List ℕ) → MatrixRefusals image buffer out
+  -- the verdict on a vendor's list, 7, 8, 14, 15 and 16
+  pub vet : (s : Chip) (list : List ℕ) → Given (vetRules s list) (vetOf s list .refusal)
   -- the exported calls: beside a refusal that a promise allows stand zeros, and every lent buffer is as it was
   pub stationPlan : (request image writes left : List ℕ) (out : CountOut) → Bytes request → StationPlan request image writes out left
       → out .refusal ≢ 0 → (out .count ≡ 0) × (left ≡ writes)
@@ -60,3 +65,5 @@ pub record Demand1 : Type 0 where
   pub stationMute : (image packet : List ℕ) (out : StateOut) → StationMute image packet out → out .refusal ≢ 0 → out .mute ≡ 0
   pub stationMatrix : (image coefficients matrix left : List ℕ) (out : CountOut) → StationMatrix image coefficients matrix out left
       → out .refusal ≢ 0 → (out .count ≡ 0) × (left ≡ matrix)
+  -- a vendor's list: beside a number other than 15 the place is 0; all four slices are lent to be read, and none can change
+  pub stationVet : (s : Chip) (list : List ℕ) (out : VerdictOut) → StationVet s list out → out .refusal ≢ 15 → out .place ≡ 0

@@ -14,19 +14,17 @@ use Rattle.views.specs.Entry.{enterOf}
 use Rattle.views.specs.View.{sentOf, muteOf}
 use Rattle.views.specs.Converter.{matrixOut}
 use Rattle.views.specs.Theorems.{Sized}
+use Rattle.writes.specs.List.{pairsOf}
 use Rattle.plan.specs.Plan.{planOf, planBuffer}
 use Rattle.cut.specs.Run.{Either}
 use Rattle.promises.specs.Finished.{audioPacket}
 
--- "Pairs of address and value"
-abbrev pub pairsOf : List ℕ → List Write
-pairsOf [] = []
-pairsOf (a ∷ []) = []
-pairsOf (a ∷ v ∷ rest) = a gets v ∷ pairsOf rest
+-- what planning leaves in the lent buffer, by the count that it answers: the bytes, and the pairs that they are
+abbrev pub bytesLeft : List ℕ → List ℕ → List ℕ → List ℕ
+bytesLeft input image buffer = take (2 * planOf input image buffer .count) (planBuffer input image buffer)
 
--- those that planning leaves in the lent buffer, by the count that it answers
 abbrev pub pairsLeft : List ℕ → List ℕ → List ℕ → List Write
-pairsLeft input image buffer = pairsOf (take (2 * planOf input image buffer .count) (planBuffer input image buffer))
+pairsLeft input image buffer = pairsOf (bytesLeft input image buffer)
 
 -- the three slices after these writes over them; one that is refused changes nothing
 abbrev pub entered : List Write → Chip → Chip
@@ -75,8 +73,8 @@ pub record SaidAfter (r : Request) (t : Chip) : Type 0 where
   pub matrix : (out : List ℕ) → 25 ≤ length out
       → matrixSaid out t ≡ (r .matrix .mode ∷ coefficientBytes (r .matrix .coefficients)) ++ drop 25 out
 
--- the pairs ws of a request, from the slices as they are lent
-pub record Followed (r : Request) (ws : List Write) (s : Chip) : Type 0 where
+-- the pairs ws, from the slices as they are lent
+pub record Entering (ws : List Write) (s : Chip) : Type 0 where
   -- no write is refused (7, 13), and the slices keep their lengths
   pub taken : (k : ℕ) → k < length ws
       → let w : Write = getD ws k (0 gets 0) in enterOf (entered (take k ws) s) (w .address) (w .value) .refusal ≡ 0
@@ -85,5 +83,9 @@ pub record Followed (r : Request) (ws : List Write) (s : Chip) : Type 0 where
   pub start : entered (take 0 ws) s ≡ s
   -- "From the first write until the last the picture is muted, and .. each all old or all new."
   pub between : (k : ℕ) → 0 < k → k < length ws → SaidBetween s (entered ws s) (entered (take k ws) s)
+
+-- the pairs of a request
+pub record Followed (r : Request) (ws : List Write) (s : Chip) : Type 0 where
+  pub entering : Entering ws s
   -- "After the last, all are new and the picture is open."
   pub ended : SaidAfter r (entered ws s)

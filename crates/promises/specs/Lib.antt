@@ -6,3 +6,5 @@ pub mod LentBytes
 pub mod AnyCut
 pub mod Example
 pub mod Finished
+pub mod Vendors
+pub mod VendorCases

@@ -19,6 +19,7 @@ use Rattle.matrix.specs.declared.Pixel.{Pixel}
 use Rattle.matrix.specs.Preview.{previewOf, Previews}
 use Rattle.request.specs.declared.Checked.{Checked}
 use Rattle.line.specs.Words.{lineText, Prints}
+use Rattle.line.specs.Verdict.{verdictText, PrintsVerdict}
 use Rattle.request.specs.declared.Request.{Request}
 use Rattle.request.specs.Read.{readOf, pairFor, nctsOf, Reads, Pairs, PairsInput}
 use Rattle.chip.specs.declared.Chip.{Chip}
@@ -35,14 +36,17 @@ use Rattle.plan.specs.declared.Planned.{Planned}
 use Rattle.plan.specs.Plan.{planOf, planBuffer, Plans}
 use Rattle.decode.specs.declared.Decoded.{Decoded}
 use Rattle.decode.specs.Decode.{decodeOf, decodedBuffer, Decodes}
+use Rattle.vendor.specs.declared.Verdict.{Verdict}
+use Rattle.vendor.specs.Found.{vetOf, Vets}
 use Rattle.station.specs.declared.CountOut.{CountOut}
 use Rattle.station.specs.declared.PairOut.{PairOut}
 use Rattle.station.specs.declared.PixelOut.{PixelOut}
 use Rattle.station.specs.declared.machine.PartOut.{PartOut}
 use Rattle.station.specs.declared.machine.StateOut.{StateOut}
+use Rattle.station.specs.declared.machine.VerdictOut.{VerdictOut}
 use Rattle.station.specs.declared.machine.ClassOut.{ClassOut}
 use Rattle.station.specs.Face.{StationPlan, StationDecode, StationNcts, StationPreview}
-use Rattle.station.specs.Machine.{StationWrite, StationSent, StationMute, StationMatrix, StationClass}
+use Rattle.station.specs.Machine.{StationWrite, StationSent, StationMute, StationMatrix, StationVet, StationClass}
 
 -- "the result and each lent byte are settled by the promise: any two outcomes it allows are proved equal"
 abbrev pub Settles : {A : Type 0} → (A → Type 0) → Type 0
@@ -68,6 +72,10 @@ pub record Settled : Type 0 where
   pub line : (request : List ℕ)
       → let text : List ℕ = lineText request in
       Only {A = ℕ × List ℕ} (λ o. Prints request (o .0) (o .1)) (length text, text ++ drop (length text) (replicate 80 0))
+  -- and so does the line of a verdict
+  pub verdict : (refusal place : ℕ)
+      → let text : List ℕ = verdictText refusal place in
+      Only {A = ℕ × List ℕ} (λ o. PrintsVerdict refusal place (o .0) (o .1)) (length text, text ++ drop (length text) (replicate 80 0))
   pub preview : (matrix : List ℕ) (a b c : ℕ) → Only {A = Pixel} (Previews matrix a b c) (previewOf matrix a b c)
   pub clock : (video : Video) → Only {A = Clock} (GivesClock video) (clockOf video)
   pub pair : (video : Video) (rate coherent : ℕ) → Only {A = Pair} (GivesPair video rate coherent) (pairOf video rate coherent)
@@ -90,8 +98,10 @@ pub record Settled : Type 0 where
   pub matrix : (image buffer out : List ℕ)
       → Only {A = Count × List ℕ} (λ o. ShowsMatrix image buffer out (o .0) (o .1))
       (matrixAnswer image buffer out, matrixOut image buffer out)
+  -- a vendor's list on a state: document 02, request 03
+  pub vet : (s : Chip) (list : List ℕ) → Only {A = Verdict} (Vets s list) (vetOf s list)
   pub class : (address : ℕ) → Only {A = Class} (Classifies address) (classAt address)
-  -- the nine exported calls: field by field what the library answers
+  -- the ten exported calls: field by field what the library answers
   pub stationPlan : (request image writes : List ℕ)
       → let p : Planned = planOf request image writes in
       Only {A = CountOut × List ℕ} (λ o. StationPlan request image writes (o .0) (o .1))
@@ -120,6 +130,9 @@ pub record Settled : Type 0 where
       → let c : Count = matrixAnswer image coefficients matrix in
       Only {A = CountOut × List ℕ} (λ o. StationMatrix image coefficients matrix (o .0) (o .1))
       (record { refusal = c .refusal; count = c .count }, matrixOut image coefficients matrix)
+  pub stationVet : (s : Chip) (list : List ℕ)
+      → let v : Verdict = vetOf s list in
+      Only {A = VerdictOut} (StationVet s list) (record { refusal = v .refusal; place = v .place })
   pub stationClass : (address : ℕ)
       → let c : Class = classAt address in
       Only {A = ClassOut} (StationClass address)

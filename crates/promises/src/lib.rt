@@ -12,6 +12,8 @@ ghost use Rattle.promises.specs.Example.{Example};
 ghost use Rattle.promises.specs.Finished.{AllNamed};
 ghost use Rattle.promises.specs.Rules.{Demand2, OnSomeImage, FieldByField};
 ghost use Rattle.promises.specs.Settled.{Settled};
+ghost use Rattle.promises.specs.VendorCases.{VendorCases};
+ghost use Rattle.promises.specs.Vendors.{Vendors};
 
 // Document 01, "Marked cases, proved together as one table".
 pub fn marked_cases()
@@ -51,6 +53,16 @@ pub fn field_by_field()
 // Demand 3: whatever request is accepted, whatever the chip's two buffers hold, wherever the run is cut.
 pub fn demand_3()
     ensures { λ _. ⌜ ((input buffer : List ℕ) (s : Chip) → planOf input (s .image) buffer .refusal ≡ 0 → AnyCut input buffer s) ⌝ }
+{}
+
+// Document 02, request 03: our own lists pass, and what a vendor's list that passes gives.
+pub fn vendors_lists()
+    ensures { λ _. ⌜ Vendors ⌝ }
+{}
+
+// Lists that a vendor might bring, in bare numbers.
+pub fn vendor_cases()
+    ensures { λ _. ⌜ VendorCases ⌝ }
 {}
 
 // "Take an accepted request": demands 2 and 3 are not empty.

@@ -1,4 +1,5 @@
--- Document 01, "Refusal numbers": the rows of the list, their numbers, their order, and what it is to give one.
+-- Document 01, "Refusal numbers", and those of document 02 that have landed (03): the rows of the list, their numbers, their order, and
+-- what it is to give one.
 use mathlib.Core.Path.{_≡_}
 use mathlib.Core.Logic.{_↔_, _≢_}
 use mathlib.Core.Bool.{Bool, true, false, cond}
@@ -11,6 +12,7 @@ use lib.ListN.{length, getD}
 pub data Row : Type 0 where
   inputEnds countNotAllowed bytesAfter modeNotOffered fieldOutOfRange combination : Row
   imageLength holdsUp noExactPair bufferShort noRequest inputAbove twoHolds : Row
+  listLength badPair badEnd : Row
 
 abbrev pub number : Row → ℕ
 number inputEnds = 1
@@ -26,12 +28,16 @@ number bufferShort = 10
 number noRequest = 11
 number inputAbove = 12
 number twoHolds = 13
+number listLength = 14
+number badPair = 15
+number badEnd = 16
 
--- "Checked in this order"
+-- "Checked in this order"; 14, 15 and 16 "in that order, after 7 and 8"
 abbrev pub order : List Row
 order =
     inputEnds ∷ countNotAllowed ∷ bytesAfter ∷ modeNotOffered ∷ fieldOutOfRange ∷ combination ∷
-    imageLength ∷ holdsUp ∷ noExactPair ∷ bufferShort ∷ noRequest ∷ inputAbove ∷ twoHolds ∷ []
+    imageLength ∷ holdsUp ∷ noExactPair ∷ bufferShort ∷ noRequest ∷ inputAbove ∷ twoHolds ∷
+    listLength ∷ badPair ∷ badEnd ∷ []
 
 -- a row that a call checks, and when it applies to the call's input
 pub record Condition : Type 1 where

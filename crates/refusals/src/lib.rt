@@ -1,4 +1,4 @@
-// Document 01, "Refusal numbers". 0 is no refusal.
+// Document 01, "Refusal numbers", and document 02. 0 is no refusal.
 ghost use mathlib.Core.Path.{_≡_};
 ghost use mathlib.Core.List.{_∷_, map};
 ghost use Rattle.refusals.specs.Rows.{number, order};
@@ -35,10 +35,16 @@ impl Refusal {
     pub const INPUT_ABOVE: u8 = 12;
 
     pub const TWO_HOLDS: u8 = 13;
+
+    pub const LIST_LENGTH: u8 = 14;
+
+    pub const BAD_PAIR: u8 = 15;
+
+    pub const BAD_END: u8 = 16;
 }
 
 // The constants are 0 for none, and then the numbers of the rows in the list's order.
-pub fn numbers() -> [u8; 14]
+pub fn numbers() -> [u8; 17]
     ensures { λ r. ⌜ r ≡ 0 ∷ map number order ⌝ }
 {
     [
@@ -56,5 +62,8 @@ pub fn numbers() -> [u8; 14]
         Refusal::NO_REQUEST,
         Refusal::INPUT_ABOVE,
         Refusal::TWO_HOLDS,
+        Refusal::LIST_LENGTH,
+        Refusal::BAD_PAIR,
+        Refusal::BAD_END,
     ]
 }

@@ -3,7 +3,7 @@ ghost use mathlib.Core.Path.{_≡_};
 ghost use mathlib.Core.Bool.{_&&_, not};
 ghost use Prim.Native.Nat.{ℕ, _<_};
 ghost use Rattle.lists.specs.Among.{among};
-ghost use Rattle.registers.specs.Classes.{classAt, Classifies, readOnly, named, Rule};
+ghost use Rattle.registers.specs.Classes.{classAt, Classifies, HasColumns, readOnly, named, Rule};
 ghost use Rattle.registers.specs.Steps.{others, hasNamed, elsewhere};
 ghost use Rattle.registers.specs.Fields.{namedFields, maskIn};
 ghost use Rattle.registers.specs.Table14.{Table14};
@@ -17,6 +17,25 @@ pub struct Class {
     pub named: u8,
     pub free: u8,
     pub bits: u8,
+}
+
+// The columns of the table, for a caller that goes through many addresses: the compiler builds a column anew wherever it is named.
+pub struct ByColumn {
+    pub read_only: [u8; 256],
+    pub mandated: [u8; 256],
+    pub free: [u8; 256],
+    pub bits: [u8; 256],
+}
+
+pub fn table_columns() -> ByColumn
+    ensures { λ r. ⌜ HasColumns r ⌝ }
+{
+    ByColumn {
+        read_only: table::READ_ONLY,
+        mandated: table::MANDATED,
+        free: table::FREE,
+        bits: table::BITS,
+    }
 }
 
 pub fn read_only(a: u8) -> u8

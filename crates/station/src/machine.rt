@@ -1,6 +1,6 @@
-// The C face of the chip machine and of the class table: each call is a call of the library, taken apart.
-ghost use Rattle.views.specs.Entry.{lentAs};
-ghost use Rattle.station.specs.Machine.{StationWrite, StationSent, StationMute, StationMatrix, StationClass};
+// The C face of the chip machine, of a vendor's list on it and of the class table: each call is a call of the library, taken apart.
+ghost use Rattle.chip.specs.Write.{lentAs};
+ghost use Rattle.station.specs.Machine.{StationWrite, StationSent, StationMute, StationMatrix, StationVet, StationClass};
 use crate::CountOut;
 
 // struct station_part
@@ -17,6 +17,13 @@ pub struct PartOut {
 pub struct StateOut {
     pub refusal: u32,
     pub mute: u32,
+}
+
+// struct station_verdict
+#[repr(C)]
+pub struct VerdictOut {
+    pub refusal: u32,
+    pub place: u32,
 }
 
 // struct station_masks
@@ -79,6 +86,23 @@ pub extern "C" fn station_matrix(image: &[u8], coefficients: &[u8], matrix: &mut
     CountOut {
         refusal: count.refusal as u32,
         count: count.count,
+    }
+}
+
+// Whether a vendor's list may be run on the chip: refusals 7, 8, 14, 15 and 16; with 15 the place of the first bad pair.
+#[no_mangle]
+pub extern "C" fn station_vet(
+    image: &[u8],
+    packet: &[u8],
+    coefficients: &[u8],
+    list: &[u8],
+) -> VerdictOut
+    ensures { λ r. ⌜ StationVet (lentAs (now (image .entry)) (now (packet .entry)) (now (coefficients .entry))) (now (list .entry)) r ⌝ }
+{
+    let verdict = vendor::vet(image, packet, coefficients, list);
+    VerdictOut {
+        refusal: verdict.refusal as u32,
+        place: verdict.place,
     }
 }
 

@@ -10,7 +10,7 @@ use Rattle.refusals.specs.Rows.{imageLength, bufferShort, Test, _if_, lowest, a
 use Rattle.matrix.specs.Coefficient.{coefficientBytes}
 use Rattle.chip.specs.Machine.{coefficients, modeInUse}
 use Rattle.views.specs.declared.converter.Count.{Count}
-use Rattle.views.specs.Entry.{lentAs}
+use Rattle.chip.specs.Write.{lentAs}
 
 -- mode and the twelve in use, 25 bytes as the request has them. The packet buffer is not lent, and plays no part.
 unfoldable pub matrixBytes : List ℕ → List ℕ → List ℕ

@@ -20,10 +20,14 @@ use Rattle.views.specs.Converter.{matrixAnswer, matrixOut}
 
 -- ---- refusals, on any slices
 
+-- "image not of 256 bytes; in the machine also packet buffer not of 32, coefficient buffer not of 24"
+abbrev pub WrongLengths : Chip → Type 0
+WrongLengths s = (length (s .image) ≢ 256) ⊎ (length (s .packet) ≢ 32) ⊎ (length (s .coefficients) ≢ 24)
+
 -- "a machine write 7 and 13": when each applies
 abbrev pub enterRules : Chip → ℕ → ℕ → List Condition
 enterRules s address value =
-    imageLength when ((length (s .image) ≢ 256) ⊎ (length (s .packet) ≢ 32) ⊎ (length (s .coefficients) ≢ 24)) ∷ writeRules s address value
+    imageLength when WrongLengths s ∷ writeRules s address value
 
 -- "a view 5, 7 and 13"; the mute is not asked for by number
 abbrev pub lentRules : List ℕ → List ℕ → List Condition

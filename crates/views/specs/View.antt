@@ -11,7 +11,7 @@ use Rattle.chip.specs.Machine.{Group, avi, audio, packets, up, holdsOf, inUse, 
 use Rattle.chip.specs.Write.{two}
 use Rattle.views.specs.declared.view.Part.{Part}
 use Rattle.views.specs.declared.view.Mute.{Mute}
-use Rattle.views.specs.Entry.{lentAs}
+use Rattle.chip.specs.Write.{lentAs}
 
 -- "it is asked for by number, 0 AVI or 1 audio"
 abbrev pub packetAt : ℕ → Group

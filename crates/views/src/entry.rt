@@ -1,14 +1,14 @@
 // A write over the slices that the host lends: document 01, "The chip machine".
 ghost use mathlib.Core.Path.{_≡_};
 ghost use lib.ListN.{length};
-ghost use Rattle.views.specs.Entry.{lentAs, Writes};
+ghost use Rattle.chip.specs.Write.{lentAs};
+ghost use Rattle.views.specs.Entry.{Gathers, Writes};
 use chip::Chip;
 use refusals::Refusal;
 
-// The slices as a state.
-fn gathered(image: &[u8], packet: &[u8], coefficients: &[u8]) -> Chip
-    requires { ⌜ (length (now image) ≡ 256) × (length (now packet) ≡ 32) × (length (now coefficients) ≡ 24) ⌝ }
-    ensures { λ r. ⌜ r ≡ lentAs (now (image .entry)) (now (packet .entry)) (now (coefficients .entry)) ⌝ }
+// The slices as a state; what a slice is short of is 0, and what does not fit is left out.
+pub fn gathered(image: &[u8], packet: &[u8], coefficients: &[u8]) -> Chip
+    ensures { λ r. ⌜ Gathers (lentAs (now (image .entry)) (now (packet .entry)) (now (coefficients .entry))) r ⌝ }
 {
     let mut registers = [0u8; 256];
     let mut sent = [0u8; 32];

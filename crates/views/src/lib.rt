@@ -14,6 +14,7 @@ mod view;
 
 pub use converter::Count;
 pub use converter::matrix_in_use;
+pub use entry::gathered;
 pub use entry::write_into;
 pub use view::Mute;
 pub use view::Part;

@@ -46,6 +46,12 @@ unfoldable pub flat : List Write → List ℕ
 flat [] = []
 flat (w ∷ ws) = w .address ∷ w .value ∷ flat ws
 
+-- and back: the pairs of some bytes; an odd one at the end is none
+abbrev pub pairsOf : List ℕ → List Write
+pairsOf [] = []
+pairsOf (a ∷ []) = []
+pairsOf (a ∷ v ∷ rest) = a gets v ∷ pairsOf rest
+
 -- a list at the front of a buffer: "buffer bytes after the list stay"
 abbrev pub fronted : List Write → List ℕ → List ℕ
 fronted ws buffer = flat ws ++ drop (length (flat ws)) buffer

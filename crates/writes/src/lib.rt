@@ -16,7 +16,8 @@ use map::Map;
 
 mod steps;
 
-fn keep() -> [u8; 256]
+// Of each register the bits that a list keeps; all eight of one that no list writes.
+pub fn keep() -> [u8; 256]
     ensures { λ r. ⌜ r ≡ column keptBits ⌝ }
 {
     steps::KEEP

@@ -1,6 +1,5 @@
 -- `views::entry::gathered` meets its contract. Assumes nothing.
-use mathlib.Core.Path.{refl, _∙_}
-use Rattle.lists.proofs.Copied.{over-whole}
+use mathlib.Core.Path.{refl}
 use borrow.Author.Needs.{needs}
 use Rattle.views.proofs.entry.gathered.Statement.{statement}
 use Rattle.views.proofs.entry.gathered.Tie as tie
@@ -27,14 +26,7 @@ returns : tie.Need-returns
 returns c =
     let first = c .before .before .before .before .before .before .before in
     let second = c .before .before .before .before in
-    let third = c .before in
-    let z = c .before .before .before .before .before .before .before .before .before .before .before .before in
-    let a = z .args in
-    rw (
-      first .copy .ensures ∙ over-whole (a .image .now) _ (z .pre .0),
-      second .copy2 .ensures ∙ over-whole (a .packet .now) _ (z .pre .1),
-      third .copy3 .ensures ∙ over-whole (a .coefficients .now) _ (z .pre .2),
-    ) refl
+    rw (first .copy .ensures, second .copy2 .ensures, c .before .copy3 .ensures) refl
 
 pub gathered-spec : {M : Type 1} → statement M
 gathered-spec =

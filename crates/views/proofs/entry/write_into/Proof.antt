@@ -2,10 +2,10 @@
 use mathlib.Core.Path.{_≡_, sym, ap, _∙_}
 use Rattle.chip.specs.declared.Chip.{Chip}
 use Rattle.chip.specs.declared.Wrote.{Wrote}
-use Rattle.chip.specs.Write.{writeOf}
-use Rattle.views.specs.Entry.{lentAs, enterOf}
+use Rattle.chip.specs.Write.{lentAs, writeOf}
+use Rattle.views.specs.Entry.{enterOf}
 use Rattle.views.specs.Theorems.{Sized}
-use Rattle.views.proofs.Lent.{sized, turned-away, let-in}
+use Rattle.views.proofs.Lent.{sized, gathered-whole, turned-away, let-in}
 use borrow.Author.Needs.{needs}
 use Rattle.views.proofs.entry.write_into.Statement.{statement}
 use Rattle.views.proofs.entry.write_into.Tie as tie
@@ -25,7 +25,7 @@ returns c =
     (ap (λ (w : Wrote). w .refusal) (sym e), ap (λ (w : Wrote). w .chip) (sym e))
 
 gathered-requires : tie.Need-gathered-requires
-gathered-requires c κs = let z = fine (c .before .before .before) in (z .image, z .packet, z .coefficients)
+gathered-requires c κs = search needs
 
 write-requires : tie.Need-write-requires
 write-requires c κs = search needs
@@ -51,7 +51,7 @@ returns-2 c =
     let z = i .before .before .before .before in
     let a = z .args in
     let e : w .write .result ≡ enterOf (at z) (a .address) (a .value) =
-    w .write .ensures ∙ ap (λ (s : Chip). writeOf s (a .address) (a .value)) (g .gathered .ensures)
+    w .write .ensures ∙ ap (λ (s : Chip). writeOf s (a .address) (a .value)) (gathered-whole (at z) _ (fine i) (g .gathered .ensures))
     ∙ sym (let-in (at z) (a .address) (a .value) (i .if1 .left))
     in
     (ap (λ (w : Wrote). w .refusal) e, s .spread .ensures ∙ ap (λ (w : Wrote). w .chip) e)

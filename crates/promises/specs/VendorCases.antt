@@ -1,0 +1,77 @@
+-- Document 02, request 03, in bare numbers: some lists that a vendor might bring, and what is answered for each.
+use mathlib.Core.Path.{_≡_}
+use mathlib.Core.Bool.{Bool, true, _&&_}
+use mathlib.Core.List.{List, [], _∷_}
+use Prim.Native.Nat.{ℕ}
+use lib.Dec.{eqb}
+use lib.ListN.{replicate, set}
+use Rattle.lists.specs.Find.{every}
+use Rattle.vendor.specs.declared.Verdict.{Verdict}
+use Rattle.vendor.specs.Found.{vetOf}
+
+-- the registers, the packet buffer and the list; what is answered
+pub record Case : Type 0 where
+  pub image : List ℕ
+  pub packet : List ℕ
+  pub list : List ℕ
+  pub refusal : ℕ
+  pub place : ℕ
+
+abbrev pub zeros : List ℕ
+zeros = replicate 256 0
+
+-- on registers and buffers of zeros, in which no request ends and the picture is neither muted nor open
+abbrev pub answers : List ℕ → ℕ → ℕ → Case
+answers list refusal place = record { image = zeros; packet = replicate 32 0; list = list; refusal = refusal; place = place }
+
+abbrev pub onImage : List ℕ → Case → Case
+onImage image c = record { image = image; packet = c .packet; list = c .list; refusal = c .refusal; place = c .place }
+
+abbrev pub withPacket : List ℕ → Case → Case
+withPacket packet c = record { image = c .image; packet = packet; list = c .list; refusal = c .refusal; place = c .place }
+
+abbrev pub cases : List Case
+cases =
+    -- nothing bad, and a bad end: the empty list; one pair, which has no cut; mute and open; a reserved register of a packet
+    answers [] 16 0 ∷
+    answers (0x4B ∷ 0x80 ∷ []) 16 0 ∷
+    answers (0x4B ∷ 0x40 ∷ 0x4B ∷ 0x80 ∷ []) 16 0 ∷
+    answers (0x4B ∷ 0x40 ∷ 0x78 ∷ 0x00 ∷ 0x4B ∷ 0x80 ∷ []) 16 0 ∷
+    -- "7 and 8", "14 an odd length or too many pairs", "15", "in that order"
+    onImage (replicate 255 0) (answers (0x4B ∷ []) 7 0) ∷
+    onImage (set zeros 0x4A 0x60) (answers (0x4B ∷ []) 8 0) ∷
+    onImage (set zeros 0x4A 0x10) (answers (0x4B ∷ []) 8 0) ∷
+    answers (0x30 ∷ []) 14 0 ∷
+    answers (replicate 1026 0) 14 0 ∷
+    answers (replicate 1024 0) 15 0 ∷
+    -- a register of no list; a mandated bit of 0x98, which is 0x03; a free bit of 0x4B, and the GC hold
+    answers (0x4B ∷ 0x40 ∷ 0x30 ∷ 0x00 ∷ 0x4B ∷ 0x80 ∷ []) 15 1 ∷
+    answers (0x4B ∷ 0x40 ∷ 0x98 ∷ 0x00 ∷ 0x98 ∷ 0x03 ∷ 0x4B ∷ 0x80 ∷ []) 15 1 ∷
+    answers (0x4B ∷ 0x40 ∷ 0x4B ∷ 0x41 ∷ 0x4B ∷ 0x80 ∷ []) 15 1 ∷
+    answers (0x4B ∷ 0x40 ∷ 0x4A ∷ 0x10 ∷ 0x4B ∷ 0x80 ∷ []) 15 1 ∷
+    -- not muted at the cut after pair 0: the pair before the cut is bad
+    answers (0x01 ∷ 0x00 ∷ 0x4B ∷ 0x80 ∷ []) 15 0 ∷
+    -- AVI half new: 0x55, and later 0x56
+    answers (0x4B ∷ 0x40 ∷ 0x55 ∷ 0x01 ∷ 0x56 ∷ 0x02 ∷ 0x4B ∷ 0x80 ∷ []) 15 1 ∷
+    -- the same with a bad pair between, which does not stop the run
+    answers (0x4B ∷ 0x40 ∷ 0x55 ∷ 0x01 ∷ 0x98 ∷ 0x00 ∷ 0x56 ∷ 0x02 ∷ 0x4B ∷ 0x80 ∷ []) 15 1 ∷
+    -- and with a pair between that would leave two packet holds up: "the list ends before it", with 0x55 new
+    answers (0x4B ∷ 0x40 ∷ 0x55 ∷ 0x01 ∷ 0x4A ∷ 0x20 ∷ 0x4A ∷ 0x60 ∷ 0x56 ∷ 0x02 ∷ []) 15 3 ∷
+    -- that end is no cut that must be muted
+    answers (0x4A ∷ 0x40 ∷ 0x4A ∷ 0x60 ∷ []) 15 1 ∷
+    -- audio, and the coefficients, likewise; with the hold up neither moves, and the mode in 0x18[7:5] is no coefficient
+    answers (0x4B ∷ 0x40 ∷ 0x73 ∷ 0x01 ∷ 0x74 ∷ 0x02 ∷ 0x4B ∷ 0x80 ∷ []) 15 1 ∷
+    answers (0x4B ∷ 0x40 ∷ 0x19 ∷ 0x01 ∷ 0x1B ∷ 0x02 ∷ 0x4B ∷ 0x80 ∷ []) 15 1 ∷
+    answers (0x4B ∷ 0x40 ∷ 0x1A ∷ 0x20 ∷ 0x19 ∷ 0x01 ∷ 0x1B ∷ 0x02 ∷ 0x1A ∷ 0x00 ∷ 0x4B ∷ 0x80 ∷ []) 16 0 ∷
+    answers (0x4B ∷ 0x40 ∷ 0x18 ∷ 0x20 ∷ 0x18 ∷ 0x40 ∷ 0x98 ∷ 0x00 ∷ 0x4B ∷ 0x80 ∷ []) 15 3 ∷
+    -- "as it began": what is in use, from the buffer where the AVI hold is up; so lowering it before the registers are written tears AVI
+    withPacket (0x07 ∷ replicate 31 0) (onImage (set zeros 0x4A 0x40)
+    (answers (0x4B ∷ 0x40 ∷ 0x4A ∷ 0x00 ∷ 0x55 ∷ 0x01 ∷ 0x4B ∷ 0x80 ∷ []) 15 1)) ∷ []
+
+abbrev pub right : Case → Bool
+right c =
+    let v : Verdict = vetOf (record { image = c .image; packet = c .packet; coefficients = replicate 24 0 }) (c .list) in
+    eqb (v .refusal) (c .refusal) && eqb (v .place) (c .place)
+
+abbrev pub VendorCases : Type 0
+VendorCases = every right cases ≡ true

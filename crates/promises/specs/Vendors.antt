@@ -1,0 +1,64 @@
+-- Document 02, request 03, of the verdict on a vendor's list: our own lists pass, the empty list, and what a list that passes gives.
+use mathlib.Core.Path.{_≡_}
+use mathlib.Core.Logic.{_↔_, _≢_}
+use mathlib.Core.List.{List, []}
+use Prim.Native.Nat.{ℕ, suc, _<_, _≤_}
+use lib.ListN.{length, take}
+use Rattle.matrix.specs.Matrix.{Bytes}
+use Rattle.request.specs.Bytes.{asBytes, inFamily}
+use Rattle.chip.specs.declared.Chip.{Chip}
+use Rattle.views.specs.Theorems.{Sized}
+use Rattle.writes.specs.List.{pairsOf}
+use Rattle.plan.specs.Plan.{planOf}
+use Rattle.plan.specs.Rules.{HoldsUp}
+use Rattle.cut.specs.Run.{Careful, Covered, Untouched, Retried}
+use Rattle.cut.specs.Demand.{sent, toItsEnd, After, Same}
+use Rattle.vendor.specs.Vendor.{pairAt, cutAt, endOf, Decodable}
+use Rattle.vendor.specs.Found.{vetOf}
+use Rattle.promises.specs.LentBytes.{bytesLeft, entered, muteSaid, Entering}
+use Rattle.promises.specs.AnyCut.{listOf, AnyCut}
+
+-- "ends in an image that decodes": what decoding answers, and the request, in the family in which it ends, as bytes
+abbrev pub inputOf : {image : List ℕ} → Decodable image → List ℕ
+inputOf d = asBytes (inFamily (d .ends .family) (d .request))
+
+-- a list that passes, run from the state that it was read for
+pub record Passing (list : List ℕ) (s : Chip) : Type 0 where
+  -- demand 3's clauses: every write is taken by the machine; at every cut between the first write and the last the picture is muted, and
+  -- the AVI InfoFrame, the audio InfoFrame and the twelve coefficients in use are each as they began or as the list ends
+  pub careful : Careful (sent (pairsOf list)) s
+  -- after the last the picture is open, and what is in use is what stands in the registers
+  pub ended : After (endOf (pairsOf list) s)
+  -- the same by the calls, over the lent slices
+  pub entering : Entering (pairsOf list) s
+  pub opened : muteSaid (entered (pairsOf list) s) ≡ record { refusal = 0; mute = 2 }
+  pub slices : (k : ℕ) → entered (take k (pairsOf list)) s ≡ cutAt (pairsOf list) s k
+  -- with two pairs or more the mute covers what moves, and the last pair writes 0x4B
+  pub covered : 2 ≤ length (pairsOf list) → Covered (sent (pairsOf list)) s
+  pub closes : (k : ℕ) → 0 < k → suc k ≡ length (pairsOf list) → pairAt (pairsOf list) k .address ≡ 0x4B
+  -- HDCP, CEC, every free and read-only bit and every register that no list of ours writes stay
+  pub untouched : Untouched (sent (pairsOf list)) s
+  -- it ends where some request ends: that request is accepted at the start, and our own list for it ends with the same registers and the
+  -- same three groups in use
+  pub ends : Decodable (endOf (pairsOf list) s .image)
+  pub accepted : (room : List ℕ) → 256 ≤ length room → planOf (inputOf ends) (s .image) room .refusal ≡ 0
+  pub ours : Same (toItsEnd (listOf (inputOf ends)) s) (endOf (pairsOf list) s)
+  -- each write may be sent again any number of times
+  pub retries : (n : ℕ → ℕ) → Retried n (sent (pairsOf list)) s
+  -- a crash in it can be mended: a request that was accepted at its start is accepted where any cut left off, with all that demand 3 says,
+  -- and finishes as ever, with the registers and all three groups in use as from the start
+  pub mended : (input buffer : List ℕ) → planOf input (s .image) buffer .refusal ≡ 0 → (k : ℕ) (room : List ℕ) → 256 ≤ length room
+      → let t : Chip = cutAt (pairsOf list) s k in
+      (planOf input (t .image) room .refusal ≡ 0) × AnyCut input room t × Same (toItsEnd (listOf input) s) (toItsEnd (listOf input) t)
+
+pub record Vendors : Type 0 where
+  -- "The library's own lists always pass."
+  pub own : (input buffer : List ℕ) (s : Chip) → Bytes input → Sized s → planOf input (s .image) buffer .refusal ≡ 0
+      → vetOf s (bytesLeft input (s .image) buffer) ≡ record { refusal = 0; place = 0 }
+  -- "At most 512 pairs", in bytes: not 14 with 1024, and 14 with one pair more or with one byte less
+  pub sizes : (list : List ℕ) (s : Chip) → Sized s → (HoldsUp (s .image) → ⊥)
+      → (length list ≡ 1024 → vetOf s list .refusal ≢ 14) × (length list ≡ 1026 → vetOf s list .refusal ≡ 14)
+      × (length list ≡ 1023 → vetOf s list .refusal ≡ 14)
+  -- "An empty list passes exactly when the image already decodes."
+  pub empty : (s : Chip) → Sized s → (HoldsUp (s .image) → ⊥) → (vetOf s [] .refusal ≡ 0) ↔ Decodable (s .image)
+  pub passing : (list : List ℕ) (s : Chip) → vetOf s list .refusal ≡ 0 → Passing list s

@@ -1,0 +1,18 @@
+-- `station::machine::station_vet` meets its contract: the library's answer, field by field. Assumes nothing.
+use mathlib.Core.Path.{ap}
+use Rattle.station.specs.Machine.{verdictOut}
+use borrow.Author.Needs.{needs}
+use Rattle.station.proofs.machine.station_vet.Statement.{statement}
+use Rattle.station.proofs.machine.station_vet.Tie as tie
+
+vet-requires : tie.Need-vet-requires
+vet-requires c κs = search needs
+
+cast-t6 : tie.Need-cast-t6
+cast-t6 c = search needs
+
+returns : tie.Need-returns
+returns c = ap verdictOut (c .before .vet .ensures)
+
+pub station-vet-spec : {M : Type 1} → statement M
+station-vet-spec = tie.close (tie.spec vet-requires cast-t6 returns)

@@ -1,0 +1,259 @@
+-- The two passes over a list, turn by turn: what is done and what is left make up the whole.
+--     written        a turn's write, by what `store` answers
+--     Rest           the first pass at a place; rest-start, rest-next, rest-stop, rest-end
+--     Left           the second; left-start, left-next, left-stop, left-end
+-- Assumes nothing.
+use mathlib.Core.Path.{_≡_, refl, sym, ap, ap₂, subst, _∙_}
+use mathlib.Core.Bool.{Bool, true, false, cond, not, _&&_, _||_}
+use mathlib.Core.List.{List, [], _∷_}
+use Prim.Native.Nat.{ℕ, zero, suc, _+_, _*_, _<_, _≤_, suc-le-suc}
+use native.Mathlib.Numerals.{add-one}
+use native.Mathlib.Nat.{not-suc-le-zero}
+use native.Mathlib.Omega.{arith}
+use lib.Dec.{eqb}
+use lib.ListN.{length, getD, drop, length-set, length-drop, drop-of-length-le}
+use lib.Seq.{drop-cons, drop-length}
+use borrow.Author.Tests.{eqb-true, eqb-false}
+use Rattle.bits.specs.Merge.{merge, under}
+use Rattle.bits.proofs.Below.{at-below}
+use Rattle.registers.specs.declared.Class.{Class}
+use Rattle.registers.specs.declared.ByColumn.{ByColumn}
+use Rattle.registers.specs.Classes.{classAt, mandated, free, bits, columnOf, HasColumns}
+use Rattle.registers.proofs.Columns.{at-address}
+use Rattle.chip.specs.declared.Chip.{Chip}
+use Rattle.chip.specs.declared.Wrote.{Wrote}
+use Rattle.chip.specs.Machine.{Write}
+use Rattle.chip.specs.Write.{put, stored, refuses, writeOf, Stores}
+use Rattle.chip.proofs.Writes.{written-as, refused-write, taken-write, stepped}
+use Rattle.writes.specs.List.{pairsOf, isWritten, column}
+use Rattle.writes.specs.Columns.{keptBits}
+use Rattle.writes.proofs.Image.{column-at}
+use Rattle.writes.proofs.Pairs.{pair-at}
+use Rattle.cut.specs.Run.{InUse}
+use Rattle.vendor.specs.Vendor.{pairAt, endOf, shortened}
+use Rattle.vendor.specs.Found.{fairTest, isLast, isNext, firstFault}
+
+-- pair i of a list, written to a state
+abbrev pub wrote : List Write → ℕ → Chip → Wrote
+wrote ws i t = writeOf t (pairAt ws i .address) (pairAt ws i .value)
+
+-- a state keeps the length of its image
+kept-length : (t : Chip) (address byte : ℕ) (done : Bool) → length (cond done (put address byte t) t .image) ≡ length (t .image)
+unfolding put
+kept-length t address byte true = length-set (t .image) address byte
+kept-length t address byte false = refl
+
+-- the byte that the code stores, and the answer of the write
+module _ (list : List ℕ) (i : ℕ) (t left : Chip) (column : List ℕ) (byte : ℕ) (done : Bool) (h : i < length (pairsOf list))
+    (whole : length (t .image) ≡ 256) (c : column ≡ columnOf (λ r. r .«read_only»))
+    (b : byte ≡ merge 8 (getD column (getD list (2 * i) 0) 0) (getD (t .image) (getD list (2 * i) 0) 0) (getD list (2 * i + 1) 0))
+    (st : Stores t (getD list (2 * i) 0) byte done left) where
+  its-byte : byte ≡ stored (getD list (2 * i) 0) (getD list (2 * i + 1) 0) (t .image)
+  unfolding stored
+  its-byte =
+      b ∙ ap (λ (l : List ℕ). merge 8 (getD l (getD list (2 * i) 0) 0) (getD (t .image) (getD list (2 * i) 0) 0) (getD list (2 * i + 1) 0)) c
+      ∙ ap (λ (n : ℕ). merge 8 n (getD (t .image) (getD list (2 * i) 0) 0) (getD list (2 * i + 1) 0))
+      (at-address (λ (r : Class). r .«read_only») (getD list (2 * i) 0))
+
+  stores : Stores t (getD list (2 * i) 0) (stored (getD list (2 * i) 0) (getD list (2 * i + 1) 0) (t .image)) done left
+  stores = subst (λ (n : ℕ). Stores t (getD list (2 * i) 0) n done left) its-byte st
+
+  its-pair : writeOf t (getD list (2 * i) 0) (getD list (2 * i + 1) 0) ≡ wrote (pairsOf list) i t
+  its-pair = ap (λ (w : Write). writeOf t (w .address) (w .value)) (sym (pair-at list i h))
+
+  pub not-taken : done ≡ false → wrote (pairsOf list) i t ≡ record { refusal = 13; chip = t }
+  not-taken e = sym (refused-write t (getD list (2 * i) 0) (getD list (2 * i + 1) 0) whole done left stores e ∙ its-pair)
+
+  -- the state that is left
+  pub left-as : done ≡ false → left ≡ t
+  left-as e = st .1 ∙ rw e
+
+  pub left-sized : length (left .image) ≡ 256
+  left-sized = ap (λ (u : Chip). length (u .image)) (st .1) ∙ kept-length t (getD list (2 * i) 0) byte done ∙ whole
+
+  pub taken : done ≡ true → wrote (pairsOf list) i t ≡ record { refusal = 0; chip = left }
+  taken e = sym (taken-write t (getD list (2 * i) 0) (getD list (2 * i + 1) 0) whole done left stores e ∙ its-pair)
+
+-- a write that is not refused
+pub by-done : (list : List ℕ) (i : ℕ) (t left : Chip) (column : List ℕ) (byte : ℕ) (done : Bool) → i < length (pairsOf list)
+    → length (t .image) ≡ 256 → column ≡ columnOf (λ r. r .«read_only»)
+    → byte ≡ merge 8 (getD column (getD list (2 * i) 0) 0) (getD (t .image) (getD list (2 * i) 0) 0) (getD list (2 * i + 1) 0)
+    → Stores t (getD list (2 * i) 0) byte done left → (wrote (pairsOf list) i t .refusal ≡ 13 → ⊥)
+    → (wrote (pairsOf list) i t ≡ record { refusal = 0; chip = left }) × (length (left .image) ≡ 256)
+by-done list i t left column byte true h z c b st n =
+    (taken list i t left column byte true h z c b st refl, left-sized list i t left column byte true h z c b st)
+by-done list i t left column byte false h z c b st n =
+    absurd (n (ap (λ (w : Wrote). w .refusal) (not-taken list i t left column byte false h z c b st refl)))
+
+-- what is taken from a place on
+shortened-on : (ws : List Write) (i : ℕ) (t : Chip) → i < length ws
+    → shortened (drop i ws) t ≡ cond (eqb (wrote ws i t .refusal) 0) (pairAt ws i ∷ shortened (drop (suc i) ws) (wrote ws i t .chip)) []
+shortened-on ws i t h = ap (λ (l : List Write). shortened l t) (drop-cons ws i _ h)
+
+-- what is taken is no longer than the list
+pub shortened-short : (ws : List Write) (s : Chip) → length (shortened ws s) ≤ length ws
+shortened-short [] s = omega arith
+shortened-short (w ∷ ws) s = go (eqb (writeOf s (w .address) (w .value) .refusal) 0) (shortened-short ws (writeOf s (w .address) (w .value) .chip))
+  where
+    go : (b : Bool) → length (shortened ws (writeOf s (w .address) (w .value) .chip)) ≤ length ws
+        → length (cond b (w ∷ shortened ws (writeOf s (w .address) (w .value) .chip)) []) ≤ suc (length ws)
+    go true h = suc-le-suc h
+    go false h = omega arith
+
+-- the buffers keep their lengths too
+pub packet-sized : (ws : List Write) (i : ℕ) (t u : Chip) → length (t .image) ≡ 256 → length (t .packet) ≡ 32
+    → wrote ws i t ≡ record { refusal = 0; chip = u } → length (u .packet) ≡ 32
+packet-sized ws i t u z p e =
+    sym (ap (λ (w : Wrote). length (w .chip .packet)) e) ∙ stepped t (pairAt ws i .address) (pairAt ws i .value) z .packetSized p
+
+-- ---- the first pass
+
+-- at place i the state is t
+pub record Rest (ws : List Write) (s : Chip) (i : ℕ) (t : Chip) : Type 0 where
+  pub count : length (shortened ws s) ≡ i + length (shortened (drop i ws) t)
+  pub ends : endOf (shortened ws s) s ≡ endOf (shortened (drop i ws) t) t
+
+pub rest-start : (ws : List Write) (s : Chip) → Rest ws s 0 s
+rest-start ws s = record { count = omega arith; ends = refl }
+
+module _ (ws : List Write) (s : Chip) (i : ℕ) (t : Chip) (rest : Rest ws s i t) where
+  pub rest-next : (u : Chip) → i < length ws → wrote ws i t ≡ record { refusal = 0; chip = u } → Rest ws s (i + 1) u
+  rest-next u h e =
+      let on : shortened (drop i ws) t ≡ pairAt ws i ∷ shortened (drop (suc i) ws) u = shortened-on ws i t h ∙ rw e in
+      record {
+        count = rest .count ∙ rw (on, add-one) (omega arith);
+        ends = rest .ends ∙ rw (on, add-one) (ap (λ (w : Wrote). endOf (shortened (drop (suc i) ws) u) (w .chip)) e);
+      }
+
+  pub rest-stop : i < length ws → wrote ws i t ≡ record { refusal = 13; chip = t }
+      → (i ≡ length (shortened ws s)) × (t ≡ endOf (shortened ws s) s)
+  rest-stop h e =
+      let on : shortened (drop i ws) t ≡ [] = shortened-on ws i t h ∙ rw e in
+      (sym (rest .count ∙ rw on (omega arith)), sym (rest .ends ∙ rw on))
+
+  pub rest-end : i ≡ length ws → (i ≡ length (shortened ws s)) × (t ≡ endOf (shortened ws s) s)
+  rest-end h =
+      let on : shortened (drop i ws) t ≡ [] = rw (h, drop-length ws) in
+      (sym (rest .count ∙ rw on (omega arith)), sym (rest .ends ∙ rw on))
+
+-- ---- the second pass
+
+-- where a list goes on
+abbrev tail : List Write → List Write
+tail [] = []
+tail (w ∷ ws) = ws
+
+nothing-dropped : (ws : List Write) (i : ℕ) → i < length ws → drop i ws ≡ [] → ⊥
+nothing-dropped ws i h e = let n : length (drop i ws) ≡ 0 = ap length e in omega (arith, n, length-drop i ws)
+
+-- the last pair, by its place
+last-at : (ws : List Write) (i : ℕ) → i < length ws → isLast (drop (suc i) ws) ≡ eqb (i + 1) (length ws)
+last-at ws i h = go (eqb (i + 1) (length ws)) refl
+  where
+    go : (t : Bool) → eqb (i + 1) (length ws) ≡ t → isLast (drop (suc i) ws) ≡ t
+    go true e = let q : i + 1 ≡ length ws = eqb-true (i + 1) (length ws) e in let k : length ws ≤ suc i = omega (arith, q) in ap isLast (drop-of-length-le ws k)
+    go false e = let q : (i + 1 ≡ length ws) → ⊥ = eqb-false (i + 1) (length ws) e in ap isLast (drop-cons ws (suc i) (pairAt ws (suc i)) (omega (arith, q)))
+
+-- a register that a list keeps whole is one that it does not write
+abbrev alike : Bool → Bool → Bool
+alike a b = cond a b (not b)
+
+same : (a b : Bool) → alike a b ≡ true → a ≡ b
+same true b e = sym e
+same false true e = e
+same false false e = refl
+
+abbrev told : ℕ → Bool
+told a = alike (not (eqb (keptBits a) 255)) (isWritten a)
+
+pub kept-whole : (a : ℕ) → a < 256 → not (eqb (keptBits a) 255) ≡ isWritten a
+unfolding isWritten classAt merge
+kept-whole a h = same _ _ (at-below told 256 a refl h)
+
+-- a pair's test, by the code's columns
+module _ (list : List ℕ) (i : ℕ) (image : List ℕ) (c : ByColumn) (keep : List ℕ) (h : i < length (pairsOf list)) (small : getD list (2 * i) 0 < 256)
+    (cs : HasColumns c) (ks : keep ≡ column keptBits) where
+  pub fairly : let a : ℕ = getD list (2 * i) 0 in let v : ℕ = getD list (2 * i + 1) 0 in
+      (not (eqb (getD keep a 0) 255) && (eqb (under (getD (c .mandated) a 0) v) (under (getD (c .mandated) a 0) (getD (c .bits) a 0)) &&
+      eqb (under (getD (c .free) a 0) v) (under (getD (c .free) a 0) (getD image a 0)))) ≡ fairTest image (pairAt (pairsOf list) i)
+  fairly =
+      let a : ℕ = getD list (2 * i) 0 in
+      let v : ℕ = getD list (2 * i + 1) 0 in
+      let k : getD keep a 0 ≡ keptBits a = ap (λ (l : List ℕ). getD l a 0) ks ∙ column-at keptBits a small in
+      let m : getD (c .mandated) a 0 ≡ mandated a = ap (λ (l : List ℕ). getD l a 0) (cs .mandated) ∙ at-address (λ (r : Class). r .mandated) a in
+      let f : getD (c .free) a 0 ≡ free a = ap (λ (l : List ℕ). getD l a 0) (cs .free) ∙ at-address (λ (r : Class). r .free) a in
+      let b : getD (c .bits) a 0 ≡ bits a = ap (λ (l : List ℕ). getD l a 0) (cs .bits) ∙ at-address (λ (r : Class). r .bits) a in
+      let t : not (eqb (keptBits a) 255) ≡ isWritten a = kept-whole a small in
+      (λ j. not (eqb (k j) 255) && (eqb (under (m j) v) (under (m j) (b j)) && eqb (under (f j) v) (under (f j) (getD image a 0))))
+      ∙ (λ j. t j && (eqb (under (mandated a) v) (under (mandated a) (bits a)) && eqb (under (free a) v) (under (free a) (getD image a 0))))
+      ∙ ap (fairTest image) (sym (pair-at list i h))
+
+module _ (old new : InUse) (ws : List Write) (s : Chip) where
+  -- at place i the state is t
+  pub record Left (i : ℕ) (t : Chip) : Type 0 where
+    pub place : firstFault old new (shortened ws s) s ≡ i + firstFault old new (drop i (shortened ws s)) t
+    pub rest : drop i (shortened ws s) ≡ shortened (drop i ws) t
+
+  pub left-start : Left 0 s
+  left-start = record { place = omega arith; rest = refl }
+
+  module _ (i : ℕ) (t : Chip) (l : Left i t) where
+    pub left-end : i ≡ length (shortened ws s) → i ≡ firstFault old new (shortened ws s) s
+    left-end e =
+        let n : drop i (shortened ws s) ≡ [] = rw (e, drop-length (shortened ws s)) in
+        sym (l .place ∙ rw n (omega arith))
+
+    module _ (h : i < length (shortened ws s)) (k : i < length ws) where
+      -- the machine takes the pair
+      pub is-taken : wrote ws i t .refusal ≡ 13 → ⊥
+      is-taken e =
+          let n : drop i (shortened ws s) ≡ [] = l .rest ∙ shortened-on ws i t k ∙ rw e in
+          nothing-dropped (shortened ws s) i h n
+
+      module _ (u : Chip) (e : wrote ws i t ≡ record { refusal = 0; chip = u }) where
+        on : drop i (shortened ws s) ≡ pairAt ws i ∷ shortened (drop (suc i) ws) u
+        on = l .rest ∙ shortened-on ws i t k ∙ rw e
+
+        further : drop (suc i) (shortened ws s) ≡ shortened (drop (suc i) ws) u
+        further = ap (λ (r : List Write). tail r) (sym (drop-cons (shortened ws s) i (pairAt ws i) h) ∙ on)
+
+        turn : firstFault old new (drop i (shortened ws s)) t
+            ≡ cond (fairTest (t .image) (pairAt ws i) && (isLast (drop (suc i) (shortened ws s)) || isNext old new (pairAt ws i .address) t u))
+            (suc (firstFault old new (drop (suc i) (shortened ws s)) u)) 0
+        turn = rw (on, further) (ap (λ (w : Wrote). cond (fairTest (t .image) (pairAt ws i) &&
+            (isLast (shortened (drop (suc i) ws) u) || isNext old new (pairAt ws i .address) t (w .chip)))
+            (suc (firstFault old new (shortened (drop (suc i) ws) u) (w .chip))) 0) e)
+
+        -- whether the cut after the pair is as it must be
+        abbrev pub goes : Bool
+        goes = eqb (i + 1) (length (shortened ws s)) || isNext old new (pairAt ws i .address) t u
+
+        by-goes : (b : Bool) → fairTest (t .image) (pairAt ws i) ≡ true → goes ≡ b
+            → firstFault old new (drop i (shortened ws s)) t ≡ cond b (suc (firstFault old new (drop (suc i) (shortened ws s)) u)) 0
+        by-goes b f e =
+            turn ∙ rw (f, last-at (shortened ws s) i h)
+            (ap (λ (c : Bool). cond c (suc (firstFault old new (drop (suc i) (shortened ws s)) u)) 0) e)
+
+        pub left-next : fairTest (t .image) (pairAt ws i) ≡ true → goes ≡ true → Left (i + 1) u
+        left-next f n =
+            let q = by-goes true f n in
+            record { place = l .place ∙ rw (q, add-one) (omega arith); rest = rw add-one further }
+
+        pub left-torn : fairTest (t .image) (pairAt ws i) ≡ true → goes ≡ false → i ≡ firstFault old new (shortened ws s) s
+        left-torn f n = let q = by-goes false f n in sym (l .place ∙ rw q (omega arith))
+
+      takes : wrote ws i t ≡ record { refusal = 0; chip = wrote ws i t .chip }
+      takes = go (refuses t (pairAt ws i .address) (pairAt ws i .value)) refl
+        where
+          go : (b : Bool) → refuses t (pairAt ws i .address) (pairAt ws i .value) ≡ b
+              → wrote ws i t ≡ record { refusal = 0; chip = wrote ws i t .chip }
+          go true e =
+              absurd (is-taken (ap (λ (w : Wrote). w .refusal) (written-as t (pairAt ws i .address) (pairAt ws i .value) true e)))
+          go false e =
+              let q = written-as t (pairAt ws i .address) (pairAt ws i .value) false e in
+              q ∙ ap (λ (w : Wrote). record { refusal = 0; chip = w .chip }) (sym q)
+
+      pub left-unfair : fairTest (t .image) (pairAt ws i) ≡ false → i ≡ firstFault old new (shortened ws s) s
+      left-unfair f =
+          let q : firstFault old new (drop i (shortened ws s)) t ≡ 0 = turn (wrote ws i t .chip) takes ∙ rw f in
+          sym (l .place ∙ rw q (omega arith))

@@ -1,0 +1,55 @@
+-- What the code tests of a list is what the contracts say: the holds, the mute bits, the bytes in use, and one test after another.
+-- Assumes nothing.
+use mathlib.Core.Path.{_≡_, ap, _∙_}
+use mathlib.Core.Bool.{Bool, true, false, cond, not, _&&_, _||_}
+use mathlib.Core.List.{List, []}
+use Prim.Native.Nat.{ℕ, _/_, _%_, _^_}
+use lib.Dec.{eqb, lit<}
+use lib.ListN.{length, getD, take, drop}
+use lib.Seq.{getD-take, getD-drop}
+use borrow.Author.Tests.{eq-eqb, ne-eqb, not-true, not-false}
+use Rattle.bits.proofs.Laws.{bit-code, two-bits-code}
+use Rattle.matrix.specs.Matrix.{fields}
+use Rattle.matrix.specs.Read.{twelveOf}
+use Rattle.chip.specs.declared.Chip.{Chip}
+use Rattle.chip.specs.Machine.{Group, Buffer, matrix, converter, holdsOf, registersOf, inUse, coefficients, gcInUse, mute}
+use Rattle.chip.specs.Write.{lentAs}
+use Rattle.writes.specs.List.{covers}
+use Rattle.vendor.specs.Found.{mayMove, oneOf}
+
+-- tests in a row, each as the code asks for it to fail: one that fails ends them, one that passes leaves the rest
+pub failed : {r a : Bool} (b : Bool) → r ≡ a → not r ≡ true → false ≡ (a && b)
+failed {r} b e f = rw (← e, not-true r f)
+
+pub passed : {r a : Bool} (b : Bool) → r ≡ a → not r ≡ false → b ≡ (a && b)
+passed {r} b e f = rw (← e, not-false r f)
+
+-- the fields of 24 bytes
+pub twelve-fields : (bytes : List ℕ) {twelve : List ℕ} → length bytes ≡ 24 → twelve ≡ twelveOf bytes → twelve ≡ fields bytes
+twelve-fields bytes h e = rw (e, eq-eqb _ _ h)
+
+-- a hold by its mask
+pub one-moved : (g : Group) (a before after : ℕ) (old new x : List ℕ) {m r : Bool}
+    → m ≡ (not (eqb (after / 2 ^ (g .hold) % 2) 1) && (eqb (before / 2 ^ (g .hold) % 2) 1 || covers g a))
+    → r ≡ oneOf m old new x → r ≡ oneOf (mayMove g a before after) old new x
+one-moved g a before after old new x e f = rw (f, e, bit-code (g .hold) before, bit-code (g .hold) after)
+
+pub used : (b : Buffer) (g : Group) (s : Chip) {bytes : List ℕ}
+    → bytes ≡ cond (eqb (holdsOf b (s .image) / 2 ^ (g .hold) % 2) 1) (take (g .count) (b .bytes s)) (registersOf g (s .image)) → bytes ≡ inUse b g s
+unfolding inUse
+used b g s e = rw (e, bit-code (g .hold) (holdsOf b (s .image)))
+
+pub twelve-used : (s : Chip) {bytes twelve : List ℕ} → bytes ≡ inUse converter matrix s → length bytes ≡ 24 → twelve ≡ twelveOf bytes → twelve ≡ coefficients s
+unfolding coefficients
+twelve-used s {bytes} b h e = twelve-fields bytes h e ∙ ap fields b
+
+-- the mute bits, off the buffer's first byte where the GC hold is up, else off the register
+module _ (image packet : List ℕ) where
+  pub mute-held : getD image 0x4A 0 / 16 % 2 ≡ 1 → mute (lentAs image packet []) ≡ getD packet 0 0 / 64 % 4
+  unfolding gcInUse inUse
+  mute-held h = simp (bit-code 4 (getD image 0x4A 0), eq-eqb _ _ h, getD-take 1 packet 0 0 (lit< tt), two-bits-code 6 (getD packet 0 0))
+
+  pub mute-down : (getD image 0x4A 0 / 16 % 2 ≡ 1 → ⊥) → mute (lentAs image packet []) ≡ getD image 0x4B 0 / 64 % 4
+  unfolding gcInUse inUse
+  mute-down h =
+      simp (bit-code 4 (getD image 0x4A 0), ne-eqb _ _ h, getD-take 1 (drop 0x4B image) 0 0 (lit< tt), getD-drop 0x4B image 0 0, two-bits-code 6 (getD image 0x4B 0))

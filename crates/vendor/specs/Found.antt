@@ -1,0 +1,92 @@
+-- How the code reads a vendor's list: a first pass for the end, a second for the tests. `Vetted` (Theorems) ties it to document 02.
+use mathlib.Core.Path.{_≡_}
+use mathlib.Core.Bool.{Bool, true, false, cond, not, _&&_, _||_}
+use mathlib.Core.List.{List, [], _∷_}
+use Prim.Native.Nat.{ℕ, suc, _%_}
+use lib.Dec.{eqb, ltb}
+use lib.ListN.{length, getD}
+use Rattle.lists.specs.Same.{sameList}
+use Rattle.bits.specs.Merge.{under}
+use Rattle.registers.specs.Classes.{mandated, free, bits}
+use Rattle.refusals.specs.Rows.{imageLength, holdsUp, listLength, badPair, badEnd, Test, _if_, lowest, answer}
+use Rattle.matrix.specs.Matrix.{fields}
+use Rattle.chip.specs.declared.Chip.{Chip}
+use Rattle.chip.specs.Machine.{Write, Group, avi, audio, matrix, packets, converter, up, holdsOf, registersOf, mute}
+use Rattle.chip.specs.Write.{lentAs, writeOf}
+use Rattle.views.specs.Entry.{isSized}
+use Rattle.writes.specs.List.{pairsOf, covers, isWritten, ready}
+use Rattle.decode.specs.Decode.{someEnds}
+use Rattle.cut.specs.Run.{InUse, allInUse}
+use Rattle.vendor.specs.declared.Verdict.{Verdict}
+use Rattle.vendor.specs.declared.Used.{Used}
+use Rattle.vendor.specs.Vendor.{shortened, endOf, mostPairs}
+
+-- a pair on its own
+abbrev pub fairTest : List ℕ → Write → Bool
+fairTest image w =
+    let a : ℕ = w .address in
+    isWritten a && (eqb (under (mandated a) (w .value)) (under (mandated a) (bits a)) &&
+    eqb (under (free a) (w .value)) (under (free a) (getD image a 0)))
+
+-- what the code has in use
+abbrev pub shown : Used → InUse
+shown u = record { avi = u .avi; audio = u .audio; matrix = u .matrix }
+
+-- a write at an address may have moved what is in use of a group, by the byte of its holds before and after: its hold is down, and was up
+-- or the write is to one of its registers
+abbrev pub mayMove : Group → ℕ → ℕ → ℕ → Bool
+mayMove g a before after = not (up g after) && (up g before || covers g a)
+
+-- what may have moved is now one of the two
+abbrev pub oneOf : Bool → List ℕ → List ℕ → List ℕ → Bool
+oneOf moved old new x = not moved || (sameList x old || sameList x new)
+
+-- the cut after a write: muted, and each group that may have moved is one of the two; the others are what they were. `held` and `kept` are
+-- the bytes of the packet holds and of the coefficient hold before the write, `image` and `packet` are the state after it.
+unfoldable pub isBetween : InUse → InUse → ℕ → ℕ → ℕ → List ℕ → List ℕ → Bool
+isBetween old new a held kept image packet =
+    eqb (mute (lentAs image packet [])) 1 &&
+    (oneOf (mayMove avi a held (holdsOf packets image)) (old .avi) (new .avi) (registersOf avi image) &&
+    (oneOf (mayMove audio a held (holdsOf packets image)) (old .audio) (new .audio) (registersOf audio image) &&
+    oneOf (mayMove matrix a kept (holdsOf converter image)) (old .matrix) (new .matrix) (fields (registersOf matrix image))))
+
+-- the same, from one state to the next
+abbrev pub isNext : InUse → InUse → ℕ → Chip → Chip → Bool
+isNext old new a s t = isBetween old new a (holdsOf packets (s .image)) (holdsOf converter (s .image)) (t .image) (t .packet)
+
+-- whether no other pair follows
+abbrev pub isLast : List Write → Bool
+isLast [] = true
+isLast (w ∷ ws) = false
+
+-- the first pair that fails, of a list that the machine takes; its length where none does
+abbrev pub firstFault : InUse → InUse → List Write → Chip → ℕ
+firstFault old new [] s = 0
+firstFault old new (w ∷ ws) s =
+    cond (fairTest (s .image) w && (isLast ws || isNext old new (w .address) s (writeOf s (w .address) (w .value) .chip)))
+    (suc (firstFault old new ws (writeOf s (w .address) (w .value) .chip))) 0
+
+-- the first bad pair; the list's length where none is
+abbrev pub placeOf : List Write → Chip → ℕ
+placeOf ws s = firstFault (allInUse s) (allInUse (endOf (shortened ws s) s)) (shortened ws s) s
+
+-- the tests of rows 7, 8, 14, 15 and 16
+abbrev pub vetTests : Chip → List ℕ → List Test
+vetTests s list =
+    imageLength if not (isSized s) ∷
+    holdsUp if not (ready (s .image)) ∷
+    listLength if (eqb (length list % 2) 1 || ltb mostPairs (length (pairsOf list))) ∷
+    badPair if ltb (placeOf (pairsOf list) s) (length (pairsOf list)) ∷
+    badEnd if not (someEnds (endOf (shortened (pairsOf list) s) s .image)) ∷ []
+
+unfoldable pub vetRefusal : Chip → List ℕ → ℕ
+vetRefusal s list = lowest (vetTests s list)
+
+-- 15 "with the place of the first bad pair"; beside another number it is 0
+unfoldable pub vetOf : Chip → List ℕ → Verdict
+vetOf s list =
+    record { refusal = vetRefusal s list; place = cond (eqb (vetRefusal s list) 15) (placeOf (pairsOf list) s) 0 }
+
+-- what `vet` promises
+abbrev pub Vets : Chip → List ℕ → Verdict → Type 0
+Vets s list verdict = verdict ≡ vetOf s list

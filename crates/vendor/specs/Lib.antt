@@ -1,0 +1,3 @@
+pub mod Vendor
+pub mod Found
+pub mod Theorems

@@ -1,0 +1,42 @@
+/* What is wrong with a vendor's list, pair by pair and in words (document 02, request 03). The verdict is the library's, station_vet; this
+ * finds the reasons, and comes to a verdict of its own, which must be the same. */
+#ifndef JUDGE_H
+#define JUDGE_H
+
+#include "chip.h"
+
+/* The rules that a pair can break: of the pair itself, and of the cut after it where another pair follows. */
+enum fault { NO_GROUP, NOT_MANDATED, FREE_MOVED, TWO_HOLDS, NOT_MUTED, TORN_AVI, TORN_AUDIO, TORN_MATRIX, FAULTS };
+
+/* A pair: whether each rule is broken; the byte before it, and after it, or its own value where the machine does not take it; what is in
+ * use after it; the bits of the second and the third rule. */
+struct judged { uint8_t broken[FAULTS], before, after, mandated, moved; struct sent now; };
+
+/* A list: how many pairs there are, and how many come before one that would leave two packet holds up (all, where none would); the chip at
+ * that end; what was in use at the beginning and is at that end. */
+struct judgement {
+    struct station_verdict verdict;
+    uint32_t count, end;
+    struct chip last;
+    struct sent old, new;
+    struct judged pairs[STATION_LIST / 2];
+};
+void judge(const struct chip *c, const uint8_t *list, size_t length, struct judgement *j);
+int is_bad(const struct judged *p);
+
+/* Does a register hold a named bit, belong to the AVI or the audio packet or stand in Table 14? */
+int is_of_a_group(uint8_t address);
+
+/* The library's verdict; and one in words, with the place where there is one. */
+enum { TEXT_OF_A_VERDICT = 160 };
+struct station_verdict vet(const struct chip *c, const uint8_t *list, size_t length);
+void text_of_verdict(struct station_verdict v, char text[TEXT_OF_A_VERDICT]);
+
+/* The rules that a pair breaks, in short words, with its register's bits. */
+enum { TEXT_OF_FAULTS = 400 };
+void text_of_faults(uint8_t address, const struct judged *p, char text[TEXT_OF_FAULTS]);
+
+/* A rule in short words, and in whole ones. */
+extern const char *const fault_words[FAULTS], *const fault_says[FAULTS];
+
+#endif

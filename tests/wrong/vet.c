@@ -1,0 +1,249 @@
+/* Wrong judges of a vendor's list. One judge, by another way than the model's, with a place for each fault; a fault is a row of FAULTS. */
+#include "wrong.h"
+
+/* FAULT(name, in words) */
+#define FAULTS(FAULT) \
+    FAULT(seven_not_given, "a vet with a packet buffer of 31 bytes") \
+    FAULT(eight_not_given, "a vet that does not refuse 8") \
+    FAULT(eight_by_gc_alone, "a vet that refuses 8 for the GC hold alone") \
+    FAULT(fourteen_before_eight, "refusal 14 before 8") \
+    FAULT(odd_accepted, "a list of an odd length, its last byte ignored") \
+    FAULT(pairs_513, "513 pairs accepted") \
+    FAULT(pairs_511, "512 pairs refused") \
+    FAULT(count_in_one_byte, "the number of pairs in one byte") \
+    FAULT(place_from_1, "the place counted from 1") \
+    FAULT(place_in_bytes, "the place counted in bytes") \
+    FAULT(place_in_one_byte, "the place in one byte") \
+    FAULT(place_beside_16, "a place beside 16") \
+    FAULT(last_bad_pair, "the last bad pair named") \
+    FAULT(sixteen_before_fifteen, "refusal 16 before 15") \
+    FAULT(end_not_decoded, "the end not decoded") \
+    FAULT(start_decoded, "the start decoded instead of the end") \
+    FAULT(empty_passes, "the empty list passes always") \
+    FAULT(empty_refused, "the empty list never passes") \
+    FAULT(read_only_register, "a register that is read-only let through (0x4C)") \
+    FAULT(free_register, "a register that is free let through (0x30)") \
+    FAULT(fixed_register, "a register fixed by the map let through (0x99)") \
+    FAULT(avi_to_its_end, "the AVI packet taken to run to 0x6F") \
+    FAULT(reserved_refused, "the audio packet's reserved registers refused") \
+    FAULT(table_14_refused, "the registers of Table 14 refused") \
+    FAULT(mandated_not_looked_at, "mandated bits not looked at") \
+    FAULT(mandated_of_the_map, "mandated bits beside named ones not looked at") \
+    FAULT(free_not_looked_at, "free bits not looked at") \
+    FAULT(free_at_the_end, "free bits looked at in the end image only") \
+    FAULT(free_must_be_0, "free bits must be 0") \
+    FAULT(gc_hold_raised, "the GC hold let rise") \
+    FAULT(two_holds_let_through, "two holds let through") \
+    FAULT(two_holds_one_later, "two holds found one pair later") \
+    FAULT(two_holds_without_gc, "the GC hold not counted among two") \
+    FAULT(two_holds_one_earlier, "two holds named at the pair before") \
+    FAULT(holds_after_each_other, "a hold handed over in one write refused") \
+    FAULT(two_holds_skipped, "the list runs on after two holds, without that pair") \
+    FAULT(two_holds_written, "the list runs on after two holds, with that pair") \
+    FAULT(two_holds_end_at_start, "a list with two holds ends as it began") \
+    FAULT(cut_before_two_holds, "the end before two holds must be muted") \
+    FAULT(bad_pair_stops, "a bad pair ends the list") \
+    FAULT(bad_pair_skipped, "a bad pair is not run") \
+    FAULT(first_cut_tested, "the first write must find a muted picture") \
+    FAULT(last_cut_tested, "the picture must be muted after the last pair") \
+    FAULT(cut_after_first_not_tested, "the cut after the first pair not looked at") \
+    FAULT(cut_before_last_not_tested, "the cut before the last pair not looked at") \
+    FAULT(muted_is_not_open, "muted taken as not open") \
+    FAULT(muted_is_set, "muted taken as set, whatever clear is") \
+    FAULT(pair_after_the_cut, "the pair after a bad cut named") \
+    FAULT(old_of_registers, "the registers at the start for what is in use there") \
+    FAULT(end_of_registers, "the registers at the end for what is in use there") \
+    FAULT(now_of_registers, "the registers at a cut for what is in use there") \
+    FAULT(old_only, "a group that is as the list ends refused") \
+    FAULT(no_way_back, "a group that goes back refused") \
+    FAULT(one_group, "the three groups compared as one") \
+    FAULT(avi_not_looked_at, "the AVI group not looked at") \
+    FAULT(audio_not_looked_at, "the audio group not looked at") \
+    FAULT(matrix_not_looked_at, "the coefficients not looked at") \
+    FAULT(audio_without_reserved, "the audio group without its reserved registers") \
+    FAULT(avi_without_last, "the AVI group without its last register") \
+    FAULT(matrix_of_24_bytes, "the coefficients compared as 24 bytes") \
+    FAULT(matrix_of_12_bits, "the coefficients without their signs") \
+    FAULT(image_changed, "the list run on the lent image") \
+    FAULT(packet_changed, "the lent packet buffer filled") \
+    FAULT(coefficients_changed, "the lent coefficient buffer filled") \
+    FAULT(reads_past_list, "a read one byte past the list")
+
+#define NUMBER(name, words) name##_fault,
+enum fault { NO_FAULT, FAULTS(NUMBER) };
+
+/* Whether a pair may stand in a list, but for the holds. */
+static int touches_ours(enum fault fault, uint8_t a) {
+    static const uint8_t table_14[] = { 0x98, 0x9A, 0x9C, 0x9D, 0xA2, 0xA3, 0xE0, 0xF9 };
+    if (fault == table_14_refused_fault && memchr(table_14, a, sizeof table_14)) return 0;
+    if (fault == reserved_refused_fault && a >= 0x78 && a <= 0x7C) return 0;
+    if (fault == read_only_register_fault && a == 0x4C) return 1;
+    if (fault == free_register_fault && a == 0x30) return 1;
+    if (fault == fixed_register_fault && a == 0x99) return 1;
+    if (fault == avi_to_its_end_fault && a >= 0x62 && a <= 0x6F) return 1;
+    return model_written(a);
+}
+
+static int pair_is_good(enum fault fault, const struct chip *now, uint8_t a, uint8_t v) {
+    struct model_class k = model_classes[a];
+    uint8_t kept = fault == free_must_be_0_fault ? 0 : now->image[a];
+    if (!touches_ours(fault, a)) return 0;
+    if (fault == mandated_not_looked_at_fault || (fault == mandated_of_the_map_fault && k.named)) k.mandated = k.bits = 0;
+    if (fault == free_not_looked_at_fault || fault == free_at_the_end_fault) k.free = 0;
+    if (fault == gc_hold_raised_fault && a == 0x4A) k.free &= 0xEF;
+    if (fault == holds_after_each_other_fault && a == 0x4A && (now->image[a] & 0x60) && (~now->image[a] & v & 0x60)) return 0;
+    return (v & k.mandated) == k.bits && ((v ^ kept) & k.free) == 0;
+}
+
+/* One write; 0 where two holds would be up. */
+static int goes(enum fault fault, struct chip *c, uint8_t a, uint8_t v) {
+    if (fault == two_holds_without_gc_fault && a == 0x4A && (v & 0x10) && (v & 0x60) != 0x60) {
+        if (v & 0x60 & ~c->image[a]) memcpy(c->packet, c->image + (v & 0x40 ? 0x52 : 0x70), v & 0x40 ? 16 : 13);
+        c->image[a] = v;
+        return 1;
+    }
+    return model_run(c, a, v) == 0;
+}
+
+/* The image without its holds, so that the registers are in use. */
+static struct in_use in_registers(const struct chip *c) {
+    struct chip other = *c;
+    other.image[0x4A] &= 0x9F;
+    other.image[0x1A] &= 0xDF;
+    return model_in_use(&other);
+}
+
+static struct in_use seen(enum fault fault, enum fault by_registers, const struct chip *c) {
+    struct in_use u = fault == by_registers ? in_registers(c) : model_in_use(c);
+    if (fault == matrix_of_24_bytes_fault) {
+        const uint8_t *bytes = c->image[0x1A] & 0x20 ? c->coefficients : c->image + 0x18;
+        for (int i = 0; i < 12; i++) u.coefficient[i] = bytes[2 * i] * 256 + bytes[2 * i + 1];
+    }
+    for (int i = 0; fault == matrix_of_12_bits_fault && i < 12; i++) u.coefficient[i] &= 0xFFF;
+    if (fault == audio_without_reserved_fault) memset(u.audio + 8, 0, AUDIO_BYTES - 8);
+    if (fault == avi_without_last_fault) u.avi[AVI_BYTES - 1] = 0;
+    if (fault == avi_not_looked_at_fault) memset(u.avi, 0, AVI_BYTES);
+    if (fault == audio_not_looked_at_fault) memset(u.audio, 0, AUDIO_BYTES);
+    for (int i = 0; fault == matrix_not_looked_at_fault && i < 12; i++) u.coefficient[i] = 0;
+    return u;
+}
+
+static int muted(enum fault fault, const struct in_use *u) {
+    if (fault == muted_is_not_open_fault) return (u->gc & 0xC0) != 0x80;
+    if (fault == muted_is_set_fault) return (u->gc & 0x40) != 0;
+    return model_muted(u);
+}
+
+static int same_groups(const struct in_use *a, const struct in_use *b) {
+    return model_same_avi(a, b) && model_same_audio(a, b) && model_same_matrix(a, b);
+}
+
+/* The end of a list: the state there, and how many of the pairs have run. */
+struct list_end { struct chip last; uint32_t pairs; };
+
+static struct list_end end_of(enum fault fault, const struct chip *start, const uint8_t *l, uint32_t n) {
+    struct list_end e = { *start, 0 };
+    for (; e.pairs < n; e.pairs++) {
+        uint8_t a = l[2 * e.pairs], v = l[2 * e.pairs + 1];
+        int good = pair_is_good(fault, &e.last, a, v);
+        if (!good && fault == bad_pair_stops_fault) break;
+        if (!good && fault == bad_pair_skipped_fault) continue;
+        if (goes(fault, &e.last, a, v)) continue;
+        if (fault == two_holds_written_fault) e.last.image[a] = v;
+        else if (fault != two_holds_skipped_fault) break;
+    }
+    if (fault == two_holds_end_at_start_fault && e.pairs < n) e.last = *start;
+    return e;
+}
+
+struct groups_of_a_list { struct in_use old, end; int avi_was_new; };
+
+static int cut_is_good(enum fault fault, struct groups_of_a_list *g, const struct in_use *now) {
+    struct in_use quiet = *now;
+    quiet.gc = 0x40;
+    if (!muted(fault, now)) return 0;
+    if (fault == one_group_fault) return same_groups(now, &g->old) || same_groups(now, &g->end);
+    if (fault == old_only_fault) return same_groups(now, &g->old);
+    if (fault == no_way_back_fault && g->avi_was_new && !model_same_avi(now, &g->end)) return 0;
+    g->avi_was_new = !model_same_avi(now, &g->old);
+    return model_cut_breaks(&quiet, &g->old, &g->end) == NO_RULE;
+}
+
+/* Is the cut after this pair looked at? */
+static int is_cut(enum fault fault, uint32_t at, uint32_t n, const struct list_end *e) {
+    if (fault == cut_after_first_not_tested_fault && at == 0) return 0;
+    if (fault == cut_before_last_not_tested_fault && at + 2 == n) return 0;
+    if (fault == last_cut_tested_fault && at + 1 == n) return 1;
+    if (fault == cut_before_two_holds_fault && e->pairs < n) return at + 1 <= e->pairs;
+    return at + 1 < e->pairs;
+}
+
+/* The place of the bad pair, or NONE. */
+#define NONE UINT32_MAX
+static uint32_t bad_place(enum fault fault, const struct chip *start, const uint8_t *l, uint32_t n, const struct list_end *e) {
+    struct chip now = *start;
+    struct groups_of_a_list g = { seen(fault, old_of_registers_fault, start), seen(fault, end_of_registers_fault, &e->last), 0 };
+    uint32_t place = NONE;
+    if (fault == first_cut_tested_fault && n > 0 && !model_muted(&g.old)) return 0;
+    for (uint32_t k = 0; k < n && (place == NONE || fault == last_bad_pair_fault); k++) {
+        uint8_t a = l[2 * k], v = l[2 * k + 1];
+        int good = pair_is_good(fault, &now, a, v), went = goes(fault, &now, a, v);
+        struct in_use u = seen(fault, now_of_registers_fault, &now);
+        if (!good) place = k;
+        else if (!went && fault == two_holds_one_later_fault) place = k + 1;
+        else if (!went && fault == two_holds_one_earlier_fault) place = k > 0 ? k - 1 : 0;
+        else if (!went && fault != two_holds_let_through_fault) place = k;
+        else if (is_cut(fault, k, n, e) && !cut_is_good(fault, &g, &u)) place = fault == pair_after_the_cut_fault ? k + 1 : k;
+    }
+    for (int a = 0; fault == free_at_the_end_fault && place == NONE && a < 256; a++)
+        if (n > 0 && ((start->image[a] ^ e->last.image[a]) & model_classes[a].free)) place = n - 1;
+    return place;
+}
+
+static uint32_t named_place(enum fault fault, uint32_t place) {
+    if (fault == place_from_1_fault) return place + 1;
+    if (fault == place_in_bytes_fault) return 2 * place;
+    return fault == place_in_one_byte_fault ? place & 0xFF : place;
+}
+
+static volatile uint8_t eye;
+
+static struct station_verdict judge(enum fault fault, VET_ARGUMENTS) {
+    struct chip start = { { 0 }, { 0 }, { 0 } };
+    struct fields f;
+    if (fault == seven_not_given_fault && pl == PACKET_BYTES - 1) pl++;
+    if (il != IMAGE_BYTES || pl != PACKET_BYTES || cl != COEFFICIENT_BYTES) return (struct station_verdict){ 7, 0 };
+    memcpy(start.image, i, IMAGE_BYTES);
+    memcpy(start.packet, p, fault == seven_not_given_fault ? PACKET_BYTES - 1 : PACKET_BYTES);
+    memcpy(start.coefficients, c, COEFFICIENT_BYTES);
+    size_t most = fault == pairs_513_fault ? MOST_PAIRS + 1 : fault == pairs_511_fault ? MOST_PAIRS - 1 : MOST_PAIRS;
+    int fourteen = (ll % 2 && fault != odd_accepted_fault) || ll / 2 > most;
+    int eight = (i[0x4A] & 0x10) || (fault != eight_by_gc_alone_fault && (i[0x4A] & 0x60) == 0x60);
+    if (fourteen && fault == fourteen_before_eight_fault) return (struct station_verdict){ 14, 0 };
+    if (eight && fault != eight_not_given_fault) return (struct station_verdict){ 8, 0 };
+    if (fourteen) return (struct station_verdict){ 14, 0 };
+    if (fault == reads_past_list_fault) eye = l[ll];
+    uint32_t n = (uint32_t)(ll / 2) & (fault == count_in_one_byte_fault ? 0xFF : 0xFFFF);
+    struct list_end e = end_of(fault, &start, l, n);
+    uint32_t place = bad_place(fault, &start, l, n, &e);
+    int ends = fault == end_not_decoded_fault || model_ends(fault == start_decoded_fault ? start.image : e.last.image, NONE_FREE, &f);
+    if (n == 0 && fault == empty_passes_fault) ends = 1;
+    if (n == 0 && fault == empty_refused_fault) ends = 0;
+    if (fault == image_changed_fault) memcpy((uint8_t *)i, e.last.image, IMAGE_BYTES);
+    if (fault == packet_changed_fault) memcpy((uint8_t *)p, e.last.packet, PACKET_BYTES);
+    if (fault == coefficients_changed_fault) memcpy((uint8_t *)c, e.last.coefficients, COEFFICIENT_BYTES);
+    if (place != NONE && (ends || fault != sixteen_before_fifteen_fault)) return (struct station_verdict){ 15, named_place(fault, place) };
+    if (!ends) return (struct station_verdict){ 16, fault == place_beside_16_fault ? n : 0 };
+    return (struct station_verdict){ 0, 0 };
+}
+
+#define JUDGE(name, words) \
+    static struct station_verdict name(VET_ARGUMENTS) { return judge(name##_fault, i, il, p, pl, c, cl, l, ll); } \
+    PUT(vet, name)
+FAULTS(JUDGE)
+
+static struct station_verdict no_fault(VET_ARGUMENTS) { return judge(NO_FAULT, i, il, p, pl, c, cl, l, ll); }
+void put_right_judge(struct face *f) { f->vet = no_fault; }
+
+#define ROW(name, words) { words, put_##name, 0 },
+const struct wrong wrong_vets[] = { FAULTS(ROW) { NULL, NULL, 0 } };
