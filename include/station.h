@@ -33,7 +33,7 @@
 #define STATION_WRITES 256      /* the least room for a write list */
 #define STATION_REQUEST 36      /* the longest request, and the least room for one */
 #define STATION_MATRIX 25       /* a matrix as a request has it: its mode and twelve coefficients */
-#define STATION_LIST 1024       /* the longest list of a vendor's, 512 pairs */
+#define STATION_LIST 1024       /* the longest list that a vendor may bring, 512 pairs */
 
 #ifdef __cplusplus
 extern "C" {
@@ -109,12 +109,14 @@ struct station_state station_mute(const uint8_t *image, size_t image_length, con
 struct station_count station_matrix(const uint8_t *image, size_t image_length, const uint8_t *coefficients, size_t coefficients_length,
                                     uint8_t *matrix, size_t matrix_length);
 
-/* Whether a list that a vendor brings, pairs of address and value, may be run on the chip from this state: accepted exactly if each pair
- * touches only registers of ours (with a named bit, of the AVI or the audio packet, of Table 14), carries the mandated bits, keeps the free
- * bits and never leaves two packet holds up; at every cut after the first write and before the last the picture is muted and each group in
- * use is as it began or as the list ends; and it ends in an image in which a request ends. At most 512 pairs. No lent byte is changed.
- * Refusals 7, 8, 14, 15 with the `place` of the first bad pair, counted from 0, and 16; `place` is 0 beside any other. A pair is bad also
- * where the cut after it, with another pair to follow, is not as above. */
+/* Whether a list that a vendor brings, pairs of address and value, may be run on the chip from this state. It is accepted exactly if each
+ * pair touches only registers that hold a named bit, belong to the AVI or audio packet or stand in Table 14, carries the mandated bits,
+ * keeps the free bits and never leaves two packet holds up; at every cut after the first write and before the last the picture is muted; at
+ * each cut each group in use is as it began or as the list ends; and a request ends in the image that the list leaves. The empty list
+ * passes exactly where a request ends in the image already. At most 512 pairs, STATION_LIST bytes.
+ * Refusals 7, 8, 14, 15 with the `place` of the first bad pair, counted from 0, and 16; beside any other number `place` is 0. A pair is bad
+ * too where the cut after it, with another pair to follow, is not as above. Bad pairs count towards the end, but for a pair that would leave
+ * two packet holds up: the list ends before that one, for the tests of the pairs before it. No lent byte is changed. */
 struct station_verdict station_vet(const uint8_t *image, size_t image_length, const uint8_t *packet, size_t packet_length,
                                    const uint8_t *coefficients, size_t coefficients_length, const uint8_t *list, size_t list_length);
 

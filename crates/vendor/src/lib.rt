@@ -56,6 +56,7 @@ fn part(image: &[u8], buffer: &[u8], held: bool, first: usize, count: usize, out
     lists::copy(&image[first..end], out);
 }
 
+// What a state has in use.
 fn in_use(s: Chip) -> Used
     ensures { λ r. ⌜ shown r ≡ allInUse s ⌝ }
 {
@@ -109,12 +110,19 @@ fn is_fair(keep: u8, mandated: u8, free: u8, bits: u8, old: u8, value: u8) -> bo
     (keep != 255) & (carries & keeps)
 }
 
+// Whether an address is one of some registers in a row.
+fn in_run(first: u8, count: u8, address: u8) -> bool
+    ensures { λ r. ⌜ r ≡ inRun first count address ⌝ }
+{
+    let end = first as usize + count as usize;
+    (first <= address) & ((address as usize) < end)
+}
+
 // Whether a write may have moved what is in use of a group.
 fn may_move(before: bool, after: bool, first: u8, count: u8, address: u8) -> bool
     ensures { λ r. ⌜ r ≡ (not after && (before || inRun first count address)) ⌝ }
 {
-    let end = first as usize + count as usize;
-    !after & (before | ((first <= address) & ((address as usize) < end)))
+    !after & (before | in_run(first, count, address))
 }
 
 // Whether a write left every group alone: it is to none of their registers, and no hold changed.
@@ -122,15 +130,21 @@ fn is_still(address: u8, held: u8, holds: u8, kept: u8, hold: u8) -> bool
     ensures { λ r. ⌜ r ≡ (not (covers avi address || (covers audio address || covers matrix address)) &&
         (eqb held holds && eqb kept hold)) ⌝ }
 {
-    let at = address as usize;
-    let avi = (Map::AVI_INFOFRAME_VERSION <= address)
-        & (at < Map::AVI_INFOFRAME_VERSION as usize + Map::AVI_INFOFRAME_COUNT as usize);
-    let audio = (Map::AUDIO_INFOFRAME_VERSION <= address)
-        & (at < Map::AUDIO_INFOFRAME_VERSION as usize + Map::AUDIO_INFOFRAME_COUNT as usize);
-    let matrix = (Map::CSC <= address) & (at < Map::CSC as usize + Map::CSC_COUNT as usize);
+    let avi = in_run(
+        Map::AVI_INFOFRAME_VERSION,
+        Map::AVI_INFOFRAME_COUNT,
+        address,
+    );
+    let audio = in_run(
+        Map::AUDIO_INFOFRAME_VERSION,
+        Map::AUDIO_INFOFRAME_COUNT,
+        address,
+    );
+    let matrix = in_run(Map::CSC, Map::CSC_COUNT, address);
     !(avi | (audio | matrix)) & ((held == holds) & (kept == hold))
 }
 
+// What may have moved is now one of the two; the same of the coefficients.
 fn one_of(moved: bool, bytes: &[u8], old: &[u8], new: &[u8]) -> bool
     ensures { λ r. ⌜ r ≡ oneOf moved (now (old .entry)) (now (new .entry)) (now (bytes .entry)) ⌝ }
 {
@@ -151,6 +165,7 @@ fn one_matrix(moved: bool, bytes: &[u8], old: [u16; 12], new: [u16; 12]) -> bool
     lists::same_numbers(twelve, old) | lists::same_numbers(twelve, new)
 }
 
+// "Muted: set bit 1, clear bit 0.", of the GC byte in use.
 fn is_muted(image: &[u8], packet: &[u8]) -> bool
     requires { ⌜ (length (now image) ≡ 256) × (length (now packet) ≡ 32) ⌝ }
     ensures { λ r. ⌜ r ≡ eqb (mute (lentAs (now (image .entry)) (now (packet .entry)) [])) 1 ⌝ }
