@@ -1,6 +1,6 @@
 -- A careful list of two events or more, whoever made it: no register but the mute's own moves while the picture is not muted, and the last
 -- event writes the mute's own where it opens the picture. Assumes nothing.
-use mathlib.Core.Path.{_≡_, refl, sym, ap, subst, _∙_}
+use mathlib.Core.Path.{_≡_, refl, sym, ap, _∙_}
 use mathlib.Core.Logic.{_⊎_, inl, inr, _≢_}
 use mathlib.Core.Bool.{Bool, true, false}
 use mathlib.Core.List.{List, [], _∷_}
@@ -14,7 +14,7 @@ use borrow.Author.Tests.{eqb-true, eqb-false, ltb-true, ltb-false}
 use Rattle.bits.specs.Merge.{bit}
 use Rattle.map.specs.Map as reg
 use Rattle.chip.specs.declared.Chip.{Chip}
-use Rattle.chip.specs.Machine.{Write, gc, packets, up, holdsOf, gcInUse, Muted, Open}
+use Rattle.chip.specs.Machine.{gc, packets, up, holdsOf, gcInUse, Muted, Open}
 use Rattle.chip.proofs.Writes.{stepped}
 use Rattle.cut.specs.Run.{Event, write, happens, run, cut, event, Careful, Covered}
 use Rattle.cut.proofs.Bank.{down-part}

@@ -8,10 +8,10 @@ use Prim.Native.Nat.{ℕ, zero, suc, _<_, suc-le-suc}
 use native.Mathlib.Nat.{zero-lt-suc}
 use lib.Dec.{eqb, lit<}
 use lib.ListN.{length, getD}
-use Rattle.lists.proofs.Both.{both-left, neither-right}
+use Rattle.lists.proofs.Both.{neither-right}
 use Rattle.bits.specs.Merge.{merge, bit}
 use Rattle.bits.proofs.Laws.{merge-left}
-use Rattle.bits.proofs.Truth.{E, zeros, var, by, law}
+use Rattle.bits.proofs.Truth.{zeros, var, by, law}
 use Rattle.map.specs.Map as reg
 use Rattle.registers.specs.Classes.{classAt, readOnly, free}
 use Rattle.chip.specs.declared.Chip.{Chip}
@@ -24,7 +24,7 @@ use Rattle.cut.specs.Demand.{sent, Mended}
 use Rattle.cut.proofs.Bytes.{Kept, Agree, agree-self, agree-trans, at-set}
 use Rattle.cut.proofs.FairRun.{after-write, Fairly, later, keeps, leaves}
 use Rattle.cut.proofs.Retry.{Taken, sized-happens}
-use Rattle.cut.proofs.Taken.{neat, neat-two}
+use Rattle.cut.proofs.Taken.{neat-two}
 use Rattle.cut.proofs.Cut.{Ready, Near, same-end}
 use Rattle.cut.proofs.WriteList.{planned-good}
 

@@ -1,9 +1,9 @@
 -- The bytes that planning leaves, written into the lent slices: the run of the list, and what the calls answer along it. Assumes nothing.
 use mathlib.Core.Path.{_≡_, refl, sym, ap, subst, _∙_}
 use mathlib.Core.Logic.{⊎-map}
-use mathlib.Core.Bool.{true, false}
+use mathlib.Core.Bool.{false}
 use mathlib.Core.List.{List, [], _∷_, _++_}
-use Prim.Native.Nat.{ℕ, zero, suc, _*_, _<_, _≤_}
+use Prim.Native.Nat.{ℕ, zero, suc, _*_, _≤_}
 use native.Mathlib.Omega.{arith}
 use lib.ListN.{length, getD, take, drop, length-map, List·getD-map}
 use lib.Seq.{take-at, take-length}
@@ -16,7 +16,6 @@ use Rattle.chip.specs.declared.Chip.{Chip}
 use Rattle.chip.specs.declared.Wrote.{Wrote}
 use Rattle.chip.specs.Machine.{Write, _gets_, avi, audio, packets, holdsOf, inUse, coefficients, modeInUse, gcInUse, Muted, Open, mute}
 use Rattle.chip.specs.Write.{two}
-use Rattle.views.specs.declared.view.Mute.{Mute}
 use Rattle.views.specs.Entry.{enterOf}
 use Rattle.views.specs.Theorems.{Sized, Faces, Entered}
 use Rattle.views.proofs.Shown as views

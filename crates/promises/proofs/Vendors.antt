@@ -2,12 +2,12 @@
 use mathlib.Core.Path.{_≡_, refl, sym, ap, subst, _∙_}
 use mathlib.Core.Logic.{_↔_, _≢_, inl, inr}
 use mathlib.Core.Bool.{Bool, true, false, false≢true, not, _&&_}
-use mathlib.Core.List.{List, [], _∷_}
-use Prim.Native.Nat.{ℕ, _+_, _*_, _%_, _/_, _<_, _≤_}
+use mathlib.Core.List.{List, []}
+use Prim.Native.Nat.{ℕ, _*_, _≤_}
 use native.Mathlib.Nat.{not-suc-le-zero}
 use native.Mathlib.Omega.{arith}
-use lib.Dec.{eqb, lit<}
-use lib.ListN.{length, getD, take, drop, length-map}
+use lib.Dec.{eqb}
+use lib.ListN.{length, getD, length-map}
 use lib.Seq.{take-at, take-length}
 use borrow.Author.Tests.{eqb-true, eq-eqb, le-ltb, not-false}
 use Rattle.bits.specs.Merge.{bit, bitsIn}
@@ -18,7 +18,7 @@ use Rattle.request.specs.Read.{readOf, pairFor, nctsOf}
 use Rattle.request.specs.Bytes.{asBytes, inFamily, answeredAs}
 use Rattle.request.specs.declared.Request.{Request}
 use Rattle.chip.specs.declared.Chip.{Chip}
-use Rattle.chip.specs.Machine.{Write, avi, audio, gc, matrix, packets, converter, up, holdsOf, registersOf, inUse, coefficients, gcInUse, Open}
+use Rattle.chip.specs.Machine.{Write, avi, audio, gc, matrix, packets, converter, up, holdsOf, registersOf, coefficients}
 use Rattle.chip.specs.Write.{two}
 use Rattle.views.specs.Theorems.{Sized}
 use Rattle.writes.specs.List.{pairsOf, flat, writeList, finished, ready}
@@ -30,8 +30,7 @@ use Rattle.plan.specs.Plan.{planOf}
 use Rattle.plan.specs.Rules.{HoldsUp}
 use Rattle.plan.proofs.Fine.{Fine, fine}
 use Rattle.plan.proofs.Ordered.{holds-up}
-use Rattle.lists.proofs.Decides.{Decides, refuted}
-use Rattle.decode.specs.Ends.{Ends}
+use Rattle.lists.proofs.Decides.{refuted}
 use Rattle.decode.proofs.Answers.{read-back}
 use Rattle.cut.specs.Run.{Event, write, run, Careful}
 use Rattle.cut.specs.Demand.{sent, toItsEnd, After, Same, Mended, Demand3}

@@ -5,7 +5,7 @@ use mathlib.Core.Bool.{true}
 use mathlib.Core.List.{List, [], _∷_}
 use Prim.Native.Nat.{ℕ, zero, suc, _<_}
 use native.Mathlib.Nat.{not-suc-le-zero, le-of-suc-le-suc}
-use lib.ListN.{length, getD, length-map, List·getD-map}
+use lib.ListN.{length, length-map, List·getD-map}
 use Rattle.chip.specs.declared.Chip.{Chip}
 use Rattle.chip.specs.Machine.{Write, _gets_, avi, audio, packets, inUse, coefficients}
 use Rattle.chip.specs.Write.{imageAfter, writeOf}
@@ -14,7 +14,7 @@ use Rattle.views.specs.Theorems.{Sized}
 use Rattle.writes.specs.List.{pairsOf, ready}
 use Rattle.cut.specs.Run.{Event, write, event, happens, Either, Careful, Fair, IsFair}
 use Rattle.cut.specs.Demand.{sent}
-use Rattle.vendor.specs.Vendor.{pairAt, cutAt, endOf, Decodable, Passes, shortened}
+use Rattle.vendor.specs.Vendor.{pairAt, cutAt, endOf, Decodable, Passes}
 use Rattle.vendor.proofs.Faults.{Takes, shortened-takes}
 use Rattle.vendor.proofs.Judged.{not-two, everywhere, is-fair, hears}
 

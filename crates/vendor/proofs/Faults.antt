@@ -2,26 +2,23 @@
 -- holds up. Assumes nothing.
 use mathlib.Core.Path.{_≡_, refl, sym, ap, subst, _∙_}
 use mathlib.Core.Logic.{_⊎_, inl, inr}
-use mathlib.Core.Bool.{Bool, true, false, false≢true, cond, not, _&&_, _||_}
+use mathlib.Core.Bool.{Bool, true, false, cond, _&&_, _||_}
 use mathlib.Core.List.{List, [], _∷_}
 use Prim.Native.Nat.{ℕ, zero, suc, _<_, _≤_, suc-le-suc}
 use native.Mathlib.Nat.{not-suc-le-zero, le-of-suc-le-suc, zero-lt-suc}
 use native.Mathlib.Omega.{arith}
-use lib.Dec.{eqb}
-use lib.ListN.{length, getD}
-use borrow.Author.Tests.{eqb-true, eqb-false, eq-eqb}
+use lib.ListN.{length}
+use borrow.Author.Tests.{eq-eqb}
 use Rattle.lists.proofs.Decides.{Decides, itself, equal, together, restated}
-use Rattle.bits.specs.Merge.{under}
-use Rattle.registers.specs.Classes.{mandated, free, bits}
 use Rattle.chip.specs.declared.Chip.{Chip}
 use Rattle.chip.specs.declared.Wrote.{Wrote}
 use Rattle.chip.specs.Machine.{Write, avi, audio, packets, holdsOf, inUse, coefficients}
 use Rattle.chip.specs.Write.{imageAfter, two, refuses, writeOf}
 use Rattle.chip.specs.Step.{TwoUp}
-use Rattle.chip.proofs.Writes.{two-up, written-as, allowed, stepped}
+use Rattle.chip.proofs.Writes.{two-up, written-as, stepped}
 use Rattle.writes.specs.List.{isWritten}
-use Rattle.cut.specs.Run.{InUse, allInUse, Either, Between, Fair}
-use Rattle.vendor.specs.Vendor.{pairAt, cutAt, endOf, LeavesTwo, shortened}
+use Rattle.cut.specs.Run.{InUse, Either, Between, Fair}
+use Rattle.vendor.specs.Vendor.{pairAt, cutAt, LeavesTwo, shortened}
 use Rattle.vendor.specs.Found.{fairTest, isLast, isNext, firstFault}
 use Rattle.cut.proofs.Mended.{lone}
 use Rattle.vendor.proofs.Moved.{next-decides}

@@ -1,7 +1,7 @@
 -- What the verdict says of a list: the theorem of `specs/Theorems.antt`. Assumes nothing.
 use mathlib.Core.Path.{_≡_, refl, sym, ap, subst, _∙_}
-use mathlib.Core.Logic.{_≢_, _⊎_, inl, inr}
-use mathlib.Core.Bool.{Bool, true, false, false≢true, cond, not, _||_}
+use mathlib.Core.Logic.{_≢_, inl, inr}
+use mathlib.Core.Bool.{Bool, true, false, not, _||_}
 use mathlib.Core.List.{List, [], _∷_}
 use Prim.Native.Nat.{ℕ, zero, suc, _%_, _<_, _≤_}
 use native.Mathlib.Nat.{not-suc-le-zero, le-of-suc-le-suc}
@@ -9,10 +9,10 @@ use native.Mathlib.Omega.{arith}
 use lib.Dec.{eqb, ltb}
 use lib.ListN.{length, length-map}
 use lib.Seq.{take-all}
-use borrow.Author.Tests.{eqb-true, ne-eqb, lt-ltb, le-ltb, ltb-true, ltb-false, not-true, not-false}
+use borrow.Author.Tests.{ne-eqb, lt-ltb, ltb-true, ltb-false, not-false}
 use Rattle.lists.proofs.Both.{neither-right}
-use Rattle.lists.proofs.Decides.{Decides, equal, less, either, opposite, one-fails, restated, refuted}
-use Rattle.refusals.specs.Rows.{Test, Given, lowest}
+use Rattle.lists.proofs.Decides.{Decides, equal, less, either, restated, refuted}
+use Rattle.refusals.specs.Rows.{lowest}
 use Rattle.refusals.proofs.Tests.{Decided, lowest-given, none-at}
 use Rattle.chip.specs.declared.Chip.{Chip}
 use Rattle.chip.specs.Machine.{Write, avi, audio, packets, holdsOf, inUse, coefficients}
@@ -37,7 +37,7 @@ use Rattle.vendor.specs.Theorems.{Readable, Vetted}
 use Rattle.vendor.proofs.Loops.{shortened-short}
 use Rattle.vendor.proofs.Verdicts as verdicts
 use Rattle.vendor.proofs.Verdicts.{ends-whole}
-use Rattle.vendor.proofs.Faults.{Sound, sound-next, Takes, shortened-takes, shortened-whole, Kept, Found, found, stops}
+use Rattle.vendor.proofs.Faults.{Sound, Takes, shortened-takes, shortened-whole, Found, found, stops}
 
 -- a pair that is taken leaves no two holds up
 pub not-two : (s : Chip) (a v : ℕ) → writeOf s a v .refusal ≡ 0 → two (holdsOf packets (imageAfter s a v)) ≡ false

@@ -3,12 +3,11 @@
 --     Rest           the first pass at a place; rest-start, rest-next, rest-stop, rest-end
 --     Left           the second; left-start, left-next, left-stop, left-end
 -- Assumes nothing.
-use mathlib.Core.Path.{_≡_, refl, sym, ap, ap₂, subst, _∙_}
+use mathlib.Core.Path.{_≡_, refl, sym, ap, subst, _∙_}
 use mathlib.Core.Bool.{Bool, true, false, cond, not, _&&_, _||_}
 use mathlib.Core.List.{List, [], _∷_}
-use Prim.Native.Nat.{ℕ, zero, suc, _+_, _*_, _<_, _≤_, suc-le-suc}
+use Prim.Native.Nat.{ℕ, suc, _+_, _*_, _<_, _≤_, suc-le-suc}
 use native.Mathlib.Numerals.{add-one}
-use native.Mathlib.Nat.{not-suc-le-zero}
 use native.Mathlib.Omega.{arith}
 use lib.Dec.{eqb}
 use lib.ListN.{length, getD, drop, length-set, length-drop, drop-of-length-le}

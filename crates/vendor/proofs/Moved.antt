@@ -1,15 +1,14 @@
 -- What is in use after a write that is taken: a group that the write cannot have moved is as it was, and one that it may have moved is what
 -- stands in its registers. So the code's test of a cut decides it, where the cut before it was as it must be. Assumes nothing.
 use mathlib.Core.Path.{_≡_, refl, sym, ap, subst, _∙_}
-use mathlib.Core.Logic.{_⊎_, inl, inr, ⊎-map}
+use mathlib.Core.Logic.{_⊎_, ⊎-map}
 use mathlib.Core.Bool.{Bool, true, false, false≢true, cond, not, _&&_, _||_}
 use mathlib.Core.List.{List, []}
-use Prim.Native.Nat.{ℕ, _+_, _*_, _^_, _<_, _≤_}
+use Prim.Native.Nat.{ℕ, _+_, _^_, _<_}
 use native.Mathlib.Omega.{arith}
 use lib.Dec.{eqb, leb, ltb}
 use lib.ListN.{length}
 use borrow.Author.Tests.{eqb-true, eqb-false, eq-eqb, lt-ltb, le-leb, leb-false, ltb-false}
-use Rattle.lists.specs.Same.{sameList}
 use Rattle.lists.proofs.Both.{neither-left, neither-right}
 use Rattle.lists.proofs.Decides.{Decides, either, together, restated}
 use Rattle.lists.proofs.Compared.{same-decides}
@@ -17,13 +16,13 @@ use Rattle.bits.specs.Merge.{bit}
 use Rattle.matrix.specs.Matrix.{fields}
 use Rattle.chip.specs.declared.Chip.{Chip}
 use Rattle.chip.specs.declared.Wrote.{Wrote}
-use Rattle.chip.specs.Machine.{Write, _gets_, Group, Buffer, avi, audio, gc, matrix, packets, converter, up, holdsOf, registersOf, inUse, coefficients, gcInUse, mute, Muted}
+use Rattle.chip.specs.Machine.{Write, _gets_, Group, Buffer, avi, audio, matrix, packets, converter, up, holdsOf, registersOf, inUse, coefficients, gcInUse, mute, Muted}
 use Rattle.chip.specs.Write.{lentAs, stored, two, writeOf}
 use Rattle.chip.proofs.Writes.{written-as, allowed}
 use Rattle.writes.specs.List.{covers}
 use Rattle.cut.specs.Run.{InUse, Either, Between}
 use Rattle.cut.proofs.Mended.{lone}
-use Rattle.cut.proofs.Bank.{store, only, status, next, quiet, Shown, avi-shown, audio-shown, matrix-shown, avi-same, audio-same, matrix-same, down-part}
+use Rattle.cut.proofs.Bank.{store, only, status, quiet, Shown, avi-shown, audio-shown, matrix-shown, avi-same, audio-same, matrix-same, down-part}
 use Rattle.vendor.specs.Found.{mayMove, oneOf, isBetween, isNext}
 
 -- no two packet holds are up, and one is: the byte of the holds alone has this one

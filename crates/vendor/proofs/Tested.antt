@@ -1,19 +1,17 @@
--- What the code tests of a list is what the contracts say: the holds, the mute bits, the bytes in use, and one test after another.
+-- What the code tests of a list is what the contracts say: the holds, the bytes in use, and one test after another.
 -- Assumes nothing.
 use mathlib.Core.Path.{_≡_, ap, _∙_}
 use mathlib.Core.Bool.{Bool, true, false, cond, not, _&&_, _||_}
-use mathlib.Core.List.{List, []}
+use mathlib.Core.List.{List}
 use Prim.Native.Nat.{ℕ, _/_, _%_, _^_}
-use lib.Dec.{eqb, lit<}
-use lib.ListN.{length, getD, take, drop}
-use lib.Seq.{getD-take, getD-drop}
-use borrow.Author.Tests.{eq-eqb, ne-eqb, not-true, not-false}
-use Rattle.bits.proofs.Laws.{bit-code, two-bits-code}
+use lib.Dec.{eqb}
+use lib.ListN.{length, take}
+use borrow.Author.Tests.{eq-eqb, not-true, not-false}
+use Rattle.bits.proofs.Laws.{bit-code}
 use Rattle.matrix.specs.Matrix.{fields}
 use Rattle.matrix.specs.Read.{twelveOf}
 use Rattle.chip.specs.declared.Chip.{Chip}
-use Rattle.chip.specs.Machine.{Group, Buffer, matrix, converter, holdsOf, registersOf, inUse, coefficients, gcInUse, mute}
-use Rattle.chip.specs.Write.{lentAs}
+use Rattle.chip.specs.Machine.{Group, Buffer, matrix, converter, holdsOf, registersOf, inUse, coefficients}
 use Rattle.writes.specs.List.{covers}
 use Rattle.vendor.specs.Found.{mayMove, oneOf}
 
@@ -42,14 +40,3 @@ used b g s e = rw (e, bit-code (g .hold) (holdsOf b (s .image)))
 pub twelve-used : (s : Chip) {bytes twelve : List ℕ} → bytes ≡ inUse converter matrix s → length bytes ≡ 24 → twelve ≡ twelveOf bytes → twelve ≡ coefficients s
 unfolding coefficients
 twelve-used s {bytes} b h e = twelve-fields bytes h e ∙ ap fields b
-
--- the mute bits, off the buffer's first byte where the GC hold is up, else off the register
-module _ (image packet : List ℕ) where
-  pub mute-held : getD image 0x4A 0 / 16 % 2 ≡ 1 → mute (lentAs image packet []) ≡ getD packet 0 0 / 64 % 4
-  unfolding gcInUse inUse
-  mute-held h = simp (bit-code 4 (getD image 0x4A 0), eq-eqb _ _ h, getD-take 1 packet 0 0 (lit< tt), two-bits-code 6 (getD packet 0 0))
-
-  pub mute-down : (getD image 0x4A 0 / 16 % 2 ≡ 1 → ⊥) → mute (lentAs image packet []) ≡ getD image 0x4B 0 / 64 % 4
-  unfolding gcInUse inUse
-  mute-down h =
-      simp (bit-code 4 (getD image 0x4A 0), ne-eqb _ _ h, getD-take 1 (drop 0x4B image) 0 0 (lit< tt), getD-drop 0x4B image 0 0, two-bits-code 6 (getD image 0x4B 0))

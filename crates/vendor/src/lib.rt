@@ -167,14 +167,9 @@ fn one_matrix(moved: bool, bytes: &[u8], old: [u16; 12], new: [u16; 12]) -> bool
 
 // "Muted: set bit 1, clear bit 0.", of the GC byte in use.
 fn is_muted(image: &[u8], packet: &[u8]) -> bool
-    requires { ⌜ (length (now image) ≡ 256) × (length (now packet) ≡ 32) ⌝ }
     ensures { λ r. ⌜ r ≡ eqb (mute (lentAs (now (image .entry)) (now (packet .entry)) [])) 1 ⌝ }
 {
-    let holds = image[Map::INFOFRAME_UPDATE as usize];
-    if holds / Map::GC_PACKET_UPDATE_MASK % 2 == 1 {
-        return packet[0] / Map::SET_AV_MUTE_MASK % 4 == 1;
-    }
-    image[Map::AV_MUTE as usize] / Map::SET_AV_MUTE_MASK % 4 == 1
+    views::mute_bits(image, packet) == 1
 }
 
 // The cut after a write, by the holds before it: muted, and each group that may have moved old or new.

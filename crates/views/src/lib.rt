@@ -18,6 +18,7 @@ pub use entry::gathered;
 pub use entry::write_into;
 pub use view::Mute;
 pub use view::Part;
+pub use view::mute_bits;
 pub use view::mute_of;
 pub use view::sent;
 pub use view::sent_part;

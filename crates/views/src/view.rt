@@ -1,6 +1,9 @@
 // What the chip sends, over lent slices: document 01, "The chip machine".
 ghost use mathlib.Core.Path.{_≡_};
+ghost use mathlib.Core.List.{[]};
 ghost use lib.Dec.{eqb};
+ghost use Rattle.chip.specs.Machine.{mute};
+ghost use Rattle.chip.specs.Write.{lentAs};
 ghost use Rattle.views.specs.View.{lentRefusal, placed, Sends, Places, Refuses, Mutes};
 use chip::two_up;
 use map::Map;
@@ -104,7 +107,18 @@ pub fn sent<'a>(image: &'a [u8], packet: &'a [u8], which: u32) -> &'a [u8]
     &image[start..end]
 }
 
-// The mute bits of the GC byte in use: refusals 7 and 13.
+// The mute bits of the GC byte in use; what lies past the end of a slice is 0.
+pub fn mute_bits(image: &[u8], packet: &[u8]) -> u8
+    ensures { λ r. ⌜ r ≡ mute (lentAs (now (image .entry)) (now (packet .entry)) []) ⌝ }
+{
+    let holds = lists::byte_at(image, Map::INFOFRAME_UPDATE as usize);
+    if holds / Map::GC_PACKET_UPDATE_MASK % 2 == 1 {
+        return lists::byte_at(packet, 0) / Map::SET_AV_MUTE_MASK % 4;
+    }
+    lists::byte_at(image, Map::AV_MUTE as usize) / Map::SET_AV_MUTE_MASK % 4
+}
+
+// The same, with refusals 7 and 13.
 pub fn mute_of(image: &[u8], packet: &[u8]) -> Mute
     ensures { λ r. ⌜ Mutes (now (image .entry)) (now (packet .entry)) r ⌝ }
 {
@@ -115,14 +129,8 @@ pub fn mute_of(image: &[u8], packet: &[u8]) -> Mute
             mute: 0,
         };
     }
-    if image[Map::INFOFRAME_UPDATE as usize] / Map::GC_PACKET_UPDATE_MASK % 2 == 1 {
-        return Mute {
-            refusal: Refusal::NONE,
-            mute: packet[0] / Map::SET_AV_MUTE_MASK % 4,
-        };
-    }
     Mute {
         refusal: Refusal::NONE,
-        mute: image[Map::AV_MUTE as usize] / Map::SET_AV_MUTE_MASK % 4,
+        mute: mute_bits(image, packet),
     }
 }
