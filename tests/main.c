@@ -1,11 +1,12 @@
 /* tests: `tests lib` compares the library with the model; `tests self` the model with itself, which tries the harness; `tests wrong` runs
  * every wrong library of tests/wrong and says how many were caught, after four right ones (the model, the two plain ones of bench/, and the
  * judge of wrong/vet.c without a fault). `tests facts` is what station.h says of sizes, alignment, threads and stack. Each ends with
- * 'N passed, M failed'. `tests line` prints what the small program should print. */
+ * 'N passed, M failed'. `tests line` and `tests verdict` print what the programs `desk` and `vet` should print, `tests input` writes inputs
+ * for `vet`. */
 #include "../bench/plain.h"
 #include "facts.h"
 #include "harness.h"
-#include "model/model.h"
+#include "lists.h"
 #include "wrong/wrong.h"
 #include <stdio.h>
 #include <stdlib.h>
@@ -70,10 +71,12 @@ static int caught(void) {
     return missed != 0 || control != 0;
 }
 
-/* The line that the small program prints for the standard input, by the model. */
+static uint8_t input[1 << 23];
+static size_t whole_input(void) { return fread(input, 1, sizeof input, stdin); }
+
+/* The line that the program `desk` prints for the standard input, by the model. */
 static int line(void) {
-    static uint8_t input[1 << 23];
-    size_t length = fread(input, 1, sizeof input, stdin);
+    size_t length = whole_input();
     struct station_pair p = model_ncts(input, length);
     struct fields f;
     uint8_t avi[AVI_BYTES], audio[AUDIO_BYTES];
@@ -85,6 +88,54 @@ static int line(void) {
                   audio[2]) < 0;
 }
 
+/* The line of the program `vet`: registers, packet buffer, coefficient buffer, list. A part that the input ends in, or before, is short. */
+static int verdict(void) {
+    static const size_t bytes[3] = { IMAGE_BYTES, PACKET_BYTES, COEFFICIENT_BYTES };
+    const uint8_t *part[4];
+    size_t left = whole_input(), length[4], from = 0;
+    for (int i = 0; i < 4; i++) {
+        part[i] = input + from;
+        length[i] = i < 3 && left > bytes[i] ? bytes[i] : left;
+        from += length[i], left -= length[i];
+    }
+    struct station_verdict v = model_vet(part[0], length[0], part[1], length[1], part[2], length[2], part[3], length[3]);
+    if (v.refusal == 0) return printf("accepted\n") < 0;
+    if (v.refusal == 15) return printf("refused 15 at %u\n", (unsigned)v.place) < 0;
+    return printf("refused %u\n", (unsigned)v.refusal) < 0;
+}
+
+static int usage(void) {
+    fprintf(stderr, "usage: tests lib|self [SHARE OF THE RANDOM CASES IN 1/1000]\n       tests wrong\n       tests facts\n"
+                    "       tests line <REQUEST\n       tests verdict <REGISTERS, BUFFERS AND LIST\n"
+                    "       tests input noise|pairs|vendor NUMBER\n");
+    return 2;
+}
+
+/* Inputs for it, to the standard output: so many bytes of noise; a passing list of ours, stretched to so many pairs; the list of a vendor that
+ * has this number. Each has its own seed. */
+static int make_input(const char *what, uint32_t n) {
+    static struct pairs l;
+    struct chip c;
+    struct fields f;
+    seed(0x1300000u + n);
+    if (!strcmp(what, "noise")) {
+        size_t length = n < sizeof input ? n : sizeof input;
+        any_bytes(input, length);
+        return fwrite(input, 1, length, stdout) != length;
+    }
+    if (!strcmp(what, "pairs")) {
+        accepted_fields(&f);
+        any_state(&c);
+        our_list(&c, &f, &l);
+        stretch(&c, &l, n < 2 * MOST_PAIRS ? n : 2 * MOST_PAIRS);
+    } else if (!strcmp(what, "vendor")) any_vendors(&c, &l);
+    else return usage();
+    fwrite(c.image, 1, IMAGE_BYTES, stdout);
+    fwrite(c.packet, 1, PACKET_BYTES, stdout);
+    fwrite(c.coefficients, 1, COEFFICIENT_BYTES, stdout);
+    return fwrite(l.bytes, 1, l.length, stdout) != l.length;
+}
+
 int main(int count, char **words) {
     unsigned share = count == 3 ? (unsigned)strtoul(words[2], NULL, 10) : 1000;
     if (count >= 2 && !strcmp(words[1], "lib")) return compared("the library", &library, share);
@@ -92,6 +143,7 @@ int main(int count, char **words) {
     if (count == 2 && !strcmp(words[1], "wrong")) return caught();
     if (count == 2 && !strcmp(words[1], "facts")) return facts();
     if (count == 2 && !strcmp(words[1], "line")) return line();
-    fprintf(stderr, "usage: tests lib|self [SHARE OF THE RANDOM CASES IN 1/1000]\n       tests wrong\n       tests facts\n       tests line <REQUEST\n");
-    return 2;
+    if (count == 2 && !strcmp(words[1], "verdict")) return verdict();
+    if (count == 4 && !strcmp(words[1], "input")) return make_input(words[2], (uint32_t)strtoul(words[3], NULL, 10));
+    return usage();
 }

@@ -20,7 +20,8 @@ use Rattle.chip.specs.Write.{put, stored, two, refuses, writeOf}
 use Rattle.chip.proofs.Writes.{written-as, allowed}
 use Rattle.writes.specs.List.{middleOf, writeList, ready}
 use Rattle.cut.specs.Run.{Event, write, happens, cut, Fair}
-use Rattle.cut.specs.Demand.{sent, Mended}
+use Rattle.cut.specs.Demand.{sent}
+use Rattle.cut.specs.Mended.{Mended}
 use Rattle.cut.proofs.Bytes.{Kept, Agree, agree-self, agree-trans, at-set}
 use Rattle.cut.proofs.FairRun.{after-write, Fairly, later, keeps, leaves}
 use Rattle.cut.proofs.Retry.{Taken, sized-happens}

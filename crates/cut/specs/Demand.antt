@@ -38,12 +38,6 @@ pub record Same (s t : Chip) : Type 0 where
   pub audio : inUse packets audio t ≡ inUse packets audio s
   pub matrix : coefficients t ≡ coefficients s
 
--- a list that somebody else made, cut anywhere: planning there is refused by neither (7) nor (8), and ends as planning at its start does
-pub record Mended (planned : List ℕ → List Event) (es : List Event) (s : Chip) : Type 0 where
-  pub whole : (k : ℕ) → length (cut es s k .image) ≡ 256
-  pub ready : (k : ℕ) → ready (cut es s k .image) ≡ true
-  pub again : (k : ℕ) → Same (toItsEnd planned s) (toItsEnd planned (cut es s k))
-
 pub record Demand3 (planned : List ℕ → List Event) (want : ℕ → ℕ) (s : Chip) : Type 0 where
   -- "From the first write until the last the picture is muted, and .. each all old or all new." No write is refused.
   pub careful : Careful (planned (s .image)) s

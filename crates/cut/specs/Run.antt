@@ -87,8 +87,7 @@ pub record Covered (es : List Event) (s : Chip) : Type 0 where
   -- mute's own has the picture muted before it and after it
   pub moves : (a k : ℕ) → a ≢ reg.avMute → getD (cut es s (suc k) .image) a 0 ≢ getD (cut es s k .image) a 0
       → Muted (cut es s k) × Muted (cut es s (suc k))
-  pub vic : (k : ℕ) → getD (cut es s k .image) reg.vicManual 0 ≢ getD (s .image) reg.vicManual 0
-      → Muted (cut es s k) ⊎ (length es ≤ k)
+  pub vic : (k : ℕ) → getD (cut es s k .image) reg.vicManual 0 ≢ getD (s .image) reg.vicManual 0 → Muted (cut es s k) ⊎ (length es ≤ k)
 
 -- "HDCP and CEC are never built, and their bits (0xAF[7], 0xAF[4] among them) stay as the image has them": no cut has moved these two, nor
 -- any free or read-only bit, nor any register that no list writes

@@ -7,7 +7,8 @@ ghost use lib.ListN.{length};
 ghost use Rattle.chip.specs.declared.Chip.{Chip};
 ghost use Rattle.writes.specs.List.{writeList, ready};
 ghost use Rattle.cut.specs.Run.{Event, event, happens, cut, IsFair, Untouched, Retried};
-ghost use Rattle.cut.specs.Demand.{sent, Mended, Demand3};
+ghost use Rattle.cut.specs.Demand.{sent, Demand3};
+ghost use Rattle.cut.specs.Mended.{Mended};
 
 // "a chip in a state from which it was accepted, and a cut after any write": whatever is wanted and whatever the two buffers hold.
 pub fn any_cut()

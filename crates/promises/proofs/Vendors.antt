@@ -18,8 +18,9 @@ use Rattle.request.specs.Read.{readOf, pairFor, nctsOf}
 use Rattle.request.specs.Bytes.{asBytes, inFamily, answeredAs}
 use Rattle.request.specs.declared.Request.{Request}
 use Rattle.chip.specs.declared.Chip.{Chip}
-use Rattle.chip.specs.Machine.{Write, avi, audio, gc, matrix, packets, converter, up, holdsOf, registersOf, coefficients}
+use Rattle.chip.specs.Machine.{Write, Group, Buffer, avi, audio, gc, matrix, packets, converter, up, holdsOf, registersOf, inUse, coefficients}
 use Rattle.chip.specs.Write.{two}
+use Rattle.views.specs.Entry.{isSized}
 use Rattle.views.specs.Theorems.{Sized}
 use Rattle.writes.specs.List.{pairsOf, flat, writeList, finished, ready}
 use Rattle.writes.proofs.Pairs.{length-flat, length-pairs, pairs-flat}
@@ -33,7 +34,8 @@ use Rattle.plan.proofs.Ordered.{holds-up}
 use Rattle.lists.proofs.Decides.{refuted}
 use Rattle.decode.proofs.Answers.{read-back}
 use Rattle.cut.specs.Run.{Event, write, run, Careful}
-use Rattle.cut.specs.Demand.{sent, toItsEnd, After, Same, Mended, Demand3}
+use Rattle.cut.specs.Demand.{sent, toItsEnd, After, Same, Demand3}
+use Rattle.cut.specs.Mended.{Mended}
 use Rattle.cut.proofs.Bank.{down-part}
 use Rattle.cut.proofs.FairRun.{untouched}
 use Rattle.cut.proofs.Retry.{retries}
@@ -48,6 +50,7 @@ use Rattle.vendor.specs.Found.{vetOf}
 use Rattle.vendor.specs.Theorems.{Readable}
 use Rattle.vendor.proofs.Judged.{vetted, passed, fourteen, not-fourteen}
 use Rattle.vendor.proofs.Verdicts.{ends-whole}
+use Rattle.vendor.proofs.Alike.{Alike, same-verdict}
 use Rattle.vendor.proofs.Careful.{pair-event, careful-passes, passes-careful}
 use Rattle.promises.specs.Finished.{places, Shows}
 use Rattle.promises.specs.Rules.{asked, Listed}
@@ -241,5 +244,31 @@ sizes list s z h = (
     fits e (inl o) = omega (arith, e, o)
     fits e (inr o) = omega (arith, e, o, length-pairs list)
 
+-- ---- the buffers, where no hold is up
+
+module _ (s t : Chip) (e : t .image ≡ s .image) (h : bitsIn 6 4 (getD (s .image) 0x4A 0) ≡ 0) (k : bitsIn 5 5 (getD (s .image) 0x1A 0) ≡ 0) where
+  lowered : (b : Buffer) (g : Group) → up g (holdsOf b (s .image)) ≡ false → inUse b g t ≡ inUse b g s
+  lowered b g d =
+      down-part b g t (ap (λ (i : List ℕ). up g (holdsOf b i)) e ∙ d) ∙ ap (registersOf g) e ∙ sym (down-part b g s d)
+
+  zero-bit : (j n : ℕ) → bit j n ≡ 0 → eqb (bit j n) 1 ≡ false
+  zero-bit j n z = rw z
+
+  alike : Alike s t
+  alike = record {
+    image = e;
+    avi = lowered packets avi (zero-bit 6 _ (bit-code 6 (getD (s .image) 0x4A 0) ∙ omega (arith, h)));
+    audio = lowered packets audio (zero-bit 5 _ (bit-code 5 (getD (s .image) 0x4A 0) ∙ omega (arith, h)));
+    gc = lowered packets gc (zero-bit 4 _ (bit-code 4 (getD (s .image) 0x4A 0) ∙ omega (arith, h)));
+    matrix = lowered converter matrix (zero-bit 5 _ (bit-code 5 (getD (s .image) 0x1A 0) ∙ omega (arith, k)));
+  }
+
+buffers : (s t : Chip) (list : List ℕ) → Sized s → Sized t → t .image ≡ s .image → bitsIn 6 4 (getD (s .image) 0x4A 0) ≡ 0
+    → bitsIn 5 5 (getD (s .image) 0x1A 0) ≡ 0 → vetOf t list ≡ vetOf s list
+buffers s t list z y e h k = same-verdict s t list (alike s t e h k) (z .image) (sized-alike z y)
+  where
+    sized-alike : Sized s → Sized t → isSized t ≡ isSized s
+    sized-alike z y = rw (z .image, z .packet, z .coefficients, y .image, y .packet, y .coefficients) refl
+
 pub vendors : Vendors
-vendors = record { own = own; sizes = sizes; empty = empty; passing = passing }
+vendors = record { own = own; sizes = sizes; empty = empty; buffers = buffers; passing = passing }

@@ -3,7 +3,8 @@ use mathlib.Core.Path.{_≡_}
 use mathlib.Core.Logic.{_↔_, _≢_}
 use mathlib.Core.List.{List, []}
 use Prim.Native.Nat.{ℕ, suc, _<_, _≤_}
-use lib.ListN.{length, take}
+use lib.ListN.{length, getD, take}
+use Rattle.bits.specs.Merge.{bitsIn}
 use Rattle.matrix.specs.Matrix.{Bytes}
 use Rattle.request.specs.Bytes.{asBytes, inFamily}
 use Rattle.chip.specs.declared.Chip.{Chip}
@@ -61,4 +62,7 @@ pub record Vendors : Type 0 where
       × (length list ≡ 1023 → vetOf s list .refusal ≡ 14)
   -- "An empty list passes exactly when the image already decodes."
   pub empty : (s : Chip) → Sized s → (HoldsUp (s .image) → ⊥) → (vetOf s [] .refusal ≡ 0) ↔ Decodable (s .image)
+  -- where no hold is up, 0x4A[6:4] and 0x1A[5], the verdict does not ask what the two buffers hold
+  pub buffers : (s t : Chip) (list : List ℕ) → Sized s → Sized t → t .image ≡ s .image → bitsIn 6 4 (getD (s .image) 0x4A 0) ≡ 0
+      → bitsIn 5 5 (getD (s .image) 0x1A 0) ≡ 0 → vetOf t list ≡ vetOf s list
   pub passing : (list : List ℕ) (s : Chip) → vetOf s list .refusal ≡ 0 → Passing list s

@@ -11,8 +11,7 @@ use lib.ListN.{length, getD}
 -- a row, named after its "When"
 pub data Row : Type 0 where
   inputEnds countNotAllowed bytesAfter modeNotOffered fieldOutOfRange combination : Row
-  imageLength holdsUp noExactPair bufferShort noRequest inputAbove twoHolds : Row
-  listLength badPair badEnd : Row
+  imageLength holdsUp noExactPair bufferShort noRequest inputAbove twoHolds listLength badPair badEnd : Row
 
 abbrev pub number : Row → ℕ
 number inputEnds = 1
@@ -36,8 +35,7 @@ number badEnd = 16
 abbrev pub order : List Row
 order =
     inputEnds ∷ countNotAllowed ∷ bytesAfter ∷ modeNotOffered ∷ fieldOutOfRange ∷ combination ∷
-    imageLength ∷ holdsUp ∷ noExactPair ∷ bufferShort ∷ noRequest ∷ inputAbove ∷ twoHolds ∷
-    listLength ∷ badPair ∷ badEnd ∷ []
+    imageLength ∷ holdsUp ∷ noExactPair ∷ bufferShort ∷ noRequest ∷ inputAbove ∷ twoHolds ∷ listLength ∷ badPair ∷ badEnd ∷ []
 
 -- a row that a call checks, and when it applies to the call's input
 pub record Condition : Type 1 where

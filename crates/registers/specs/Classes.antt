@@ -1,12 +1,11 @@
 -- Document 01, "Register classes": the class of each bit of the 256 registers of the main map, and the table's rule.
 -- The register map (section 5) and Table 14 of source document 000 fill it, by `byPrecedence`. `registers::rule` is `Rule` of each row.
 use mathlib.Core.Path.{_≡_}
-use mathlib.Core.List.{List, [], _∷_, map}
+use mathlib.Core.List.{List, [], _∷_}
 use Prim.Native.Nat.{ℕ, zero, suc, _+_, _<_, _≤_}
 use lib.ListN.{getD}
 use Rattle.bits.specs.Merge.{bit}
 use Rattle.registers.specs.declared.Class.{Class}
-use Rattle.registers.specs.declared.ByColumn.{ByColumn}
 use Rattle.registers.specs.Precedence.{byPrecedence}
 
 -- a row: "the masks of read-only, mandated, named and free bits, and the mandated bits"
@@ -24,17 +23,6 @@ classes = each byPrecedence 0 256
 -- the class of an address. The table behind it is unfolded only in a proof that asks for it by name.
 unfoldable pub classAt : ℕ → Class
 classAt a = getD classes a (class 0 0 0 0 0)
-
--- one field of each row
-abbrev pub columnOf : (Class → ℕ) → List ℕ
-columnOf f = map f classes
-
--- what `table_columns` promises: the table's columns, whole
-pub record HasColumns (c : ByColumn) : Type 0 where
-  pub readOnly : c .«read_only» ≡ columnOf (λ r. r .«read_only»)
-  pub mandated : c .mandated ≡ columnOf (λ r. r .mandated)
-  pub free : c .free ≡ columnOf (λ r. r .free)
-  pub bits : c .bits ≡ columnOf (λ r. r .bits)
 
 -- what `class_at` promises
 abbrev pub Classifies : ℕ → Class → Type 0

@@ -1,3 +1,4 @@
+pub mod ByColumns
 pub mod Classes
 pub mod Field
 pub mod Fields

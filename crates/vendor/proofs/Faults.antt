@@ -47,13 +47,13 @@ module _ (w : Write) (ws : List Write) (s : Chip) where
   abbrev after : Chip
   after = writeOf s (w .address) (w .value) .chip
 
-  not-taken-first : refuses s (w .address) (w .value) ≡ true → shortened (w ∷ ws) s ≡ []
+  pub not-taken-first : refuses s (w .address) (w .value) ≡ true → shortened (w ∷ ws) s ≡ []
   not-taken-first e = rw (written-as s (w .address) (w .value) true e)
 
-  is-taken : refuses s (w .address) (w .value) ≡ false → writeOf s (w .address) (w .value) .refusal ≡ 0
+  pub is-taken : refuses s (w .address) (w .value) ≡ false → writeOf s (w .address) (w .value) .refusal ≡ 0
   is-taken e = ap (λ (r : Wrote). r .refusal) (written-as s (w .address) (w .value) false e)
 
-  is-taken-first : refuses s (w .address) (w .value) ≡ false → shortened (w ∷ ws) s ≡ w ∷ shortened ws after
+  pub is-taken-first : refuses s (w .address) (w .value) ≡ false → shortened (w ∷ ws) s ≡ w ∷ shortened ws after
   is-taken-first e = rw (eq-eqb (writeOf s (w .address) (w .value) .refusal) 0 (is-taken e))
 
 pub shortened-takes : (ws : List Write) (s : Chip) → Takes (shortened ws s) s

@@ -5,3 +5,4 @@ pub mod Moved
 pub mod Faults
 pub mod Judged
 pub mod Careful
+pub mod Alike

@@ -17,7 +17,8 @@ use Rattle.bits.specs.Merge.{merge, under}
 use Rattle.bits.proofs.Below.{at-below}
 use Rattle.registers.specs.declared.Class.{Class}
 use Rattle.registers.specs.declared.ByColumn.{ByColumn}
-use Rattle.registers.specs.Classes.{classAt, mandated, free, bits, columnOf, HasColumns}
+use Rattle.registers.specs.Classes.{classAt, mandated, free, bits}
+use Rattle.registers.specs.ByColumns.{columnOf, HasColumns}
 use Rattle.registers.proofs.Columns.{at-address}
 use Rattle.chip.specs.declared.Chip.{Chip}
 use Rattle.chip.specs.declared.Wrote.{Wrote}

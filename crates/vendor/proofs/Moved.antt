@@ -16,32 +16,35 @@ use Rattle.bits.specs.Merge.{bit}
 use Rattle.matrix.specs.Matrix.{fields}
 use Rattle.chip.specs.declared.Chip.{Chip}
 use Rattle.chip.specs.declared.Wrote.{Wrote}
-use Rattle.chip.specs.Machine.{Write, _gets_, Group, Buffer, avi, audio, matrix, packets, converter, up, holdsOf, registersOf, inUse, coefficients, gcInUse, mute, Muted}
+use Rattle.chip.specs.Machine.{Write, _gets_, Group, Buffer, avi, audio, gc, matrix, packets, converter, up, holdsOf, registersOf, inUse, coefficients, gcInUse, mute, Muted}
 use Rattle.chip.specs.Write.{lentAs, stored, two, writeOf}
 use Rattle.chip.proofs.Writes.{written-as, allowed}
 use Rattle.writes.specs.List.{covers}
 use Rattle.cut.specs.Run.{InUse, Either, Between}
 use Rattle.cut.proofs.Mended.{lone}
-use Rattle.cut.proofs.Bank.{store, only, status, quiet, Shown, avi-shown, audio-shown, matrix-shown, avi-same, audio-same, matrix-same, down-part}
+use Rattle.cut.proofs.Bank.{store, only, status, quiet, Shown, avi-shown, audio-shown, gc-shown, matrix-shown, avi-same, audio-same, gc-same, matrix-same, down-part}
 use Rattle.vendor.specs.Found.{mayMove, oneOf, isBetween, isNext}
 
 -- no two packet holds are up, and one is: the byte of the holds alone has this one
 hold-alone : (n : ℕ) (p q r : ℕ) → p ≡ bit 6 n → q ≡ bit 5 n → r ≡ bit 4 n
     → ((eqb p 1 && eqb q 1) || ((eqb p 1 && eqb r 1) || (eqb q 1 && eqb r 1))) ≡ false
-    → (eqb p 1 ≡ true → (q ≡ 0) × (r ≡ 0)) × (eqb q 1 ≡ true → (p ≡ 0) × (r ≡ 0))
+    → (eqb p 1 ≡ true → (q ≡ 0) × (r ≡ 0)) × (eqb q 1 ≡ true → (p ≡ 0) × (r ≡ 0)) × (eqb r 1 ≡ true → (p ≡ 0) × (q ≡ 0))
 hold-alone n p q r a b c t = go (eqb p 1) (eqb q 1) (eqb r 1) refl refl refl t
   where
     zero-of : (x j : ℕ) → x ≡ bit j n → eqb x 1 ≡ false → bit j n < 2 → x ≡ 0
     zero-of x j e f l = let d : (x ≡ 1) → ⊥ = eqb-false x 1 f in omega (arith, e, l, d)
 
     go : (x y z : Bool) → eqb p 1 ≡ x → eqb q 1 ≡ y → eqb r 1 ≡ z → ((x && y) || ((x && z) || (y && z))) ≡ false
-        → (x ≡ true → (q ≡ 0) × (r ≡ 0)) × (y ≡ true → (p ≡ 0) × (r ≡ 0))
+        → (x ≡ true → (q ≡ 0) × (r ≡ 0)) × (y ≡ true → (p ≡ 0) × (r ≡ 0)) × (z ≡ true → (p ≡ 0) × (q ≡ 0))
     go true true z e f g t = absurd (false≢true (sym t))
     go true false true e f g t = absurd (false≢true (sym t))
-    go true false false e f g t = ((λ _. (zero-of q 5 b f (omega arith), zero-of r 4 c g (omega arith))), (λ h. absurd (false≢true h)))
+    go true false false e f g t =
+        ((λ _. (zero-of q 5 b f (omega arith), zero-of r 4 c g (omega arith))), (λ h. absurd (false≢true h)), (λ h. absurd (false≢true h)))
     go false true true e f g t = absurd (false≢true (sym t))
-    go false true false e f g t = ((λ h. absurd (false≢true h)), (λ _. (zero-of p 6 a e (omega arith), zero-of r 4 c g (omega arith))))
-    go false false z e f g t = ((λ h. absurd (false≢true h)), (λ h. absurd (false≢true h)))
+    go false true false e f g t =
+        ((λ h. absurd (false≢true h)), (λ _. (zero-of p 6 a e (omega arith), zero-of r 4 c g (omega arith))), (λ h. absurd (false≢true h)))
+    go false false z e f g t =
+        ((λ h. absurd (false≢true h)), (λ h. absurd (false≢true h)), (λ _. (zero-of p 6 a e (omega arith), zero-of q 5 b f (omega arith))))
 
 avi-alone : (n : ℕ) → two n ≡ false → up avi n ≡ true → only (packets .groups) n ≡ 2 ^ avi .hold
 avi-alone n t u =
@@ -53,6 +56,12 @@ audio-alone : (n : ℕ) → two n ≡ false → up audio n ≡ true → only (pa
 audio-alone n t u =
     let o : (bit 6 n ≡ 0) × (bit 4 n ≡ 0) = hold-alone n (bit 6 n) (bit 5 n) (bit 4 n) refl refl refl t .1 u in
     let p : bit 5 n ≡ 1 = eqb-true (bit 5 n) 1 u in
+    rw (p, o .0, o .1) refl
+
+gc-alone : (n : ℕ) → two n ≡ false → up gc n ≡ true → only (packets .groups) n ≡ 2 ^ gc .hold
+gc-alone n t u =
+    let o : (bit 6 n ≡ 0) × (bit 5 n ≡ 0) = hold-alone n (bit 6 n) (bit 5 n) (bit 4 n) refl refl refl t .2 u in
+    let p : bit 4 n ≡ 1 = eqb-true (bit 4 n) 1 u in
     rw (p, o .0, o .1) refl
 
 matrix-alone : (n : ℕ) → up matrix n ≡ true → only (converter .groups) n ≡ 2 ^ matrix .hold
@@ -114,6 +123,35 @@ module _ (s : Chip) (a v : ℕ) (whole : length (s .image) ≡ 256) (taken : wri
         go true q = absurd (false≢true q)
         go false q = refl
 
+  -- of each group: what it has in use stays, or is what stands in its registers
+  pub avi-stays : mayMove avi a (holdsOf packets (s .image)) (holdsOf packets (t .image)) ≡ false → inUse packets avi t ≡ inUse packets avi s
+  avi-stays = stays packets avi avi-shown avi-same (avi-alone _ single)
+
+  pub avi-moves : mayMove avi a (holdsOf packets (s .image)) (holdsOf packets (t .image)) ≡ true → inUse packets avi t ≡ registersOf avi (t .image)
+  avi-moves = moves packets avi avi-shown avi-same (avi-alone _ single)
+
+  pub audio-stays : mayMove audio a (holdsOf packets (s .image)) (holdsOf packets (t .image)) ≡ false
+      → inUse packets audio t ≡ inUse packets audio s
+  audio-stays = stays packets audio audio-shown audio-same (audio-alone _ single)
+
+  pub audio-moves : mayMove audio a (holdsOf packets (s .image)) (holdsOf packets (t .image)) ≡ true
+      → inUse packets audio t ≡ registersOf audio (t .image)
+  audio-moves = moves packets audio audio-shown audio-same (audio-alone _ single)
+
+  pub gc-stays : mayMove gc a (holdsOf packets (s .image)) (holdsOf packets (t .image)) ≡ false → inUse packets gc t ≡ inUse packets gc s
+  gc-stays = stays packets gc gc-shown gc-same (gc-alone _ single)
+
+  pub gc-moves : mayMove gc a (holdsOf packets (s .image)) (holdsOf packets (t .image)) ≡ true → inUse packets gc t ≡ registersOf gc (t .image)
+  gc-moves = moves packets gc gc-shown gc-same (gc-alone _ single)
+
+  pub matrix-stays : mayMove matrix a (holdsOf converter (s .image)) (holdsOf converter (t .image)) ≡ false
+      → inUse converter matrix t ≡ inUse converter matrix s
+  matrix-stays = stays converter matrix matrix-shown matrix-same (matrix-alone _)
+
+  pub matrix-moves : mayMove matrix a (holdsOf converter (s .image)) (holdsOf converter (t .image)) ≡ true
+      → inUse converter matrix t ≡ registersOf matrix (t .image)
+  matrix-moves = moves converter matrix matrix-shown matrix-same (matrix-alone _)
+
   -- what was one of two, by a test of what may have moved
   decided : (m : Bool) (x y regs o n : List ℕ) → (m ≡ false → y ≡ x) → (m ≡ true → y ≡ regs) → Either o n x
       → Decides (oneOf m o n regs) (Either o n y)
@@ -145,9 +183,5 @@ module _ (s : Chip) (a v : ℕ) (whole : length (s .image) ≡ 256) (taken : wri
     next-decides =
         restated (λ h. record { muted = h .0; avi = h .1 .0; audio = h .1 .1 .0; matrix = h .1 .1 .1 })
         (λ b. (b .muted, (b .avi, (b .audio, b .matrix))))
-        (together muted
-        (together (decided _ _ _ _ _ _ (stays packets avi avi-shown avi-same (avi-alone _ single)) (moves packets avi avi-shown avi-same (avi-alone _ single)) av)
-        (together
-        (decided _ _ _ _ _ _ (stays packets audio audio-shown audio-same (audio-alone _ single)) (moves packets audio audio-shown audio-same (audio-alone _ single)) au)
-        (decided _ _ _ _ _ _ (λ m. ap fields (stays converter matrix matrix-shown matrix-same (matrix-alone _) m))
-        (λ m. ap fields (moves converter matrix matrix-shown matrix-same (matrix-alone _) m)) ma))))
+        (together muted (together (decided _ _ _ _ _ _ avi-stays avi-moves av) (together (decided _ _ _ _ _ _ audio-stays audio-moves au)
+        (decided _ _ _ _ _ _ (λ m. ap fields (matrix-stays m)) (λ m. ap fields (matrix-moves m)) ma))))

@@ -72,8 +72,8 @@ shortened [] s = []
 shortened (w ∷ ws) s =
     cond (eqb (writeOf s (w .address) (w .value) .refusal) 0) (w ∷ shortened ws (writeOf s (w .address) (w .value) .chip)) []
 
--- pair k of a list that the machine takes breaks a rule by itself, one of the three lines of `Fair`; or the cut after it, where another pair follows, is not muted or has a
--- group that is neither as it began nor as the list ends
+-- pair k of a list that the machine takes breaks a rule by itself, one of the three lines of `Fair`; or the cut after it, where another pair
+-- follows, is not muted or has a group that is neither as it began nor as the list ends
 abbrev pub Fails : List Write → Chip → ℕ → Type 0
 Fails ws s k =
     ((k < length ws) × (Fair (cutAt ws s k .image) (pairAt ws k) → ⊥))

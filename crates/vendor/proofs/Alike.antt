@@ -1,0 +1,173 @@
+-- Two states with the same registers and the same bytes in use give the same verdict: what else the buffers hold does not matter. Assumes
+-- nothing.
+use mathlib.Core.Path.{_≡_, refl, sym, ap, ap₂, subst, _∙_}
+use mathlib.Core.Bool.{Bool, true, false, cond, not, _&&_, _||_}
+use mathlib.Core.List.{List, [], _∷_}
+use Prim.Native.Nat.{ℕ, suc, _+_, _*_, _%_}
+use lib.Dec.{eqb, ltb}
+use lib.ListN.{length, getD}
+use Rattle.bits.specs.Merge.{bit}
+use Rattle.matrix.specs.Matrix.{fields}
+use Rattle.refusals.specs.Rows.{imageLength, holdsUp, listLength, badPair, badEnd, Test, _if_, lowest}
+use Rattle.chip.specs.declared.Chip.{Chip}
+use Rattle.chip.specs.declared.Wrote.{Wrote}
+use Rattle.chip.specs.Machine.{Write, Group, Buffer, avi, audio, gc, matrix, packets, converter, holdsOf, registersOf, inUse, coefficients, gcInUse, mute}
+use Rattle.chip.specs.Write.{lentAs, imageAfter, stored, refuses, writeOf}
+use Rattle.chip.proofs.Writes.{written-as, stepped}
+use Rattle.views.specs.Entry.{isSized}
+use Rattle.writes.specs.List.{pairsOf, ready}
+use Rattle.decode.specs.Decode.{someEnds}
+use Rattle.cut.specs.Run.{InUse, allInUse}
+use Rattle.vendor.specs.declared.Verdict.{Verdict}
+use Rattle.vendor.specs.Vendor.{endOf, shortened, mostPairs}
+use Rattle.vendor.specs.Found.{mayMove, fairTest, isLast, isBetween, isNext, firstFault, placeOf, vetRefusal, vetOf}
+use Rattle.vendor.proofs.Moved.{avi-stays, avi-moves, audio-stays, audio-moves, gc-stays, gc-moves, matrix-stays, matrix-moves}
+use Rattle.vendor.proofs.Faults.{Takes, shortened-takes, not-taken-first, is-taken-first, is-taken}
+
+pub record Alike (s t : Chip) : Type 0 where
+  pub image : t .image ≡ s .image
+  pub avi : inUse packets avi t ≡ inUse packets avi s
+  pub audio : inUse packets audio t ≡ inUse packets audio s
+  pub gc : inUse packets gc t ≡ inUse packets gc s
+  pub matrix : inUse converter matrix t ≡ inUse converter matrix s
+
+abbrev Whole : Chip → Type 0
+Whole s = length (s .image) ≡ 256
+
+module _ (s t : Chip) (r : Alike s t) (a v : ℕ) where
+  same-after : imageAfter t a v ≡ imageAfter s a v
+  unfolding stored
+  same-after = rw (r .image) refl
+
+  same-test : refuses t a v ≡ refuses s a v
+  unfolding refuses stored
+  same-test = rw (r .image) refl
+
+  same-refusal : writeOf t a v .refusal ≡ writeOf s a v .refusal
+  same-refusal = go (refuses s a v) refl
+    where
+      go : (b : Bool) → refuses s a v ≡ b → writeOf t a v .refusal ≡ writeOf s a v .refusal
+      go true e =
+          ap (λ (w : Wrote). w .refusal) (written-as t a v true (same-test ∙ e)) ∙ sym (ap (λ (w : Wrote). w .refusal) (written-as s a v true e))
+      go false e =
+          ap (λ (w : Wrote). w .refusal) (written-as t a v false (same-test ∙ e)) ∙ sym (ap (λ (w : Wrote). w .refusal) (written-as s a v false e))
+
+  module _ (z : Whole s) (e : writeOf s a v .refusal ≡ 0) where
+    f : writeOf t a v .refusal ≡ 0
+    f = same-refusal ∙ e
+
+    y : Whole t
+    y = ap length (r .image) ∙ z
+
+    next-image : writeOf t a v .chip .image ≡ writeOf s a v .chip .image
+    next-image = stepped t a v y .after f ∙ same-after ∙ sym (stepped s a v z .after e)
+
+    -- a group, by what it has in use after each of the two writes
+    group : (b : Buffer) (g : Group) → inUse b g t ≡ inUse b g s
+        → (mayMove g a (holdsOf b (s .image)) (holdsOf b (writeOf s a v .chip .image)) ≡ false → inUse b g (writeOf s a v .chip) ≡ inUse b g s)
+        → (mayMove g a (holdsOf b (s .image)) (holdsOf b (writeOf s a v .chip .image)) ≡ true
+        → inUse b g (writeOf s a v .chip) ≡ registersOf g (writeOf s a v .chip .image))
+        → (mayMove g a (holdsOf b (t .image)) (holdsOf b (writeOf t a v .chip .image)) ≡ false → inUse b g (writeOf t a v .chip) ≡ inUse b g t)
+        → (mayMove g a (holdsOf b (t .image)) (holdsOf b (writeOf t a v .chip .image)) ≡ true
+        → inUse b g (writeOf t a v .chip) ≡ registersOf g (writeOf t a v .chip .image))
+        → inUse b g (writeOf t a v .chip) ≡ inUse b g (writeOf s a v .chip)
+    group b g same s0 s1 t0 t1 = go (mayMove g a (holdsOf b (s .image)) (holdsOf b (writeOf s a v .chip .image))) refl
+      where
+        move : mayMove g a (holdsOf b (t .image)) (holdsOf b (writeOf t a v .chip .image))
+            ≡ mayMove g a (holdsOf b (s .image)) (holdsOf b (writeOf s a v .chip .image))
+        move = ap₂ (λ (x y : List ℕ). mayMove g a (holdsOf b x) (holdsOf b y)) (r .image) next-image
+
+        go : (m : Bool) → mayMove g a (holdsOf b (s .image)) (holdsOf b (writeOf s a v .chip .image)) ≡ m
+            → inUse b g (writeOf t a v .chip) ≡ inUse b g (writeOf s a v .chip)
+        go true m = t1 (move ∙ m) ∙ ap (registersOf g) next-image ∙ sym (s1 m)
+        go false m = t0 (move ∙ m) ∙ same ∙ sym (s0 m)
+
+    next : Alike (writeOf s a v .chip) (writeOf t a v .chip)
+    next = record {
+      image = next-image;
+      avi = group packets avi (r .avi) (avi-stays s a v z e) (avi-moves s a v z e) (avi-stays t a v y f) (avi-moves t a v y f);
+      audio = group packets audio (r .audio) (audio-stays s a v z e) (audio-moves s a v z e) (audio-stays t a v y f) (audio-moves t a v y f);
+      gc = group packets gc (r .gc) (gc-stays s a v z e) (gc-moves s a v z e) (gc-stays t a v y f) (gc-moves t a v y f);
+      matrix = group converter matrix (r .matrix) (matrix-stays s a v z e) (matrix-moves s a v z e) (matrix-stays t a v y f)
+          (matrix-moves t a v y f);
+    }
+
+    next-whole : Whole (writeOf s a v .chip)
+    next-whole = stepped s a v z .sized ∙ z
+
+-- ---- a list
+
+same-shortened : (ws : List Write) (s t : Chip) → Alike s t → Whole s → shortened ws t ≡ shortened ws s
+same-shortened [] s t r z = refl
+same-shortened (w ∷ ws) s t r z =
+    go (refuses s (w .address) (w .value)) refl (λ e. same-shortened ws (writeOf s (w .address) (w .value) .chip)
+    (writeOf t (w .address) (w .value) .chip) (next s t r (w .address) (w .value) z e) (next-whole s t r (w .address) (w .value) z e))
+  where
+    go : (b : Bool) → refuses s (w .address) (w .value) ≡ b
+        → (writeOf s (w .address) (w .value) .refusal ≡ 0
+        → shortened ws (writeOf t (w .address) (w .value) .chip) ≡ shortened ws (writeOf s (w .address) (w .value) .chip))
+        → shortened (w ∷ ws) t ≡ shortened (w ∷ ws) s
+    go true e rest = not-taken-first w ws t (same-test s t r (w .address) (w .value) ∙ e) ∙ sym (not-taken-first w ws s e)
+    go false e rest =
+        is-taken-first w ws t (same-test s t r (w .address) (w .value) ∙ e)
+        ∙ ap (λ (l : List Write). w ∷ l) (rest (is-taken w ws s e)) ∙ sym (is-taken-first w ws s e)
+
+same-end : (ws : List Write) (s t : Chip) → Alike s t → Whole s → Takes ws s → Alike (endOf ws s) (endOf ws t)
+same-end [] s t r z k = r
+same-end (w ∷ ws) s t r z k =
+    same-end ws (writeOf s (w .address) (w .value) .chip) (writeOf t (w .address) (w .value) .chip) (next s t r (w .address) (w .value) z (k .0))
+    (next-whole s t r (w .address) (w .value) z (k .0)) (k .1)
+
+-- all that is in use
+same-use : (s t : Chip) → Alike s t → allInUse t ≡ allInUse s
+unfolding coefficients
+same-use s t r = λ j. record { avi = r .avi j; audio = r .audio j; matrix = fields (r .matrix j) }
+
+same-mute : (s t : Chip) → Alike s t → mute (lentAs (t .image) (t .packet) []) ≡ mute (lentAs (s .image) (s .packet) [])
+unfolding gcInUse inUse
+same-mute s t r = ap (λ (l : List ℕ). bit 6 (getD l 0 0) + 2 * bit 7 (getD l 0 0)) (r .gc)
+
+same-next : (old new : InUse) (a : ℕ) (s t s′ t′ : Chip) → Alike s t → Alike s′ t′ → isNext old new a t t′ ≡ isNext old new a s s′
+unfolding isBetween
+same-next old new a s t s′ t′ r q = rw (same-mute s′ t′ q, q .image, r .image) refl
+
+same-fault : (old new : InUse) (ws : List Write) (s t : Chip) → Alike s t → Whole s → Takes ws s → firstFault old new ws t ≡ firstFault old new ws s
+same-fault old new [] s t r z k = refl
+same-fault old new (w ∷ ws) s t r z k =
+    let s′ : Chip = writeOf s (w .address) (w .value) .chip in
+    let t′ : Chip = writeOf t (w .address) (w .value) .chip in
+    let q : Alike s′ t′ = next s t r (w .address) (w .value) z (k .0) in
+    let rest : firstFault old new ws t′ ≡ firstFault old new ws s′ =
+    same-fault old new ws s′ t′ q (next-whole s t r (w .address) (w .value) z (k .0)) (k .1) in
+    let fair : fairTest (t .image) w ≡ fairTest (s .image) w = ap (λ (i : List ℕ). fairTest i w) (r .image) in
+    let cutting : isNext old new (w .address) t t′ ≡ isNext old new (w .address) s s′ = same-next old new (w .address) s t s′ t′ r q in
+    λ j. cond (fair j && (isLast ws || cutting j)) (suc (rest j)) 0
+
+module _ (ws : List Write) (s t : Chip) (r : Alike s t) (z : Whole s) where
+  ends : Alike (endOf (shortened ws s) s) (endOf (shortened ws t) t)
+  ends = subst (λ (l : List Write). Alike (endOf (shortened ws s) s) (endOf l t)) (sym (same-shortened ws s t r z))
+      (same-end (shortened ws s) s t r z (shortened-takes ws s))
+
+  same-place : placeOf ws t ≡ placeOf ws s
+  same-place =
+      (λ j. firstFault (same-use s t r j) (same-use (endOf (shortened ws s) s) (endOf (shortened ws t) t) ends j)
+      (same-shortened ws s t r z j) t)
+      ∙ same-fault (allInUse s) (allInUse (endOf (shortened ws s) s)) (shortened ws s) s t r z (shortened-takes ws s)
+
+-- the verdict by what its tests find
+by-tests : Bool → Bool → List ℕ → ℕ → Bool → Verdict
+by-tests sized fit list place ended =
+    let number : ℕ = lowest (
+    imageLength if not sized ∷ holdsUp if not fit ∷ listLength if (eqb (length list % 2) 1 || ltb mostPairs (length (pairsOf list))) ∷
+    badPair if ltb place (length (pairsOf list)) ∷ badEnd if not ended ∷ []
+    ) in
+    record { refusal = number; place = cond (eqb number 15) place 0 }
+
+pub same-verdict : (s t : Chip) (list : List ℕ) → Alike s t → Whole s → isSized t ≡ isSized s → vetOf t list ≡ vetOf s list
+unfolding vetOf vetRefusal by-tests
+same-verdict s t list r z sized =
+    let fit : ready (t .image) ≡ ready (s .image) = ap ready (r .image) in
+    let place : placeOf (pairsOf list) t ≡ placeOf (pairsOf list) s = same-place (pairsOf list) s t r z in
+    let ended : someEnds (endOf (shortened (pairsOf list) t) t .image) ≡ someEnds (endOf (shortened (pairsOf list) s) s .image) =
+    ap someEnds (ends (pairsOf list) s t r z .image) in
+    λ j. by-tests (sized j) (fit j) list (place j) (ended j)
