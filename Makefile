@@ -1,8 +1,9 @@
 # The C programs beside the library, and its package. tools/setup finds the compiler and, on Arm, the emulator, and installs what is missing.
 #   make           the library's archive and everything below that is built of it
 #   make programs  what tools/{listing,request,modes,image,picture,review} run, and accident, agree and vectors, over the library
-#   make host      the example host: then host/run --cut 40 --brief
-#   make bench     planning, decoding and the vet of a list, the library against plain C: times, instructions, and whether the bars are met
+#   make host      the example host: then host/run --cut 25 --brief
+#   make bench     planning, decoding and the vet of a list, the library against plain C: times, instructions, and whether the bars are met;
+#                  writes and bus time of typical changes
 #   make tests     tests/run
 #   make peers     Linux's reader of InfoFrames on every packet that we finish; fetches its source (Debian's linux-source), no part of the gate
 #   make install   the archive, the headers and a pkg-config file, into PREFIX (/usr/local), below DESTDIR where that is given

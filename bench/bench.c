@@ -1,12 +1,14 @@
 /* The benchmark: planning, decoding and the vet of a list, the library and plain C in one run, ns for each call and the ratio. The sides
  * take turns, and each keeps its best round. A round is short, so that some are not disturbed on a busy machine, and its time is the
  * processor's.
- *   bench                      the times, and whether the bars are met: the status is 1 where they are not
+ *   bench                      the times, and whether the bars are met: the status is 1 where they are not; then as bench bus
  *   bench check                only compares the answers
+ *   bench bus                  the writes and the bus time of typical changes, the list whole and as it is planned
  *   bench count SIDE CALL N    N calls and nothing else, for a tool that counts instructions: SIDE library, plain or rule, CALL plan,
- *                              decode, refused, vet or vet_long */
+ *                              plan_few, decode, refused, vet or vet_long */
 #include "plain.h"
 #include "../programs/fields.h"
+#include "../programs/may.h"
 #include "../programs/words.h"
 #include <stdlib.h>
 #include <string.h>
@@ -19,9 +21,13 @@ enum { INPUTS = 64, ROUNDS = 400, CHANGES = 200 };
 /* A list of pairs, its length in bytes. */
 struct pairs { uint8_t bytes[STATION_LIST + 2]; size_t length; };
 
+/* A request in words, part by part. */
+struct parts { unsigned vic, family, encoding, range; char sound[64], matrix[TEXT_OF_A_REQUEST / 2]; };
+
 static struct {
+    struct parts parts;
     struct request request;
-    uint8_t start[STATION_IMAGE], finished[STATION_IMAGE], damaged[STATION_IMAGE];
+    uint8_t start[STATION_IMAGE], finished[STATION_IMAGE], damaged[STATION_IMAGE], near[STATION_IMAGE];
 } in[INPUTS];
 static struct { uint8_t packet[STATION_PACKET], coefficients[STATION_COEFFICIENTS]; struct pairs own, longest; } lists[INPUTS];
 static uint8_t room[STATION_WRITES];
@@ -40,38 +46,89 @@ static void put_in(struct pairs *l, size_t at, uint8_t address, uint8_t value) {
     l->length += 2;
 }
 
-/* A passing list as long as a list may be: N and CTS, which are in no group, written again and again after the mute with any value. */
-static void make_longest(struct pairs *l) {
-    static const uint8_t named[] = { 0x02, 0x03, 0x08, 0x09 };
-    while (l->length < STATION_LIST) put_in(l, 1 + noise() % 30, named[noise() % 4], (uint8_t)noise());
+static int has(const struct pairs *l, uint8_t address) {
+    for (size_t i = 0; i < l->length; i += 2)
+        if (l->bytes[i] == address) return 1;
+    return 0;
 }
 
-/* Requests over HDMI that are accepted, three of four with sound, half of these coherent, half of all with a matrix, half of those with RGB
- * in full range; the image that each ends in; and that image with one mandated bit turned over. */
+/* A passing list as long as a list may be: N and CTS, which are in no group, written again and again after the mute with any value; of
+ * them those that the list makes right later. */
+static void make_longest(struct pairs *l) {
+    static const uint8_t named[] = { 0x02, 0x03, 0x08, 0x09 };
+    const struct pairs own = *l;
+    while (l->length < STATION_LIST) {
+        uint32_t at = 1 + noise() % 30;
+        uint8_t address = named[noise() % 4], value = (uint8_t)noise();
+        if (has(&own, address)) put_in(l, at, address, value);
+    }
+}
+
+/* Three of four requests have sound, half of these coherent. */
+static void draw_sound(struct parts *p) {
+    p->sound[0] = 0;
+    if (noise() % 4) {
+        unsigned rate = noise() % 7, channels = noise() % 2 ? 8 : 2, coherent = noise() % 2;
+        snprintf(p->sound, sizeof p->sound, "audio rate=%u channels=%u coherent=%u", rate, channels, coherent);
+    }
+}
+
+static void draw_matrix(struct parts *p) {
+    int used = snprintf(p->matrix, sizeof p->matrix, "matrix mode=%u", noise() % 3);
+    for (int k = 0; k < 12; k++) used += snprintf(p->matrix + used, sizeof p->matrix - used, " %d", (int)(noise() % 8192) - 4096);
+}
+
+static unsigned draw_vic(void) { return modes[noise() % number_of_modes].vic; }
+
+static struct request request_of(const struct parts *p) {
+    return request_of_text("vic %u family=%u encoding=%u hdmi range=%u %s %s", p->vic, p->family, p->encoding, p->range, p->sound,
+                           p->matrix);
+}
+
+/* The image that a request ends in, from another one. Answers 0 where it is refused. */
+static int finish(const struct request *r, const uint8_t *from, uint8_t *to) {
+    uint8_t list[STATION_WRITES];
+    struct station_count c = plain_plan(r->bytes, r->length, from, STATION_IMAGE, list, STATION_WRITES);
+    memcpy(to, from, STATION_IMAGE);
+    for (uint32_t w = 0; w < c.count; w++) to[list[2 * w]] = list[2 * w + 1];
+    return c.refusal == 0;
+}
+
+/* Requests over HDMI that are accepted, half of them with a matrix, half of those with RGB in full range; an image of noise; the image that
+ * each ends in; and that image with one mandated bit turned over. */
 static void make_inputs(void) {
     for (int i = 0; i < INPUTS; ) {
-        uint8_t list[STATION_WRITES];
-        char sound[64] = "", matrix[TEXT_OF_A_REQUEST / 2] = "";
-        unsigned with_matrix = noise() % 2, vic = modes[noise() % number_of_modes].vic, family = noise() % 2;
-        unsigned encoding = with_matrix ? noise() % 3 : 0, range = encoding ? 0 : noise() % 2;
-        if (noise() % 4) {
-            unsigned rate = noise() % 7, channels = noise() % 2 ? 8 : 2, coherent = noise() % 2;
-            snprintf(sound, sizeof sound, "audio rate=%u channels=%u coherent=%u", rate, channels, coherent);
-        }
-        if (with_matrix) {
-            int used = snprintf(matrix, sizeof matrix, "matrix mode=%u", noise() % 3);
-            for (int k = 0; k < 12; k++) used += snprintf(matrix + used, sizeof matrix - used, " %d", (int)(noise() % 8192) - 4096);
-        }
-        in[i].request = request_of_text("vic %u family=%u encoding=%u hdmi range=%u %s %s", vic, family, encoding, range, sound, matrix);
+        struct parts *p = &in[i].parts;
+        unsigned with_matrix = noise() % 2;
+        p->vic = draw_vic();
+        p->family = noise() % 2;
+        p->encoding = with_matrix ? noise() % 3 : 0;
+        p->range = p->encoding ? 0 : noise() % 2;
+        draw_sound(p);
+        p->matrix[0] = 0;
+        if (with_matrix) draw_matrix(p);
+        in[i].request = request_of(p);
         for (int a = 0; a < STATION_IMAGE; a++) in[i].start[a] = (uint8_t)noise();
         in[i].start[0x4A] &= noise() % 2 ? 0xCF : 0xAF;
-        struct station_count c = plain_plan(in[i].request.bytes, in[i].request.length, in[i].start, STATION_IMAGE, list, STATION_WRITES);
-        if (c.refusal) continue;
-        memcpy(in[i].finished, in[i].start, STATION_IMAGE);
-        for (uint32_t w = 0; w < c.count; w++) in[i].finished[list[2 * w]] = list[2 * w + 1];
+        if (!finish(&in[i].request, in[i].start, in[i].finished)) continue;
         memcpy(in[i].damaged, in[i].finished, STATION_IMAGE);
         in[i].damaged[0xE0] ^= 1;
         i++;
+    }
+}
+
+/* The image that another request ends in, which has another mode, another sound or another matrix, and is the same otherwise. */
+static void make_near(void) {
+    for (int i = 0; i < INPUTS; ) {
+        struct parts p = in[i].parts;
+        switch (i % 3) {
+        case 0: p.vic = draw_vic(); break;
+        case 1: draw_sound(&p); break;
+        default: draw_matrix(&p); break;
+        }
+        struct request r = request_of(&p);
+        int other = r.length != in[i].request.length || memcmp(r.bytes, in[i].request.bytes, r.length);
+        if (other && finish(&r, in[i].start, in[i].near)) i++;
     }
 }
 
@@ -90,7 +147,7 @@ static void make_lists(void) {
 
 /* The sides, and what is called. */
 enum { LIBRARY, PLAIN, RULE, SIDES };
-enum { PLAN, DECODE, NO_REQUEST, VET, VET_LONG, WHATS };
+enum { PLAN, PLAN_FEW, DECODE, NO_REQUEST, VET, VET_LONG, WHATS };
 static const struct {
     const char *name;
     struct station_count (*plan)(const uint8_t *, size_t, const uint8_t *, size_t, uint8_t *, size_t);
@@ -101,9 +158,10 @@ static const struct {
     [PLAIN] = { "plain", plain_plan, plain_decode, plain_vet },
     [RULE] = { "rule", rule_plan, rule_decode, rule_vet },
 };
-/* `turns` over the inputs make a round; `clears`: whether a cleared buffer is tried too. */
+/* `bar`: 0 where none was asked for; `turns` over the inputs make a round; `clears`: whether a cleared buffer is tried too. */
 static const struct { const char *name, *title; double bar; int turns, clears; } whats[WHATS] = {
     [PLAN] = { "plan", "planning", 1.5, 10, 1 },
+    [PLAN_FEW] = { "plan_few", "planning, few changes", 0, 10, 1 },
     [DECODE] = { "decode", "decoding", 2.0, 10, 1 },
     [NO_REQUEST] = { "refused", "decoding, refused 11", 2.0, 10, 1 },
     [VET] = { "vet", "a list of ours", 2.0, 4, 0 },
@@ -120,7 +178,9 @@ static inline struct station_count call(int side, int what, int i) {
         struct station_verdict v = vetted(side, i, what == VET ? &lists[i].own : &lists[i].longest);
         return (struct station_count){ v.refusal, v.place };
     }
-    if (what == PLAN) return sides[side].plan(in[i].request.bytes, in[i].request.length, in[i].start, STATION_IMAGE, room, sizeof room);
+    if (what == PLAN || what == PLAN_FEW)
+        return sides[side].plan(in[i].request.bytes, in[i].request.length, what == PLAN ? in[i].start : in[i].near, STATION_IMAGE, room,
+                                sizeof room);
     return sides[side].decode(what == NO_REQUEST ? in[i].damaged : in[i].finished, STATION_IMAGE, room, sizeof room);
 }
 
@@ -210,12 +270,79 @@ static int measured(void) {
             if (ratio > worst[what]) worst[what] = ratio;
         }
     for (int what = 0; what < WHATS; what++) {
-        int good = worst[what] <= whats[what].bar;
+        double bar = whats[what].bar;
+        int good = bar == 0 || worst[what] <= bar;
         met &= good;
-        printf("%s: %.2f times plain C at most, the bar is %.1f: %s\n", whats[what].title, worst[what], whats[what].bar,
-               good ? "met" : "NOT MET");
+        printf("%s: %.2f times plain C at most, ", whats[what].title, worst[what]);
+        if (bar == 0) printf("no bar\n");
+        else printf("the bar is %.1f: %s\n", bar, good ? "met" : "NOT MET");
     }
     return met;
+}
+
+/* ---- The bus. */
+
+/* A write over I2C, in periods of the bus clock: start, three bytes with an acknowledge each (the chip's address, the register, the value),
+ * stop; start and stop count as one period each. A read of a row of registers as host/i2c.c has it: start, two bytes, start again, the
+ * chip's address and the row, stop. What the host waits between two transfers is not counted. */
+enum { BYTE = 8 + 1, OF_A_WRITE = 1 + 3 * BYTE + 1, ROW = 32, OF_A_READ = STATION_IMAGE / ROW * (1 + 2 * BYTE + 1 + (1 + ROW) * BYTE + 1) };
+
+/* The map's defaults (000, section 5) of the registers that a list writes, where they are not 0. */
+static const uint8_t powered_up[STATION_IMAGE] = {
+    [0x0A] = 0x01, [0x0C] = 0xBC, [0x18] = 0x46, [0x19] = 0x62, [0x1A] = 0x04, [0x1B] = 0xA8, [0x1E] = 0x1C, [0x1F] = 0x84, [0x20] = 0x1C,
+    [0x21] = 0xBF, [0x22] = 0x04, [0x23] = 0xA8, [0x24] = 0x1E, [0x25] = 0x70, [0x26] = 0x02, [0x27] = 0x1E, [0x2A] = 0x04, [0x2B] = 0xA8,
+    [0x2C] = 0x08, [0x2D] = 0x12, [0x2E] = 0x1B, [0x2F] = 0xAC, [0x3B] = 0x80, [0x44] = 0x79, [0x4A] = 0x80, [0x52] = 0x02, [0x53] = 0x0D,
+    [0x70] = 0x01, [0x71] = 0x0A, [0x98] = 0x0B, [0x9C] = 0x5A, [0x9D] = 0x60, [0xA2] = 0x80, [0xA3] = 0x80, [0xAF] = 0x14, [0xE0] = 0x80,
+    [0xF9] = 0x7C,
+};
+
+/* What is shown before, NULL at power-up, and what is asked for. */
+#define SHOWN "vic 16 ycbcr444 hdmi audio 48kHz 2 coherent matrix table43"
+static const struct { const char *title, *shown, *asked; } changes[] = {
+    { "the same request again", SHOWN, SHOWN },
+    { "same mode, other matrix", SHOWN, "vic 16 ycbcr444 hdmi audio 48kHz 2 coherent matrix table44" },
+    { "same picture, other sound", SHOWN, "vic 16 ycbcr444 hdmi audio 96kHz 8 coherent matrix table43" },
+    { "other mode", SHOWN, "vic 4 ycbcr444 hdmi audio 48kHz 2 coherent matrix table43" },
+    { "mode, sound and matrix", MAY_BEFORE, MAY_ASKED },
+    { "from power-up", NULL, SHOWN },
+};
+
+static uint32_t writes_on(const uint8_t *image, const struct request *r) {
+    return station_plan(r->bytes, r->length, image, STATION_IMAGE, room, sizeof room).count;
+}
+
+/* With nothing left out: on registers none of which is right, for each bit of the finished ones is turned over; no hold is up. */
+static uint32_t writes_in_all(const struct request *r) {
+    uint8_t image[STATION_IMAGE];
+    finish(r, powered_up, image);
+    for (int a = 0; a < STATION_IMAGE; a++) image[a] = (uint8_t)~image[a];
+    image[0x4A] = 0;
+    return writes_on(image, r);
+}
+
+static void tell_time(uint32_t periods) { printf(" %11.2f %8.2f", periods / 100.0, periods / 400.0); }
+
+static void bus_time(void) {
+    printf("writes, and ms on the bus at 100 and 400 kHz; before: every register is written, after: those that are right are left out\n");
+    printf("%-26s %7s %11s %8s %9s %11s %8s\n", "", "before", "100 kHz", "400 kHz", "after", "100 kHz", "400 kHz");
+    for (size_t c = 0; c < sizeof changes / sizeof changes[0]; c++) {
+        uint8_t image[STATION_IMAGE];
+        struct request asked = request_of_text("%s", changes[c].asked);
+        memcpy(image, powered_up, sizeof image);
+        if (changes[c].shown) {
+            struct request shown = request_of_text("%s", changes[c].shown);
+            finish(&shown, powered_up, image);
+        }
+        uint32_t before = writes_in_all(&asked), after = writes_on(image, &asked);
+        printf("%-26s %7u", changes[c].title, (unsigned)before);
+        tell_time(before * OF_A_WRITE);
+        printf(" %9u", (unsigned)after);
+        tell_time(after * OF_A_WRITE);
+        printf("\n");
+    }
+    printf("a write is %d clock periods: start, three bytes of eight bits and an acknowledge (chip, register, value), stop\n", OF_A_WRITE);
+    printf("to read all registers back, in rows of %d as host/i2c.c does, takes %d periods:", ROW, OF_A_READ);
+    printf(" %.2f ms at 100 kHz, %.2f ms at 400 kHz\n", OF_A_READ / 100.0, OF_A_READ / 400.0);
 }
 
 static int counted(const char *side, const char *what, const char *number) {
@@ -230,15 +357,19 @@ static int counted(const char *side, const char *what, const char *number) {
 int main(int count, char **words) {
     make_inputs();
     make_lists();
+    make_near();
     if (count == 5 && !strcmp(words[1], "count")) return counted(words[2], words[3], words[4]);
     if (!alike()) {
         puts("the library and plain C answer differently");
         return 1;
     }
     if (count == 2 && !strcmp(words[1], "check")) return 0;
-    if (count > 1) {
-        fputs("bench [check | count SIDE CALL N]\n", stderr);
+    int only_bus = count == 2 && !strcmp(words[1], "bus");
+    if (count > 1 && !only_bus) {
+        fputs("bench [check | bus | count SIDE CALL N]\n", stderr);
         return 2;
     }
-    return measured() ? 0 : 1;
+    int met = only_bus || measured();
+    bus_time();
+    return met ? 0 : 1;
 }

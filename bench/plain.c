@@ -1,6 +1,6 @@
 /* The planner, the decoder and the vet as a C programmer would write them with speed in mind: constant tables, one pass, two for a vendor's
- * list. Nothing is proved of it; the tests compare its answers with the model's, the benchmark with the library's before it takes the
- * time. */
+ * list, and registers in a row that stand as wanted passed over at once. Nothing is proved of it; the tests compare its answers with the
+ * model's, the benchmark with the library's before it takes the time. */
 #include "plain.h"
 #include <string.h>
 
@@ -60,27 +60,24 @@ static const struct { uint64_t top, bottom; struct { uint32_t n, cts; } pairs[RA
 
 static const uint8_t rate_codes[RATES] = { 0x30, 0x00, 0x20, 0x80, 0xA0, 0xC0, 0xE0 };
 
-/* The writes in order: address, the bits kept from the image, bits added to the finished byte (a hold). Audio first is the same list with
- * the two packets changed over. */
-struct step { uint8_t address, keep, add; };
-#define HIGH(a) { a, 0xE0, 0 }, { a + 1, 0, 0 }
-#define AVI \
-    { 0x4A, 0x1F, 0x40 }, { 0x52, 0xF8, 0 }, { 0x53, 0xE0, 0 }, { 0x54, 0, 0 }, { 0x55, 0, 0 }, { 0x56, 0, 0 }, { 0x57, 0, 0 }, \
-    { 0x58, 0, 0 }, { 0x59, 0, 0 }, { 0x5A, 0, 0 }, { 0x5B, 0, 0 }, { 0x5C, 0, 0 }, { 0x5D, 0, 0 }, { 0x5E, 0, 0 }, { 0x5F, 0, 0 }, \
-    { 0x60, 0, 0 }, { 0x61, 0, 0 }, { 0x4A, 0x1F, 0 }
-#define AUDIO \
-    { 0x4A, 0x1F, 0x20 }, { 0x70, 0xF8, 0 }, { 0x71, 0xE0, 0 }, { 0x72, 0, 0 }, { 0x73, 0, 0 }, { 0x74, 0, 0 }, { 0x75, 0, 0 }, \
-    { 0x76, 0, 0 }, { 0x77, 0, 0 }, { 0x78, 0, 0 }, { 0x79, 0, 0 }, { 0x7A, 0, 0 }, { 0x7B, 0, 0 }, { 0x7C, 0, 0 }, { 0x4A, 0x1F, 0 }
-#define BEFORE \
-    { 0x98, 0, 0 }, { 0x9A, 0x01, 0 }, { 0x9C, 0, 0 }, { 0x9D, 0x0C, 0 }, { 0xA2, 0, 0 }, { 0xA3, 0, 0 }, { 0xE0, 0, 0 }, { 0xF9, 0, 0 }, \
-    { 0x1A, 0xC0, 0x20 }, { 0x18, 0, 0 }, { 0x19, 0, 0 }, { 0x1A, 0xC0, 0x20 }, { 0x1B, 0, 0 }, HIGH(0x1C), HIGH(0x1E), HIGH(0x20), \
-    HIGH(0x22), HIGH(0x24), HIGH(0x26), HIGH(0x28), HIGH(0x2A), HIGH(0x2C), HIGH(0x2E), { 0x1A, 0xC0, 0 }
-#define AFTER \
-    { 0x01, 0xF0, 0 }, { 0x02, 0, 0 }, { 0x03, 0, 0 }, { 0x07, 0xF0, 0 }, { 0x08, 0, 0 }, { 0x09, 0, 0 }, { 0x0A, 0x03, 0 }, \
-    { 0x0C, 0xC0, 0 }, { 0x15, 0, 0 }, { 0x16, 0x3F, 0 }, { 0x3B, 0, 0 }, { 0x3C, 0xC0, 0 }, { 0x40, 0x7F, 0 }, { 0x44, 0x01, 0 }, \
-    { 0xAF, 0x90, 0 }, { 0x4B, 0x3F, 0 }
-enum { STEPS = 83, COUNT = STEPS + 1 };     /* the mute is written before them */
-static const struct step steps[2][STEPS] = { { BEFORE, AVI, AUDIO, AFTER }, { BEFORE, AUDIO, AVI, AFTER } };
+/* The registers that a list writes: those of Table 14; those of no group; and all, from which decoding tells whether a request stands. */
+#define FOUR_FROM(a) a, a + 1, a + 2, a + 3
+#define EIGHT_FROM(a) FOUR_FROM(a), FOUR_FROM(a + 4)
+#define TABLE_14 0x98, 0x9A, 0x9C, 0x9D, 0xA2, 0xA3, 0xE0, 0xF9
+#define OTHERS 0x01, 0x02, 0x03, 0x07, 0x08, 0x09, 0x0A, 0x0C, 0x15, 0x16, 0x3B, 0x3C, 0x40, 0x44, 0xAF
+static const uint8_t table_14[] = { TABLE_14 }, others[] = { OTHERS };
+static const uint8_t all[] = {
+    TABLE_14, EIGHT_FROM(0x18), EIGHT_FROM(0x20), EIGHT_FROM(0x28), 0x4A, EIGHT_FROM(0x52), EIGHT_FROM(0x5A), EIGHT_FROM(0x70),
+    FOUR_FROM(0x78), 0x7C, OTHERS, 0x4B,
+};
+
+/* The bits of them that are kept from the image. */
+static const uint8_t kept[256] = {
+    [0x01] = 0xF0, [0x07] = 0xF0, [0x0A] = 0x03, [0x0C] = 0xC0, [0x16] = 0x3F, [0x1A] = 0xC0, [0x1C] = 0xE0, [0x1E] = 0xE0, [0x20] = 0xE0,
+    [0x22] = 0xE0, [0x24] = 0xE0, [0x26] = 0xE0, [0x28] = 0xE0, [0x2A] = 0xE0, [0x2C] = 0xE0, [0x2E] = 0xE0, [0x3C] = 0xC0, [0x40] = 0x7F,
+    [0x44] = 0x01, [0x4A] = 0x1F, [0x4B] = 0x3F, [0x52] = 0xF8, [0x53] = 0xE0, [0x70] = 0xF8, [0x71] = 0xE0, [0x9A] = 0x01, [0x9D] = 0x0C,
+    [0xAF] = 0x90,
+};
 
 /* The finished bytes that no request changes. */
 static const uint8_t always[256] = {
@@ -200,30 +197,63 @@ static inline int want(const struct asked *q, find_pair *find, uint8_t *b) {
     return 1;
 }
 
+/* A list is made from its front on: each of these puts its pairs where `w` stands and answers where the next one goes. A register whose
+ * byte in the image is the finished one, in `b`, is left out. */
+static inline uint8_t *pair(uint8_t *w, uint8_t address, uint8_t value) {
+    w[0] = address, w[1] = value;
+    return w + 2;
+}
+
+static inline uint8_t *made_right(uint8_t *w, const uint8_t *image, const uint8_t *b, const uint8_t *addresses, size_t count) {
+    for (size_t k = 0; k < count; k++)
+        if (b[addresses[k]] != image[addresses[k]]) w = pair(w, addresses[k], b[addresses[k]]);
+    return w;
+}
+
+static inline uint8_t *row_made_right(uint8_t *w, const uint8_t *image, const uint8_t *b, int first, int last) {
+    if (!memcmp(b + first, image + first, (size_t)(last - first + 1))) return w;
+    for (int a = first; a <= last; a++)
+        if (b[a] != image[a]) w = pair(w, (uint8_t)a, b[a]);
+    return w;
+}
+
+static inline uint8_t *packet(uint8_t *w, const uint8_t *image, const uint8_t *b, uint8_t hold, int first, int last) {
+    w = pair(w, 0x4A, b[0x4A] | hold);
+    w = row_made_right(w, image, b, first, last);
+    return pair(w, 0x4A, b[0x4A]);
+}
+
 static inline struct station_count plan(const uint8_t *request, size_t request_length, const uint8_t *image, size_t image_length,
                                         uint8_t *writes, size_t writes_length, find_pair *find) {
     struct asked q;
-    uint8_t b[256];
+    uint8_t b[256], *w = writes;
     uint32_t refusal = read(request, request_length, &q);
     if (refusal) return (struct station_count){ refusal, 0 };
     if (image_length != 256) return (struct station_count){ 7, 0 };
     if ((image[0x4A] & 0x10) || (image[0x4A] & 0x60) == 0x60) return (struct station_count){ 8, 0 };
     if (!want(&q, find, b)) return (struct station_count){ 9, 0 };
     if (writes_length < 256) return (struct station_count){ 10, 0 };
-    const struct step *s = steps[image[0x4A] >> 5 & 1];
-    writes[0] = 0x4B;
-    writes[1] = (uint8_t)((image[0x4B] & 0x3F) | 0x40);
-    for (int k = 0; k < STEPS; k++) {
-        writes[2 * k + 2] = s[k].address;
-        writes[2 * k + 3] = (uint8_t)((image[s[k].address] & s[k].keep) | b[s[k].address] | s[k].add);
-    }
-    return (struct station_count){ 0, COUNT };
+    for (int a = 0; a < 256; a++) b[a] |= image[a] & kept[a];
+    int audio_first = image[0x4A] & 0x20;
+    w = pair(w, 0x4B, (image[0x4B] & 0x3F) | 0x40);
+    w = made_right(w, image, b, table_14, sizeof table_14);
+    w = pair(w, 0x1A, b[0x1A] | 0x20);
+    w = row_made_right(w, image, b, 0x18, 0x19);
+    w = pair(w, 0x1A, b[0x1A] | 0x20);
+    w = row_made_right(w, image, b, 0x1B, 0x2F);
+    w = pair(w, 0x1A, b[0x1A]);
+    if (audio_first) w = packet(w, image, b, 0x20, 0x70, 0x7C);
+    w = packet(w, image, b, 0x40, 0x52, 0x61);
+    if (!audio_first) w = packet(w, image, b, 0x20, 0x70, 0x7C);
+    w = made_right(w, image, b, others, sizeof others);
+    w = pair(w, 0x4B, b[0x4B]);
+    return (struct station_count){ 0, (uint32_t)(w - writes) / 2 };
 }
 
 static inline int stands(const struct asked *q, const uint8_t *image, find_pair *find) {
     uint8_t b[256], wrong = 0;
     if (!want(q, find, b)) return 0;
-    for (int k = 0; k < STEPS; k++) wrong |= (uint8_t)((image[steps[0][k].address] ^ b[steps[0][k].address]) & ~steps[0][k].keep);
+    for (size_t k = 0; k < sizeof all; k++) wrong |= (uint8_t)((image[all[k]] ^ b[all[k]]) & ~kept[all[k]]);
     return wrong == 0;
 }
 

@@ -27,7 +27,7 @@ static const char help[] =
     "\n"
     "The status is 0 for a request that is on show, 1 for one that is refused, 2 for a command that is not as above.\n"
     "\n"
-    "  host/run --cut 40 --brief\n";
+    "  host/run --cut 25 --brief\n";
 
 /* ---- The chip. On a real one, `read_back` is a read of 256 registers and `write_register` a write of one, over the bus. */
 

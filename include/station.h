@@ -21,9 +21,9 @@
 #include <stdint.h>
 
 /* The version of this header, one for each landing; CHANGELOG.md says what came with it. */
-#define STATION_VERSION "2.1.0"
+#define STATION_VERSION "2.2.0"
 #define STATION_MAJOR 2
-#define STATION_MINOR 1
+#define STATION_MINOR 2
 #define STATION_PATCH 0
 
 /* Lengths in bytes. */
@@ -70,7 +70,8 @@ struct station_masks { uint32_t read_only, mandated, named, free_bits, value; };
 struct station_verdict { uint32_t refusal, place; };
 
 /* The write list of a request on a register image of 256 bytes: `count` pairs of address and value at the front of `writes`, which has at
- * least 256 bytes; the bytes after them stay. Refusals 1 to 10. */
+ * least 256 bytes; the bytes after them stay. A register whose byte in the image is right already is left out, so lend the registers as
+ * the chip holds them now; nine writes always stay, to 0x4B, 0x4A and 0x1A. Refusals 1 to 10. */
 struct station_count station_plan(const uint8_t *request, size_t request_length, const uint8_t *image, size_t image_length,
                                   uint8_t *writes, size_t writes_length);
 

@@ -1,6 +1,7 @@
 /* A reader's listing: the write list of a request as a table, with the chip after each write. What it prints is compared with listing.out.
  * The request and the registers may be a stranger's: they go through the exported calls and nowhere else. */
 #include "chip.h"
+#include "registers.h"
 #include "station_text.h"
 #include "table.h"
 #include "words.h"
@@ -15,7 +16,8 @@ static const char help[] =
     "Prints the write list of a request as a table, a line for each write: the\n"
     "register, its byte before and after, the fields that the write sets, and what is\n"
     "in use after it: old, new, both where the two are the same, torn where it is\n"
-    "neither. BYTES is the request: a byte is exactly two hex digits, with or without\n"
+    "neither. Registers that are right already are left out; the last line says how\n"
+    "many. BYTES is the request: a byte is exactly two hex digits, with or without\n"
     "blanks between.\n"
     "\n"
     "  --image FILE         the chip's registers as they stand, 256 bytes\n"
@@ -26,10 +28,16 @@ static const char help[] =
     "  --raw                no table: the pairs of address and value, two bytes each\n"
     "\n"
     "What is not given is zeros. For a real chip give its registers (tools/image\n"
-    "makes the file), for the list keeps their free bits. The status is 0 for a list,\n"
-    "1 for a request that is refused, 2 for a command that is not as above.\n"
+    "makes the file), for the list keeps their free bits and leaves out what is right\n"
+    "in them. The status is 0 for a list, 1 for a request that is refused, 2 for a\n"
+    "command that is not as above.\n"
     "\n"
     "  tools/listing " EXAMPLE "\n";
+
+/* The length of a list, and what is not in it. */
+static void print_length(const char *before, const uint8_t *pairs, uint32_t count) {
+    printf("%s%u writes; registers that are right already and are left out: %u\n", before, (unsigned)count, left_out(pairs, count));
+}
 
 static void print_list(struct chip c, const uint8_t *pairs, uint32_t count) {
     struct chip end = c;
@@ -42,13 +50,16 @@ static void print_list(struct chip c, const uint8_t *pairs, uint32_t count) {
         struct sent s = chip_sent(&c);
         table_row((unsigned)w + 1, address, before, c.image[address], &s, &old, &new);
     }
+    print_length("", pairs, count);
 }
 
 /* Lines that a shell runs, in order, as far as the first that fails. */
 enum { CHIP_ON_THE_BUS = 0x39, BUSES = 9999 };
 static void print_commands(const uint8_t *pairs, uint32_t count, long bus, int of_zeros) {
     printf("#!/bin/sh\n");
+    print_length("# ", pairs, count);
     if (of_zeros) printf("# The registers were not given (--image) and are taken as zeros:\n# not for a real chip.\n");
+    else printf("# For the registers as they were given (--image), and for no others.\n");
     printf("set -e\n");
     for (uint32_t w = 0; w < count; w++)
         printf("i2ctransfer -y %ld w2@0x%02x 0x%02x 0x%02x\n", bus, CHIP_ON_THE_BUS, pairs[2 * w], pairs[2 * w + 1]);

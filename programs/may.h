@@ -6,7 +6,8 @@
 /* What was shown: VIC 16, RGB, two channels, and the matrix of Table 39. */
 #define MAY_BEFORE "vic 16 rgb hdmi audio 48kHz 2 coherent matrix table39"
 
-/* What was asked for: VIC 4, YCbCr 4:4:4, eight channels, and the matrix of Table 43. Each of its twelve coefficients is another. */
+/* What was asked for: VIC 4, YCbCr 4:4:4, eight channels, and the matrix of Table 43. Each of its twelve coefficients is another, in both
+ * bytes, so a list of ours writes each of their registers. */
 #define MAY_ASKED "vic 4 ycbcr444 hdmi audio 48kHz 8 matrix table43"
 
 /* The registers of the coefficients, and how many of them hold five. */

@@ -43,7 +43,7 @@ static const char help[] =
     "cannot be run, refused 8 or 14 (it is said on the error stream), 2 for a command\n"
     "or a list's text that is not as above.\n"
     "\n"
-    "  tools/picture --cut 40 " EXAMPLE " >run.html\n";
+    "  tools/picture --cut 25 " EXAMPLE " >run.html\n";
 
 /* ---- A run: a moment for the beginning, for each write, and for what stays. */
 
@@ -98,13 +98,13 @@ static void begin(struct run *r, const struct chip *c, const struct sent *old, c
 }
 
 /* The first writes of a list; what is in use after the last of them stays for a while. */
-static void play(struct run *r, const uint8_t *pairs, uint32_t count, uint32_t writes) {
+static void play(struct run *r, const uint8_t *pairs, uint32_t writes) {
     for (uint32_t w = 0; w < writes; w++) {
         uint8_t address = pairs[2 * w], before = r->chip.image[address];
         chip_write(&r->chip, pairs + 2 * w);
         struct moment *m = look(r, w + 1 == writes ? REST : 1);
         m->number = (int)w + 1;
-        m->step = step_of(pairs, count, w);
+        m->step = step_of(pairs, w);
         m->address = address;
         m->before = before;
         m->after = r->chip.image[address];
@@ -312,6 +312,11 @@ static uint32_t plan(const uint8_t *request, size_t length, const struct chip *c
     return n.count;
 }
 
+static void say_list(const uint8_t *pairs, uint32_t count) {
+    printf("<p>Our list has %u writes; registers that are right already and are left out: %u.</p>\n", (unsigned)count,
+           left_out(pairs, count));
+}
+
 static struct chip finished(struct chip c, const uint8_t *pairs, uint32_t count) {
     for (uint32_t w = 0; w < count; w++) chip_write(&c, pairs + 2 * w);
     return c;
@@ -324,16 +329,16 @@ static void draw_cut(struct run *r, const struct chip *start, const uint8_t *req
     uint8_t again[STATION_WRITES];
     struct chip end = finished(*start, pairs, count);
     begin(r, start, old, new);
-    play(r, pairs, count, writes);
+    play(r, pairs, writes);
     cut(r);
     int at_cut = r->cut;
     uint32_t more = plan(request, length, &r->chip, again);
-    play(r, again, more, more);
+    play(r, again, more);
     snprintf(of_cut, sizeof of_cut, "cut after write %u", (unsigned)writes);
     draw(r, "Our list, cut, and planned again from what the chip then had", of_cut);
     printf("<p>At the cut: ");
     say(&r->moments[at_cut]);
-    printf(" The second list has %u writes; after it the registers are %s.</p>\n", (unsigned)more,
+    printf(" The second list has %u writes, for it leaves out what is right by then; after it the registers are %s.</p>\n", (unsigned)more,
            memcmp(end.image, r->chip.image, STATION_IMAGE) ? "<b>NOT</b> those of a run without a cut" : "those of a run without a cut");
     table(r);
 }
@@ -359,9 +364,10 @@ static void page_of_accident(void) {
     printf("%s<h1>The accident of last May, and the same change by our list</h1>\n", head);
     say_request("On show before:", before.bytes, before.length);
     say_request("Asked for:", asked.bytes, asked.length);
+    say_list(pairs, count);
     key();
     begin(&r, &start, &old, &new);
-    play(&r, old_way, registers_of_it, FIVE);
+    play(&r, old_way, FIVE);
     cut(&r);
     look(&r, 4 * REST);
     draw(&r, "The old way: the new coefficients with no hold and no mute; the host dies after the fifth", "the host dies here");
@@ -415,7 +421,7 @@ static void page_of_list(const struct chip *c, const struct list *l, const uint8
     printf(".</p>\n");
     key();
     begin(&r, c, &j.old, &j.new);
-    play(&r, l->bytes, j.end, j.end);
+    play(&r, l->bytes, j.end);
     draw(&r, "The list, from the first write to the last", "");
     if (j.end < j.count)
         printf("<p>Write %u would leave two packet holds up: the list ends before it, and %u of its %u writes are shown.</p>\n",
@@ -424,7 +430,7 @@ static void page_of_list(const struct chip *c, const struct list *l, const uint8
     table(&r);
     if (cut_at >= 0) {
         begin(&r, c, &j.old, &j.new);
-        play(&r, l->bytes, j.end, (uint32_t)cut_at);
+        play(&r, l->bytes, (uint32_t)cut_at);
         cut(&r);
         look(&r, 4 * REST);
         snprintf(of_cut, sizeof of_cut, "cut after write %ld", cut_at);
@@ -490,9 +496,10 @@ int main(int count, char **words) {
     printf("%s<h1>A run, write by write</h1>\n", head);
     if (!options[BY_IMAGE].given) say_request("On show before:", options[BY_BEFORE].into, options[BY_BEFORE].length);
     say_request("Asked for:", request, length);
+    say_list(pairs, writes);
     key();
     begin(&r, &c, &old, &new);
-    play(&r, pairs, writes, writes);
+    play(&r, pairs, writes);
     draw(&r, "Our list, from the first write to the last", "");
     table(&r);
     if (cut_at >= 0) draw_cut(&r, &c, request, length, pairs, writes, (uint32_t)cut_at, &old, &new);

@@ -98,16 +98,29 @@ static const struct { uint8_t first, last; enum step step; } places[] = {
     { 0x98, 0x9D, TO_FIX },    { 0xA2, 0xA3, TO_FIX },    { 0xE0, 0xE0, TO_FIX }, { 0xF9, 0xF9, TO_FIX },
 };
 
-/* A hold belongs to what it holds: where one goes up, to the step after it, and where it goes down, to the step before it. */
-enum { HOLDS = 0x4A, UP = 0x60, OPEN = 2, MUTE_SHIFT = 6 };
+/* A hold belongs to what it holds; where both are down, to what was held before. */
+enum { HOLDS = 0x4A, OF_AVI = 0x40, OF_AUDIO = 0x20, OPEN = 2, MUTE_SHIFT = 6 };
 
-enum step step_of(const uint8_t *pairs, uint32_t count, uint32_t write) {
-    uint32_t of = write;
-    int up = pairs[2 * write] == HOLDS && (pairs[2 * write + 1] & UP);
-    while (pairs[2 * of] == HOLDS && (up ? of + 1 < count : of > 0)) of = up ? of + 1 : of - 1;
-    const uint8_t *pair = pairs + 2 * of;
+static int holds(const uint8_t *pair) { return pair[0] == HOLDS && (pair[1] & (OF_AVI | OF_AUDIO)); }
+
+enum step step_of(const uint8_t *pairs, uint32_t write) {
+    const uint8_t *pair = pairs + 2 * write, *up = pair;
+    if (pair[0] == HOLDS) {
+        while (up > pairs && !holds(up)) up -= 2;
+        if (holds(up)) return up[1] & OF_AVI ? TO_AVI : TO_AUDIO;
+    }
     for (size_t p = 0; p < sizeof places / sizeof places[0]; p++)
         if (pair[0] >= places[p].first && pair[0] <= places[p].last)
             return places[p].step == TO_MUTE && pair[1] >> MUTE_SHIFT == OPEN ? TO_OPEN : places[p].step;
     return TO_OTHERS;
+}
+
+unsigned left_out(const uint8_t *pairs, uint32_t count) {
+    unsigned n = 0;
+    for (int a = 0; a < 256; a++) {
+        uint32_t w = 0;
+        while (w < count && pairs[2 * w] != a) w++;
+        n += registers[a].name && w == count;
+    }
+    return n;
 }

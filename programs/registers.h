@@ -11,6 +11,9 @@ extern const struct register_words registers[256];
 /* The steps of a list, in their order but for AVI and audio, which may change places. */
 enum step { TO_MUTE, TO_FIX, TO_MATRIX, TO_AVI, TO_AUDIO, TO_OTHERS, TO_OPEN, STEPS };
 extern const char *const step_words[STEPS];
-enum step step_of(const uint8_t *pairs, uint32_t count, uint32_t write);        /* `write` is counted from 0 */
+enum step step_of(const uint8_t *pairs, uint32_t write);                        /* `write` is counted from 0 */
+
+/* How many of the registers a list does not write: of a list of ours, those that are right already. */
+unsigned left_out(const uint8_t *pairs, uint32_t count);
 
 #endif

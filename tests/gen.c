@@ -110,14 +110,14 @@ void finish(uint8_t *image, const struct fields *f) {
     memcpy(image, done, 256);
 }
 
-/* The image as a list leaves it after some of its writes. */
+/* The image as a list, planned for it, leaves it after some of its writes. */
 static void cut(uint8_t *image, const struct fields *f) {
     struct pair p = model_pair(f);
     struct list l;
     uint8_t wanted[256];
     if (!p.exists) return;
     model_wanted(f, p, wanted);
-    model_list(wanted, image, &l);
+    model_short_list(wanted, image, &l);
     uint32_t writes = any(l.count + 1);
     for (uint32_t i = 0; i < writes; i++) {
         uint8_t fixed = model_classes[l.pairs[2 * i]].read_only, *byte = &image[l.pairs[2 * i]];
@@ -128,6 +128,12 @@ static void cut(uint8_t *image, const struct fields *f) {
 static void any_holds(uint8_t *image) {
     static const uint8_t up[8] = { 0x00, 0x40, 0x20, 0x10, 0x60, 0x50, 0x30, 0x70 };
     image[0x4A] = (uint8_t)((image[0x4A] & ~0x70) | up[any(2) ? any(3) : any(8)]);
+}
+
+uint8_t any_written(void) {
+    uint8_t address;
+    do address = (uint8_t)any(256); while (!model_written(address));
+    return address;
 }
 
 void any_image(uint8_t *image) {
@@ -146,15 +152,7 @@ void any_image(uint8_t *image) {
         finish(image, &f);
         for (uint32_t n = 1 + any(3); n > 0; n--) image[any(256)] ^= (uint8_t)(1u << any(8));
         break;
-    case 5:                                             /* damaged where a request writes */
-        finish(image, &f);
-        for (;;) {
-            uint32_t a = any(256);
-            if (!model_written((int)a)) continue;
-            image[a] ^= (uint8_t)(1u << any(8));
-            break;
-        }
-        break;
+    case 5: finish(image, &f); image[any_written()] ^= (uint8_t)(1u << any(8)); break;  /* damaged where a request writes */
     case 6:                                             /* one register of another request */
         {
             uint8_t other[256];
@@ -171,16 +169,56 @@ void any_image(uint8_t *image) {
     }
 }
 
-void any_start(uint8_t *image, uint8_t *packet, uint8_t *coefficients) {
+void left_up(uint8_t *image) {
     static const uint8_t up[3] = { 0x00, 0x40, 0x20 };
+    image[0x4A] = (uint8_t)((image[0x4A] & 0x8F) | up[any(3)]);
+    image[0x1A] = (uint8_t)((image[0x1A] & 0xDF) | (any(2) ? 0x20 : 0));
+}
+
+void any_start(uint8_t *image, uint8_t *packet, uint8_t *coefficients) {
     struct fields f;
     any_bytes(image, 256);
     any_bytes(packet, PACKET_BYTES);
     any_bytes(coefficients, COEFFICIENT_BYTES);
     any_fields(&f);
     if (any(2)) finish(image, &f);
-    image[0x4A] = (uint8_t)((image[0x4A] & 0x8F) | up[any(3)]);
-    image[0x1A] = (uint8_t)((image[0x1A] & 0xDF) | (any(2) ? 0x20 : 0));
+    left_up(image);
+}
+
+/* Another request, which differs in one section, or in one field. */
+static void other_part(struct fields *f) {
+    struct fields was = *f, other;
+    do {
+        const struct field *one = &model_fields[any(FIELDS)];
+        enum part part = (enum part)any(PARTS + 1);
+        any_fields(&other);
+        *f = was;
+        if (part == PARTS && model_has(f, one->section)) any_value(f, one);
+        for (const struct field *row = model_fields; row < model_fields + FIELDS; row++)
+            if (row->section == part) *model_field(f, row) = *model_field(&other, row);
+        if (part == OF_SOUND) f->sound = other.sound;
+        if (part == OF_MATRIX) f->matrix = other.matrix, memcpy(f->coefficient, other.coefficient, sizeof f->coefficient);
+    } while (!permitted(f) || !model_pair(f).exists);
+}
+
+/* Finished by the request itself or by another one, then perhaps cut in a list for it; then changed a little. */
+void near_image(uint8_t *image, const struct fields *f) {
+    struct fields g = *f;
+    if (any(8)) any_bytes(image, 256);
+    else memset(image, 0x00, 256);
+    if (any(2)) other_part(&g);
+    finish(image, &g);
+    if (any(4) == 0) cut(image, f);
+    uint32_t how = any(5);
+    for (uint32_t n = 1 + any(4); n > 0; n--) {
+        uint32_t a = any_written();
+        if (how == 0) image[a] = (uint8_t)any(256);         /* a few registers, single bits */
+        if (how == 1) image[a] ^= (uint8_t)(1u << any(8));
+    }
+    for (int a = 0; a < 256 && how == 2; a++)
+        image[a] ^= (uint8_t)(any(256) & (model_classes[a].free | model_classes[a].read_only));
+    if (how == 3 || model_holds(image[0x4A]) > 1) left_up(image);
+    image[0x4A] &= 0xEF;
 }
 
 /* A kind for each combination of values, or for so many of them by chance where there are more than so many. */

@@ -12,11 +12,14 @@ enum { MORE = 40, LEAST_ROOM = LONGEST + MORE + 1 };    /* bytes after the last 
 void     seed(uint64_t s);
 uint32_t any(uint32_t below);                           /* 0 .. below - 1 */
 void     any_bytes(uint8_t *bytes, size_t length);
+uint8_t  any_written(void);                             /* a register that a list may write */
 void     any_fields(struct fields *f);                  /* fields of a request that 1 to 6 let pass (9 may apply) */
 size_t   any_request(uint8_t *bytes, size_t room);      /* valid, damaged, cut, too long, or plain noise; `room` is LEAST_ROOM or more */
 void     any_image(uint8_t *image);                     /* noise, finished, cut, damaged, bare; holds of every kind */
 void     any_start(uint8_t *image, uint8_t *packet, uint8_t *coefficients);     /* a state that planning accepts */
 void     finish(uint8_t *image, const struct fields *f);
+void     left_up(uint8_t *image);                       /* holds that refusal 8 lets pass, as a cut could leave them */
+void     near_image(uint8_t *image, const struct fields *f);    /* one that planning accepts, and that needs few writes for this request */
 
 /* Every kind of request: each value of each field of the video and the audio section, sound and matrix on or off; where these are too many,
  * a part of them by chance. A kind has a number below `kinds()`; many numbers are of requests that 1 to 6 refuse, and for these the answer

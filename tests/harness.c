@@ -66,6 +66,15 @@ static int side(void) { return any(4) ? ENDS : BEGINS; }
 
 static uint8_t expected[ROOM];
 
+/* The number of writes by document 02's own sentence, of a request that is accepted. */
+static uint32_t counted(const uint8_t *request, size_t length, const uint8_t *image) {
+    uint8_t wanted[256];
+    struct fields f;
+    model_read(request, length, &f);
+    model_wanted(&f, model_pair(&f), wanted);
+    return model_short_count(wanted, image);
+}
+
 static void check_plan(const uint8_t *request, size_t rl, const uint8_t *image, size_t il, const uint8_t *writes, size_t wl) {
     run.now->cases++;
     memcpy(expected, writes, wl);
@@ -74,6 +83,7 @@ static void check_plan(const uint8_t *request, size_t rl, const uint8_t *image, 
                                            lend(WRITES, writes, wl, side()), wl);
     if (got.refusal != want.refusal) differs("refusal %u, the model has %u", got.refusal, want.refusal);
     else if (got.count != want.count) differs("count %u, the model has %u", got.count, want.count);
+    else if (!got.refusal && got.count != counted(request, rl, image)) differs("count %u, the registers give another", got.count);
     else if (!holds(WRITES, expected)) differs("the write buffer is another");
     else if (!holds(REQUEST, request) || !holds(IMAGE, image)) differs("an input was changed");
 }
@@ -201,9 +211,9 @@ static void classes(void) {
     }
 }
 
-/* The byte that a list leaves in a register, or -1 where it does not write it. */
-static int left_in(uint8_t address, const uint8_t *writes, struct station_count c) {
-    int byte = -1;
+/* The byte that a list leaves in a register. */
+static int left_in(uint8_t address, const uint8_t *image, const uint8_t *writes, struct station_count c) {
+    int byte = image[address];
     for (uint32_t w = 0; w < c.count && w < 128; w++)
         if (writes[2 * w] == address) byte = writes[2 * w + 1];
     return byte;
@@ -246,7 +256,7 @@ static void marked(void) {
     for (size_t i = 0; i < sizeof sums / sizeof sums[0]; i++) {
         run.now->cases++;
         struct station_count c = run.f->plan(bytes, model_bytes(&sums[i].f, bytes), image, 256, writes, 256);
-        int avi = left_in(0x54, writes, c), audio = left_in(0x72, writes, c);
+        int avi = left_in(0x54, image, writes, c), audio = left_in(0x72, image, writes, c);
         if (avi != sums[i].avi) differs("case 10: AVI checksum %02x", avi);
         if (audio != sums[i].audio) differs("case 11: audio checksum %02x", audio);
     }
@@ -279,6 +289,11 @@ static int tries_kind(uint32_t number, uint32_t tried, struct fields *f) {
         for (int v = 0; v < model_fields[i].count; v++)
             met[i][v] += model_has(f, model_fields[i].section) && *model_field(f, &model_fields[i]) == model_fields[i].values[v];
     return 1;
+}
+
+static void never_met(uint32_t count, const char *what) {
+    if (run.loud) printf("    %9u lists: %s\n", count, what);
+    if (!count) differs("no list was met: %s", what);
 }
 
 static void every_value_met(void) {
@@ -338,12 +353,12 @@ static void plan(void) {
         seed(0x300000u + i);
         struct fields f;
         size_t rl;
-        if (any(3)) {
-            any_fields(&f);
-            rl = model_bytes(&f, request);
-        } else rl = any_request(request, sizeof request);
+        any_fields(&f);
+        if (any(3)) rl = model_bytes(&f, request);
+        else rl = any_request(request, sizeof request);
         any_bytes(image + 256, 8);
-        any_image(image);
+        if (any(3)) any_image(image);
+        else near_image(image, &f);
         if (any(2)) image[0x4A] &= any(2) ? 0xCF : 0xAF;
         memset(writes, (int)any(256), sizeof writes);
         size_t wl = any(2) ? 256 : any_length(256, sizeof writes);
@@ -437,8 +452,8 @@ static void answered_range(const struct fields *f, uint32_t refusal, int q) {
     struct station_count c = run.f->plan(bytes, length, image, 256, writes, 256);
     if (p.refusal != refusal || c.refusal != refusal)
         differs("range %d, encoding %d: %u and %u, not %u", f->range, f->encoding, p.refusal, c.refusal, refusal);
-    else if (!refusal && (left_in(0x57, writes, c) & 0x0C) != q << 2)
-        differs("range %d, encoding %d: Q is %d, not %d", f->range, f->encoding, left_in(0x57, writes, c) >> 2 & 3, q);
+    else if (!refusal && (left_in(0x57, image, writes, c) & 0x0C) != q << 2)
+        differs("range %d, encoding %d: Q is %d, not %d", f->range, f->encoding, left_in(0x57, image, writes, c) >> 2 & 3, q);
 }
 
 /* A request as it was before the video section had its last byte: that byte is gone, and the count is one less. */
@@ -682,55 +697,97 @@ static void finished(const uint8_t *bytes, size_t length, const struct fields *f
     if (d.refusal || d.count != length || memcmp(asked, back, length)) differs("VIC %d: the finished image decodes otherwise", f->vic);
 }
 
-/* Every cut of every kind of request: muted, old or new, planned again. */
+/* Writes to the registers from one to another, but for the nine. */
+static uint32_t others(const uint8_t *list, uint32_t count, int first, int last) {
+    uint32_t n = 0;
+    for (uint32_t w = 0; w < count; w++) n += list[2 * w] >= first && list[2 * w] <= last && !model_stays(list[2 * w]);
+    return n;
+}
+
+/* How often a group was left out whole, or all but the nine writes, with no hold up at the start and with one. */
+static const struct { uint8_t first, last, address, hold; const char *what; } parts_left_out[] = {
+    { 0x00, 0xFF, 0x4A, 0x60, "nine writes" },
+    { 0x18, 0x2F, 0x1A, 0x20, "no coefficient" },
+    { 0x52, 0x61, 0x4A, 0x40, "no AVI register" },
+    { 0x70, 0x7C, 0x4A, 0x20, "no audio register" },
+};
+enum { PARTS_LEFT_OUT = sizeof parts_left_out / sizeof parts_left_out[0] };
+static uint32_t times_left_out[PARTS_LEFT_OUT][2];
+
+static void count_left_out(const uint8_t *image, const uint8_t *list, uint32_t count) {
+    for (int k = 0; k < PARTS_LEFT_OUT; k++)
+        if (others(list, count, parts_left_out[k].first, parts_left_out[k].last) == 0 && (k == 0 || count > 9))
+            times_left_out[k][(image[parts_left_out[k].address] & parts_left_out[k].hold) != 0]++;
+}
+
+static void every_part_left_out(void) {
+    for (int k = 0; run.share >= 1000 && k < PARTS_LEFT_OUT; k++)
+        for (int held = 0; held < 2; held++) {
+            char what[40];
+            snprintf(what, sizeof what, "%s%s", parts_left_out[k].what, held ? ", a hold up" : "");
+            never_met(times_left_out[k][held], what);
+        }
+    memset(times_left_out, 0, sizeof times_left_out);
+}
+
+/* Every cut of a request's list: muted, old or new, planned again. */
+static void cuts_of(const struct fields *f, const struct chip *start) {
+    uint8_t bytes[LONGEST], list[256], again[256];
+    struct chip c = *start, end = *start, redone;
+    struct groups old, new, g;
+    size_t length = model_bytes(f, bytes);
+    struct station_count n = planned(bytes, length, start, list);
+    if (!model_pair(f).exists) {
+        run.now->cases++;
+        if (n.refusal != 9) differs("VIC %d: refusal %u for 9", f->vic, n.refusal);
+        return;
+    }
+    if (n.refusal || n.count > 128) {
+        differs("VIC %d: refused %u, count %u", f->vic, n.refusal, n.count);
+        return;
+    }
+    if (!sent_to(&end, list, 0, n.count) || !look(start, &old) || !look(&end, &new)) {
+        differs("VIC %d: the machine refused", f->vic);
+        return;
+    }
+    finished(bytes, length, f, start, &end, &new);
+    count_left_out(start->image, list, n.count);
+    for (uint32_t cut = 0; cut <= n.count; cut++) {
+        run.now->cases++;
+        if (cut && !sent_to(&c, list, cut - 1, cut)) differs("write %u refused", cut);
+        if (!look(&c, &g)) {
+            differs("a view refused after write %u", cut);
+            break;
+        }
+        if (cut == 0 && (!same(&g, &old) || g.mute != old.mute)) differs("moved before the first write");
+        if (cut > 0 && cut < n.count && g.mute != 1) differs("VIC %d: not muted after write %u of %u", f->vic, cut, n.count);
+        if (!old_or_new(&g, &old, &new)) differs("VIC %d: a group is neither old nor new after write %u", f->vic, cut);
+        if (cut == n.count && (g.mute != 2 || !same(&g, &new))) differs("not open or not new after the last write");
+        redone = c;
+        struct station_count m = planned(bytes, length, &redone, again);
+        if (m.refusal || m.count > 128 || !sent_to(&redone, again, 0, m.count) || !look(&redone, &g)) {
+            differs("VIC %d: planned again after write %u: refused", f->vic, cut);
+            continue;
+        }
+        if (memcmp(redone.image, end.image, 256)) differs("VIC %d: planned again after write %u: another image", f->vic, cut);
+        if (!same(&g, &new) || g.mute != 2) differs("VIC %d: planned again after write %u: another group", f->vic, cut);
+    }
+}
+
+/* Every kind of request, each on an image of any kind and on one that needs few writes; every hold that refusal 8 lets pass. */
 static void cuts(void) {
     struct fields f;
+    struct chip start;
     for (uint32_t i = 0; i < kinds(); i++) {
-        uint8_t bytes[LONGEST], list[256], again[256];
-        struct chip start, c, end, redone;
-        struct groups old, new, g;
         if (!tries_kind(i, times(KINDS), &f)) continue;
-        size_t length = model_bytes(&f, bytes);
-        any_start(start.image, start.packet, start.coefficients);
-        start.image[0x4A] = (uint8_t)((start.image[0x4A] & 0x8F) | (const uint8_t[]){ 0, 0x20, 0x40 }[i % 3]);
-        struct station_count n = planned(bytes, length, &start, list);
-        if (!model_pair(&f).exists) {
-            run.now->cases++;
-            if (n.refusal != 9) differs("VIC %d: refusal %u for 9", f.vic, n.refusal);
-            continue;
-        }
-        if (n.refusal || n.count > 128) {
-            differs("VIC %d: refused %u, count %u", f.vic, n.refusal, n.count);
-            continue;
-        }
-        end = start;
-        if (!sent_to(&end, list, 0, n.count) || !look(&start, &old) || !look(&end, &new)) {
-            differs("VIC %d: the machine refused", f.vic);
-            continue;
-        }
-        finished(bytes, length, &f, &start, &end, &new);
-        c = start;
-        for (uint32_t cut = 0; cut <= n.count; cut++) {
-            run.now->cases++;
-            if (cut && !sent_to(&c, list, cut - 1, cut)) differs("write %u refused", cut);
-            if (!look(&c, &g)) {
-                differs("a view refused after write %u", cut);
-                break;
-            }
-            if (cut == 0 && (!same(&g, &old) || g.mute != old.mute)) differs("moved before the first write");
-            if (cut > 0 && cut < n.count && g.mute != 1) differs("VIC %d: not muted after write %u of %u", f.vic, cut, n.count);
-            if (!old_or_new(&g, &old, &new)) differs("VIC %d: a group is neither old nor new after write %u", f.vic, cut);
-            if (cut == n.count && (g.mute != 2 || !same(&g, &new))) differs("not open or not new after the last write");
-            redone = c;
-            struct station_count m = planned(bytes, length, &redone, again);
-            if (m.refusal || m.count > 128 || !sent_to(&redone, again, 0, m.count) || !look(&redone, &g)) {
-                differs("VIC %d: planned again after write %u: refused", f.vic, cut);
-                continue;
-            }
-            if (memcmp(redone.image, end.image, 256)) differs("VIC %d: planned again after write %u: another image", f.vic, cut);
-            if (!same(&g, &new) || g.mute != 2) differs("VIC %d: planned again after write %u: another group", f.vic, cut);
+        for (int near = 0; near < 2; near++) {
+            any_start(start.image, start.packet, start.coefficients);
+            if (near) near_image(start.image, &f), left_up(start.image);
+            start.image[0x4A] = (uint8_t)((start.image[0x4A] & 0x8F) | (const uint8_t[]){ 0, 0x20, 0x40 }[i % 3]);
+            cuts_of(&f, &start);
         }
     }
+    every_part_left_out();
     if (run.share >= 1000) every_value_met();
 }
 
@@ -745,6 +802,7 @@ static void chains(void) {
         any_start(start.image, start.packet, start.coefficients);
         for (int turn = 0; turn < 2; turn++) {
             do any_fields(&f); while (!model_pair(&f).exists);
+            if (turn == 0 && i % 2) near_image(start.image, &f);
             size_t length = model_bytes(&f, bytes);
             struct station_count n = planned(bytes, length, &start, list);
             end = c = start;
@@ -768,6 +826,140 @@ static void chains(void) {
             start = left;
         }
     }
+}
+
+/* Fewer writes: document 02, request 09. -------------------------------------------------------------------------------------------- */
+
+/* The nine writes that stay, by the image that they leave and whether the audio hold was up. */
+static void the_nine(const uint8_t *finished, int audio_first, struct pairs *l) {
+    uint8_t mute = finished[0x4B] & 0x3F, down = finished[0x4A], first = audio_first ? 0x20 : 0x40, second = first ^ 0x60;
+    uint8_t a2 = finished[0x1A];
+    const uint8_t nine[18] = { 0x4B, mute | 0x40, 0x1A, a2 | 0x20, 0x1A, a2 | 0x20, 0x1A, a2, 0x4A, down | first, 0x4A, down,
+                               0x4A, down | second, 0x4A, down, 0x4B, mute | 0x80 };
+    memcpy(l->bytes, nine, sizeof nine);
+    l->length = sizeof nine;
+}
+
+/* The library's list must be this one. */
+static void is_planned(const struct fields *f, const uint8_t *image, const struct pairs *l, const char *what) {
+    uint8_t bytes[LONGEST], writes[256] = { 0 };
+    size_t length = model_bytes(f, bytes);
+    struct station_count c = run.f->plan(bytes, length, image, 256, writes, 256);
+    if (c.refusal || c.count != count_of(l)) differs("%s: refused %u, %u writes, not %zu", what, c.refusal, c.count, count_of(l));
+    else if (memcmp(writes, l->bytes, l->length)) differs("%s: the writes are others", what);
+    memset(writes, 0xA5, sizeof writes);
+    check_plan(bytes, length, image, 256, writes, 256);
+}
+
+/* By their own numbers, not the model's: on an image that document 01's example has finished over zeros, with some bits of one register
+ * turned over, the nine writes alone or with one more put in. */
+enum { NO_MORE = 0xFF };
+static void marked_few(void) {
+    static const struct { uint8_t address, bits, at, pair[2]; const char *what; } cases[] = {
+        { 0x00, 0x00, NO_MORE, { 0 }, "nothing" },
+        { 0x3C, 0x10, 8, { 0x3C, 0x10 }, "the VIC" },
+        { 0x3C, 0xC0, NO_MORE, { 0 }, "free bits beside the VIC" },
+        { 0x03, 0x01, 8, { 0x03, 0x00 }, "N" },
+        { 0xAF, 0x02, 8, { 0xAF, 0x06 }, "HDMI" },
+        { 0xAF, 0x04, 8, { 0xAF, 0x06 }, "a mandated bit beside a named one" },
+        { 0xAF, 0x90, NO_MORE, { 0 }, "copy protection" },
+        { 0xE0, 0x01, 1, { 0xE0, 0xD0 }, "a register of Table 14" },
+        { 0xF9, 0x80, 1, { 0xF9, 0x00 }, "a register of Table 14 that is to be 0" },
+        { 0x9A, 0x01, NO_MORE, { 0 }, "a free bit of Table 14" },
+        { 0x99, 0xFF, NO_MORE, { 0 }, "a register that is fixed by the map and not in Table 14" },
+        { 0x4C, 0xFF, NO_MORE, { 0 }, "a register that is read-only" },
+        { 0x30, 0xFF, NO_MORE, { 0 }, "a register that is free" },
+        { 0x18, 0x20, 2, { 0x18, 0x28 }, "the matrix mode" },
+        { 0x18, 0x80, 2, { 0x18, 0x28 }, "the converter" },
+        { 0x19, 0x01, 2, { 0x19, 0x00 }, "A1" },
+        { 0x1A, 0x01, NO_MORE, { 0 }, "A2, which 0x1A has" },
+        { 0x1A, 0x20, NO_MORE, { 0 }, "the coefficient hold" },
+        { 0x1B, 0x01, 3, { 0x1B, 0x00 }, "A2" },
+        { 0x2E, 0xE0, NO_MORE, { 0 }, "free bits beside C4" },
+        { 0x2F, 0x80, 3, { 0x2F, 0x00 }, "C4" },
+        { 0x4A, 0x80, NO_MORE, { 0 }, "0x4A[7]" },
+        { 0x4A, 0x40, NO_MORE, { 0 }, "the AVI hold" },
+        { 0x4A, 0x20, NO_MORE, { 0 }, "the audio hold" },
+        { 0x4B, 0xC0, NO_MORE, { 0 }, "the mute" },
+        { 0x52, 0xF8, NO_MORE, { 0 }, "free bits beside the AVI version" },
+        { 0x54, 0x01, 5, { 0x54, 0x23 }, "the AVI checksum" },
+        { 0x61, 0x01, 5, { 0x61, 0x00 }, "the last AVI register" },
+        { 0x62, 0xFF, NO_MORE, { 0 }, "a register after the AVI packet" },
+        { 0x72, 0x10, 7, { 0x72, 0x70 }, "the audio checksum" },
+        { 0x7C, 0x01, 7, { 0x7C, 0x00 }, "a reserved register of the audio packet" },
+    };
+    uint8_t image[256] = { 0 }, turned[256];
+    struct pairs l;
+    finish(image, &example);
+    for (size_t i = 0; i < sizeof cases / sizeof cases[0]; i++) {
+        memcpy(turned, image, 256);
+        turned[cases[i].address] ^= cases[i].bits;
+        the_nine(image, turned[0x4A] & 0x20, &l);
+        if (cases[i].at != NO_MORE) put_in(&l, cases[i].at, cases[i].pair[0], cases[i].pair[1]);
+        is_planned(&example, turned, &l, cases[i].what);
+    }
+}
+
+/* "Always made right": on the library's machine its list leaves the registers, and what is in use, as the list with nothing left out does.
+ * Planned again after a cut, the list is shorter by what was written, but for the nine. */
+static void made_right(const struct fields *f, const struct chip *start) {
+    uint8_t bytes[LONGEST], list[256], again[256];
+    struct chip c = *start, full = *start;
+    struct groups g, of_full;
+    struct pairs l;
+    size_t length = model_bytes(f, bytes);
+    struct station_count n = planned(bytes, length, start, list);
+    full_list(start, f, &l);
+    if (n.refusal || n.count > 128 || !sent_to(&full, l.bytes, 0, (uint32_t)count_of(&l)) || !look(&full, &of_full)) {
+        differs("VIC %d: refused %u, count %u", f->vic, n.refusal, n.count);
+        return;
+    }
+    count_left_out(start->image, list, n.count);
+    for (uint32_t cut = 0; cut <= n.count; cut++) {
+        run.now->cases++;
+        if (cut && !sent_to(&c, list, cut - 1, cut)) differs("write %u refused", cut);
+        struct station_count m = planned(bytes, length, &c, again);
+        if (m.refusal || m.count + others(list, cut, 0x00, 0xFF) != n.count)
+            differs("VIC %d: planned again after write %u of %u: %u writes", f->vic, cut, n.count, m.count);
+    }
+    if (memcmp(c.image, full.image, 256)) differs("VIC %d: a register is not made right", f->vic);
+    if (!look(&c, &g) || !same(&g, &of_full) || g.mute != of_full.mute) differs("VIC %d: a group is not made right", f->vic);
+}
+
+/* Images that a request has finished itself, each of their bits turned over; images that need few writes. */
+static void fewer(void) {
+    uint8_t bytes[LONGEST], writes[256];
+    struct chip c;
+    struct fields f;
+    struct pairs l;
+    marked_few();
+    for (uint32_t i = times(6000); i > 0; i--) {
+        seed(0x1400000u + i);
+        accepted_fields(&f);
+        finished_state(&c, &f);
+        the_nine(c.image, i % 3 == 1, &l);
+        c.image[0x4A] |= (const uint8_t[]){ 0, 0x20, 0x40 }[i % 3];
+        if (any(2)) c.image[0x1A] |= 0x20;
+        if (any(4) == 0) c.image[0x4B] ^= 0xC0;         /* muted, as after a cut */
+        is_planned(&f, c.image, &l, "finished already");
+        size_t length = model_bytes(&f, bytes);
+        any_bytes(writes, sizeof writes);
+        for (int bit = 0; i <= times(24) && bit < 2048; bit++) {
+            c.image[bit / 8] ^= (uint8_t)(1 << bit % 8);
+            check_plan(bytes, length, c.image, 256, writes, 256);
+            c.image[bit / 8] ^= (uint8_t)(1 << bit % 8);
+        }
+    }
+    for (uint32_t i = times(6000); i > 0; i--) {
+        seed(0x1500000u + i);
+        accepted_fields(&f);
+        any_start(c.image, c.packet, c.coefficients);
+        if (i % 8) near_image(c.image, &f);
+        any_bytes(writes, sizeof writes);
+        check_plan(bytes, model_bytes(&f, bytes), c.image, 256, writes, 256);
+        made_right(&f, &c);
+    }
+    every_part_left_out();
 }
 
 /* A vendor's list: document 02, request 03. ----------------------------------------------------------------------------------------- */
@@ -804,6 +996,7 @@ static void marked_lists(void) {
         { 16, 0, 10, { 0x4B, 0x40, 0x4A, 0xC0, 0x55, 0x30, 0x4A, 0xA0, 0x4B, 0x80 }, "a new AVI group, and a bad end" },
         { 15, 1, 8, { 0x4B, 0x40, 0x73, 0x07, 0x73, 0x01, 0x4B, 0x80 }, "an audio byte without its hold" },
         { 15, 1, 8, { 0x4B, 0x40, 0x18, 0x2C, 0x18, 0x28, 0x4B, 0x80 }, "a coefficient without its hold" },
+        { 15, 1, 8, { 0x4B, 0x40, 0x18, 0x38, 0x18, 0x28, 0x4B, 0x80 }, "a coefficient's sign without its hold" },
         { 0, 0, 8, { 0x4B, 0x40, 0x18, 0x48, 0x18, 0x28, 0x4B, 0x80 }, "the matrix mode, which is in no group" },
         { 0, 0, 10, { 0x4B, 0x40, 0x4A, 0xC0, 0x4A, 0xA0, 0x4A, 0x80, 0x4B, 0x80 }, "the AVI hold, then the audio hold" },
         { 15, 2, 10, { 0x4B, 0x40, 0x4A, 0xC0, 0x4A, 0xE0, 0x4A, 0x80, 0x4B, 0x80 }, "the audio hold over the AVI hold" },
@@ -883,7 +1076,7 @@ static void gives(const struct chip *start, const struct pairs *l) {
     }
 }
 
-/* Every kind of request, planned by the library on a state of every kind: its own list passes. */
+/* Every kind of request, planned by the library on a state of every kind, and on images that need few writes: its own list passes. */
 static void own_lists(void) {
     struct fields f;
     uint32_t count = 0;
@@ -895,6 +1088,7 @@ static void own_lists(void) {
         struct pairs l;
         if (!tries_kind(i, times(KINDS), &f) || !model_pair(&f).exists) continue;
         any_state(&c);
+        if (any(2)) near_image(c.image, &f);
         struct station_count n = planned(bytes, model_bytes(&f, bytes), &c, l.bytes);
         l.length = n.count <= 128 ? 2 * n.count : 0;
         struct station_verdict v = vetted(&c, &l);
@@ -917,7 +1111,8 @@ static void changed_lists(void) {
         seed(0xE00000u + i);
         accepted_fields(&f);
         any_state(&c);
-        our_list(&c, &f, &ours);
+        if (i % 3 == 0) near_image(c.image, &f);
+        (i % 2 ? full_list : our_list)(&c, &f, &ours);
         size_t n = count_of(&ours);
         for (size_t at = 0; at < n; at++) {
             l = ours, take_out(&l, at, at + 1), check_list(&c, &l);
@@ -962,11 +1157,6 @@ static void single_pairs(void) {
             check_list(&c, &l);
         }
     }
-}
-
-static void never_met(uint32_t count, const char *what) {
-    if (run.loud) printf("    %9u lists: %s\n", count, what);
-    if (!count) differs("no list was met: %s", what);
 }
 
 /* Lists of every kind; the empty one against decoding; lengths that are wrong, more than one at a time. */
@@ -1030,6 +1220,7 @@ static const struct { const char *name; void (*run)(void); } sections[SECTIONS] 
     { "every field, every cut", fields },
     { "N and CTS", ncts },
     { "planning", plan },
+    { "fewer writes", fewer },
     { "every length", lengths },
     { "decoding", decode },
     { "every bit of finished images", flips },

@@ -7,14 +7,18 @@ void accepted_fields(struct fields *f) {
     do any_fields(f); while (!model_pair(f).exists);
 }
 
-void our_list(const struct chip *c, const struct fields *f, struct pairs *l) {
+static void listed(void (*model)(const uint8_t *, const uint8_t *, struct list *), const struct chip *c, const struct fields *f,
+                   struct pairs *l) {
     struct list ours;
     uint8_t wanted[256];
     model_wanted(f, model_pair(f), wanted);
-    model_list(wanted, c->image, &ours);
+    model(wanted, c->image, &ours);
     l->length = 2 * ours.count;
     memcpy(l->bytes, ours.pairs, l->length);
 }
+
+void our_list(const struct chip *c, const struct fields *f, struct pairs *l) { listed(model_short_list, c, f, l); }
+void full_list(const struct chip *c, const struct fields *f, struct pairs *l) { listed(model_full_list, c, f, l); }
 
 static void any_buffers(struct chip *c) {
     any_bytes(c->packet, PACKET_BYTES);
@@ -91,12 +95,6 @@ uint8_t kept_value(const uint8_t *image, uint8_t address, uint8_t named) {
     return (uint8_t)(c->bits | (image[address] & (c->free | c->read_only)) | (named & c->named));
 }
 
-static uint8_t any_written(void) {
-    uint8_t address;
-    do address = (uint8_t)any(256); while (!model_written(address));
-    return address;
-}
-
 static uint8_t any_of_mask(uint8_t mask) {
     uint8_t bit;
     do bit = (uint8_t)(1u << any(8)); while (!(mask & bit));
@@ -155,7 +153,7 @@ static void any_pair(const struct chip *c, uint8_t *pair) {
 void stretch(const struct chip *c, struct pairs *l, size_t count) {
     uint8_t pair[2];
     while (count_of(l) < count) {
-        fair_pair(c, pair);
+        do fair_pair(c, pair); while (last_place(l, pair[0]) == count_of(l));
         put_in(l, 1 + any((uint32_t)last_place(l, pair[0])), pair[0], pair[1]);
     }
 }
@@ -188,7 +186,7 @@ static size_t step_end(const struct pairs *l, size_t from) {
     return to;
 }
 
-/* Our list with its steps between the mute and the opening write in any order, and some left out or done again. */
+/* A list of ours with its steps between the mute and the opening write in any order, and some left out or done again. */
 static void other_steps(struct pairs *l) {
     enum { MOST = 16 };
     struct pairs ours = *l;
@@ -218,7 +216,7 @@ static void joined(const struct chip *c, struct pairs *l) {
     g = f;
     if (any(4)) accepted_fields(&g);
     our_list(c, &f, l);
-    our_list(c, &g, &second);
+    full_list(c, &g, &second);
     if (any(4)) l->length -= 2;
     for (uint32_t n = any(4); n > 0; n--) {
         any_bad_pair(c, pair);
@@ -234,7 +232,7 @@ static void back_and_forth(struct chip *c, struct pairs *l) {
     struct pairs of_f, of_g, of_h;
     accepted_fields(&f), accepted_fields(&g), accepted_fields(&h);
     finished_state(c, &f);
-    our_list(c, &f, &of_f), our_list(c, &g, &of_g), our_list(c, &h, &of_h);
+    full_list(c, &f, &of_f), full_list(c, &g, &of_g), full_list(c, &h, &of_h);
     if (any(3)) of_h = of_f;
     enum group k = (enum group)(1 + any(3));
     size_t from = 1;
@@ -278,13 +276,14 @@ void any_vendors(struct chip *c, struct pairs *l) {
     struct fields f;
     accepted_fields(&f);
     any_state(c);
-    our_list(c, &f, l);
+    if (any(4) == 0) near_image(c->image, &f);
+    (any(2) ? our_list : full_list)(c, &f, l);
     switch (any(8)) {
     case 0: break;                                              /* ours */
     case 1: other_steps(l); break;
     case 2:                                                     /* on an image that is finished, so that what is left out may be right */
         finished_state(c, &f);
-        our_list(c, &f, l);
+        full_list(c, &f, l);
         other_steps(l);
         break;
     case 3: joined(c, l); break;

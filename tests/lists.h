@@ -10,7 +10,8 @@ struct pairs { size_t length; uint8_t bytes[4 * MOST_PAIRS]; };
 void   any_state(struct chip *c);                       /* zero, noise, finished or cut; every hold that refusal 8 lets pass */
 void   finished_state(struct chip *c, const struct fields *f);      /* as a list leaves it: no hold is up; the rest is noise */
 void   accepted_fields(struct fields *f);               /* of a request that planning accepts */
-void   our_list(const struct chip *c, const struct fields *f, struct pairs *l);
+void   our_list(const struct chip *c, const struct fields *f, struct pairs *l);     /* as planned */
+void   full_list(const struct chip *c, const struct fields *f, struct pairs *l);    /* with nothing left out */
 
 size_t count_of(const struct pairs *l);
 size_t last_place(const struct pairs *l, uint8_t address);          /* of a write to this register, or the count */

@@ -1,8 +1,8 @@
 /* tests: `tests lib` compares the library with the model; `tests self` the model with itself, which tries the harness; `tests wrong` runs
- * every wrong library of tests/wrong and says how many were caught, after four right ones (the model, the two plain ones of bench/, and the
- * judge of wrong/vet.c without a fault). `tests facts` is what station.h says of sizes, alignment, threads and stack. Each ends with
- * 'N passed, M failed'. `tests line` and `tests verdict` print what the programs `desk` and `vet` should print, `tests input` writes inputs
- * for `vet`. */
+ * every wrong library of tests/wrong and says how many were caught, after five right ones (the model, the two plain ones of bench/, and the
+ * planner of wrong/fewer.c and the judge of wrong/vet.c without a fault). `tests facts` is what station.h says of sizes, alignment, threads
+ * and stack. Each ends with 'N passed, M failed'. `tests line` and `tests verdict` print what the programs `desk` and `vet` should print,
+ * `tests input` writes inputs for `vet`. */
 #include "../bench/plain.h"
 #include "facts.h"
 #include "harness.h"
@@ -35,23 +35,29 @@ static int compared(const char *what, const struct face *f, unsigned share) {
 /* The same run, with fewer cases, on the model itself and on each wrong library. */
 enum { SHARE = 20 };
 
+static void put_plain(struct face *f) { f->plan = plain_plan, f->decode = plain_decode, f->vet = plain_vet; }
+static void put_rule(struct face *f) { f->plan = rule_plan, f->decode = rule_decode, f->vet = rule_vet; }
+static void put_nothing(struct face *f) { (void)f; }
+static const struct { const char *what; void (*put)(struct face *); unsigned share; } right[] = {
+    { "the right one", put_nothing, SHARE },
+    { "the plain planner, decoder and vet of bench/", put_plain, 5 * SHARE },
+    { "the same, N and CTS by the rule", put_rule, 5 * SHARE },
+    { "the planner of wrong/fewer.c without a fault", put_right_planner, 5 * SHARE },
+    { "the judge of wrong/vet.c without a fault", put_right_judge, 5 * SHARE },
+};
+enum { RIGHT = sizeof right / sizeof right[0] };
+
 static int caught(void) {
     struct section s[SECTIONS];
-    int all = 0, missed = 0, cuts = 0;
+    int all = 0, missed = 0, cuts = 0, control = 0;
     printf("wrong libraries, each with one fault\n");
-    int control = harness(&model, ALL, SHARE, 1, 0, s);
-    printf("  the right one: %s\n", control ? first_difference : "no difference");
-    struct face plain = model, rule = model;
-    plain.plan = plain_plan, plain.decode = plain_decode, plain.vet = plain_vet;
-    rule.plan = rule_plan, rule.decode = rule_decode, rule.vet = rule_vet;
-    control += harness(&plain, ALL, 5 * SHARE, 1, 0, s);
-    printf("  the plain planner, decoder and vet of bench/: %s\n", first_difference[0] ? first_difference : "no difference");
-    control += harness(&rule, ALL, 5 * SHARE, 1, 0, s);
-    printf("  the same, N and CTS by the rule: %s\n", first_difference[0] ? first_difference : "no difference");
-    struct face judge = model;
-    put_right_judge(&judge);
-    control += harness(&judge, ALL, 5 * SHARE, 1, 0, s);
-    printf("  the judge of wrong/vet.c without a fault: %s\n", first_difference[0] ? first_difference : "no difference");
+    for (int i = 0; i < RIGHT; i++) {
+        struct face f = model;
+        right[i].put(&f);
+        int bad = harness(&f, ALL, right[i].share, 1, 0, s);
+        control += bad != 0;
+        printf("  %s: %s\n", right[i].what, bad ? first_difference : "no difference");
+    }
     for (const struct wrong_set *set = wrong_sets; set->rows; set++)
         for (const struct wrong *w = set->rows; w->fault; w++, all++) {
             struct face f = model;
@@ -67,7 +73,7 @@ static int caught(void) {
             fflush(stdout);
         }
     printf("  %d of %d wrong libraries caught, %d of them by demand 3 alone as well\n", all - missed, all, cuts);
-    printf("%d passed, %d failed\n", all - missed + 4 - control, missed + control);
+    printf("%d passed, %d failed\n", all - missed + RIGHT - control, missed + control);
     return missed != 0 || control != 0;
 }
 

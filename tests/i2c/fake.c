@@ -144,7 +144,7 @@ static void on_states(void) {
     struct request bad = request_of_text("vic 16 ycbcr422 hdmi"), none = request_of_text("vic 4 /1.001 rgb hdmi audio 32kHz 2 coherent");
     struct request family_0 = request_of_text("vic 16 rgb hdmi audio 48kHz 2 coherent");
     struct request family_1 = request_of_text("vic 16 /1.001 rgb hdmi audio 48kHz 2 coherent");
-    uint8_t back[STATION_REQUEST];
+    uint8_t back[STATION_REQUEST], other[STATION_WRITES];
     heal();
     chip = start;
     chip.image[0x4A] |= 0x10;
@@ -161,7 +161,9 @@ static void on_states(void) {
     tell(again(asked) == FAILED && bus.sent == 0, "a bus that cannot be read", 0);
     heal();
     /* The families of one mode with coherent sound differ in N and CTS, and decoding answers the same for both. */
-    tell(again(family_0) == ACCEPTED && again(family_1) == ACCEPTED && bus.sent == writes &&
+    tell(again(family_0) == ACCEPTED, "a family", 0);
+    long few = station_plan(family_1.bytes, family_1.length, chip.image, STATION_IMAGE, other, sizeof other).count;
+    tell(again(family_1) == ACCEPTED && bus.sent == few &&
          station_decode(chip.image, STATION_IMAGE, back, sizeof back).count == family_0.length &&
          !memcmp(back, family_0.bytes, family_0.length), "another family", 1);
 }
@@ -203,11 +205,14 @@ static void in_bursts(void) {
     printf("bursts: %ld\n", transfers);
 }
 
-/* Registers with mandated bits that no list writes. */
+/* Registers with mandated bits that no list writes: not even on an image of which all is wrong. */
 static void bring_up(void) {
-    uint8_t written[STATION_IMAGE] = { 0 };
+    uint8_t image[STATION_IMAGE], all[STATION_WRITES], written[STATION_IMAGE] = { 0 };
     int count = 0;
-    for (long w = 0; w < writes; w++) written[list[2 * w]] = 1;
+    for (int a = 0; a < STATION_IMAGE; a++) image[a] = (uint8_t)~end.image[a];
+    image[0x4A] &= 0x8F;
+    uint32_t most = station_plan(asked.bytes, asked.length, image, sizeof image, all, sizeof all).count;
+    for (uint32_t w = 0; w < most; w++) written[all[2 * w]] = 1;
     for (int a = 0; a < STATION_IMAGE; a++) count += !written[a] && station_class((uint8_t)a).mandated != 0;
     printf("bring-up: %d\n", count);
 }

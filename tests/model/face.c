@@ -15,7 +15,7 @@ struct station_count model_plan(const uint8_t *request, size_t request_length, c
     if (!p.exists) return (struct station_count){ 9, 0 };
     if (writes_length < 256) return (struct station_count){ 10, 0 };
     model_wanted(&f, p, wanted);
-    model_list(wanted, image, &l);
+    model_short_list(wanted, image, &l);
     for (uint32_t i = 0; i < 2 * l.count; i++) writes[i] = l.pairs[i];
     return (struct station_count){ 0, l.count };
 }

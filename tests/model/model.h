@@ -68,12 +68,17 @@ enum { AVI_BYTES = 16, AUDIO_BYTES = 13, PACKET_BYTES = 32, COEFFICIENT_BYTES = 
 void model_avi(const struct fields *f, uint8_t *registers);
 void model_audio(const struct fields *f, uint8_t *registers);
 
-/* plan.c: the named bits that a request wants, the write list, the finished image; the code of each rate in 0x15[7:4]. */
+/* plan.c: the named bits that a request wants; the write list with nothing left out, and the short one, which is planned: without the
+ * writes that the image does not need; its count, found without a list; the finished image; the code of each rate in 0x15[7:4]. */
 extern const uint8_t model_rate_codes[RATES];
 struct list { uint32_t count; uint8_t pairs[256]; };
-int  model_written(int address);                    /* does the list write this register? */
+int  model_written(int address);                    /* does the full list write this register? */
+int  model_stays(int address);                      /* the mute register, 0x4A and 0x1A, whose writes all stay */
 void model_wanted(const struct fields *f, struct pair p, uint8_t *wanted);
-void model_list(const uint8_t *wanted, const uint8_t *image, struct list *l);
+void model_full_list(const uint8_t *wanted, const uint8_t *image, struct list *l);
+void model_leave_out(const struct list *full, const uint8_t *image, struct list *l);
+void model_short_list(const uint8_t *wanted, const uint8_t *image, struct list *l);
+uint32_t model_short_count(const uint8_t *wanted, const uint8_t *image);
 void model_finished(const uint8_t *wanted, const uint8_t *image, uint8_t *finished);
 int  model_stands(const uint8_t *wanted, const uint8_t *image);
 

@@ -1,4 +1,4 @@
-/* The wanted named bits, the write list, the finished image. */
+/* The wanted named bits, the write list, whole and with writes left out, the finished image. */
 #include "model.h"
 
 const uint8_t model_rate_codes[RATES] = { 0x3, 0x0, 0x2, 0x8, 0xA, 0xC, 0xE };  /* 32 .. 192 kHz; 88.2 kHz is 1000 */
@@ -75,7 +75,7 @@ static void packet(struct list *l, const uint8_t *image, const uint8_t *wanted, 
     put(l, image, 0x4A, wanted[0x4A]);
 }
 
-void model_list(const uint8_t *wanted, const uint8_t *image, struct list *l) {
+void model_full_list(const uint8_t *wanted, const uint8_t *image, struct list *l) {
     int audio_first = (image[0x4A] & 0x20) != 0;
     l->count = 0;
     put(l, image, 0x4B, 0x40);                              /* mute: set 1, clear 0 */
@@ -94,12 +94,43 @@ void model_list(const uint8_t *wanted, const uint8_t *image, struct list *l) {
     put(l, image, 0x4B, wanted[0x4B]);
 }
 
+int model_stays(int address) { return address == 0x4B || address == 0x4A || address == 0x1A; }
+
+static int differs(uint8_t a, uint8_t b, int address) { return ((a ^ b) & ~model_classes[address].read_only) != 0; }
+
+/* Document 02, request 09: a write is left out exactly if its register's byte in the image already equals it, read-only bits aside. */
+void model_leave_out(const struct list *full, const uint8_t *image, struct list *l) {
+    l->count = 0;
+    for (uint32_t i = 0; i < full->count; i++) {
+        uint8_t address = full->pairs[2 * i], value = full->pairs[2 * i + 1];
+        if (!model_stays(address) && !differs(image[address], value, address)) continue;
+        l->pairs[2 * l->count] = address;
+        l->pairs[2 * l->count + 1] = value;
+        l->count++;
+    }
+}
+
+void model_short_list(const uint8_t *wanted, const uint8_t *image, struct list *l) {
+    struct list full;
+    model_full_list(wanted, image, &full);
+    model_leave_out(&full, image, l);
+}
+
 /* Register by register, and not by running the list. */
 void model_finished(const uint8_t *wanted, const uint8_t *image, uint8_t *finished) {
     for (int a = 0; a < 256; a++) finished[a] = model_written(a) ? byte_of(wanted[a], image, a) : image[a];
 }
 
-/* Does every named and mandated bit that the list writes stand in the image as the list leaves it? */
+/* By the two images, and not by a list: two writes of the mute register, four of 0x4A, three of 0x1A. */
+uint32_t model_short_count(const uint8_t *wanted, const uint8_t *image) {
+    uint8_t finished[256];
+    uint32_t count = 2 + 4 + 3;
+    model_finished(wanted, image, finished);
+    for (int a = 0; a < 256; a++) count += model_written(a) && !model_stays(a) && differs(image[a], finished[a], a);
+    return count;
+}
+
+/* Does every named and mandated bit that the full list writes stand in the image as that list leaves it? */
 int model_stands(const uint8_t *wanted, const uint8_t *image) {
     for (int a = 0; a < 256; a++) {
         const struct model_class *c = &model_classes[a];

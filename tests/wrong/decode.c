@@ -24,6 +24,25 @@ PUT(decode, hold_ignored)
 DECODE(muted_is_open) { return as_if(i, il, r, rl, 0x4B, 0xC0, 0x80); }
 PUT(decode, muted_is_open)
 
+/* By a shorter list: what the request that the image shows, without a matrix, leaves out of its list on zeros is not tested. */
+DECODE(by_shorter_list) {
+    uint8_t other[256], bytes[LONGEST], zeros[256] = { 0 };
+    struct fields f = { 0 };
+    struct list full;
+    if (il != 256 || i[0x18] >> 7) return RIGHT;
+    memcpy(other, i, 256);
+    f.sound = i[0x44] >> 5 & 1;
+    for (const struct field *row = model_fields; row < model_fields + FIELDS; row++)
+        if (model_has(&f, row->section) && row->shown(i) != NO_REGISTER) *model_field(&f, row) = row->shown(i);
+    size_t length = model_bytes(&f, bytes);
+    if (answered(bytes, length, zeros, 256, 256).refusal) return RIGHT;
+    full_list_of(bytes, length, zeros, &full);
+    for (const uint8_t *pair = full.pairs; pair < full.pairs + 2 * full.count; pair += 2)
+        if (pair[1] == 0 && !model_stays(pair[0])) other[pair[0]] &= model_classes[pair[0]].free;
+    return model_decode(other, 256, r, rl);
+}
+PUT(decode, by_shorter_list)
+
 DECODE(free_bits_count) {
     struct station_count c = { 11, 0 };
     return il == 256 && rl >= LONGEST && (i[0x4B] & 0x3F) ? c : RIGHT;
@@ -139,6 +158,7 @@ const struct wrong wrong_decodes[] = {
     { "decoding ignores a reserved byte (0x7C)", put_reserved_byte_ignored, 0 },
     { "decoding ignores the AVI hold", put_hold_ignored, 0 },
     { "decoding takes a muted picture", put_muted_is_open, 0 },
+    { "decoding by a list that leaves writes out", put_by_shorter_list, 0 },
     { "decoding minds free bits", put_free_bits_count, 0 },
     { "decoding minds read-only bits", put_read_only_counts, 0 },
     { "decoding answers family 1", put_family_1, 1 },

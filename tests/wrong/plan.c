@@ -1,143 +1,90 @@
-/* Wrong planners. Most take the model's list and spoil it. */
+/* Wrong planners. Most take the model's full list and spoil it before writes are left out of it. */
 #include "wrong.h"
 
 #define PLAN(name) static struct station_count name(PLAN_ARGUMENTS)
 #define RIGHT model_plan(r, rl, i, il, w, wl)
+#define ANSWER answered(r, rl, i, il, wl)
 
-/* The place of the n-th write to an address, or the count. */
-static uint32_t place(const uint8_t *w, uint32_t count, uint8_t address, int n) {
-    for (uint32_t k = 0; k < count; k++)
-        if (w[2 * k] == address && n-- == 0) return k;
-    return count;
+/* A full list, the image that it is for, and the request. */
+struct spoilt { struct list l; const uint8_t *image; struct fields f; };
+
+static struct station_count left_out(void (*spoil)(struct spoilt *), PLAN_ARGUMENTS) {
+    struct spoilt s = { .image = i, .f = asked(r, rl) };
+    struct list l;
+    if (ANSWER.refusal) return ANSWER;
+    full_list_of(r, rl, i, &s.l);
+    spoil(&s);
+    model_leave_out(&s.l, i, &l);
+    memcpy(w, l.pairs, 2 * l.count);
+    return (struct station_count){ 0, l.count };
 }
 
-static void move(uint8_t *w, uint32_t from, uint32_t to) {
-    uint8_t pair[2] = { w[2 * from], w[2 * from + 1] };
-    memmove(w + 2 * from, w + 2 * from + 2, 2 * (to - from));
-    if (from > to) return;
-    memcpy(w + 2 * to, pair, 2);
+#define SPOIL(name) \
+    static void name(struct spoilt *); \
+    PLAN(plan_##name) { return left_out(name, r, rl, i, il, w, wl); } \
+    static void put_##name(struct face *f) { f->plan = plan_##name; } \
+    static void name(struct spoilt *s)
+
+/* The n-th write to an address, which the full list has. */
+static uint32_t place(const struct list *l, uint8_t address, int n) {
+    uint32_t k = 0;
+    while (l->pairs[2 * k] != address || n-- > 0) k++;
+    return k;
+}
+static uint8_t *value(struct spoilt *s, uint8_t address, int n) { return &s->l.pairs[2 * place(&s->l, address, n) + 1]; }
+
+static void take_out(struct list *l, uint32_t from, uint32_t to) {
+    memmove(l->pairs + 2 * from, l->pairs + 2 * to, 2 * (l->count - to));
+    l->count -= to - from;
 }
 
 /* The error list's "raising the AVI hold over an audio hold left by a cut". */
 PLAN(avi_first) {
-    struct station_count c = RIGHT;
-    if (c.refusal || !(i[0x4A] & 0x20)) return c;
-    uint8_t image[256], rest[256];
+    uint8_t image[256];
+    if (ANSWER.refusal) return ANSWER;
     memcpy(image, i, 256);
-    memcpy(rest, w, 256);
     image[0x4A] &= 0x9F;
-    c = model_plan(r, rl, image, 256, rest, 256);
-    memcpy(w, rest, 2 * c.count);
-    return c;
+    return model_plan(r, rl, image, 256, w, wl);
 }
 PUT(plan, avi_first)
 
 /* The error list's "clearing mute before 0x3C is written". */
-PLAN(early_open) {
-    struct station_count c = RIGHT;
-    if (c.refusal) return c;
-    uint32_t vic = place(w, c.count, 0x3C, 0);
-    uint8_t open[2] = { w[2 * c.count - 2], w[2 * c.count - 1] };
-    memmove(w + 2 * vic + 2, w + 2 * vic, 2 * (c.count - 1 - vic));
-    memcpy(w + 2 * vic, open, 2);
-    return c;
+SPOIL(early_open) {
+    uint32_t vic = place(&s->l, 0x3C, 0), last = s->l.count - 1;
+    uint8_t open = s->l.pairs[2 * last + 1];
+    memmove(s->l.pairs + 2 * vic + 2, s->l.pairs + 2 * vic, 2 * (last - vic));
+    s->l.pairs[2 * vic] = 0x4B;
+    s->l.pairs[2 * vic + 1] = open;
 }
-PUT(plan, early_open)
 
 /* The error list's "Table 39's 0x08 for 0x1A drops the hold at the third byte". */
-PLAN(hold_dropped) {
-    struct station_count c = RIGHT;
-    if (!c.refusal) w[2 * place(w, c.count, 0x1A, 1) + 1] &= 0xDF;
-    return c;
+SPOIL(hold_dropped) { *value(s, 0x1A, 1) &= 0xDF; }
+SPOIL(register_missed) { take_out(&s->l, place(&s->l, 0x16, 0), place(&s->l, 0x16, 0) + 1); }
+SPOIL(matrix_not_written_when_off) {
+    if (!s->f.matrix) take_out(&s->l, place(&s->l, 0x1A, 0), place(&s->l, 0x1A, 2) + 1);
 }
-PUT(plan, hold_dropped)
+SPOIL(free_bits_not_kept) { *value(s, 0x0C, 0) &= 0x3F; }
+SPOIL(copy_protection_touched) { *value(s, 0xAF, 0) &= 0x7F; }
+SPOIL(mandated_not_set) { *value(s, 0x9D, 0) &= 0x0F; }
 
-PLAN(register_missed) {
-    struct station_count c = RIGHT;
-    if (c.refusal) return c;
-    uint8_t after[2] = { w[2 * c.count - 2], w[2 * c.count - 1] };
-    move(w, place(w, c.count, 0x16, 0), c.count - 1);
-    memcpy(w + 2 * c.count - 2, after, 2);
-    c.count--;
-    return c;
+SPOIL(addresses_not_rising) {
+    uint8_t *a2 = s->l.pairs + 2 * place(&s->l, 0xA2, 0), pair[2] = { a2[0], a2[1] };
+    memmove(a2, a2 + 2, 2);
+    memcpy(a2 + 2, pair, 2);
 }
-PUT(plan, register_missed)
 
-PLAN(matrix_not_written_when_off) {
-    struct station_count c = RIGHT;
-    if (c.refusal || asked(r, rl).matrix) return c;
-    uint32_t first = place(w, c.count, 0x1A, 0), last = place(w, c.count, 0x1A, 2);
-    memmove(w + 2 * first, w + 2 * last + 2, 2 * (c.count - last - 1));
-    c.count -= last - first + 1;
-    return c;
-}
-PUT(plan, matrix_not_written_when_off)
-
-PLAN(free_bits_not_kept) {
-    struct station_count c = RIGHT;
-    if (!c.refusal) w[2 * place(w, c.count, 0x0C, 0) + 1] &= 0x3F;
-    return c;
-}
-PUT(plan, free_bits_not_kept)
-
-PLAN(copy_protection_touched) {
-    struct station_count c = RIGHT;
-    if (!c.refusal) w[2 * place(w, c.count, 0xAF, 0) + 1] &= 0x7F;
-    return c;
-}
-PUT(plan, copy_protection_touched)
-
-PLAN(mandated_not_set) {
-    struct station_count c = RIGHT;
-    if (!c.refusal) w[2 * place(w, c.count, 0x9D, 0) + 1] &= 0x0F;
-    return c;
-}
-PUT(plan, mandated_not_set)
-
-PLAN(addresses_not_rising) {
-    struct station_count c = RIGHT;
-    if (c.refusal) return c;
-    for (int b = 0; b < 2; b++) {
-        uint32_t a2 = place(w, c.count, 0xA2, 0);
-        uint8_t t = w[2 * a2 + b];
-        w[2 * a2 + b] = w[2 * a2 + 2 + b];
-        w[2 * a2 + 2 + b] = t;
-    }
-    return c;
-}
-PUT(plan, addresses_not_rising)
-
-PLAN(other_hold_kept) {
-    struct station_count c = RIGHT;
-    if (c.refusal) return c;
-    for (int n = 0; n < 4; n++) w[2 * place(w, c.count, 0x4A, n) + 1] |= n == 2 ? i[0x4A] & 0x60 : 0;
-    return c;
-}
-PUT(plan, other_hold_kept)
+SPOIL(other_hold_kept) { *value(s, 0x4A, 2) |= s->image[0x4A] & 0x60; }
 
 /* The writes to 0x1A are there, the hold is not. */
-PLAN(hold_never_raised) {
-    struct station_count c = RIGHT;
-    if (!c.refusal)
-        for (int n = 0; n < 3; n++) w[2 * place(w, c.count, 0x1A, n) + 1] &= 0xDF;
-    return c;
+SPOIL(hold_never_raised) {
+    for (int n = 0; n < 3; n++) *value(s, 0x1A, n) &= 0xDF;
 }
-PUT(plan, hold_never_raised)
 
 /* The error list's checksum 256 shows in no request today: no packet's sum is already zero. So a plain wrong one. */
-PLAN(checksum_off) {
-    struct station_count c = RIGHT;
-    if (!c.refusal) w[2 * place(w, c.count, 0x54, 0) + 1]--;
-    return c;
+SPOIL(checksum_off) { --*value(s, 0x54, 0); }
+SPOIL(colorimetry_always) {
+    if (s->f.encoding == 0) *value(s, 0x56, 0) |= 0x80;
 }
-PUT(plan, checksum_off)
-
-PLAN(colorimetry_always) {
-    struct station_count c = RIGHT;
-    if (!c.refusal && asked(r, rl).encoding == 0) w[2 * place(w, c.count, 0x56, 0) + 1] |= 0x80;
-    return c;
-}
-PUT(plan, colorimetry_always)
 
 /* Planning of another request in place of the lent one. */
 static struct station_count in_place(struct fields f, const uint8_t *i, size_t il, uint8_t *w, size_t wl) {
@@ -147,42 +94,29 @@ static struct station_count in_place(struct fields f, const uint8_t *i, size_t i
 
 PLAN(ranges_exchanged) {
     struct fields f = asked(r, rl);
-    struct station_count c = RIGHT;
-    if (c.refusal || f.encoding != 0) return c;
+    if (ANSWER.refusal || f.encoding != 0) return RIGHT;
     f.range = !f.range;
     return in_place(f, i, il, w, wl);
 }
 PUT(plan, ranges_exchanged)
 
 /* Q as a list has it, and the checksum with it. */
-static void set_q(uint8_t *w, uint32_t count, int q) {
-    uint8_t *byte = &w[2 * place(w, count, 0x57, 0) + 1], *sum = &w[2 * place(w, count, 0x54, 0) + 1], was = *byte;
+static void set_q(struct spoilt *s, int q) {
+    uint8_t *byte = value(s, 0x57, 0), *sum = value(s, 0x54, 0), was = *byte;
     *byte = (uint8_t)((was & ~0x0C) | q << 2);
     *sum = (uint8_t)(*sum + was - *byte);
 }
 
-PLAN(range_of_ycbcr) {
-    struct station_count c = RIGHT;
-    if (!c.refusal && asked(r, rl).encoding != 0) set_q(w, c.count, 1);
-    return c;
+SPOIL(range_of_ycbcr) {
+    if (s->f.encoding != 0) set_q(s, 1);
 }
-PUT(plan, range_of_ycbcr)
-
-PLAN(no_range_with_dvi) {
-    struct station_count c = RIGHT;
-    if (!c.refusal && asked(r, rl).link == 0) set_q(w, c.count, 0);
-    return c;
+SPOIL(no_range_with_dvi) {
+    if (s->f.link == 0) set_q(s, 0);
 }
-PUT(plan, no_range_with_dvi)
-
 /* By CEA-861-D a screen takes RGB with Q 0 as full with VIC 1, as limited with the others. */
-PLAN(usual_range_not_said) {
-    struct fields f = asked(r, rl);
-    struct station_count c = RIGHT;
-    if (!c.refusal && f.encoding == 0 && f.range == (f.vic == 1)) set_q(w, c.count, 0);
-    return c;
+SPOIL(usual_range_not_said) {
+    if (s->f.encoding == 0 && s->f.range == (s->f.vic == 1)) set_q(s, 0);
 }
-PUT(plan, usual_range_not_said)
 
 PLAN(range_in_bit_0) {
     struct fields f = asked(r, rl);
@@ -303,19 +237,14 @@ PUT(plan, never_ends)
 
 /* The useless versions that document 01 names. */
 PLAN(one_list) {
-    uint8_t always[LONGEST];
-    struct station_count c = RIGHT;
-    return c.refusal ? c : model_plan(always, model_bytes(&(struct fields){ .vic = 16, .link = 1 }, always), i, il, w, wl);
+    if (ANSWER.refusal) return ANSWER;
+    return in_place((struct fields){ .vic = 16, .link = 1 }, i, il, w, wl);
 }
 PUT(plan, one_list)
 
-PLAN(one_group) {
-    struct station_count c = RIGHT;
-    for (uint32_t k = 0; k < c.count; k++)
-        if (w[2 * k] >= 0x70 && w[2 * k] <= 0x7C) w[2 * k + 1] = i[w[2 * k]];
-    return c;
+SPOIL(one_group) {
+    for (uint8_t a = 0x70; a <= 0x7C; a++) *value(s, a, 0) = s->image[a];
 }
-PUT(plan, one_group)
 
 const struct wrong wrong_plans[] = {
     { "AVI before audio over a held audio packet", put_avi_first, 1 },

@@ -7,10 +7,12 @@
 
 /* `on_cuts`: the replay of the cuts must catch it by itself. */
 struct wrong { const char *fault; void (*put)(struct face *); int on_cuts; };
-extern const struct wrong wrong_plans[], wrong_numbers[], wrong_decodes[], wrong_machines[], wrong_views[], wrong_vets[];
+extern const struct wrong wrong_plans[], wrong_fewer[], wrong_numbers[], wrong_decodes[], wrong_machines[], wrong_views[], wrong_vets[];
 /* The sets, the last without rows; `first` is the section of the harness to begin with. */
 extern const struct wrong_set { const struct wrong *rows; int first; } wrong_sets[];
-void put_right_judge(struct face *f);       /* the judge of wrong/vet.c without a fault, which must not be caught */
+/* The planner of wrong/fewer.c and the judge of wrong/vet.c, without a fault: they must not be caught. */
+void put_right_planner(struct face *f);
+void put_right_judge(struct face *f);
 
 /* The argument lists that are long. */
 #define PLAN_ARGUMENTS const uint8_t *r, size_t rl, const uint8_t *i, size_t il, uint8_t *w, size_t wl
@@ -23,6 +25,18 @@ static inline struct fields asked(const uint8_t *r, size_t rl) {
     struct fields f = { 0 };
     model_read(r, rl, &f);
     return f;
+}
+
+/* Planning's answer alone, with no lent byte changed; and the list with nothing left out, where it is accepted. */
+static inline struct station_count answered(const uint8_t *r, size_t rl, const uint8_t *i, size_t il, size_t wl) {
+    uint8_t writes[256];
+    return model_plan(r, rl, i, il, writes, wl);
+}
+static inline void full_list_of(const uint8_t *r, size_t rl, const uint8_t *i, struct list *l) {
+    struct fields f = asked(r, rl);
+    uint8_t wanted[256];
+    model_wanted(&f, model_pair(&f), wanted);
+    model_full_list(wanted, i, l);
 }
 
 /* put_NAME: the call of that name in place of the model's. */

@@ -78,7 +78,7 @@ pub record Good (want : ℕ → ℕ) (image : List ℕ) (ms : List Step) : Type 
   pub finishes : (a : ℕ) → a < 256 → read (written want image) a (last a (steps ms) 0) (getD image a 0) ≡ finished want image a
   pub rests : (a : ℕ) → a < 256 → isWritten a ≡ false → last a (steps ms) 0 ≡ 0
 
-take-map : (f : Step → Write) (k : ℕ) (l : List Step) → take k (map f l) ≡ map f (take k l)
+pub take-map : (f : Step → Write) (k : ℕ) (l : List Step) → take k (map f l) ≡ map f (take k l)
 take-map f zero l = refl
 take-map f (suc k) [] = refl
 take-map f (suc k) (x ∷ xs) = ap (λ (r : List Write). f x ∷ r) (take-map f k xs)
@@ -179,13 +179,13 @@ module _ (mid : (ℕ → ℕ) → List ℕ → List Step)
       walks = tidy-seen want (s .image) seen-p (status packets (s .image)) is ∙ facts .tidies;
     }
 
-    cut-acts : (k : ℕ) → cutOf P want s k ≡ acts store (take k (map f is)) s
+    pub cut-acts : (k : ℕ) → cutOf P want s k ≡ acts store (take k (map f is)) s
     cut-acts k = run-acts want (s .image) is s k fit
 
     done-acts : endOf P want s ≡ acts store (map f is) s
     done-acts = run-all want (s .image) is s fit
 
-    taken : (k : ℕ) → k < length (map f is)
+    pub taken : (k : ℕ) → k < length (map f is)
         → let w : Write = getD (map f is) k (0 gets 0) in writeOf (cutOf P want s k) (w .address) (w .value) .refusal ≡ 0
     taken k h = rw (cut-acts k) (taken-at want (s .image) is s k fit h)
 
@@ -288,7 +288,7 @@ module _ (mid : (ℕ → ℕ) → List ℕ → List Step)
     }
 
     -- the registers after some of the steps
-    stand : (vs : List Step) (a : ℕ) → a < 256 → getD (acts store (map f vs) s .image) a 0 ≡ read f a (last a vs 0) (getD (s .image) a 0)
+    pub stand : (vs : List Step) (a : ℕ) → a < 256 → getD (acts store (map f vs) s .image) a 0 ≡ read f a (last a vs 0) (getD (s .image) a 0)
     stand vs a h = stored-last f (place want (s .image)) a (getD (s .image) a 0) h vs s 0 (r .whole) refl
 
     registers : (a : ℕ) → a < 256 → getD (endOf P want s .image) a 0 ≡ finished want (s .image) a

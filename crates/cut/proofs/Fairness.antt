@@ -1,4 +1,4 @@
--- Each entry of the write list is fair on the image that it was planned on. Assumes nothing.
+-- Each entry of the full list, and so of the write list, is fair on the image that it was planned on. Assumes nothing.
 use mathlib.Core.Path.{_≡_, refl, sym, ap, subst, _∙_}
 use mathlib.Core.Bool.{Bool, true, false, _||_}
 use mathlib.Core.List.{List, [], _∷_}
@@ -10,10 +10,11 @@ use borrow.Author.Tests.{eq-eqb, ltb-true}
 use Rattle.lists.specs.Among.{among}
 use Rattle.lists.specs.Find.{every}
 use Rattle.lists.proofs.Both.{both-left, both-right}
-use Rattle.chip.specs.Machine.{Write, _gets_}
-use Rattle.writes.specs.List.{writeList}
+use Rattle.lists.proofs.Those.{of-those}
+use Rattle.chip.specs.Machine.{Write, _gets_, audio, packets, up, holdsOf}
+use Rattle.writes.specs.List.{fullList, stays, writeList}
 use Rattle.writes.specs.Order.{addresses, Order}
-use Rattle.writes.proofs.InOrder.{in-order}
+use Rattle.writes.proofs.InOrder.{inside, in-order}
 use Rattle.writes.proofs.Carries.{entries}
 use Rattle.cut.specs.Run.{Fair}
 
@@ -26,24 +27,28 @@ among-at (x ∷ xs) (suc k) h = go (eqb (getD xs k 0) x) (among-at xs k (le-of-s
     go true e = refl
     go false e = e
 
-every-at : (test : ℕ → Bool) (l : List ℕ) (k : ℕ) → every test l ≡ true → k < length l → test (getD l k 0) ≡ true
-every-at test [] k t h = absurd (not-suc-le-zero h)
-every-at test (x ∷ xs) zero t h = both-left (test x) (every test xs) t
-every-at test (x ∷ xs) (suc k) t h = every-at test xs k (both-right (test x) (every test xs) t) (le-of-suc-le-suc h)
+pub every-at : {A : Type 0} (test : A → Bool) (l : List A) (k : ℕ) (d : A) → every test l ≡ true → k < length l → test (getD l k d) ≡ true
+every-at test [] k d t h = absurd (not-suc-le-zero h)
+every-at test (x ∷ xs) zero d t h = both-left (test x) (every test xs) t
+every-at test (x ∷ xs) (suc k) d t h = every-at test xs k d (both-right (test x) (every test xs) t) (le-of-suc-le-suc h)
 
-pub each-fair : (want : ℕ → ℕ) (image : List ℕ) (k : ℕ) → k < length (writeList want image)
-    → Fair image (getD (writeList want image) k (0 gets 0))
-each-fair want image k h =
-    let ws : List Write = writeList want image in
+pub full-fair : (want : ℕ → ℕ) (image : List ℕ) (k : ℕ) → k < length (fullList want image)
+    → Fair image (getD (fullList want image) k (0 gets 0))
+full-fair want image k h =
+    let ws : List Write = fullList want image in
     let w : Write = getD ws k (0 gets 0) in
     let o : Order want image = in-order want image in
     let at : getD (addresses ws) k 0 ≡ w .address = List·getD-map (λ (w : Write). w .address) ws k (0 gets 0) in
     let l : k < length (addresses ws) = rw (length-map ws (λ (w : Write). w .address)) h in
     let small : w .address < 256 =
-    subst (λ (a : ℕ). a < 256) at (ltb-true _ _ (every-at (λ a. ltb a 256) (addresses ws) k (o .inside) l)) in
+    subst (λ (a : ℕ). a < 256) at (ltb-true _ _ (every-at (λ a. ltb a 256) (addresses ws) k 0 (inside want image (up audio (holdsOf packets image))) l)) in
     let c = entries want image k h .carries in
     record {
       itsRegister = sym (o .written (w .address) small) ∙ ap (λ (a : ℕ). among a (addresses ws)) (sym at) ∙ among-at (addresses ws) k l;
       itsMandated = c .itsMandated;
       itsFree = c .itsFree;
     }
+
+pub each-fair : (want : ℕ → ℕ) (image : List ℕ) (k : ℕ) → k < length (writeList want image)
+    → Fair image (getD (writeList want image) k (0 gets 0))
+each-fair want image = of-those (Fair image) (stays image) (0 gets 0) (fullList want image) (full-fair want image)

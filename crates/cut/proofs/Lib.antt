@@ -9,5 +9,8 @@ pub mod Planned
 pub mod Cut
 pub mod Fairness
 pub mod WriteList
+pub mod Skipped
+pub mod Fewer
+pub mod Within
 pub mod Mended
 pub mod CoveredRun

@@ -18,7 +18,7 @@ use Rattle.chip.specs.declared.Chip.{Chip}
 use Rattle.chip.specs.Machine.{Write, avi, audio, gc, packets, up, holdsOf}
 use Rattle.chip.specs.Write.{put, stored, two, refuses, writeOf}
 use Rattle.chip.proofs.Writes.{written-as, allowed}
-use Rattle.writes.specs.List.{middleOf, writeList, ready}
+use Rattle.writes.specs.List.{writeList, ready}
 use Rattle.cut.specs.Run.{Event, write, happens, cut, Fair}
 use Rattle.cut.specs.Demand.{sent}
 use Rattle.cut.specs.Mended.{Mended}
@@ -26,8 +26,8 @@ use Rattle.cut.proofs.Bytes.{Kept, Agree, agree-self, agree-trans, at-s
 use Rattle.cut.proofs.FairRun.{after-write, Fairly, later, keeps, leaves}
 use Rattle.cut.proofs.Retry.{Taken, sized-happens}
 use Rattle.cut.proofs.Taken.{neat-two}
-use Rattle.cut.proofs.Cut.{Ready, Near, same-end}
-use Rattle.cut.proofs.WriteList.{planned-good}
+use Rattle.cut.proofs.Cut.{Ready, Near}
+use Rattle.cut.proofs.Fewer.{ends-same}
 
 -- a fair byte keeps the read-only and the free bits that stood there
 mixed : (f r x y : ℕ) → merge 8 f (merge 8 r x y) 0 ≡ merge 8 r (merge 8 f x 0) (merge 8 f y 0)
@@ -125,5 +125,5 @@ mended want es s whole clear f t =
     record {
       whole = λ k. near es s r f t k .ready .whole;
       ready = λ k. near es s r f t k .ready .holds;
-      again = λ k. same-end middleOf planned-good want s (cut es s k) r (near es s r f t k);
+      again = λ k. ends-same want s whole clear (cut es s k) (near es s r f t k);
     }

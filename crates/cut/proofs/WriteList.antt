@@ -1,4 +1,4 @@
--- The write list meets demand 3: its walks compute, from each of the holds that planning starts from. Assumes nothing.
+-- The list with nothing left out meets demand 3: its walks compute, from each of the holds that planning starts from. Assumes nothing.
 use mathlib.Core.Path.{_≡_, refl, sym, ap, subst, _∙_}
 use mathlib.Core.Bool.{Bool, true, false}
 use mathlib.Core.List.{List}
@@ -11,9 +11,9 @@ use Rattle.bits.specs.Merge.{bit}
 use Rattle.chip.specs.declared.Chip.{Chip}
 use Rattle.chip.specs.Machine.{audio, packets, converter, up, holdsOf}
 use Rattle.writes.specs.Steps.{middle}
-use Rattle.writes.specs.List.{middleOf, writeList, written, ready}
+use Rattle.writes.specs.List.{middleOf, fullList, written, ready}
 use Rattle.cut.specs.Demand.{sent, Demand3}
-use Rattle.cut.proofs.Fairness.{each-fair}
+use Rattle.cut.proofs.Fairness.{full-fair}
 use Rattle.cut.proofs.Bank.{only, status, audio-same}
 use Rattle.cut.proofs.Taken.{neat, neat-only}
 use Rattle.cut.proofs.Cut.{Ready, neat-elim, Walked, Good, demand3}
@@ -45,6 +45,6 @@ planned-good want image r = record {
   rests = λ a h t. last-step (up audio (holdsOf packets image)) a h ∙ final-none a t;
 }
 
-pub holds : (want : ℕ → ℕ) (s : Chip) → length (s .image) ≡ 256 → ready (s .image) ≡ true
-    → Demand3 (λ image. sent (writeList want image)) want s
-holds want s whole ready = demand3 middleOf planned-good want s (record { whole = whole; holds = ready }) (each-fair want (s .image))
+pub full-holds : (want : ℕ → ℕ) (s : Chip) → length (s .image) ≡ 256 → ready (s .image) ≡ true
+    → Demand3 (λ image. sent (fullList want image)) want s
+full-holds want s whole ready = demand3 middleOf planned-good want s (record { whole = whole; holds = ready }) (full-fair want (s .image))

@@ -1,3 +1,4 @@
 pub mod Run
 pub mod Demand
 pub mod Mended
+pub mod Within

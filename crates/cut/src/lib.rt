@@ -5,15 +5,28 @@ ghost use mathlib.Core.List.{List};
 ghost use Prim.Native.Nat.{ℕ, _<_};
 ghost use lib.ListN.{length};
 ghost use Rattle.chip.specs.declared.Chip.{Chip};
-ghost use Rattle.writes.specs.List.{writeList, ready};
+ghost use Rattle.writes.specs.List.{fullList, writeList, ready};
 ghost use Rattle.cut.specs.Run.{Event, event, happens, cut, IsFair, Untouched, Retried};
 ghost use Rattle.cut.specs.Demand.{sent, Demand3};
 ghost use Rattle.cut.specs.Mended.{Mended};
+ghost use Rattle.cut.specs.Within.{Within};
 
 // "a chip in a state from which it was accepted, and a cut after any write": whatever is wanted and whatever the two buffers hold.
 pub fn any_cut()
     ensures { λ _. ⌜ ((want : ℕ → ℕ) (s : Chip) → length (s .image) ≡ 256 → ready (s .image) ≡ true
         → Demand3 (λ image. sent (writeList want image)) want s) ⌝ }
+{}
+
+// The same of the list with nothing left out, by which decoding tests.
+pub fn full_list()
+    ensures { λ _. ⌜ ((want : ℕ → ℕ) (s : Chip) → length (s .image) ≡ 256 → ready (s .image) ≡ true
+        → Demand3 (λ image. sent (fullList want image)) want s) ⌝ }
+{}
+
+// Document 02, request 09, "always made right": the write list goes through states of the list with nothing left out, and ends as it does.
+pub fn made_right()
+    ensures { λ _. ⌜ ((want : ℕ → ℕ) (s : Chip) → length (s .image) ≡ 256 → ready (s .image) ≡ true
+        → Within (sent (writeList want (s .image))) (sent (fullList want (s .image))) s) ⌝ }
 {}
 
 // A list whose events are fair, whoever made it, leaves what is not its own.

@@ -14,9 +14,9 @@ pub record Acceptable (r : Request) : Type 0 where
   pub read : readOf (asBytes r) ≡ record { refusal = 0; request = r }
   pub paired : pairFor r .refusal ≡ 0
 
--- "every named and mandated bit its list writes stands in the image as that list leaves it; free and read-only bits do not count":
--- the list would leave each register as it is (`finished` takes free and read-only bits from the image itself). That this is the sentence,
--- bit by bit, is `BitByBit` of `Theorems`.
+-- "every named and mandated bit its list writes stands in the image as that list leaves it; free and read-only bits do not count"; request
+-- 09: "by the list with nothing left out". That list would leave each register as it is (`finished` takes free and read-only bits from the
+-- image itself). That this is the sentence, bit by bit, is `BitByBit` of `Theorems`.
 abbrev pub Stands : Request → List ℕ → Type 0
 Stands r image = (a : ℕ) → a < 256 → finished (wanted r) image a ≡ getD image a 0
 

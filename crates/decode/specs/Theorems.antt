@@ -14,7 +14,9 @@ use Rattle.request.specs.Sections.{longest}
 use Rattle.request.specs.Read.{readOf, pairFor}
 use Rattle.request.specs.Bytes.{asBytes, answeredAs, answeredBytes}
 use Rattle.plan.specs.Wanted.{wanted}
-use Rattle.writes.specs.List.{isWritten, finished}
+use Rattle.lists.specs.Among.{among}
+use Rattle.writes.specs.List.{fullList, finished}
+use Rattle.writes.specs.Order.{addresses}
 use Rattle.decode.specs.Ends.{Stands, Ends}
 use Rattle.decode.specs.Decode.{decodeOf, decodedBuffer}
 
@@ -39,10 +41,12 @@ pub record ExactlyWhen (image buffer : List ℕ) : Type 0 where
 abbrev pub Counts : ℕ → ℕ → Type 0
 Counts a j = (bit j (named a) ≡ 1) ⊎ (bit j (mandated a) ≡ 1)
 
--- "every named and mandated bit its list writes stands in the image as that list leaves it": the list of a request on the image `before`
+-- "every named and mandated bit its list writes stands in the image as that list leaves it": the list of a request, with nothing left
+-- out, on the image `before`
 abbrev pub AsLeft : Request → List ℕ → List ℕ → Type 0
 AsLeft r before image =
-    (a j : ℕ) → a < 256 → j < 8 → isWritten a ≡ true → Counts a j → bit j (getD image a 0) ≡ bit j (finished (wanted r) before a)
+    (a j : ℕ) → a < 256 → j < 8 → among a (addresses (fullList (wanted r) before)) ≡ true → Counts a j
+    → bit j (getD image a 0) ≡ bit j (finished (wanted r) before a)
 
 -- `Stands` is that sentence, bit by bit, whatever image the list is made on
 abbrev pub BitByBit : Request → List ℕ → List ℕ → Type 0

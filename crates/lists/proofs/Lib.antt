@@ -5,3 +5,4 @@ pub mod Decides
 pub mod Copied
 pub mod Emit
 pub mod Compared
+pub mod Those

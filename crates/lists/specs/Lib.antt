@@ -2,3 +2,4 @@ pub mod Among
 pub mod Find
 pub mod Over
 pub mod Same
+pub mod Those

@@ -2,8 +2,9 @@
 use mathlib.Core.Path.{_≡_, refl, sym, ap, ap₂, subst, _∙_}
 use mathlib.Core.Bool.{true}
 use mathlib.Core.List.{List, [], _∷_}
-use Prim.Native.Nat.{ℕ, suc, _≤_}
+use Prim.Native.Nat.{ℕ, suc, _+_, _≤_}
 use lib.ListN.{length, getD, take, drop, replicate}
+use lib.Seq.{take-length}
 use borrow.Author.Tests.{eqb-true, eq-eqb, le-ltb}
 use Rattle.matrix.specs.Matrix.{Bytes}
 use Rattle.chip.specs.declared.Chip.{Chip}
@@ -23,10 +24,13 @@ use Rattle.writes.proofs.Image.{image-length, image-at}
 use Rattle.plan.specs.Plan.{planOf}
 use Rattle.plan.proofs.Fine.{Fine, fine, accepts, leaves}
 use Rattle.plan.proofs.Ordered.{refusals}
-use Rattle.cut.specs.Run.{cut}
+use Rattle.cut.specs.Run.{Event, run, cut}
 use Rattle.cut.specs.Demand.{sent, toItsEnd, cuts, Same, Demand3}
-use Rattle.cut.proofs.WriteList.{holds}
+use Rattle.cut.proofs.Fewer.{holds}
+use Rattle.cut.proofs.Within.{made-right}
+use Rattle.writes.specs.Fewer.{differing}
 use Rattle.writes.proofs.InOrder.{in-order}
+use Rattle.writes.proofs.Fewer.{nine-of-three, fewer, none-differ}
 use Rattle.writes.proofs.Carries.{entries}
 use Rattle.decode.specs.Ends.{Acceptable, Stands}
 use Rattle.decode.specs.Theorems.{Answered, Ran}
@@ -45,6 +49,13 @@ listed input image buffer f =
     let count = ap (λ (p : Planned). p .count) (accepts input image buffer f) in
     let list = leaves input image buffer f in
     record { count = count; list = list; pairs = left input image buffer count list }
+
+-- the count, by the registers that differ
+reported : (input image buffer : List ℕ) → Fine input image buffer
+    → planOf input image buffer .count ≡ differing image (finishedImage (asked input) image) + 9
+reported input image buffer f =
+    listed input image buffer f .count ∙ fewer (asked input) image .count
+    ∙ ap (λ (n : ℕ). differing image (finishedImage (asked input) image) + n) (nine-of-three (asked input) image)
 
 pub accepted : (input image buffer : List ℕ) → Fine input image buffer → planOf input image buffer .refusal ≡ 0
 accepted input image buffer f = ap (λ (p : Planned). p .refusal) (accepts input image buffer f)
@@ -89,6 +100,13 @@ any-cut input buffer s z =
     record {
       listed = l;
       demand = d;
+      madeRight = made-right (asked input) s (f .whole) (f .clear);
+      unchanged = λ room long.
+          let es : List Event = listOf input (s .image) in
+          let last : cut es s (length es) ≡ e = ap (λ (l : List Event). run l s) (take-length es) in
+          let clear : ready (e .image) ≡ true = subst (λ (t : Chip). ready (t .image) ≡ true) last (d .ready (length es ∷ [])) in
+          let y : Fine input (e .image) room = again-fine input (s .image) buffer f (e .image) room sized clear long in
+          reported input (e .image) room y ∙ ap (λ (n : ℕ). n + 9) (none-differ (asked input) (e .image) stands);
       newAvi = newAvi;
       newAudio = newAudio;
       newMatrix = newMatrix;
@@ -121,6 +139,8 @@ rules input buffer s = record {
   listed = λ z. listed input (s .image) buffer (fits z);
   order = in-order (asked input) (s .image);
   entries = entries (asked input) (s .image);
+  fewer = fewer (asked input) (s .image);
+  reported = λ z. reported input (s .image) buffer (fits z);
   finished = λ z. any-cut input buffer s z .demand .registers;
   fields = λ z. let f = fits z in
       filled input (s .image) (f .read) (eqb-true _ _ (f .paired)) _ (image-length (asked input) (s .image))

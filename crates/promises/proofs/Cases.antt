@@ -20,11 +20,22 @@ use Rattle.request.specs.Sections.{walk, walked}
 use Rattle.request.specs.Read.{outside, combined, judged, readOf, pairFor, nctsOf}
 use Rattle.line.specs.Line.{lineOf}
 use Rattle.line.specs.Words.{digits, acceptedText, refusedText}
+use Rattle.bits.specs.Merge.{merge}
+use Rattle.registers.specs.Classes.{classAt}
+use Rattle.writes.specs.Steps.{middle}
+use Rattle.writes.specs.List.{decided, byte, written, isWritten, finished, column, flat, alreadyThere}
+use Rattle.plan.specs.Wanted.{wantedImage, wanted}
+use Rattle.plan.specs.Plan.{laterRefusal, planWith, bufferWith, planOf, planBuffer}
+use Rattle.promises.specs.Worked.{Few}
 use Rattle.promises.specs.Cases.{rgbOverHdmi, MarkedCases}
 
 multiple : (n cts : ℕ) → reference 0 * cts * clockOf (rgbOverHdmi 4 1) .den ≡ clockOf (rgbOverHdmi 4 1) .num * n → 23296 ∣ n
 unfolding reference clockOf modeOf divisorOf steps
 multiple n cts e = divides 74250000000 4100096000 (lit< tt) n cts (omega arith)
+
+few : Few
+unfolding flatMap divisorOf modeOf clockOf reference recommendedOf nearestK nearestIn nearestOf exactly coherentOf pairOf total aviFrame audioFrame fields inRange isAllowed walk walked videoOutside videoCombined outside combined judged readOf pairFor merge classAt decided byte written middle isWritten finished column flat alreadyThere wantedImage wanted laterRefusal planWith bufferWith planOf planBuffer
+few = (refl, refl)
 
 pub cases : MarkedCases
 unfolding flatMap steps divisorOf modeOf clockOf reference recommendedOf nearestK nearestIn nearestOf exactly coherentOf pairOf total aviFrame aviOf audioFrame audioOf audioOffFrame fields inRange isAllowed codeOf previewOf walk walked videoOutside videoCombined outside combined judged readOf pairFor nctsOf lineOf digits acceptedText refusedText
@@ -58,6 +69,7 @@ cases =
       case11 = (refl, refl);
       case12 = (refl, refl);
       case13 = refl;
+      few = few;
       encodings = refl;
       links = refl;
       ranges = refl;

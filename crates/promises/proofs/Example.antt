@@ -14,8 +14,8 @@ use Rattle.clock.specs.Found.{nearestK, nearestIn, nearestOf, exactly, coherent
 use Rattle.request.specs.Sections.{walk, walked}
 use Rattle.request.specs.Read.{outside, combined, judged, readOf, pairFor}
 use Rattle.writes.specs.List.{ready}
-use Rattle.promises.specs.Cases.{example}
-use Rattle.promises.specs.Example.{zeros, IsAccepted, Example}
+use Rattle.promises.specs.Worked.{example, zeros}
+use Rattle.promises.specs.Example.{IsAccepted, Example}
 use Rattle.promises.proofs.AnyCut.{accepted}
 
 read : readOf example .refusal ≡ 0

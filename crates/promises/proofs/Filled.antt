@@ -28,10 +28,11 @@ use Rattle.request.specs.declared.Request.{Request}
 use Rattle.request.specs.Read.{readOf, pairIn, pairFor, nctsOf}
 use Rattle.request.specs.Fits.{SoundFits, Fits}
 use Rattle.request.proofs.Fits.{fits}
+use Rattle.lists.proofs.Those.{of-those}
 use Rattle.bits.specs.Merge.{merge, under, bit, bitsIn}
 use Rattle.registers.specs.Classes.{classAt}
 use Rattle.chip.specs.Machine.{Write, _gets_}
-use Rattle.writes.specs.List.{decided, isWritten, finished, finishedImage, writeList}
+use Rattle.writes.specs.List.{decided, isWritten, finished, finishedImage, fullList, stays, writeList}
 use Rattle.writes.specs.Carried.{requested}
 use Rattle.writes.proofs.Carries.{masked, entries}
 use Rattle.writes.proofs.Image.{image-length, image-at}
@@ -202,17 +203,24 @@ unfolding classAt decided merge
 requested-bit j h = eqb-true _ _ (at-below (λ j. eqb (bit j (requested 0x18)) 1) 8 j refl h)
 
 -- a write of 0x18 has the wanted mode
-in-entry : (want : ℕ → ℕ) (image : List ℕ) (k : ℕ) → k < length (writeList want image)
-    → getD (writeList want image) k (0 gets 0) .address ≡ 0x18
-    → bitsIn 6 5 (getD (writeList want image) k (0 gets 0) .value) ≡ bitsIn 6 5 (want 0x18)
-in-entry want image k h e =
-    let w : Write = getD (writeList want image) k (0 gets 0) in
+in-full : (want : ℕ → ℕ) (image : List ℕ) (k : ℕ) → k < length (fullList want image)
+    → getD (fullList want image) k (0 gets 0) .address ≡ 0x18
+    → bitsIn 6 5 (getD (fullList want image) k (0 gets 0) .value) ≡ bitsIn 6 5 (want 0x18)
+in-full want image k h e =
+    let w : Write = getD (fullList want image) k (0 gets 0) in
     let c : under (requested 0x18) (w .value) ≡ under (requested 0x18) (want 0x18)
     = subst (λ (a : ℕ). under (requested a) (w .value) ≡ under (requested a) (want a)) e (entries want image k h .carries .itsNamed) in
     field-same 5 2 (w .value) (want 0x18) (λ j u.
     let b : j + 5 < 8 = omega arith in
     let m : bit (j + 5) (requested 0x18) ≡ 1 = requested-bit (j + 5) b in
     sym (masked (requested 0x18) (j + 5) (w .value) b m) ∙ ap (λ (x : ℕ). bit (j + 5) x) c ∙ masked (requested 0x18) (j + 5) (want 0x18) b m)
+
+in-entry : (want : ℕ → ℕ) (image : List ℕ) (k : ℕ) → k < length (writeList want image)
+    → getD (writeList want image) k (0 gets 0) .address ≡ 0x18
+    → bitsIn 6 5 (getD (writeList want image) k (0 gets 0) .value) ≡ bitsIn 6 5 (want 0x18)
+in-entry want image =
+    of-those (λ w. w .address ≡ 0x18 → bitsIn 6 5 (w .value) ≡ bitsIn 6 5 (want 0x18)) (stays image) (0 gets 0) (fullList want image)
+    (in-full want image)
 
 pub never-three : (input image : List ℕ) → readOf input .refusal ≡ 0 → pairFor (readOf input .request) .refusal ≡ 0
     → NeverThree (writeList (wanted (readOf input .request)) image)

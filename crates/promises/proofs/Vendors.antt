@@ -25,7 +25,7 @@ use Rattle.views.specs.Theorems.{Sized}
 use Rattle.writes.specs.List.{pairsOf, flat, writeList, finished, ready}
 use Rattle.writes.proofs.Pairs.{length-flat, length-pairs, pairs-flat}
 use Rattle.writes.proofs.Image.{image-length, image-at, is-image}
-use Rattle.writes.proofs.InOrder.{in-order}
+use Rattle.writes.proofs.Fewer.{fewer}
 use Rattle.plan.specs.Wanted.{wanted}
 use Rattle.plan.specs.Plan.{planOf}
 use Rattle.plan.specs.Rules.{HoldsUp}
@@ -43,7 +43,7 @@ use Rattle.cut.proofs.Taken.{neat-two}
 use Rattle.cut.proofs.Cut.{Ready, Near, finished-near}
 use Rattle.cut.proofs.Mended.{single, near, mended}
 use Rattle.cut.proofs.CoveredRun.{address, gc-byte, covered, opens}
-use Rattle.cut.proofs.WriteList.{holds}
+use Rattle.cut.proofs.Fewer.{holds}
 use Rattle.vendor.specs.declared.Verdict.{Verdict}
 use Rattle.vendor.specs.Vendor.{cutAt, endOf, Decodable, Passes, WrongLength}
 use Rattle.vendor.specs.Found.{vetOf}
@@ -77,7 +77,7 @@ own input buffer s b z e =
     let ws : List Write = writeList (asked input) (s .image) in
     let d : Demand3 (listOf input) (asked input) s = holds (asked input) s (f .whole) (f .clear) in
     let bytes : bytesLeft input (s .image) buffer ≡ flat ws = rw (l .count, l .list) (take-at (flat ws) _ (2 * length ws) (length-flat ws)) in
-    let few : length ws ≤ 128 = in-order (asked input) (s .image) .count in
+    let few : length ws ≤ 128 = fewer (asked input) (s .image) .bound in
     let ran = read-back input (s .image) (endOf ws s .image) .ends (record {
       bytes = b;
       read = f .read;

@@ -7,10 +7,11 @@ use Rattle.frames.specs.Frames.{aviFrame}
 use Rattle.request.specs.Read.{readOf}
 use Rattle.chip.specs.declared.Chip.{Chip}
 use Rattle.chip.specs.Machine.{avi, audio, packets, inUse, coefficients, enableInUse, modeInUse}
-use Rattle.writes.specs.List.{writeList}
+use Rattle.writes.specs.List.{fullList, writeList}
 use Rattle.plan.specs.Plan.{planOf}
 use Rattle.cut.specs.Run.{Event}
 use Rattle.cut.specs.Demand.{sent, toItsEnd, cuts, Same, Demand3}
+use Rattle.cut.specs.Within.{Within}
 use Rattle.views.specs.Theorems.{Sized}
 use Rattle.promises.specs.Finished.{audioPacket}
 use Rattle.promises.specs.Rules.{asked, Listed}
@@ -32,6 +33,10 @@ pub record AnyCut (input buffer : List ℕ) (s : Chip) : Type 0 where
   pub demand : Demand3 (listOf input) (asked input) s
   -- after one cut, two, or any number of them
   pub again : (ks room : List ℕ) → 256 ≤ length room → Again input (cuts (listOf input) ks s .image) room
+  -- request 09, "always made right": at every cut the state is one of the run with nothing left out, and so it is at the end
+  pub madeRight : Within (listOf input (s .image)) (sent (fullList (asked input) (s .image))) s
+  -- the same request once more, on what it left: the nine writes that always stay
+  pub unchanged : (room : List ℕ) → 256 ≤ length room → planOf input (toItsEnd (listOf input) s .image) room .count ≡ 9
   -- "After the last, all are new": what is in use is the request's own. "AVI header 0x82, 0x02, 0x0D; audio header 0x84, 0x01, 0x0A"
   pub headAvi : Headed 0x02 0x0D (inUse packets avi (toItsEnd (listOf input) s))
   pub headAudio : Headed 0x01 0x0A (inUse packets audio (toItsEnd (listOf input) s))

@@ -1,5 +1,5 @@
 -- Document 01, "Marked cases, proved together as one table", the worked example of "What the station's library does", and the lengths that
--- "The request" says in numbers; with request 01 in: "Count 4 is no longer allowed, cases and example follow".
+-- "The request" says in numbers; with request 01 in: "Count 4 is no longer allowed, cases and example follow"; and two of request 09.
 use mathlib.Core.Path.{_≡_}
 use mathlib.Core.List.{List, [], _∷_}
 use Prim.Native.Nat.{ℕ, _*_, _∣_}
@@ -17,6 +17,7 @@ use Rattle.matrix.specs.Preview.{previewOf}
 use Rattle.request.specs.Sections.{lengths, longest}
 use Rattle.request.specs.Read.{readOf}
 use Rattle.line.specs.Words.{ascii, lineText}
+use Rattle.promises.specs.Worked.{example, Few}
 
 -- Table 39 as a request has it: mode 1, A 3155, 2048, 0, -1578; B -938, 2048, -376, 657; C -1, 2048, 3717, -1858
 abbrev table39 : List ℕ
@@ -27,10 +28,6 @@ table39 =
 -- a VIC in a family, RGB over HDMI, limited
 abbrev pub rgbOverHdmi : ℕ → ℕ → Video
 rgbOverHdmi vic family = videoIn (vic ∷ family ∷ 0 ∷ 1 ∷ 0 ∷ [])
-
--- the bytes `05 10 00 00 01 00 03 02 02 01 00`
-abbrev pub example : List ℕ
-example = 0x05 ∷ 0x10 ∷ 0x00 ∷ 0x00 ∷ 0x01 ∷ 0x00 ∷ 0x03 ∷ 0x02 ∷ 0x02 ∷ 0x01 ∷ 0x00 ∷ []
 
 pub record MarkedCases : Type 0 where
   -- "the whole output is `accepted vic 16 n 6144 cts 148500 ..`", with the AVI checksum of case 10
@@ -102,6 +99,8 @@ pub record MarkedCases : Type 0 where
   pub fullWithVic1 : lineText (0x05 ∷ 0x01 ∷ 0x00 ∷ 0x00 ∷ 0x01 ∷ 0x01 ∷ 0x00 ∷ 0x00 ∷ [])
       ≡ ascii "accepted vic 1 n 6144 cts 0 avi 3e audio 71\n"
   pub limitedWithYCbCr : readOf (0x05 ∷ 0x10 ∷ 0x00 ∷ 0x02 ∷ 0x01 ∷ 0x00 ∷ 0x00 ∷ 0x19 ∷ table39) .refusal ≡ 0
+  -- request 09
+  pub few : Few
   -- Lengths follow from the counts: document 01 had 7, 10, 32, 35, and each has a byte more
   pub lengths : lengths ≡ 8 ∷ 11 ∷ 33 ∷ 36 ∷ []
   -- "the longest request"

@@ -3,13 +3,10 @@ use mathlib.Core.Path.{_≡_}
 use mathlib.Core.Bool.{true}
 use mathlib.Core.List.{List}
 use Prim.Native.Nat.{ℕ}
-use lib.ListN.{set, replicate}
+use lib.ListN.{set}
 use Rattle.chip.specs.Machine.{avi, audio, matrix, packets, converter, up, holdsOf}
 use Rattle.plan.specs.Plan.{planOf}
-use Rattle.promises.specs.Cases.{example}
-
-abbrev pub zeros : List ℕ
-zeros = replicate 256 0
+use Rattle.promises.specs.Worked.{example, zeros}
 
 abbrev pub aviHeld : List ℕ
 aviHeld = set zeros 0x4A 0x40

@@ -1,3 +1,4 @@
+pub mod Worked
 pub mod Cases
 pub mod AnyInput
 pub mod Settled

@@ -3,7 +3,7 @@ use mathlib.Core.Path.{_≡_}
 use mathlib.Core.Logic.{_↔_}
 use mathlib.Core.Bool.{false, cond}
 use mathlib.Core.List.{List, [], _∷_, _++_}
-use Prim.Native.Nat.{ℕ, _<_, _≤_}
+use Prim.Native.Nat.{ℕ, _+_, _<_, _≤_}
 use lib.Dec.{eqb}
 use lib.ListN.{length, getD, drop, set}
 use Rattle.lists.specs.Among.{among}
@@ -17,6 +17,7 @@ use Rattle.request.specs.Read.{readOf, nctsOf}
 use Rattle.request.specs.Bytes.{asBytes, inFamily}
 use Rattle.plan.specs.Wanted.{wanted}
 use Rattle.writes.specs.List.{writeList, flat, finishedImage}
+use Rattle.writes.specs.Fewer.{differing, Fewer}
 use Rattle.plan.specs.Plan.{planOf, planBuffer}
 use Rattle.plan.specs.Rules.{planRules}
 use Rattle.decode.specs.Ends.{Acceptable, Ends}
@@ -48,10 +49,16 @@ pub record Listed (input image buffer : List ℕ) : Type 0 where
 pub record Demand2 (input buffer : List ℕ) (s : Chip) : Type 0 where
   -- "A request is accepted exactly when document 01's rules .. permit it."
   pub accepted : Bytes input → (planOf input (s .image) buffer .refusal ≡ 0) ↔ Permitted (planRules input (s .image) buffer)
-  -- "The writes are the ones those rules give": the list, its registers and their order, and what each entry of it carries
+  -- "The writes are the ones those rules give": the list; with nothing left out, its registers and their order, and what each entry
+  -- carries; request 09, "demand 2's list is now this shorter one": what is left out
   pub listed : planOf input (s .image) buffer .refusal ≡ 0 → Listed input (s .image) buffer
   pub order : Order (asked input) (s .image)
   pub entries : Entries (asked input) (s .image)
+  pub fewer : Fewer (asked input) (s .image)
+  -- request 09: "The number of writes reported must equal the number of differing registers other than those three, plus the writes to
+  -- those three", the nine of `Fewer`
+  pub reported : planOf input (s .image) buffer .refusal ≡ 0
+      → planOf input (s .image) buffer .count ≡ differing (s .image) (finishedImage (asked input) (s .image)) + 9
   -- "the finished image" is what the list leaves on the chip
   pub finished : planOf input (s .image) buffer .refusal ≡ 0
       → run (sent (writeList (asked input) (s .image))) s .image ≡ finishedImage (asked input) (s .image)

@@ -1,77 +1,32 @@
 -- What the columns of the code give: the byte of each step, and the finished image. Assumes nothing.
-use mathlib.Core.Path.{_≡_, refl, sym, ap, ap₂, _∙_, subst}
+use mathlib.Core.Path.{_≡_, refl, sym, _∙_, subst}
 use mathlib.Core.Logic.{_⊎_, inl, inr}
 use mathlib.Core.Bool.{Bool, true, false, cond, _&&_}
-use mathlib.Core.List.{List, [], _∷_, map}
+use mathlib.Core.List.{List, [], _∷_}
 use Prim.Native.Nat.{ℕ, _+_, _-_, _<_}
 use native.Mathlib.Nat.{eq-or-lt-of-le}
 use native.Mathlib.Omega.{arith}
 use lib.Dec.{eqb, ltb, lit<}
-use lib.ListN.{getD, length, set, List·getD-map}
+use lib.ListN.{getD, length, set}
 use lib.Seq.{getD-set-same, getD-set-other}
 use borrow.Author.Tests.{eqb-true, eqb-false, ltb-true}
 use Rattle.lists.proofs.Both.{both-left, both-right}
 use Rattle.bits.specs.Merge.{merge}
-use Rattle.bits.proofs.Below.{below, at-below}
-use Rattle.bits.proofs.Truth.{E, zeros, var, by, law, law-if}
+use Rattle.bits.proofs.Below.{at-below}
+use Rattle.bits.proofs.Truth.{zeros, var, by, law, law-if}
 use Rattle.map.specs.Map as reg
 use Rattle.registers.specs.Classes.{classAt, readOnly, free, named, bits}
 use Rattle.registers.proofs.Whole.{rule}
 use Rattle.registers.proofs.Apart.{row, rules, holds}
-use Rattle.writes.specs.Steps.{Step, _raising_, steps, middle, stepAt, aviSteps, audioSteps, packetsAt, stepCount}
+use Rattle.writes.specs.Steps.{Step}
 use Rattle.writes.specs.List.{byte, decided, isWritten, leftUp, written, finished, column}
-use Rattle.writes.specs.Columns.{stepAddresses, stepRaised, keptBits, wantedBits, setBits, closed}
+use Rattle.writes.specs.Columns.{keptBits, wantedBits, setBits, closed}
 use Rattle.writes.proofs.Image.{column-at}
 
 -- ---- the steps
 
-pub step-count : (b : Bool) → length (steps (middle b)) ≡ stepCount
-unfolding middle
-step-count true = refl
-step-count false = refl
-
-in-steps : (f : Step → ℕ) {w : Step} (i : ℕ) → stepAt false i ≡ w → getD (map f (steps (middle false))) i (f (0 raising 0)) ≡ f w
-in-steps f i e = List·getD-map f (steps (middle false)) i (0 raising 0) ∙ ap f e
-
-pub address-at : (i : ℕ) {w : Step} {l : List ℕ} → l ≡ stepAddresses → stepAt false i ≡ w → getD l i 0 ≡ w .register
-unfolding stepAddresses
-address-at i l e = rw l (in-steps (λ (w : Step). w .register) i e)
-
-pub raised-at : (i : ℕ) {w : Step} {l : List ℕ} → l ≡ stepRaised → stepAt false i ≡ w → getD l i 0 ≡ w .raised
-unfolding stepRaised
-raised-at i l e = rw l (in-steps (λ (w : Step). w .raised) i e)
-
--- where a step stands, audio first: the two packets change places
-abbrev pub moved : ℕ → ℕ
-moved i =
-    cond (ltb i packetsAt) i
-    (cond (ltb i (packetsAt + length audioSteps)) (i + length aviSteps)
-    (cond (ltb i (packetsAt + length audioSteps + length aviSteps)) (i - length audioSteps) i))
-
-abbrev found : ℕ → Bool
-found i = eqb (stepAt false (moved i) .register) (stepAt true i .register) && eqb (stepAt false (moved i) .raised) (stepAt true i .raised)
-
-all-found : below found stepCount ≡ true
-unfolding middle
-all-found = refl
-
-pub there : (i : ℕ) → i < stepCount → stepAt false (moved i) ≡ stepAt true i
-there i h =
-    let t : found i ≡ true = at-below found stepCount i all-found h in
-    let v : Bool = eqb (stepAt false (moved i) .raised) (stepAt true i .raised) in
-    let u : Bool = eqb (stepAt false (moved i) .register) (stepAt true i .register) in
-    ap₂ (λ (a b : ℕ). a raising b) (eqb-true _ _ (both-left _ v t)) (eqb-true _ _ (both-right u _ t))
-
-pub at-place : {b : Bool} (i r : ℕ) → b ≡ true → i < stepCount → moved i ≡ r → r < stepCount
-    → (r < stepCount) × (stepAt false r ≡ stepAt b i)
-at-place {b} i r e h m l =
-    (l, subst (λ (x : Bool). stepAt false r ≡ stepAt x i) (sym e) (subst (λ (n : ℕ). stepAt false n ≡ stepAt true i) m (there i h)))
-
-pub unmoved : {b : Bool} (i : ℕ) → b ≡ false → stepAt false i ≡ stepAt b i
-unmoved i e = ap (λ (x : Bool). stepAt x i) (sym e)
-
 -- a step writes a register, and raises no bit but those that steps decide
-abbrev proper : Step → Bool
+abbrev pub proper : Step → Bool
 proper i = ltb (i .register) 256 && (isWritten (i .register) && eqb (merge 8 (decided (i .register)) 0 (i .raised)) 0)
 
 pub record Proper (i : Step) : Type 0 where
@@ -79,17 +34,14 @@ pub record Proper (i : Step) : Type 0 where
   pub writes : isWritten (i .register) ≡ true
   pub raises : merge 8 (decided (i .register)) 0 (i .raised) ≡ 0
 
-pub step-proper : (i : ℕ) → i < stepCount → Proper (stepAt false i)
-unfolding middle isWritten classAt decided merge
-step-proper i h =
-    let w : Step = stepAt false i in
-    let t : proper w ≡ true = at-below (λ j. proper (stepAt false j)) stepCount i refl h in
-    let u : (isWritten (w .register) && eqb (merge 8 (decided (w .register)) 0 (w .raised)) 0) ≡ true =
-    both-right (ltb (w .register) 256) _ t in
+pub is-proper : (i : Step) → proper i ≡ true → Proper i
+is-proper i t =
+    let u : (isWritten (i .register) && eqb (merge 8 (decided (i .register)) 0 (i .raised)) 0) ≡ true =
+    both-right (ltb (i .register) 256) _ t in
     record {
-      small = ltb-true _ _ (both-left (ltb (w .register) 256) _ t);
-      writes = both-left (isWritten (w .register)) _ u;
-      raises = eqb-true _ _ (both-right (isWritten (w .register)) _ u);
+      small = ltb-true _ _ (both-left (ltb (i .register) 256) _ t);
+      writes = both-left (isWritten (i .register)) _ u;
+      raises = eqb-true _ _ (both-right (isWritten (i .register)) _ u);
     }
 
 -- ---- the registers
@@ -126,7 +78,7 @@ unfolding merge
 all-kept x y h = omega arith
 
 -- no bit raised
-none-raised : (m x y : ℕ) → merge 8 0 0 (merge 8 m x y) ≡ merge 8 m x y
+pub none-raised : (m x y : ℕ) → merge 8 0 0 (merge 8 m x y) ≡ merge 8 m x y
 none-raised m x y = law (by zeros zeros (by (var 0) (var 1) (var 2))) (by (var 0) (var 1) (var 2)) 8 (m ∷ x ∷ y ∷ []) refl
 
 -- a byte as the code has it, from the columns
@@ -153,15 +105,6 @@ module _ (want : ℕ → ℕ) (image : List ℕ) where
       go true e = rw e (sym (three a (leftUp a) _ _ h (left-decided a h)))
       go false e = rw (e, left-none a h e) (none-raised 255 _ _ ∙ all-kept _ _ small)
 
-  -- the value of the step at place p of the table, as the code has it
-  pub step-value : (p : ℕ) {w : Step} {rs xs : List ℕ} (bytes : List ℕ) → p < stepCount → stepAt false p ≡ w
-      → rs ≡ stepAddresses → xs ≡ stepRaised
-      → ((a : ℕ) → a < 256 → getD bytes a 0 ≡ closed want image a)
-      → merge 8 (getD xs p 0) (getD xs p 0) (getD bytes (getD rs p 0) 0) ≡ written want image w .value
-  step-value p {w} bytes h e rs xs each =
-      let q : Proper w = subst Proper e (step-proper p h) in
-      rw (address-at p rs e, raised-at p xs e, each (w .register) (q .small)) (raised-written w q)
-
   unraised : (a : ℕ) → eqb a reg.avMute ≡ false → closed want image a ≡ merge 8 (leftUp a) (leftUp a) (closed want image a)
   unfolding closed
   unraised a t = rw t (sym (none-raised _ _ _))
@@ -180,9 +123,6 @@ module _ (want : ℕ → ℕ) (image : List ℕ) where
           ∙ rw (each reg.avMute (lit< tt)) (raised-finished reg.avMute (lit< tt) (small reg.avMute (lit< tt))))
       go false t =
           getD-set-other bytes reg.avMute a v 0 (eqb-false a reg.avMute t) ∙ each a h ∙ unraised a t ∙ raised-finished a h (small a h)
-
-pub address-small : (p : ℕ) {rs : List ℕ} → p < stepCount → rs ≡ stepAddresses → getD rs p 0 < 256
-address-small p h rs = rw (address-at p rs refl) (step-proper p h .small)
 
 -- a turn of a loop that stores one byte after the other
 pub one-more : (f : ℕ → ℕ) (out : List ℕ) (a v : ℕ) → a < length out → v ≡ f a → ((j : ℕ) → j < a → getD out j 0 ≡ f j)

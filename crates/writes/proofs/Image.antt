@@ -10,11 +10,11 @@ use Rattle.lists.proofs.Emit.{map-at}
 use Rattle.writes.specs.Steps.{from}
 use Rattle.writes.specs.List.{finished, column, finishedImage}
 
-length-from : (first count : ℕ) → length (from first count) ≡ count
+pub length-from : (first count : ℕ) → length (from first count) ≡ count
 length-from first zero = refl
 length-from first (suc count) = ap suc (length-from (suc first) count)
 
-from-at : (first count i : ℕ) → i < count → getD (from first count) i 0 ≡ first + i
+pub from-at : (first count i : ℕ) → i < count → getD (from first count) i 0 ≡ first + i
 from-at first zero i h = absurd (not-suc-le-zero h)
 from-at first (suc count) zero h = sym (add-zero first)
 from-at first (suc count) (suc i) h = from-at (suc first) count i (le-of-suc-le-suc h) ∙ omega arith

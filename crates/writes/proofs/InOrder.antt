@@ -10,9 +10,8 @@ use Rattle.lists.specs.Find.{every}
 use Rattle.lists.proofs.Both.{both-left, both-right}
 use Rattle.chip.specs.Machine.{Write, audio, packets, up, holdsOf}
 use Rattle.writes.specs.Steps.{Step, middle, steps}
-use Rattle.writes.specs.List.{decided, written, writeList, isWritten}
+use Rattle.writes.specs.List.{decided, written, isWritten}
 use Rattle.writes.specs.Order.{inSteps, holdBits, raisedIn, joined, rises, addresses, Order}
-use Rattle.writes.specs.Carried.{Entry}
 use Rattle.writes.proofs.Last.{last, some, last-step, final-some}
 use Rattle.writes.proofs.Carries.{fits, every-step, entry}
 
@@ -46,7 +45,7 @@ module _ (want : ℕ → ℕ) (image : List ℕ) where
   rising true = refl
   rising false = refl
 
-  inside : (b : Bool) → every (λ a. ltb a 256) (addresses (listOf b)) ≡ true
+  pub inside : (b : Bool) → every (λ a. ltb a 256) (addresses (listOf b)) ≡ true
   unfolding middle written
   inside true = refl
   inside false = refl
@@ -81,7 +80,7 @@ module _ (want : ℕ → ℕ) (image : List ℕ) where
       none true = refl
       none false = refl
 
-  count-128 : (b : Bool) → length (listOf b) ≤ 128
+  pub count-128 : (b : Bool) → length (listOf b) ≤ 128
   unfolding middle
   count-128 true = lit≤ tt
   count-128 false = lit≤ tt
@@ -94,6 +93,4 @@ module _ (want : ℕ → ℕ) (image : List ℕ) where
         holds = all-held (steps (middle b)) (every-step b) ∙ raising b;
         rise = rising b;
         written = exactly b;
-        inside = inside b;
-        count = count-128 b;
       }

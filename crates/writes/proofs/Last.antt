@@ -23,7 +23,7 @@ abbrev pub read : (Step → Write) → ℕ → ℕ → ℕ → ℕ
 read f a zero d = d
 read f a (suc x) d = f (a raising x) .value
 
-last-zero : (a : ℕ) (is : List Step) (o : ℕ) → last a is o ≡ 0 → o ≡ 0
+pub last-zero : (a : ℕ) (is : List Step) (o : ℕ) → last a is o ≡ 0 → o ≡ 0
 last-zero a [] o e = e
 last-zero a (i ∷ is) o e = go (eqb a (i .register)) (last-zero a is (cond (eqb a (i .register)) (suc (i .raised)) o) e)
   where

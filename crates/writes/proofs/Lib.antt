@@ -5,3 +5,6 @@ pub mod Named
 pub mod Image
 pub mod Columns
 pub mod Pairs
+pub mod Counted
+pub mod Fewer
+pub mod Parts

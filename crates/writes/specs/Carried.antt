@@ -8,7 +8,7 @@ use Rattle.map.specs.Map as reg
 use Rattle.registers.specs.Classes.{readOnly, mandated, named, free, bits}
 use Rattle.chip.specs.Machine.{Write, _gets_}
 use Rattle.writes.specs.Steps.{Step, _raising_, steps}
-use Rattle.writes.specs.List.{decided, middleOf, writeList}
+use Rattle.writes.specs.List.{decided, middleOf, fullList}
 
 -- "Each written byte carries its mandated bits, the image's free and read-only bits and the wanted named bits": the value for register a,
 -- where the image has `old`; of the named bits those under `mask` are as wanted
@@ -30,8 +30,8 @@ pub record Entry (want : ℕ → ℕ) (image : List ℕ) (step : Step) (w : Writ
   -- "a hold write to 0x4A has the other named hold 0": AVI's is 0x4A[6], audio's 0x4A[5]
   pub otherHold : w .address ≡ reg.infoframeUpdate → bit 6 (w .value) + bit 5 (w .value) ≤ 1
 
--- every entry of the list, in order
+-- every entry of the full list, in order
 abbrev pub Entries : (ℕ → ℕ) → List ℕ → Type 0
 Entries want image =
-    (k : ℕ) → k < length (writeList want image)
-    → Entry want image (getD (steps (middleOf want image)) k (0 raising 0)) (getD (writeList want image) k (0 gets 0))
+    (k : ℕ) → k < length (fullList want image)
+    → Entry want image (getD (steps (middleOf want image)) k (0 raising 0)) (getD (fullList want image) k (0 gets 0))

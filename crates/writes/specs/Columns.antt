@@ -1,20 +1,12 @@
--- The columns of the code: two of the steps, three of the registers. No theorem speaks of them: `Lists` and `standsWhole`, the contracts of
--- `write_list` and `stands`, speak of `written` and `finished`, to which proofs/Columns ties them.
-use mathlib.Core.Bool.{false, cond}
-use mathlib.Core.List.{List, map}
+-- The columns of the code, three of the registers. No theorem speaks of them: `Lists` and `standsWhole`, the contracts of `write_list` and
+-- `stands`, speak of `written` and `finished`, to which proofs/Columns ties them.
+use mathlib.Core.Bool.{cond}
+use mathlib.Core.List.{List}
 use Prim.Native.Nat.{ℕ}
 use lib.ListN.{getD}
 use Rattle.bits.specs.Merge.{merge}
 use Rattle.registers.specs.Classes.{readOnly, free, named, bits}
-use Rattle.writes.specs.Steps.{middle, steps}
 use Rattle.writes.specs.List.{decided, isWritten}
-
--- the steps, AVI before audio: the register of each, and the bits that it raises
-unfoldable pub stepAddresses : List ℕ
-stepAddresses = map (λ i. i .register) (steps (middle false))
-
-unfoldable pub stepRaised : List ℕ
-stepRaised = map (λ i. i .raised) (steps (middle false))
 
 -- of a register: the bits that a write keeps, those that are as wanted, and the others, where no step raises any
 abbrev pub keptBits : ℕ → ℕ

@@ -1,5 +1,6 @@
--- Document 01, "The write list": the list and the finished image, as the code makes them; `want a` is the byte whose named bits are wanted
--- in register a. `Order` and `Entries` tie the list to the document's words, `Demand3.registers` (cut) and `BitByBit` (decode) the image.
+-- Document 01, "The write list", and request 09 of document 02: the list and the finished image, as the code makes them; `want a` is the
+-- byte whose named bits are wanted in register a. `Order` and `Entries` tie the full list to the document's words, `Fewer` what is left out
+-- of it, `Demand3.registers` (cut) and `BitByBit` (decode) the image.
 use mathlib.Core.Path.{_≡_}
 use mathlib.Core.Bool.{Bool, true, cond, not, _&&_, _||_}
 use mathlib.Core.List.{List, [], _∷_, _++_, map}
@@ -7,6 +8,7 @@ use Prim.Native.Nat.{ℕ, zero, suc, _+_}
 use lib.Dec.{eqb, ltb}
 use lib.ListN.{length, getD, drop}
 use Rattle.lists.specs.Among.{among}
+use Rattle.lists.specs.Those.{those}
 use Rattle.bits.specs.Merge.{merge}
 use Rattle.map.specs.Map as reg
 use Rattle.registers.specs.Classes.{readOnly, free, named, bits}
@@ -37,9 +39,27 @@ listWith between want image = map (written want image) (steps (between want imag
 abbrev pub middleOf : (ℕ → ℕ) → List ℕ → List Step
 middleOf want image = middle (up audio (holdsOf packets image))
 
--- the write list for an image
+-- the list for an image with nothing left out
+abbrev pub fullList : (ℕ → ℕ) → List ℕ → List Write
+fullList = listWith middleOf
+
+-- "its register's byte in the image already equals the wanted one, read-only bits aside": stored, it would leave the byte as it is; in
+-- these words, bit by bit: `Equals`
+unfoldable pub alreadyThere : List ℕ → Write → Bool
+alreadyThere image w =
+    let old : ℕ = getD image (w .address) 0 in
+    eqb (merge 8 (readOnly (w .address)) old (w .value)) old
+
+-- "All writes to the mute register, 0x4A and 0x1A stay."
+abbrev pub theThree : List ℕ
+theThree = reg.avMute ∷ reg.infoframeUpdate ∷ reg.coefficientUpdate ∷ []
+
+abbrev pub stays : List ℕ → Write → Bool
+stays image w = among (w .address) theThree || not (alreadyThere image w)
+
+-- the write list for an image: the full one, without those that do not stay
 abbrev pub writeList : (ℕ → ℕ) → List ℕ → List Write
-writeList = listWith middleOf
+writeList want image = those (stays image) (fullList want image)
 
 -- the list as bytes, "Pairs of address and value"
 unfoldable pub flat : List Write → List ℕ

@@ -1,10 +1,10 @@
--- Document 01, "The write list": which registers the list writes, in what order, and where it mutes, opens, and holds.
+-- Document 01, "The write list": which registers the list writes, in what order, and where it mutes, opens, and holds, with nothing left
+-- out. `Fewer` says what request 09 leaves out of it.
 use mathlib.Core.Path.{_≡_}
 use mathlib.Core.Bool.{Bool, true, cond, _&&_}
 use mathlib.Core.List.{List, [], _∷_, _++_, map}
-use Prim.Native.Nat.{ℕ, _<_, _≤_}
+use Prim.Native.Nat.{ℕ, _<_}
 use lib.Dec.{eqb, ltb}
-use lib.ListN.{length}
 use Rattle.lists.specs.Among.{among}
 use Rattle.lists.specs.Find.{every}
 use Rattle.bits.specs.Merge.{under}
@@ -12,7 +12,7 @@ use Rattle.map.specs.Map as reg
 use Rattle.registers.specs.Steps.{table14, others}
 use Rattle.chip.specs.Machine.{Write, audio, packets, up, holdsOf}
 use Rattle.writes.specs.Steps.{from}
-use Rattle.writes.specs.List.{writeList, isWritten}
+use Rattle.writes.specs.List.{fullList, isWritten}
 
 abbrev pub aviStep : List (List ℕ)
 aviStep = (reg.infoframeUpdate ∷ []) ∷ from reg.aviInfoframeVersion reg.aviInfoframeCount ∷ (reg.infoframeUpdate ∷ []) ∷ []
@@ -66,13 +66,10 @@ abbrev pub addresses : List Write → List ℕ
 addresses = map (λ w. w .address)
 
 pub record Order (want : ℕ → ℕ) (image : List ℕ) : Type 0 where
-  pub order : addresses (writeList want image) ≡ joined (inSteps (up audio (holdsOf packets image)))
+  pub order : addresses (fullList want image) ≡ joined (inSteps (up audio (holdsOf packets image)))
   -- what each write holds, mutes or opens, whatever is wanted and whatever the image has
-  pub holds : map (λ w. holdBits (w .address) (w .value)) (writeList want image) ≡ joined (raisedIn (up audio (holdsOf packets image)))
+  pub holds : map (λ w. holdBits (w .address) (w .value)) (fullList want image) ≡ joined (raisedIn (up audio (holdsOf packets image)))
   -- "Within a step addresses rise."
   pub rise : every rises (inSteps (up audio (holdsOf packets image))) ≡ true
   -- each register with a named bit, of the two packets or of Table 14 is written, and no other
-  pub written : (a : ℕ) → a < 256 → among a (addresses (writeList want image)) ≡ isWritten a
-  pub inside : every (λ a. ltb a 256) (addresses (writeList want image)) ≡ true
-  -- "Count is at most 128"
-  pub count : length (writeList want image) ≤ 128
+  pub written : (a : ℕ) → a < 256 → among a (addresses (fullList want image)) ≡ isWritten a

@@ -3,7 +3,6 @@
 use mathlib.Core.Bool.{Bool, cond}
 use mathlib.Core.List.{List, [], _∷_, _++_}
 use Prim.Native.Nat.{ℕ, zero, suc, _+_, _-_}
-use lib.ListN.{length, getD}
 use Rattle.map.specs.Map as reg
 use Rattle.registers.specs.Steps.{table14, others}
 
@@ -54,14 +53,3 @@ middle audioFirst = each table14 ++ coefficientSteps ++ cond audioFirst (audioSt
 -- "Order: mute; ..; open"
 abbrev pub steps : List Step → List Step
 steps between = reg.avMute raising reg.setAvMuteMask ∷ between ++ reg.avMute raising reg.clearAvMuteMask ∷ []
-
--- the step at a place of the list
-abbrev pub stepAt : Bool → ℕ → Step
-stepAt audioFirst i = getD (steps (middle audioFirst)) i (0 raising 0)
-
--- how many steps stand before the two packets, and how many there are
-abbrev pub packetsAt : ℕ
-packetsAt = 1 + length table14 + length coefficientSteps
-
-abbrev pub stepCount : ℕ
-stepCount = packetsAt + length aviSteps + length audioSteps + length others + 1

@@ -1,17 +1,19 @@
-// The write list of any wanted bytes: its steps, what each write carries, the finished image. Document 01, "The write list".
+// The write list of any wanted bytes: its steps, what each write carries, which are left out, the finished image. Document 01, "The write
+// list"; document 02, request 09.
 ghost use mathlib.Core.Path.{_≡_};
-ghost use mathlib.Core.Bool.{Bool, false, _&&_};
 ghost use mathlib.Core.List.{List};
-ghost use Prim.Native.Nat.{ℕ, _<_};
-ghost use lib.Dec.{eqb};
+ghost use Prim.Native.Nat.{ℕ, _+_, _*_, _<_, _≤_};
 ghost use lib.ListN.{getD, length};
 ghost use Rattle.bits.specs.Merge.{merge};
 ghost use Rattle.chip.specs.Machine.{audio, packets, up};
-ghost use Rattle.writes.specs.Steps.{stepAt, stepCount};
+ghost use Rattle.registers.specs.Steps.{table14, others};
+ghost use Rattle.writes.specs.Steps.{from, coefficientSteps, aviSteps, audioSteps};
 ghost use Rattle.writes.specs.List.{column, standsWhole, Lists};
-ghost use Rattle.writes.specs.Columns.{stepAddresses, stepRaised, keptBits, wantedBits, setBits, closed};
+ghost use Rattle.writes.specs.Columns.{keptBits, wantedBits, setBits, closed};
+ghost use Rattle.writes.specs.Parts.{Puts, withBits, moving, coefficientPairs, packetPairs, aviPairs, audioPairs, bothPairs};
 ghost use Rattle.writes.specs.Order.{Order};
 ghost use Rattle.writes.specs.Carried.{Entries};
+ghost use Rattle.writes.specs.Fewer.{Fewer};
 use map::Map;
 
 mod steps;
@@ -35,16 +37,16 @@ fn set() -> [u8; 256]
     steps::SET
 }
 
-fn addresses() -> [u8; steps::STEPS]
-    ensures { λ r. ⌜ r ≡ stepAddresses ⌝ }
+fn table14() -> [u8; 8]
+    ensures { λ r. ⌜ r ≡ table14 ⌝ }
 {
-    steps::ADDRESSES
+    steps::TABLE14
 }
 
-fn raised() -> [u8; steps::STEPS]
-    ensures { λ r. ⌜ r ≡ stepRaised ⌝ }
+fn others() -> [u8; 15]
+    ensures { λ r. ⌜ r ≡ others ⌝ }
 {
-    steps::RAISED
+    steps::OTHERS
 }
 
 // Every register with the bits that steps decide down, as a list of these wanted bytes leaves it.
@@ -64,26 +66,6 @@ fn closed(image: &[u8], wanted: &[u8; 256]) -> [u8; 256]
     out
 }
 
-// The place of a step in the table, which has AVI before audio. "If the audio hold is up at the start, audio goes before AVI."
-fn place(audio_first: bool, i: usize) -> usize
-    requires { ⌜ i < stepCount ⌝ }
-    ensures { λ r. ⌜ (r < stepCount) × (stepAt false r ≡ stepAt «audio_first» i) ⌝ }
-{
-    if !audio_first {
-        return i;
-    }
-    if i < steps::PACKETS {
-        return i;
-    }
-    if i < steps::PACKETS + steps::AUDIO {
-        return i + steps::AVI;
-    }
-    if i < steps::PACKETS + steps::AUDIO + steps::AVI {
-        return i - steps::AUDIO;
-    }
-    i
-}
-
 // These bits of a byte raised.
 fn raise(bits: u8, byte: u8) -> u8
     ensures { λ r. ⌜ r ≡ merge 8 bits bits byte ⌝ }
@@ -97,6 +79,166 @@ fn audio_up(holds: u8) -> bool
     holds / Map::AUDIO_INFOFRAME_PACKET_UPDATE_MASK % 2 == 1
 }
 
+// A register, with some bits of its byte raised, at a place of the list, and the place after it.
+fn put(bytes: &[u8; 256], address: u8, bits: u8, writes: &mut [u8], at: usize) -> usize
+    requires { ⌜ 2 * at + 2 ≤ length (now writes) ⌝ }
+    ensures { λ r. ⌜ Puts (now (writes .entry)) at (withBits (now (bytes .entry)) address bits) r (now (writes .exit)) ⌝ }
+{
+    writes[2 * at] = address;
+    writes[2 * at + 1] = raise(bits, bytes[address as usize]);
+    at + 1
+}
+
+// Of some registers those whose byte is another than the image's.
+fn each(image: &[u8], bytes: &[u8; 256], registers: &[u8], writes: &mut [u8], at: usize) -> usize
+    requires { ⌜ length (now image) ≡ 256 ⌝ }
+    requires { ⌜ 2 * (at + length (now registers)) ≤ length (now writes) ⌝ }
+    ensures { λ r. ⌜ Puts (now (writes .entry)) at (moving (now (image .entry)) (now (bytes .entry)) (now (registers .entry))) r (now (writes .exit)) ⌝ }
+    ensures { λ r. ⌜ r ≤ at + length (now (registers .entry)) ⌝ }
+{
+    let mut next = at;
+    let mut i: usize = 0;
+    while i < registers.len() {
+        let a = registers[i];
+        let byte = bytes[a as usize];
+        if byte != image[a as usize] {
+            writes[2 * next] = a;
+            writes[2 * next + 1] = byte;
+            next = next + 1;
+        }
+        i = i + 1;
+    }
+    next
+}
+
+// The same of registers in a row; most often none of a row is another.
+fn row(
+    image: &[u8],
+    bytes: &[u8; 256],
+    first: usize,
+    count: usize,
+    writes: &mut [u8],
+    at: usize,
+) -> usize
+    requires { ⌜ length (now image) ≡ 256 ⌝ }
+    requires { ⌜ first + count ≤ 256 ⌝ }
+    requires { ⌜ 2 * (at + count) ≤ length (now writes) ⌝ }
+    ensures { λ r. ⌜ Puts (now (writes .entry)) at (moving (now (image .entry)) (now (bytes .entry)) (from first count)) r (now (writes .exit)) ⌝ }
+    ensures { λ r. ⌜ r ≤ at + count ⌝ }
+{
+    let end = first + count;
+    let all = &bytes[..];
+    if lists::same(&all[first..end], &image[first..end]) {
+        return at;
+    }
+    let mut next = at;
+    let mut i: usize = 0;
+    while i < count {
+        let a = first + i;
+        let byte = bytes[a];
+        if byte != image[a] {
+            writes[2 * next] = a as u8;
+            writes[2 * next + 1] = byte;
+            next = next + 1;
+        }
+        i = i + 1;
+    }
+    next
+}
+
+// "coefficient hold up, 0x18 to 0x2F with the hold kept up, hold down"
+fn coefficients(image: &[u8], bytes: &[u8; 256], writes: &mut [u8], at: usize) -> usize
+    requires { ⌜ length (now image) ≡ 256 ⌝ }
+    requires { ⌜ 2 * (at + length coefficientSteps) ≤ length (now writes) ⌝ }
+    ensures { λ r. ⌜ Puts (now (writes .entry)) at (coefficientPairs (now (image .entry)) (now (bytes .entry))) r (now (writes .exit)) ⌝ }
+    ensures { λ r. ⌜ r ≤ at + length coefficientSteps ⌝ }
+{
+    let hold = Map::COEFFICIENT_UPDATE;
+    let up = Map::COEFFICIENT_UPDATE_MASK;
+    let first = put(bytes, hold, up, writes, at);
+    let low = row(image, bytes, Map::CSC as usize, 2, writes, first);
+    let kept = put(bytes, hold, up, writes, low);
+    let rest = row(
+        image,
+        bytes,
+        Map::CSC as usize + 3,
+        Map::CSC_COUNT as usize - 3,
+        writes,
+        kept,
+    );
+    put(bytes, hold, 0, writes, rest)
+}
+
+// "AVI hold up, its registers, hold down; audio likewise"
+fn packet(
+    image: &[u8],
+    bytes: &[u8; 256],
+    hold: u8,
+    first: usize,
+    count: usize,
+    writes: &mut [u8],
+    at: usize,
+) -> usize
+    requires { ⌜ length (now image) ≡ 256 ⌝ }
+    requires { ⌜ first + count ≤ 256 ⌝ }
+    requires { ⌜ 2 * (at + count + 2) ≤ length (now writes) ⌝ }
+    ensures { λ r. ⌜ Puts (now (writes .entry)) at (packetPairs hold first count (now (image .entry)) (now (bytes .entry))) r (now (writes .exit)) ⌝ }
+    ensures { λ r. ⌜ r ≤ at + count + 2 ⌝ }
+{
+    let up = put(bytes, Map::INFOFRAME_UPDATE, hold, writes, at);
+    let rest = row(image, bytes, first, count, writes, up);
+    put(bytes, Map::INFOFRAME_UPDATE, 0, writes, rest)
+}
+
+fn avi(image: &[u8], bytes: &[u8; 256], writes: &mut [u8], at: usize) -> usize
+    requires { ⌜ length (now image) ≡ 256 ⌝ }
+    requires { ⌜ 2 * (at + length aviSteps) ≤ length (now writes) ⌝ }
+    ensures { λ r. ⌜ Puts (now (writes .entry)) at (aviPairs (now (image .entry)) (now (bytes .entry))) r (now (writes .exit)) ⌝ }
+    ensures { λ r. ⌜ r ≤ at + length aviSteps ⌝ }
+{
+    packet(
+        image,
+        bytes,
+        Map::AVI_PACKET_UPDATE_MASK,
+        Map::AVI_INFOFRAME_VERSION as usize,
+        Map::AVI_INFOFRAME_COUNT as usize,
+        writes,
+        at,
+    )
+}
+
+fn audio(image: &[u8], bytes: &[u8; 256], writes: &mut [u8], at: usize) -> usize
+    requires { ⌜ length (now image) ≡ 256 ⌝ }
+    requires { ⌜ 2 * (at + length audioSteps) ≤ length (now writes) ⌝ }
+    ensures { λ r. ⌜ Puts (now (writes .entry)) at (audioPairs (now (image .entry)) (now (bytes .entry))) r (now (writes .exit)) ⌝ }
+    ensures { λ r. ⌜ r ≤ at + length audioSteps ⌝ }
+{
+    packet(
+        image,
+        bytes,
+        Map::AUDIO_INFOFRAME_PACKET_UPDATE_MASK,
+        Map::AUDIO_INFOFRAME_VERSION as usize,
+        Map::AUDIO_INFOFRAME_COUNT as usize,
+        writes,
+        at,
+    )
+}
+
+// "If the audio hold is up at the start, audio goes before AVI."
+fn packets(image: &[u8], bytes: &[u8; 256], writes: &mut [u8], at: usize) -> usize
+    requires { ⌜ length (now image) ≡ 256 ⌝ }
+    requires { ⌜ 2 * (at + length aviSteps + length audioSteps) ≤ length (now writes) ⌝ }
+    ensures { λ r. ⌜ Puts (now (writes .entry)) at (bothPairs (now (image .entry)) (now (bytes .entry))) r (now (writes .exit)) ⌝ }
+    ensures { λ r. ⌜ r ≤ at + length aviSteps + length audioSteps ⌝ }
+{
+    if audio_up(image[Map::INFOFRAME_UPDATE as usize]) {
+        let next = audio(image, bytes, writes, at);
+        return avi(image, bytes, writes, next);
+    }
+    let next = avi(image, bytes, writes, at);
+    audio(image, bytes, writes, next)
+}
+
 // The list, at the front of the buffer, and the count of its pairs.
 pub fn write_list(image: &[u8], wanted: &[u8; 256], writes: &mut [u8]) -> u32
     ensures { λ r. ⌜ Lists (λ a. getD (now (wanted .entry)) a 0) (now (image .entry)) (now (writes .entry)) r (now (writes .exit)) ⌝ }
@@ -107,19 +249,22 @@ pub fn write_list(image: &[u8], wanted: &[u8; 256], writes: &mut [u8]) -> u32
     if writes.len() < 256 {
         return 0;
     }
-    let audio_first = audio_up(image[Map::INFOFRAME_UPDATE as usize]);
     let bytes = closed(image, wanted);
-    let addresses = addresses();
-    let raised = raised();
-    let mut i: usize = 0;
-    while i < steps::STEPS {
-        let p = place(audio_first, i);
-        let a = addresses[p];
-        writes[2 * i] = a;
-        writes[2 * i + 1] = raise(raised[p], bytes[a as usize]);
-        i = i + 1;
-    }
-    steps::STEPS as u32
+    let fixed = table14();
+    let named = others();
+    let muted = put(&bytes, Map::AV_MUTE, Map::SET_AV_MUTE_MASK, writes, 0);
+    let after_fixed = each(image, &bytes, &fixed, writes, muted);
+    let after_matrix = coefficients(image, &bytes, writes, after_fixed);
+    let after_packets = packets(image, &bytes, writes, after_matrix);
+    let after_named = each(image, &bytes, &named, writes, after_packets);
+    let count = put(
+        &bytes,
+        Map::AV_MUTE,
+        Map::CLEAR_AV_MUTE_MASK,
+        writes,
+        after_named,
+    );
+    count as u32
 }
 
 // Whether an image stands as the list of these wanted bytes would leave it.
@@ -145,7 +290,12 @@ pub fn write_order()
     ensures { λ _. ⌜ ((want : ℕ → ℕ) (image : List ℕ) → Order want image) ⌝ }
 {}
 
-// What each entry of the list does.
+// What each entry of the full list does.
 pub fn list_entries()
     ensures { λ _. ⌜ ((want : ℕ → ℕ) (image : List ℕ) → Entries want image) ⌝ }
+{}
+
+// Which writes are left out of it, and how many are left.
+pub fn fewer_writes()
+    ensures { λ _. ⌜ ((want : ℕ → ℕ) (image : List ℕ) → Fewer want image) ⌝ }
 {}

@@ -1,77 +1,35 @@
-// The steps of the list and the masks of a written byte, as columns. Document 01, "The write list"; specs/Columns.antt says what they are.
+// The registers of two steps of the list, and the masks of a written byte, as columns. Document 01, "The write list"; specs/Columns.antt says
+// what these are.
 use map::Map;
 
-// How many steps stand before the two packets, how many each packet has (its hold up, registers, its hold down), and how many there are.
-pub const PACKETS: usize = 1 + 8 + Map::CSC_COUNT as usize + 2;
-
-pub const AVI: usize = Map::AVI_INFOFRAME_COUNT as usize + 2;
-
-pub const AUDIO: usize = Map::AUDIO_INFOFRAME_COUNT as usize + 2;
-
-pub const STEPS: usize = PACKETS + AVI + AUDIO + 15 + 1;
-
-// The steps, AVI before audio: the register of each ..
-#[rattlefmt::skip]
-pub const ADDRESSES: [u8; STEPS] = [
-    // mute
-    Map::AV_MUTE,
-    // Table 14
-    Map::FIXED_98, Map::FIXED_9A, Map::FIXED_9C, Map::FIXED_9D,
-    Map::FIXED_A2, Map::FIXED_A3, Map::FIXED_E0, Map::FIXED_I2C_ADDRESS,
-    // the coefficients, between their hold up and down
-    Map::COEFFICIENT_UPDATE,
-    Map::CSC, Map::CSC + 1, Map::COEFFICIENT_UPDATE,
-    Map::CSC + 3, Map::CSC + 4, Map::CSC + 5, Map::CSC + 6, Map::CSC + 7, Map::CSC + 8, Map::CSC + 9,
-    Map::CSC + 10, Map::CSC + 11, Map::CSC + 12, Map::CSC + 13, Map::CSC + 14, Map::CSC + 15, Map::CSC + 16,
-    Map::CSC + 17, Map::CSC + 18, Map::CSC + 19, Map::CSC + 20, Map::CSC + 21, Map::CSC + 22, Map::CSC + 23,
-    Map::COEFFICIENT_UPDATE,
-    // AVI
-    Map::INFOFRAME_UPDATE,
-    Map::AVI_INFOFRAME_VERSION, Map::AVI_INFOFRAME_VERSION + 1, Map::AVI_INFOFRAME_VERSION + 2, Map::AVI_INFOFRAME_VERSION + 3,
-    Map::AVI_INFOFRAME_VERSION + 4, Map::AVI_INFOFRAME_VERSION + 5, Map::AVI_INFOFRAME_VERSION + 6, Map::AVI_INFOFRAME_VERSION + 7,
-    Map::AVI_INFOFRAME_VERSION + 8, Map::AVI_INFOFRAME_VERSION + 9, Map::AVI_INFOFRAME_VERSION + 10, Map::AVI_INFOFRAME_VERSION + 11,
-    Map::AVI_INFOFRAME_VERSION + 12, Map::AVI_INFOFRAME_VERSION + 13, Map::AVI_INFOFRAME_VERSION + 14, Map::AVI_INFOFRAME_VERSION + 15,
-    Map::INFOFRAME_UPDATE,
-    // audio
-    Map::INFOFRAME_UPDATE,
-    Map::AUDIO_INFOFRAME_VERSION, Map::AUDIO_INFOFRAME_VERSION + 1, Map::AUDIO_INFOFRAME_VERSION + 2, Map::AUDIO_INFOFRAME_VERSION + 3,
-    Map::AUDIO_INFOFRAME_VERSION + 4, Map::AUDIO_INFOFRAME_VERSION + 5, Map::AUDIO_INFOFRAME_VERSION + 6, Map::AUDIO_INFOFRAME_VERSION + 7,
-    Map::AUDIO_INFOFRAME_VERSION + 8, Map::AUDIO_INFOFRAME_VERSION + 9, Map::AUDIO_INFOFRAME_VERSION + 10,
-    Map::AUDIO_INFOFRAME_VERSION + 11, Map::AUDIO_INFOFRAME_VERSION + 12,
-    Map::INFOFRAME_UPDATE,
-    // the others
-    Map::N0, Map::N1, Map::N2, Map::CTS_MANUAL0,
-    Map::CTS_MANUAL1, Map::CTS_MANUAL2, Map::AUDIO_SOURCE, Map::I2S_CONFIG,
-    Map::I2S_FREQ_ID_CFG, Map::VIDEO_INPUT_CFG1, Map::PIXEL_REPETITION, Map::VIC_MANUAL,
-    Map::PACKET_ENABLE0, Map::PACKET_ENABLE1, Map::HDCP_HDMI_CFG,
-    // open
-    Map::AV_MUTE,
+// The registers of Table 14, and the named ones of no other step.
+pub const TABLE14: [u8; 8] = [
+    Map::FIXED_98,
+    Map::FIXED_9A,
+    Map::FIXED_9C,
+    Map::FIXED_9D,
+    Map::FIXED_A2,
+    Map::FIXED_A3,
+    Map::FIXED_E0,
+    Map::FIXED_I2C_ADDRESS,
 ];
 
-// .. and the bits that it raises.
-#[rattlefmt::skip]
-pub const RAISED: [u8; STEPS] = [
-    // mute
-    Map::SET_AV_MUTE_MASK,
-    // Table 14
-    0, 0, 0, 0, 0, 0, 0, 0,
-    // the coefficients, between their hold up and down
-    Map::COEFFICIENT_UPDATE_MASK,
-    0, 0, Map::COEFFICIENT_UPDATE_MASK,
-    0, 0, 0, 0, 0, 0, 0, 0, 0, 0, 0, 0, 0, 0, 0, 0, 0, 0, 0, 0, 0,
-    0,
-    // AVI
-    Map::AVI_PACKET_UPDATE_MASK,
-    0, 0, 0, 0, 0, 0, 0, 0, 0, 0, 0, 0, 0, 0, 0, 0,
-    0,
-    // audio
-    Map::AUDIO_INFOFRAME_PACKET_UPDATE_MASK,
-    0, 0, 0, 0, 0, 0, 0, 0, 0, 0, 0, 0, 0,
-    0,
-    // the others
-    0, 0, 0, 0, 0, 0, 0, 0, 0, 0, 0, 0, 0, 0, 0,
-    // open
-    Map::CLEAR_AV_MUTE_MASK,
+pub const OTHERS: [u8; 15] = [
+    Map::N0,
+    Map::N1,
+    Map::N2,
+    Map::CTS_MANUAL0,
+    Map::CTS_MANUAL1,
+    Map::CTS_MANUAL2,
+    Map::AUDIO_SOURCE,
+    Map::I2S_CONFIG,
+    Map::I2S_FREQ_ID_CFG,
+    Map::VIDEO_INPUT_CFG1,
+    Map::PIXEL_REPETITION,
+    Map::VIC_MANUAL,
+    Map::PACKET_ENABLE0,
+    Map::PACKET_ENABLE1,
+    Map::HDCP_HDMI_CFG,
 ];
 
 // Of each register, sixteen to a line: the bits that a write keeps ..
