@@ -71,7 +71,7 @@ last-there f a d n e (i ∷ is) o t h = last-there f a d n e is _ (both-right (p
         (raises-none i (both-left (plain i) _ t) (ap (λ (b : ℕ). among b theThree) (sym (eqb-true a (i .register) z)) ∙ n)) ∙ e
     go false z = h
 
-plain-those : (test : Step → Bool) (is : List Step) → every plain is ≡ true → every plain (those test is) ≡ true
+pub plain-those : (test : Step → Bool) (is : List Step) → every plain is ≡ true → every plain (those test is) ≡ true
 plain-those test [] t = refl
 plain-those test (i ∷ is) t = go (test i) (plain-those test is (both-right (plain i) _ t))
   where

@@ -12,5 +12,6 @@ pub mod WriteList
 pub mod Skipped
 pub mod Fewer
 pub mod Within
+pub mod NoLonger
 pub mod Mended
 pub mod CoveredRun

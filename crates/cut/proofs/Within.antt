@@ -97,7 +97,7 @@ unmoved t a v d n e m =
     let b : merge 8 (readOnly a) (getD (t .image) a 0) v ≡ getD (t .image) a 0 = ap (λ (x : ℕ). merge 8 (readOnly a) x v) e ∙ m ∙ sym e in
     rw (p, q, b, set-getD (t .image) a 0)
 
-every-take : (test : Step → Bool) (is : List Step) (k : ℕ) → every test is ≡ true → every test (take k is) ≡ true
+pub every-take : (test : Step → Bool) (is : List Step) (k : ℕ) → every test is ≡ true → every test (take k is) ≡ true
 every-take test is zero t = refl
 every-take test [] (suc k) t = refl
 every-take test (i ∷ is) (suc k) t = rw (both-left (test i) _ t) (every-take test is k (both-right (test i) _ t))

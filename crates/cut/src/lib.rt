@@ -9,7 +9,7 @@ ghost use Rattle.writes.specs.List.{fullList, writeList, ready};
 ghost use Rattle.cut.specs.Run.{Event, event, happens, cut, IsFair, Untouched, Retried};
 ghost use Rattle.cut.specs.Demand.{sent, Demand3};
 ghost use Rattle.cut.specs.Mended.{Mended};
-ghost use Rattle.cut.specs.Within.{Within};
+ghost use Rattle.cut.specs.Within.{Within, NoLonger};
 
 // "a chip in a state from which it was accepted, and a cut after any write": whatever is wanted and whatever the two buffers hold.
 pub fn any_cut()
@@ -27,6 +27,12 @@ pub fn full_list()
 pub fn made_right()
     ensures { λ _. ⌜ ((want : ℕ → ℕ) (s : Chip) → length (s .image) ≡ 256 → ready (s .image) ≡ true
         → Within (sent (writeList want (s .image))) (sent (fullList want (s .image))) s) ⌝ }
+{}
+
+// Planned again where a cut left off, the write list is no longer.
+pub fn no_longer()
+    ensures { λ _. ⌜ ((want : ℕ → ℕ) (s : Chip) → length (s .image) ≡ 256 → ready (s .image) ≡ true
+        → NoLonger (λ image. sent (writeList want image)) s) ⌝ }
 {}
 
 // A list whose events are fair, whoever made it, leaves what is not its own.

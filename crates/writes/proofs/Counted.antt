@@ -1,6 +1,6 @@
 -- Registers counted: a list in which each register that passes a test stands once has as many of them as there are. Assumes nothing.
 use mathlib.Core.Path.{_≡_, refl, sym, ap, ap₂, _∙_}
-use mathlib.Core.Bool.{Bool, true, false, cond}
+use mathlib.Core.Bool.{Bool, true, false, false≢true, cond}
 use mathlib.Core.List.{List, [], _∷_, _++_}
 use Prim.Native.Nat.{ℕ, zero, suc, _+_, _<_, _≤_}
 use native.Mathlib.Omega.{arith}
@@ -83,6 +83,21 @@ module _ (d : ℕ → Bool) where
   none-in-run first zero e = refl
   none-in-run first (suc count) e =
       rw (e first (omega arith) (omega arith)) (none-in-run (suc first) count (λ a lo hi. e a (omega (arith, lo)) (omega (arith, hi))))
+
+  -- what passes another test too is no more of the run
+  pub no-more-of : (p : ℕ → Bool) (first count : ℕ) → ((a : ℕ) → first ≤ a → a < first + count → p a ≡ true → d a ≡ true)
+      → length (those p (from first count)) ≤ length (those d (from first count))
+  no-more-of p first zero e = omega arith
+  no-more-of p first (suc count) e =
+      go (p first) (d first) (e first (omega arith) (omega arith))
+      (no-more-of p (suc first) count (λ a lo hi. e a (omega (arith, lo)) (omega (arith, hi))))
+    where
+      go : (x y : Bool) → (x ≡ true → y ≡ true) → length (those p (from (suc first) count)) ≤ length (those d (from (suc first) count))
+          → length (cond x (first ∷ []) [] ++ those p (from (suc first) count)) ≤ length (cond y (first ∷ []) [] ++ those d (from (suc first) count))
+      go true true i h = omega (arith, h)
+      go true false i h = absurd (false≢true (i refl))
+      go false true i h = omega (arith, h)
+      go false false i h = h
 
   -- those of a run of numbers
   of-run : (first count : ℕ) → length (those d (from first count)) ≡ sum once first count

@@ -1,5 +1,5 @@
--- The list as the code stores it, part after part, from the closed bytes (`closed` of Columns). No theorem speaks of it: proofs/Parts ties it
--- to `writeList`, of which `Lists`, the contract of `write_list`, speaks.
+-- The list as the code stores it, part after part, from the closed bytes (`closed` of Columns). No theorem speaks of it: proofs/Parts ties
+-- it to `writeList`, of which `Lists`, the contract of `write_list`, speaks.
 use mathlib.Core.Path.{_≡_}
 use mathlib.Core.Bool.{not, cond}
 use mathlib.Core.List.{List, [], _∷_, _++_, map}
@@ -47,4 +47,5 @@ audioPairs = packetPairs reg.audioInfoframePacketUpdateMask reg.audioInfoframeVe
 
 abbrev pub bothPairs : List ℕ → List ℕ → List Write
 bothPairs image bytes =
-    cond (up audio (holdsOf packets image)) (audioPairs image bytes ++ aviPairs image bytes) (aviPairs image bytes ++ audioPairs image bytes)
+    cond (up audio (holdsOf packets image)) (audioPairs image bytes ++ aviPairs image bytes)
+    (aviPairs image bytes ++ audioPairs image bytes)

@@ -93,7 +93,8 @@ fn put(bytes: &[u8; 256], address: u8, bits: u8, writes: &mut [u8], at: usize) -
 fn each(image: &[u8], bytes: &[u8; 256], registers: &[u8], writes: &mut [u8], at: usize) -> usize
     requires { ⌜ length (now image) ≡ 256 ⌝ }
     requires { ⌜ 2 * (at + length (now registers)) ≤ length (now writes) ⌝ }
-    ensures { λ r. ⌜ Puts (now (writes .entry)) at (moving (now (image .entry)) (now (bytes .entry)) (now (registers .entry))) r (now (writes .exit)) ⌝ }
+    ensures { λ r. ⌜ Puts (now (writes .entry)) at (moving (now (image .entry)) (now (bytes .entry)) (now (registers .entry))) r
+        (now (writes .exit)) ⌝ }
     ensures { λ r. ⌜ r ≤ at + length (now (registers .entry)) ⌝ }
 {
     let mut next = at;
@@ -123,7 +124,8 @@ fn row(
     requires { ⌜ length (now image) ≡ 256 ⌝ }
     requires { ⌜ first + count ≤ 256 ⌝ }
     requires { ⌜ 2 * (at + count) ≤ length (now writes) ⌝ }
-    ensures { λ r. ⌜ Puts (now (writes .entry)) at (moving (now (image .entry)) (now (bytes .entry)) (from first count)) r (now (writes .exit)) ⌝ }
+    ensures { λ r. ⌜ Puts (now (writes .entry)) at (moving (now (image .entry)) (now (bytes .entry)) (from first count)) r
+        (now (writes .exit)) ⌝ }
     ensures { λ r. ⌜ r ≤ at + count ⌝ }
 {
     let end = first + count;
@@ -182,7 +184,8 @@ fn packet(
     requires { ⌜ length (now image) ≡ 256 ⌝ }
     requires { ⌜ first + count ≤ 256 ⌝ }
     requires { ⌜ 2 * (at + count + 2) ≤ length (now writes) ⌝ }
-    ensures { λ r. ⌜ Puts (now (writes .entry)) at (packetPairs hold first count (now (image .entry)) (now (bytes .entry))) r (now (writes .exit)) ⌝ }
+    ensures { λ r. ⌜ Puts (now (writes .entry)) at (packetPairs hold first count (now (image .entry)) (now (bytes .entry))) r
+        (now (writes .exit)) ⌝ }
     ensures { λ r. ⌜ r ≤ at + count + 2 ⌝ }
 {
     let up = put(bytes, Map::INFOFRAME_UPDATE, hold, writes, at);

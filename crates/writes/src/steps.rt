@@ -1,5 +1,5 @@
-// The registers of two steps of the list, and the masks of a written byte, as columns. Document 01, "The write list"; specs/Columns.antt says
-// what these are.
+// The registers of two steps of the list, and the masks of a written byte, as columns. Document 01, "The write list"; specs/Columns.antt
+// says what these are.
 use map::Map;
 
 // The registers of Table 14, and the named ones of no other step.
