@@ -21,15 +21,16 @@
 #include <stdint.h>
 
 /* The version of this header, one for each landing; CHANGELOG.md says what came with it. */
-#define STATION_VERSION "2.2.0"
-#define STATION_MAJOR 2
-#define STATION_MINOR 2
+#define STATION_VERSION "3.0.0"
+#define STATION_MAJOR 3
+#define STATION_MINOR 0
 #define STATION_PATCH 0
 
 /* Lengths in bytes. */
 #define STATION_IMAGE 256       /* a register image, the bytes of registers 0x00 to 0xFF */
 #define STATION_PACKET 32       /* the chip machine's packet buffer */
 #define STATION_COEFFICIENTS 24 /* its coefficient buffer */
+#define STATION_MARK 1          /* its waiting mark */
 #define STATION_WRITES 256      /* the least room for a write list */
 #define STATION_REQUEST 36      /* the longest request, and the least room for one */
 #define STATION_MATRIX 25       /* a matrix as a request has it: its mode and twelve coefficients */
@@ -49,7 +50,7 @@ enum station_refusal {
     STATION_MODE_NOT_OFFERED = 4,   /* VIC not listed, or family not offered by it */
     STATION_FIELD_OUT_OF_RANGE = 5, /* any other field outside its range (matrix mode above 2, range above 1) */
     STATION_COMBINATION = 6,        /* encoding not 0 without a matrix or with range 1; DVI with audio or with encoding not 0 */
-    STATION_IMAGE_LENGTH = 7,       /* image not of 256 bytes; in the machine also packet buffer not of 32, coefficient buffer not of 24 */
+    STATION_IMAGE_LENGTH = 7,       /* image not of 256 bytes; in the machine also packet buffer not of 32, coefficient buffer not of 24, mark not of 1 */
     STATION_HOLDS_UP = 8,           /* GC hold up, or AVI and audio holds both up */
     STATION_NO_EXACT_PAIR = 9,      /* coherent audio, and no exact pair exists */
     STATION_BUFFER_SHORT = 10,      /* write buffer shorter than 256 bytes; request buffer shorter than STATION_REQUEST; matrix buffer shorter than 25 */
@@ -71,7 +72,10 @@ struct station_verdict { uint32_t refusal, place; };
 
 /* The write list of a request on a register image of 256 bytes: `count` pairs of address and value at the front of `writes`, which has at
  * least 256 bytes; the bytes after them stay. A register whose byte in the image is right already is left out, so lend the registers as
- * the chip holds them now; nine writes always stay, to 0x4B, 0x4A and 0x1A. Refusals 1 to 10. */
+ * the chip holds them now; nine writes always stay, to 0x4B, 0x4A and 0x1A. Refusals 1 to 10.
+ * Send the pairs in order, and wait for one rising edge of Vsync just before the last pair. The last pair to 0x1A lowers the coefficient
+ * hold, and the chip takes the new coefficients at the first Vsync after it; the last pair of the list opens the picture. Any place between
+ * these two will do, and just before the last pair is always such a place. Without that Vsync the picture opens on the old coefficients. */
 struct station_count station_plan(const uint8_t *request, size_t request_length, const uint8_t *image, size_t image_length,
                                   uint8_t *writes, size_t writes_length);
 
@@ -86,13 +90,22 @@ struct station_pair station_ncts(const uint8_t *request, size_t length);
  * length other than 25) and 12. */
 struct station_pixel station_preview(const uint8_t *matrix, size_t length, uint32_t a, uint32_t b, uint32_t c);
 
-/* The chip machine: a register image of 256 bytes, a packet buffer of 32 and a coefficient buffer of 24, all three the host's. It stands
- * for the chip in tests and simulations. Planning and decoding need the image alone. */
+/* The chip machine: a register image of 256 bytes, a packet buffer of 32, a coefficient buffer of 24 and a waiting mark of 1, all four the
+ * host's. It stands for the chip in tests and simulations. Planning and decoding need the image alone.
+ * The mark is 0 for none; any other value says that a lowered coefficient hold waits for its Vsync. While it waits, or the hold is up, the
+ * coefficient buffer is in use; else the registers. Beside a raised hold the mark counts for nothing. A call that is taken leaves the mark 0
+ * or 1 (a 7 that still waits becomes 1), a refused one as it was. Calls that only look take the mark as a number. */
 
-/* One write: the byte at `address` takes the value, but for its read-only bits, and a buffer is filled where a hold rises. Returns the
- * number of the refusal, 7 or 13, or 0; a refused write changes no byte. */
+/* One write: the byte at `address` takes the value, but for its read-only bits, and a buffer is filled where a hold rises. Where the
+ * coefficient hold falls, the mark is set; where it rises, the mark is dropped, and if a change waited, nothing is copied. Returns the number
+ * of the refusal, 7 or 13, or 0; a refused write changes no byte. */
 uint32_t station_write(uint8_t *image, size_t image_length, uint8_t *packet, size_t packet_length, uint8_t *coefficients,
-                       size_t coefficients_length, uint8_t address, uint8_t value);
+                       size_t coefficients_length, uint8_t *mark, size_t mark_length, uint8_t address, uint8_t value);
+
+/* One rising edge of Vsync: a change that waits is taken, so that from now on the registers are in use, as they stand. No byte but the mark
+ * changes. Returns the number of the refusal, 7, or 0. */
+uint32_t station_vsync(uint8_t *image, size_t image_length, uint8_t *packet, size_t packet_length, uint8_t *coefficients,
+                       size_t coefficients_length, uint8_t *mark, size_t mark_length);
 
 /* The packet that is sent, by its number: `len` bytes from `start` on, of the image where `held` is 0, of the packet buffer where it is 1.
  * Refusals 5 (another number), 7 and 13. */
@@ -108,7 +121,7 @@ struct station_state station_mute(const uint8_t *image, size_t image_length, con
 /* The mode and the twelve coefficients in use, as a request has them: `count` 25 bytes at the front of `matrix`; the bytes after them
  * stay. The mode is the register's two bits and may be 3, which no request has. Refusals 7 and 10. */
 struct station_count station_matrix(const uint8_t *image, size_t image_length, const uint8_t *coefficients, size_t coefficients_length,
-                                    uint8_t *matrix, size_t matrix_length);
+                                    uint8_t mark, uint8_t *matrix, size_t matrix_length);
 
 /* Whether a list that a vendor brings, pairs of address and value, may be run on the chip from this state. It is accepted exactly if each
  * pair touches only registers that hold a named bit, belong to the AVI or audio packet or stand in Table 14, carries the mandated bits,
@@ -117,9 +130,11 @@ struct station_count station_matrix(const uint8_t *image, size_t image_length, c
  * passes exactly where a request ends in the image already. At most 512 pairs, STATION_LIST bytes.
  * Refusals 7, 8, 14, 15 with the `place` of the first bad pair, counted from 0, and 16; beside any other number `place` is 0. A pair is bad
  * too where the cut after it, with another pair to follow, is not as above. Bad pairs count towards the end, but for a pair that would leave
- * two packet holds up: the list ends before that one, for the tests of the pairs before it. No lent byte is changed. */
+ * two packet holds up: the list ends before that one, for the tests of the pairs before it. No lent byte is changed.
+ * The list is read with one Vsync just before its last pair (or, where it ends early, before its new last pair): run it so. */
 struct station_verdict station_vet(const uint8_t *image, size_t image_length, const uint8_t *packet, size_t packet_length,
-                                   const uint8_t *coefficients, size_t coefficients_length, const uint8_t *list, size_t list_length);
+                                   const uint8_t *coefficients, size_t coefficients_length, uint8_t mark,
+                                   const uint8_t *list, size_t list_length);
 
 /* The class of a register's bits: the masks of read-only, mandated, named and free bits, and the value of the mandated ones. */
 struct station_masks station_class(uint8_t address);
