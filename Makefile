@@ -24,7 +24,7 @@ VERSION  = $(shell sed -n 's/^.define STATION_VERSION "\(.*\)"/\1/p' include/sta
 all: $(BINARIES)
 programs: $(PROGRAMS)
 host: target/c/host
-	@echo "target/c/host is built; run it by host/run [--chip FILE] [--cut K] [--brief] [BYTES..]"
+	@echo "target/c/host is built; run it by host/run [--chip FILE] [--cut K] [--vsync AT,..] [--brief] [BYTES..]"
 bench:
 	@bench/run
 peers:
@@ -54,7 +54,7 @@ target/c/review: programs/review.c programs/list.c programs/judge.c programs/tab
   programs/chip.c programs/words.c
 target/c/vectors: programs/vectors.c programs/fields.c programs/words.c
 target/c/example: host/example.c
-target/c/host: host/host.c programs/fields.c programs/chip.c programs/words.c
+target/c/host: host/host.c programs/events.c programs/fields.c programs/chip.c programs/words.c
 target/c/i2c: host/i2c.c programs/words.c
 target/c/i2c_fake: tests/i2c/fake.c programs/fields.c programs/chip.c programs/words.c | host/i2c.c
 target/c/bench: bench/bench.c bench/plain.c programs/fields.c programs/words.c

@@ -1,8 +1,9 @@
-/* An example host. It reads the chip's registers back, plans a request on them and sends the list, write by write. The chip is simulated,
- * in a file: its registers and buffers outlive the host, as a chip's do. A host that is killed after any write and started again reads
- * back, plans again and finishes. After each write it shows whether the picture is muted, and whether each group in use is as it was
- * when this host started (old) or as the list ends (new). */
+/* An example host. It reads the chip's registers back, plans a request on them and sends the list, write by write, with one Vsync awaited
+ * just before the last. The chip is simulated, in a file: its registers, buffers and waiting mark outlive the host, as a chip's do. A host
+ * that is killed after any event and started again reads back, plans again and finishes. After each event it shows whether the picture is
+ * muted, and whether each group in use is as it was when this host started (old) or as the list ends (new). */
 #include "../programs/chip.h"
+#include "../programs/events.h"
 #include "../programs/fields.h"
 #include "../programs/words.h"
 #include "station_text.h"
@@ -16,20 +17,28 @@
 const char *program = "host/run";
 
 static const char help[] =
-    "host/run [--chip FILE] [--cut K] [--brief] [BYTES..]\n"
+    "host/run [--chip FILE] [--cut K] [--vsync AT,..] [--brief] [BYTES..]\n"
     "\n"
-    "Sends a request to a simulated chip, write by write. BYTES is the request: a byte is exactly two hex digits, with or without blanks\n"
-    "between. Without BYTES it is 1080p, YCbCr 4:2:2, eight channels at 48 kHz, with a matrix.\n"
+    "Sends a request to a simulated chip, write by write, and waits for one Vsync just before the last. BYTES is the request: a byte is\n"
+    "exactly two hex digits, with or without blanks between. Without BYTES it is 1080p, YCbCr 4:2:2, eight channels at 48 kHz, with a\n"
+    "matrix.\n"
     "\n"
-    "  --chip FILE  the chip's registers and buffers; where FILE is not there it is made, and shows 720p. Without it the chip is new\n"
-    "  --cut K      the host is killed (SIGKILL) after its write K, from 0 to the last, and then started again without --cut\n"
-    "  --brief      only the writes after which something differs\n"
+    "  --chip FILE     the chip's registers, buffers and waiting mark; where FILE is not there it is made, and shows 720p. Without it the\n"
+    "                  chip is new\n"
+    "  --vsync AT,..   a Vsync comes besides after so many writes, 0 is before the first; a number may stand twice\n"
+    "  --cut K         the host is killed (SIGKILL) after event K of the run, writes and Vsyncs counted in their order, 0 is before the\n"
+    "                  first; and then started again without --cut and --vsync\n"
+    "  --brief         only the Vsyncs and the writes after which something differs\n"
+    "\n"
+    "Of N writes the Vsync that the host waits for is event N and the last write event N + 1, where none comes besides: so --cut N-1 is\n"
+    "before that Vsync, --cut N at it, before the host opens the picture, and --cut N+1 after all.\n"
     "\n"
     "The status is 0 for a request that is on show, 1 for one that is refused, 2 for a command that is not as above.\n"
     "\n"
-    "  host/run --cut 25 --brief\n";
+    "  host/run --cut 25 --brief\n"
+    "  host/run --vsync 0,22 --cut 30 --brief\n";
 
-/* ---- The chip. On a real one, `read_back` is a read of 256 registers and `write_register` a write of one, over the bus. */
+/* ---- The chip. On a real one `read_back` is a read of 256 registers, a write goes over the bus, and Vsync comes by itself: host/i2c.c. */
 
 static struct chip chip;
 static int chip_file;
@@ -42,16 +51,16 @@ static void open_chip(const char *name) {
     off_t length = lseek(chip_file, 0, SEEK_END);
     if (length == 0) {
         struct station_count n = station_plan(first.bytes, first.length, chip.image, STATION_IMAGE, list, sizeof list);
-        for (uint32_t w = 0; w < n.count; w++) chip_write(&chip, list + 2 * w);
+        chip_run(&chip, list, n.count);
     } else if (length != (off_t)sizeof chip || pread(chip_file, &chip, sizeof chip, 0) != (ssize_t)sizeof chip)
         misuse("%s is no chip: that is a file of %u bytes", name, (unsigned)sizeof chip);
 }
 
 static void read_back(uint8_t *image) { memcpy(image, chip.image, STATION_IMAGE); }
 
-/* The number of the chip's refusal. A write that is not refused has reached the file, as a whole, when this returns. */
-static uint32_t write_register(const uint8_t *pair) {
-    uint32_t refusal = chip_write(&chip, pair);
+/* An event; the number of the chip's refusal. What is not refused has reached the file, as a whole, when this returns. */
+static uint32_t happen(const struct event *e, const uint8_t *list) {
+    uint32_t refusal = e->kind == WRITE ? chip_write(&chip, list + 2 * e->write) : chip_vsync(&chip);
     if (pwrite(chip_file, &chip, sizeof chip, 0) != (ssize_t)sizeof chip) {
         perror(program);
         exit(MISUSE);
@@ -61,18 +70,25 @@ static uint32_t write_register(const uint8_t *pair) {
 
 /* ---- What a person sees. */
 
-static void show(uint32_t number, const uint8_t *pair, const struct sent *old, const struct sent *new, int brief) {
+static void text_of_event(const struct event *e, const uint8_t *list, char text[16]) {
+    static const char *const vsyncs[] = { [VSYNC] = "Vsync", [AWAITED] = "its Vsync" };
+    if (e->kind == WRITE) snprintf(text, 16, "%02x = %02x", list[2 * e->write], list[2 * e->write + 1]);
+    else snprintf(text, 16, "%s", vsyncs[e->kind]);
+}
+
+/* A line: of an event, or of the beginning where there is none. */
+static void show(uint32_t number, const struct event *e, const uint8_t *list, const struct sent *old, const struct sent *new, int brief) {
     static const char *const mutes[4] = { "neither", "muted", "open", "neither" };
     static const char *const ages[] = { [NEITHER] = "MIXED", [OLD] = "old", [NEW] = "new", [BOTH] = "same" };
     static char last[64];
-    char state[64], write[16] = "";
+    char state[64], what[16] = "";
     struct sent s = chip_sent(&chip);
-    snprintf(state, sizeof state, "%-8s %-6s %-6s %s", mutes[s.mute & 3], ages[age(AVI, &s, old, new)], ages[age(AUDIO, &s, old, new)],
-             ages[age(MATRIX, &s, old, new)]);
-    if (brief && pair && !strcmp(state, last)) return;
+    snprintf(state, sizeof state, "%-8s %-6s %-6s %s%s", mutes[s.mute & 3], ages[age(AVI, &s, old, new)], ages[age(AUDIO, &s, old, new)],
+             ages[age(MATRIX, &s, old, new)], s.waiting ? ", waiting" : "");
+    if (brief && e && e->kind == WRITE && !strcmp(state, last)) return;
     strcpy(last, state);
-    if (pair) snprintf(write, sizeof write, "%02x = %02x", pair[0], pair[1]);
-    printf("%5u  %-9s %s\n", (unsigned)number, write, state);
+    if (e) text_of_event(e, list, what);
+    printf("%5u  %-9s %s\n", (unsigned)number, what, state);
 }
 
 static void show_request(const char *what, const uint8_t *request, size_t length) {
@@ -88,16 +104,41 @@ static void show_request(const char *what, const uint8_t *request, size_t length
 
 static void take_name(const char *word, struct option *o) { *(const char **)o->into = word; }
 
+/* The events one after the other, as far as the cut. Old is what is in use now; new is what will be, found on a copy of the chip. */
+static int run(const struct events *e, const uint8_t *list, long cut, int brief) {
+    struct chip copy = chip;
+    chip_run(&copy, list, e->writes);
+    struct beginning b = chip_begin(&chip);
+    struct sent new = chip_sent(&copy);
+    printf("    #  %-9s %-8s %-6s %-6s %s\n", "event", "picture", "AVI", "audio", "matrix");
+    show(0, NULL, list, &b.old, &new, brief);
+    for (uint32_t k = 0; ; k++) {
+        if (cut == (long)k) kill(getpid(), SIGKILL);
+        if (k == e->count) return 1;
+        const struct event *now = &e->at[k];
+        uint32_t refusal = happen(now, list);
+        if (refusal) {                                      /* never seen: the machine takes every write of a list */
+            printf("the chip refused %02x = %02x: %s\n", list[2 * now->write], list[2 * now->write + 1], station_text(refusal));
+            return 0;
+        }
+        chip_follow(&b, &chip, now->kind != WRITE);
+        show(k + 1, now, list, &b.old, &new, brief);
+    }
+}
+
 int main(int count, char **words) {
+    static struct events events;
     struct request asked = request_of_text("vic 16 ycbcr422 hdmi audio 48kHz 8 coherent matrix table39");
     uint8_t image[STATION_IMAGE], list[STATION_WRITES], back[STATION_REQUEST];
+    struct places besides = { .count = 0 };
     const char *file = NULL;
     size_t length;
     long cut = -1;
     int brief = 0;
     struct option options[] = {
         { "--chip", take_name, &file, 0, 0 },
-        { "--cut", take_number, &cut, STATION_WRITES / 2, 0 },
+        { "--cut", take_number, &cut, EVENTS, 0 },
+        { "--vsync", take_places, &besides, 0, 0 },
         { "--brief", NULL, &brief, 0, 0 },
     };
     setvbuf(stdout, NULL, _IOLBF, 0);                       /* what was said before a kill is seen */
@@ -118,30 +159,13 @@ int main(int count, char **words) {
         printf("refused %u: %s\n", (unsigned)n.refusal, station_text(n.refusal));
         return REFUSED;
     }
-    if (cut > (long)n.count) misuse("--cut %ld: the list has %u writes", cut, (unsigned)n.count);
+    events_of(&events, n.count, &besides, cut);
 
     struct station_count shown = station_decode(image, sizeof image, back, sizeof back);
     show_request("on show:", back, shown.count);
     show_request("asked for:", asked.bytes, asked.length);
-    printf("planned: %u writes\n", (unsigned)n.count);
-
-    /* Old is what is in use now; new is what will be, found on a copy of the chip. */
-    struct chip copy = chip;
-    for (uint32_t w = 0; w < n.count; w++) chip_write(&copy, list + 2 * w);
-    struct sent old = chip_sent(&chip), new = chip_sent(&copy);
-
-    printf("    #  %-9s %-8s %-6s %-6s %s\n", "write", "picture", "AVI", "audio", "matrix");
-    show(0, NULL, &old, &new, brief);
-    for (uint32_t w = 0; ; w++) {
-        if (cut == (long)w) kill(getpid(), SIGKILL);
-        if (w == n.count) break;
-        uint32_t refusal = write_register(list + 2 * w);
-        if (refusal) {                                      /* never seen: the machine takes every write of a list */
-            printf("the chip refused %02x = %02x: %s\n", list[2 * w], list[2 * w + 1], station_text(refusal));
-            return REFUSED;
-        }
-        show(w + 1, list + 2 * w, &old, &new, brief);
-    }
+    printf("planned: %u writes, and one Vsync before the last\n", (unsigned)n.count);
+    if (!run(&events, list, cut, brief)) return REFUSED;
 
     /* The finished image reads back as the request; no register names the family, which is answered as 0. */
     read_back(image);
