@@ -41,7 +41,8 @@ static uint8_t some_address(void) {
     return address;
 }
 
-/* A chip of zeros or noise; with a list of ours finished, or cut; with a byte damaged, more often that of the packet holds. */
+/* A chip of zeros or noise, its waiting mark too; with a list of ours finished, or cut at any event; with a byte damaged, more often that of
+ * the packet holds. */
 static void some_chip(struct chip *c) {
     uint8_t writes[STATION_WRITES];
     memset(c, 0, sizeof *c);
@@ -49,9 +50,19 @@ static void some_chip(struct chip *c) {
     if (below(4)) c->image[0x4A] &= 0x8F;
     if (below(8)) {
         uint32_t count = plan(c, writes), cut = below(3) ? count : below(count + 1);
-        for (uint32_t w = 0; w < cut; w++) chip_write(c, writes + 2 * w);
+        if (cut == count) chip_run(c, writes, count);
+        else for (uint32_t w = 0; w < cut; w++) chip_write(c, writes + 2 * w);
     }
+    if (!below(6)) c->mark[0] = (uint8_t)below(256);
     if (!below(6)) c->image[some_address()] ^= (uint8_t)(1 << below(8));
+}
+
+/* Cut off anywhere, with a coefficient for the last pair: the Vsync comes before that. */
+static void end_in_coefficients(const struct chip *c, uint8_t *list, uint32_t *count) {
+    uint8_t address = (uint8_t)(0x1B + below(21));
+    *count = 2 + below(*count - 1);
+    list[2 * *count - 2] = address;
+    list[2 * *count - 1] = (uint8_t)(c->image[address] ^ (1 << below(5)));
 }
 
 /* A list: one of ours on this chip or on another, or none; then pairs changed, taken out, put in, changed places. */
@@ -76,6 +87,7 @@ static size_t some_list(const struct chip *c, uint8_t *list) {
             default: memmove(list + 2 * by + 2, list + 2 * by, 2 * (count++ - by)); memcpy(list + 2 * by, pair, 2);
         }
     }
+    if (count > 2 && !below(8)) end_in_coefficients(c, list, &count);
     for (uint32_t to = below(50) ? 0 : STATION_LIST / 2 + below(2); count < to; count++) {
         list[2 * count] = 0x4B;
         list[2 * count + 1] = 0x40;

@@ -13,6 +13,7 @@ const char *const fault_words[FAULTS] = {
     [TORN_AVI] = "AVI torn after it",
     [TORN_AUDIO] = "audio torn after it",
     [TORN_MATRIX] = "matrix torn after it",
+    [TORN_AT_VSYNC] = "matrix torn at the Vsync after it",
 };
 
 const char *const fault_says[FAULTS] = {
@@ -25,6 +26,8 @@ const char *const fault_says[FAULTS] = {
     [TORN_AVI] = "the AVI InfoFrame in use is neither as it began nor as the list ends; its hold is 0x4A[6]",
     [TORN_AUDIO] = "the audio InfoFrame in use is neither as it began nor as the list ends; its hold is 0x4A[5]",
     [TORN_MATRIX] = "the twelve coefficients in use are neither as they began nor as the list ends; their hold is 0x1A[5]",
+    [TORN_AT_VSYNC] = "a list has one Vsync, just before its last pair. There the coefficients that wait come into use, and they are "
+                      "neither as they began nor as the list ends: the last pair must write none",
 };
 
 /* "touches only registers that hold a named bit, belong to the AVI or audio packet or stand in Table 14" */
@@ -60,10 +63,51 @@ int is_bad(const struct judged *p) {
     return bad;
 }
 
-enum { PACKET_HOLDS = 0x4A, GC_HOLD = 0x10, OTHER_HOLDS = 0x60 };
+enum { PACKET_HOLDS = 0x4A, GC_HOLD = 0x10, OTHER_HOLDS = 0x60, ALL_HOLDS = 0x70 };
+
+/* How many pairs come before the first that would leave two packet holds up. */
+static uint32_t end_of(const uint8_t *list, uint32_t count) {
+    for (uint32_t i = 0; i < count; i++) {
+        uint8_t up = list[2 * i + 1] & ALL_HOLDS;
+        if (list[2 * i] == PACKET_HOLDS && (up & (up - 1))) return i;
+    }
+    return count;
+}
+
+/* The list's one Vsync. */
+static void turn_over(struct chip *c, struct beginning *b, struct judgement *j) {
+    chip_vsync(c);
+    chip_follow(b, c, 1);
+    j->old_after = b->old;
+    j->turned_over = chip_sent(c);
+}
+
+/* The rules of the cuts, by what is old and new there. What did not wait is after the Vsync as it was before. */
+static void judge_cuts(struct judgement *j) {
+    for (uint32_t i = 0; i + 1 < j->end; i++) {
+        struct judged *p = &j->pairs[i];
+        p->broken[NOT_MUTED] = p->now.mute != STATION_MUTED;
+        for (int g = 0; g < GROUPS; g++) p->broken[TORN_AVI + g] = age((enum group)g, &p->now, &j->old, &j->new) == NEITHER;
+        if (waits_before(i + 1, j->end) && p->now.waiting)
+            p->broken[TORN_AT_VSYNC] = age(MATRIX, &j->turned_over, &j->old_after, &j->new) == NEITHER;
+    }
+}
+
+static void run(const struct chip *start, const uint8_t *list, struct judgement *j) {
+    struct chip c = *start;
+    struct beginning b = chip_begin(start);
+    j->last = c;
+    j->old = b.old;
+    for (uint32_t i = 0; i < j->count; i++) {
+        if (waits_before(i, j->end)) turn_over(&c, &b, j);
+        judge_pair(&c, list + 2 * i, &j->pairs[i]);
+        chip_follow(&b, &c, 0);
+        if (i < j->end) j->last = c;
+    }
+    j->new = chip_sent(&j->last);
+}
 
 void judge(const struct chip *start, const uint8_t *list, size_t length, struct judgement *j) {
-    struct chip c = *start;
     uint8_t request[STATION_REQUEST], holds = start->image[PACKET_HOLDS];
     memset(j, 0, sizeof *j);
     if ((holds & GC_HOLD) || (holds & OTHER_HOLDS) == OTHER_HOLDS) {
@@ -74,20 +118,10 @@ void judge(const struct chip *start, const uint8_t *list, size_t length, struct 
         j->verdict.refusal = STATION_LIST_LENGTH;
         return;
     }
-    j->count = j->end = (uint32_t)length / 2;
-    j->last = c;
-    j->old = chip_sent(&c);
-    for (uint32_t i = 0; i < j->count; i++) {
-        judge_pair(&c, list + 2 * i, &j->pairs[i]);
-        if (j->pairs[i].broken[TWO_HOLDS] && j->end == j->count) j->end = i;
-        if (j->end == j->count) j->last = c;
-    }
-    j->new = chip_sent(&j->last);
-    for (uint32_t i = 0; i + 1 < j->end; i++) {
-        struct judged *p = &j->pairs[i];
-        p->broken[NOT_MUTED] = p->now.mute != STATION_MUTED;
-        for (int g = 0; g < GROUPS; g++) p->broken[TORN_AVI + g] = age((enum group)g, &p->now, &j->old, &j->new) == NEITHER;
-    }
+    j->count = (uint32_t)length / 2;
+    j->end = end_of(list, j->count);
+    run(start, list, j);
+    judge_cuts(j);
     for (uint32_t i = 0; i < j->count; i++)
         if (is_bad(&j->pairs[i])) {
             j->verdict.refusal = STATION_BAD_PAIR;
@@ -139,5 +173,6 @@ void text_of_verdict(struct station_verdict v, char text[TEXT_OF_A_VERDICT]) {
 }
 
 struct station_verdict vet(const struct chip *c, const uint8_t *list, size_t length) {
-    return station_vet(c->image, STATION_IMAGE, c->packet, STATION_PACKET, c->coefficients, STATION_COEFFICIENTS, list, length);
+    return station_vet(c->image, STATION_IMAGE, c->packet, STATION_PACKET, c->coefficients, STATION_COEFFICIENTS, c->mark[0], list,
+                       length);
 }

@@ -5,20 +5,21 @@
 
 #include "chip.h"
 
-/* The rules that a pair can break: of the pair itself, and of the cut after it where another pair follows. */
-enum fault { NO_GROUP, NOT_MANDATED, FREE_MOVED, TWO_HOLDS, NOT_MUTED, TORN_AVI, TORN_AUDIO, TORN_MATRIX, FAULTS };
+/* The rules that a pair can break: of the pair itself, and of the cut after it where another pair follows. Just before the last pair comes
+ * the list's one Vsync; the last rule is of the cut between the two, and the pair before the Vsync breaks it. */
+enum fault { NO_GROUP, NOT_MANDATED, FREE_MOVED, TWO_HOLDS, NOT_MUTED, TORN_AVI, TORN_AUDIO, TORN_MATRIX, TORN_AT_VSYNC, FAULTS };
 
 /* A pair: whether each rule is broken; the byte before it, and after it, or its own value where the machine does not take it; what is in
  * use after it; the bits of the second and the third rule. */
 struct judged { uint8_t broken[FAULTS], before, after, mandated, moved; struct sent now; };
 
 /* A list: how many pairs there are, and how many come before one that would leave two packet holds up (all, where none would); the chip at
- * that end; what was in use at the beginning and is at that end. */
+ * that end; what is old, at first and after the Vsync, and what is in use after the Vsync and at the end. */
 struct judgement {
     struct station_verdict verdict;
     uint32_t count, end;
     struct chip last;
-    struct sent old, new;
+    struct sent old, old_after, turned_over, new;
     struct judged pairs[STATION_LIST / 2];
 };
 void judge(const struct chip *c, const uint8_t *list, size_t length, struct judgement *j);

@@ -11,6 +11,9 @@ const char list_help[] =
     "  i2cset -y 1 0x39 0x4b 0x40    a pair; also with 'b' at the end\n"
     "  i2ctransfer -y 1 w2@0x39 0x4b 0x40\n"
     "                                a pair, as tools/listing --i2ctransfer prints it\n"
+    "  sleep 1                       just before the last pair and nowhere else: the\n"
+    "                                wait for Vsync. The verdict has one there,\n"
+    "                                written or not\n"
     "\n"
     "In a command a number has its 0x, for i2cset takes 40 for a decimal one; the\n"
     "chip is 0x39, all are for one bus, and a line is one pair. 'set -e' alone in a\n"
@@ -25,6 +28,8 @@ struct reader {
     FILE *from;
     unsigned long line;
     char word[WORD], bus[WORD];     /* a word that is longer is cut: it is none that can be read; the bus of the commands before */
+    unsigned long waits;            /* the line of a wait, 0 where there is none, and the bytes before it */
+    size_t before_wait;
 };
 
 /* The next byte of the text; of a DOS line end the second alone. A carriage return elsewhere ends lines for some programs and not for
@@ -87,7 +92,7 @@ static void add(const struct reader *r, struct list *l, int byte) {
     l->all++;
 }
 
-/* ---- A line with a command: one pair. */
+/* ---- A line with a command: one pair, or a wait. */
 
 static int byte_of_command(const struct reader *r, const char *word) {
     int has_0x, value = byte_of(word, &has_0x);
@@ -100,6 +105,19 @@ static void must_be_chip(const struct reader *r, const char *word) {
     int has_0x;
     if (byte_of(word, &has_0x) != CHIP_ON_THE_BUS || !has_0x)
         misuse("line %lu: '%s' is another chip than 0x%02x", r->line, word, CHIP_ON_THE_BUS);
+}
+
+/* A wait that was read stands where the verdict has its Vsync, just before the last pair: of so many bytes in all. */
+static void must_wait_before(const struct reader *r, size_t bytes) {
+    if (r->waits && r->before_wait + 2 != bytes)
+        misuse("line %lu: 'sleep' is read only just before the last pair, where the verdict has its Vsync", r->waits);
+}
+
+static void read_wait(struct reader *r, const struct list *l, const char *time) {
+    if (strcmp(time, "1")) misuse("line %lu: of waits only 'sleep 1' is read", r->line);
+    must_wait_before(r, l->all + 2);
+    r->waits = r->line;
+    r->before_wait = l->all;
 }
 
 static void read_command(struct reader *r, struct list *l) {
@@ -117,6 +135,10 @@ static void read_command(struct reader *r, struct list *l) {
         return;
     }
     if (l->all % 2) misuse("line %lu: a command begins inside a pair", r->line);
+    if (!strcmp(words[0], "sleep")) {
+        read_wait(r, l, count == 2 ? words[1] : "");
+        return;
+    }
     is_set = !strcmp(words[0], "i2cset");
     for (; at < count && words[at][0] == '-'; at++)
         if (strcmp(words[at], "-y") && strcmp(words[at], "-f")) misuse("line %lu: the option '%s' is not read", r->line, words[at]);
@@ -155,16 +177,24 @@ static void read_bytes(struct reader *r, struct list *l, enum next n) {
     if (l->all % 2 && !l->parted) l->parted = r->line;
 }
 
+static int is_command(const char *word) {
+    static const char *const commands[] = { "i2cset", "i2ctransfer", "set", "sleep" };
+    for (size_t c = 0; c < sizeof commands / sizeof commands[0]; c++)
+        if (!strcmp(word, commands[c])) return 1;
+    return 0;
+}
+
 void list_of_file(const char *name, struct list *l) {
-    struct reader r = { stdin, 1, "", "" };
+    struct reader r = { .from = stdin, .line = 1 };
     memset(l, 0, sizeof *l);
     if (strcmp(name, "-") && !(r.from = fopen(name, "rb"))) misuse("%.80s cannot be opened", name);
     for (int c = 0; c != EOF; r.line++) {
         enum next n = next_of(&r);
-        if (n == A_WORD && (!strcmp(r.word, "i2cset") || !strcmp(r.word, "i2ctransfer") || !strcmp(r.word, "set"))) read_command(&r, l);
+        if (n == A_WORD && is_command(r.word)) read_command(&r, l);
         else read_bytes(&r, l, n);
         c = getc(r.from);
     }
     if (ferror(r.from)) misuse("%.80s cannot be read", name);
+    must_wait_before(&r, l->all);
     if (r.from != stdin) fclose(r.from);
 }

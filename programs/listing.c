@@ -16,15 +16,19 @@ static const char help[] =
     "Prints the write list of a request as a table, a line for each write: the\n"
     "register, its byte before and after, the fields that the write sets, and what is\n"
     "in use after it: old, new, both where the two are the same, torn where it is\n"
-    "neither. Registers that are right already are left out; the last line says how\n"
-    "many. BYTES is the request: a byte is exactly two hex digits, with or without\n"
-    "blanks between.\n"
+    "neither; waiting where new coefficients wait for the next Vsync. A line of its\n"
+    "own, just before the last write, says where the host waits for that. Registers\n"
+    "that are right already are left out; the last line says how many. BYTES is the\n"
+    "request: a byte is exactly two hex digits, with or without blanks between.\n"
     "\n"
     "  --image FILE         the chip's registers as they stand, 256 bytes\n"
     "  --packet FILE        its packet buffer, 32 bytes\n"
     "  --coefficients FILE  its coefficient buffer, 24 bytes\n"
+    "  --mark N             its waiting mark: 0 for none; 1 to 255: a change waits\n"
     "  --i2ctransfer BUS    no table: lines for a shell, which stops at the first\n"
-    "                       that fails, for the chip at 0x39 of this bus (a number)\n"
+    "                       that fails, for the chip at 0x39 of this bus (a number);\n"
+    "                       for Vsync they sleep for a second, which is longer than\n"
+    "                       a frame of any mode\n"
     "  --raw                no table: the pairs of address and value, two bytes each\n"
     "\n"
     "What is not given is zeros. For a real chip give its registers (tools/image\n"
@@ -41,14 +45,22 @@ static void print_length(const char *before, const uint8_t *pairs, uint32_t coun
 
 static void print_list(struct chip c, const uint8_t *pairs, uint32_t count) {
     struct chip end = c;
-    for (uint32_t w = 0; w < count; w++) chip_write(&end, pairs + 2 * w);
-    struct sent old = chip_sent(&c), new = chip_sent(&end);
+    chip_run(&end, pairs, count);
+    struct beginning b = chip_begin(&c);
+    struct sent s, new = chip_sent(&end);
     table_head("no");
     for (uint32_t w = 0; w < count; w++) {
         uint8_t address = pairs[2 * w], before = c.image[address];
+        if (waits_before(w, count)) {
+            chip_vsync(&c);
+            chip_follow(&b, &c, 1);
+            s = chip_sent(&c);
+            table_vsync(&s, &b.old, &new);
+        }
         chip_write(&c, pairs + 2 * w);
-        struct sent s = chip_sent(&c);
-        table_row((unsigned)w + 1, address, before, c.image[address], &s, &old, &new);
+        chip_follow(&b, &c, 0);
+        s = chip_sent(&c);
+        table_row((unsigned)w + 1, address, before, c.image[address], &s, &b.old, &new);
     }
     print_length("", pairs, count);
 }
@@ -61,25 +73,29 @@ static void print_commands(const uint8_t *pairs, uint32_t count, long bus, int o
     if (of_zeros) printf("# The registers were not given (--image) and are taken as zeros:\n# not for a real chip.\n");
     else printf("# For the registers as they were given (--image), and for no others.\n");
     printf("set -e\n");
-    for (uint32_t w = 0; w < count; w++)
+    for (uint32_t w = 0; w < count; w++) {
+        if (waits_before(w, count)) printf("sleep 1 # wait for Vsync\n");
         printf("i2ctransfer -y %ld w2@0x%02x 0x%02x 0x%02x\n", bus, CHIP_ON_THE_BUS, pairs[2 * w], pairs[2 * w + 1]);
+    }
 }
 
 int main(int count, char **words) {
-    struct chip c = { { 0 }, { 0 }, { 0 } };
-    long bus = 0;
+    struct chip c = { { 0 }, { 0 }, { 0 }, { 0 } };
+    long bus = 0, mark = 0;
     int raw = 0;
     struct option options[] = {
         { "--image", take_file, c.image, STATION_IMAGE, 0 },
         { "--packet", take_file, c.packet, STATION_PACKET, 0 },
         { "--coefficients", take_file, c.coefficients, STATION_COEFFICIENTS, 0 },
+        { "--mark", take_number, &mark, UINT8_MAX, 0 },
         { "--i2ctransfer", take_number, &bus, BUSES, 0 },
         { "--raw", NULL, &raw, 0, 0 },
     };
-    enum { BY_IMAGE, BY_PACKET, BY_COEFFICIENTS, BY_BUS, OPTIONS = sizeof options / sizeof options[0] };
+    enum { BY_IMAGE, BY_PACKET, BY_COEFFICIENTS, BY_MARK, BY_BUS, OPTIONS = sizeof options / sizeof options[0] };
     size_t length;
     uint8_t *request = request_of_command(count, words, help, options, OPTIONS, &length), writes[STATION_WRITES];
     int to_shell = options[BY_BUS].given;
+    c.mark[0] = (uint8_t)mark;
     if (raw && to_shell) misuse("--raw and --i2ctransfer exclude each other");
     struct station_count n = station_plan(request, length, c.image, STATION_IMAGE, writes, STATION_WRITES);
     free(request);

@@ -18,14 +18,17 @@ static const char help[] =
     "\n"
     "Prints a list of writes that somebody brings, pair by pair: the register, its\n"
     "byte before and after, the fields that the write sets, and what is in use after\n"
-    "it: old, new, both where the two are the same, torn where it is neither. Below a\n"
-    "bad pair stands why. Then the request that the list ends in, what changes, and\n"
-    "the verdict. Places are counted from 0, as the library does (tools/listing\n"
-    "counts its writes from 1).\n"
+    "it: old, new, both where the two are the same, torn where it is neither; waiting\n"
+    "where new coefficients wait for Vsync. One Vsync is taken to come just before\n"
+    "the last pair: whoever runs the list waits there. Below a bad pair stands why.\n"
+    "Then the request that the list ends in, what changes, and the verdict. Places\n"
+    "are counted from 0, as the library does (tools/listing counts its writes from\n"
+    "1).\n"
     "\n"
     "  --image FILE         the chip's registers as they stand, 256 bytes\n"
     "  --packet FILE        its packet buffer, 32 bytes\n"
     "  --coefficients FILE  its coefficient buffer, 24 bytes\n"
+    "  --mark N             its waiting mark: 0 for none; 1 to 255: a change waits\n"
     "\n"
     "What is not given is zeros. For a real chip give its registers (tools/image\n"
     "makes the file), for a list must keep their free bits. LIST is a file, or - for\n"
@@ -63,7 +66,9 @@ static void print_table(const struct list *l, const struct judgement *j) {
     table_head("at");
     for (uint32_t i = 0; i < j->count; i++) {
         const struct judged *p = &j->pairs[i];
-        table_row((unsigned)i, l->bytes[2 * i], p->before, p->after, i < j->end ? &p->now : NULL, &j->old, &j->new);
+        int is_last = waits_before(i, j->end);
+        if (is_last) table_vsync(&j->turned_over, &j->old_after, &j->new);
+        table_row((unsigned)i, l->bytes[2 * i], p->before, p->after, i < j->end ? &p->now : NULL, is_last ? &j->old_after : &j->old, &j->new);
         if (is_bad(p)) {
             char text[TEXT_OF_FAULTS];
             text_of_faults(l->bytes[2 * i], p, text);
@@ -108,7 +113,7 @@ static int stands(const struct chip *c, const struct shown *s, uint8_t family) {
     uint8_t writes[STATION_WRITES];
     q.request[AT_FAMILY] = family;
     struct station_count n = station_plan(q.request, q.length, c->image, STATION_IMAGE, writes, STATION_WRITES);
-    for (uint32_t w = 0; w < n.count; w++) chip_write(&after, writes + 2 * w);
+    chip_run(&after, writes, n.count);
     return n.refusal == 0 && !memcmp(after.image, c->image, STATION_IMAGE);
 }
 
@@ -170,15 +175,19 @@ static void print_ends(const struct chip *start, const struct judgement *j) {
 
 /* ---- The whole. */
 
-static void print_notes(const struct list *l, const struct chip *c, int image, int packet, int coefficients) {
+enum { BY_IMAGE, BY_PACKET, BY_COEFFICIENTS, BY_MARK, OPTIONS };
+
+static void print_notes(const struct list *l, const struct chip *c, const struct option *given) {
     if (l->all % 2) printf("%lu bytes: no whole number of pairs.\n", (unsigned long)l->all);
     else printf("%lu pair%s. Places are counted from 0; tools/listing counts its writes from 1.\n", (unsigned long)l->all / 2,
                 l->all == 2 ? "" : "s");
     if (l->parted) printf("Line %lu ends inside a pair.\n", l->parted);
-    if (!image) printf("The registers were not given (--image) and are taken as zeros: this says nothing\nof a real chip.\n");
-    if (!packet && (c->image[0x4A] & 0x70)) printf("A packet hold is up, and --packet was not given: zeros.\n");
-    if (!coefficients && (c->image[0x1A] & 0x20))
+    if (!given[BY_IMAGE].given) printf("The registers were not given (--image) and are taken as zeros: this says nothing\nof a real chip.\n");
+    if (!given[BY_PACKET].given && (c->image[0x4A] & 0x70)) printf("A packet hold is up, and --packet was not given: zeros.\n");
+    if (!given[BY_COEFFICIENTS].given && (c->image[0x1A] & 0x20))
         printf("The coefficient hold is up, and --coefficients was not given: zeros.\n");
+    else if (!given[BY_COEFFICIENTS].given && c->mark[0])
+        printf("A change of the coefficients waits, and --coefficients was not given: zeros.\n");
     printf("\n");
 }
 
@@ -207,14 +216,15 @@ static void take_name(const char *word, void *into) {
 int main(int count, char **words) {
     static struct list l;
     static struct judgement j;
-    struct chip c = { { 0 }, { 0 }, { 0 } };
+    struct chip c = { { 0 }, { 0 }, { 0 }, { 0 } };
     const char *name = NULL;
+    long mark = 0;
     struct option options[] = {
         { "--image", take_file, c.image, STATION_IMAGE, 0 },
         { "--packet", take_file, c.packet, STATION_PACKET, 0 },
         { "--coefficients", take_file, c.coefficients, STATION_COEFFICIENTS, 0 },
+        { "--mark", take_number, &mark, UINT8_MAX, 0 },
     };
-    enum { BY_IMAGE, BY_PACKET, BY_COEFFICIENTS, OPTIONS };
     for (int i = 1; i < count; i++)
         if (!strcmp(words[i], "--help")) {
             printf("%s%s%s", help, list_help, more);
@@ -223,9 +233,10 @@ int main(int count, char **words) {
     words_of_command(count, words, help, options, OPTIONS, take_name, &name);
     if (!name) misuse("no list");
     list_of_file(name, &l);
+    c.mark[0] = (uint8_t)mark;
     judge(&c, l.bytes, l.length, &j);
     struct station_verdict v = vet(&c, l.bytes, l.length);
-    print_notes(&l, &c, options[BY_IMAGE].given, options[BY_PACKET].given, options[BY_COEFFICIENTS].given);
+    print_notes(&l, &c, options);
     if (j.verdict.refusal != STATION_HOLDS_UP && j.verdict.refusal != STATION_LIST_LENGTH) {
         print_table(&l, &j);
         print_reasons(&j);

@@ -19,7 +19,7 @@ static const char *const picture_words[4] = { "neither", "muted", "open", "neith
 static const char *const age_words[] = { [NEITHER] = "torn", [OLD] = "old", [NEW] = "new", [BOTH] = "both" };
 
 /* The width of the column, and room for what is in it. */
-enum { SETS = 20, TEXT = 64 };
+enum { SETS = 18, TEXT = 64 };
 
 /* One more of the fields that a write sets, where it fits. */
 static void add(char *text, const char *first, const char *second) {
@@ -48,18 +48,33 @@ static void sets(char *text, uint8_t address, uint8_t old, uint8_t new) {
     if (c.mandated) add(text, "mandated", "");
 }
 
+/* The columns: those of the write, and what is in use after it. */
+#define OF_A_WRITE "%-4s %-13s %-3s %-2s %-18s"
+#define IN_USE "%-7s %-4s %-5s %s%s\n"
+
 void table_head(const char *number) {
-    printf("%3s %-4s %-16s %-3s %-3s %-20s %-7s %-4s %-5s %s\n", number, "addr", "register", "old", "new", "sets", "picture", "AVI",
-           "audio", "matrix");
+    printf("%3s " OF_A_WRITE " " IN_USE, number, "addr", "register", "was", "is", "sets", "picture", "AVI", "audio", "matrix", "");
+}
+
+static void print_in_use(const struct sent *now, const struct sent *old, const struct sent *new) {
+    if (!now) printf(" " IN_USE, "-", "-", "-", "-", "");
+    else printf(" " IN_USE, picture_words[now->mute & 3], age_words[age(AVI, now, old, new)], age_words[age(AUDIO, now, old, new)],
+                age_words[age(MATRIX, now, old, new)], now->waiting ? " waiting" : "");
 }
 
 void table_row(unsigned number, uint8_t address, uint8_t before, uint8_t after, const struct sent *now, const struct sent *old,
                const struct sent *new) {
-    char text[TEXT];
-    sets(text, address, before, after);
+    char text[TEXT], at[8], was[4], is[4];
     const char *name = registers[address].name;
-    printf("%3u 0x%02X %-16s %02X  %02X  %-20s ", number, address, name ? name : "", before, after, text);
-    if (now) printf("%-7s %-4s %-5s %s\n", picture_words[now->mute & 3], age_words[age(AVI, now, old, new)],
-                    age_words[age(AUDIO, now, old, new)], age_words[age(MATRIX, now, old, new)]);
-    else printf("%-7s %-4s %-5s %s\n", "-", "-", "-", "-");
+    sets(text, address, before, after);
+    snprintf(at, sizeof at, "0x%02X", address);
+    snprintf(was, sizeof was, "%02X", before);
+    snprintf(is, sizeof is, "%02X", after);
+    printf("%3u " OF_A_WRITE, number, at, name ? name : "", was, is, text);
+    print_in_use(now, old, new);
+}
+
+void table_vsync(const struct sent *now, const struct sent *old, const struct sent *new) {
+    printf("%3s %-44s", "", "wait for Vsync");
+    print_in_use(now, old, new);
 }

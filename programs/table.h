@@ -1,5 +1,5 @@
 /* A list of writes as a table, a line of at most 80 columns for each: the register, its byte before and after, the fields that the write
- * sets, and what is in use after it. */
+ * sets, and what is in use after it; beside the matrix, whether a change of it waits for its Vsync. */
 #ifndef TABLE_H
 #define TABLE_H
 
@@ -12,5 +12,8 @@ void table_head(const char *number);
  * that. */
 void table_row(unsigned number, uint8_t address, uint8_t before, uint8_t after, const struct sent *now, const struct sent *old,
                const struct sent *new);
+
+/* The Vsync that the host waits for, and what is in use after it. */
+void table_vsync(const struct sent *now, const struct sent *old, const struct sent *new);
 
 #endif
