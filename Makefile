@@ -47,8 +47,8 @@ target/c/agree: programs/agree.c programs/judge.c programs/fields.c programs/chi
 target/c/image: programs/image.c programs/words.c
 target/c/listing: programs/listing.c programs/table.c programs/registers.c programs/chip.c programs/words.c
 target/c/modes: programs/modes.c programs/fields.c programs/words.c
-target/c/picture: programs/picture.c programs/list.c programs/judge.c programs/registers.c programs/fields.c programs/chip.c \
-  programs/words.c
+target/c/picture: programs/picture.c programs/events.c programs/list.c programs/judge.c programs/registers.c programs/fields.c \
+  programs/chip.c programs/words.c
 target/c/request: programs/request.c programs/fields.c programs/words.c
 target/c/review: programs/review.c programs/list.c programs/judge.c programs/table.c programs/registers.c programs/fields.c \
   programs/chip.c programs/words.c

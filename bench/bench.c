@@ -29,7 +29,7 @@ static struct {
     struct request request;
     uint8_t start[STATION_IMAGE], finished[STATION_IMAGE], damaged[STATION_IMAGE], near[STATION_IMAGE];
 } in[INPUTS];
-static struct { uint8_t packet[STATION_PACKET], coefficients[STATION_COEFFICIENTS]; struct pairs own, longest; } lists[INPUTS];
+static struct { uint8_t packet[STATION_PACKET], coefficients[STATION_COEFFICIENTS], mark; struct pairs own, longest; } lists[INPUTS];
 static uint8_t room[STATION_WRITES];
 static uint32_t sum;    /* keeps the calls alive */
 
@@ -132,7 +132,7 @@ static void make_near(void) {
     }
 }
 
-/* The list of each request on its image, the longest that passes, and buffers of noise. */
+/* The list of each request on its image, the longest that passes, and buffers and a waiting mark of noise. */
 static void make_lists(void) {
     for (int i = 0; i < INPUTS; i++) {
         struct pairs *own = &lists[i].own;
@@ -142,6 +142,7 @@ static void make_lists(void) {
         make_longest(&lists[i].longest);
         for (int k = 0; k < STATION_PACKET; k++) lists[i].packet[k] = (uint8_t)noise();
         for (int k = 0; k < STATION_COEFFICIENTS; k++) lists[i].coefficients[k] = (uint8_t)noise();
+        lists[i].mark = noise() % 2 ? (uint8_t)noise() : 0;
     }
 }
 
@@ -152,7 +153,8 @@ static const struct {
     const char *name;
     struct station_count (*plan)(const uint8_t *, size_t, const uint8_t *, size_t, uint8_t *, size_t);
     struct station_count (*decode)(const uint8_t *, size_t, uint8_t *, size_t);
-    struct station_verdict (*vet)(const uint8_t *, size_t, const uint8_t *, size_t, const uint8_t *, size_t, const uint8_t *, size_t);
+    struct station_verdict (*vet)(const uint8_t *, size_t, const uint8_t *, size_t, const uint8_t *, size_t, uint8_t, const uint8_t *,
+                                  size_t);
 } sides[SIDES] = {
     [LIBRARY] = { "library", station_plan, station_decode, station_vet },
     [PLAIN] = { "plain", plain_plan, plain_decode, plain_vet },
@@ -170,7 +172,7 @@ static const struct { const char *name, *title; double bar; int turns, clears; }
 
 static inline struct station_verdict vetted(int side, int i, const struct pairs *l) {
     return sides[side].vet(in[i].start, STATION_IMAGE, lists[i].packet, STATION_PACKET, lists[i].coefficients, STATION_COEFFICIENTS,
-                           l->bytes, l->length);
+                           lists[i].mark, l->bytes, l->length);
 }
 
 static inline struct station_count call(int side, int what, int i) {
@@ -200,7 +202,8 @@ static double time_of(int side, int what, int clear) {
     return (now() - from) / calls;
 }
 
-/* A list with some pairs taken out, put in, exchanged or with a bit turned over. */
+/* A list with some pairs taken out, put in, exchanged or with a bit turned over; now and then cut off after a coefficient, so that its
+ * Vsync comes just before that. */
 static struct pairs changed(const struct pairs *from) {
     struct pairs l = *from;
     for (uint32_t n = noise() % 4; n > 0; n--) {
@@ -214,6 +217,10 @@ static struct pairs changed(const struct pairs *from) {
             if (l.length < STATION_LIST) put_in(&l, at, noise() % 2 ? 0x4A : put[0], (uint8_t)noise());
             break;
         }
+    }
+    if (noise() % 8 == 0) {
+        l.length = 2 + 2 * (noise() % (l.length / 2));
+        l.bytes[l.length - 2] = (uint8_t)(0x1B + noise() % 21);
     }
     return l;
 }

@@ -312,7 +312,9 @@ static const struct { uint8_t ours, mandated, value, free; } rules[256] = {
     FIXED(0xA2, 0xA4), FIXED(0xA3, 0xA4), MANDATED(0xAF, 0x6D, 0x04, 0x90), FIXED(0xE0, 0xD0), FIXED(0xF9, 0),
 };
 
-struct machine { uint8_t image[256], packet[STATION_PACKET], matrix[STATION_COEFFICIENTS]; };
+/* `waits`: a lowered coefficient hold waits for its Vsync, since the start or since a write of the list. */
+enum { NOTHING, SINCE_A_WRITE, SINCE_THE_START };
+struct machine { uint8_t image[256], packet[STATION_PACKET], matrix[STATION_COEFFICIENTS], waits; };
 
 /* One write. Read-only bits are in registers that no list may write and that no group and no request has: they need not stay. Answers 0,
  * and writes nothing, where two packet holds would be up. */
@@ -323,7 +325,10 @@ static inline int put(struct machine *m, uint8_t address, uint8_t value) {
         if (rises & 0x40) memcpy(m->packet, m->image + 0x52, 16);
         else if (rises & 0x20) memcpy(m->packet, m->image + 0x70, 13);
         else if (rises & 0x10) m->packet[0] = m->image[0x4B];
-    } else if (address == 0x1A && (value & ~m->image[0x1A] & 0x20)) memcpy(m->matrix, m->image + 0x18, sizeof m->matrix);
+    } else if (address == 0x1A && ((value ^ m->image[0x1A]) & 0x20)) {
+        if ((value & 0x20) && !m->waits) memcpy(m->matrix, m->image + 0x18, sizeof m->matrix);
+        m->waits = value & 0x20 ? NOTHING : SINCE_A_WRITE;
+    }
     m->image[address] = value;
     return 1;
 }
@@ -331,7 +336,7 @@ static inline int put(struct machine *m, uint8_t address, uint8_t value) {
 /* The groups in use. */
 static inline const uint8_t *avi(const struct machine *m) { return m->image[0x4A] & 0x40 ? m->packet : m->image + 0x52; }
 static inline const uint8_t *audio(const struct machine *m) { return m->image[0x4A] & 0x20 ? m->packet : m->image + 0x70; }
-static inline const uint8_t *matrix(const struct machine *m) { return m->image[0x1A] & 0x20 ? m->matrix : m->image + 0x18; }
+static inline const uint8_t *matrix(const struct machine *m) { return m->image[0x1A] & 0x20 || m->waits ? m->matrix : m->image + 0x18; }
 
 static inline int same_matrix(const uint8_t *a, const uint8_t *b) {
     unsigned other = 0;
@@ -339,14 +344,28 @@ static inline int same_matrix(const uint8_t *a, const uint8_t *b) {
     return other == 0;
 }
 
-/* One pass for the end, one for the tests. A group is looked at after a write that may have changed it. The GC hold needs no look: it is
- * down at the start, and it is a free bit. */
+static inline int torn(const uint8_t *now, const uint8_t *old, const uint8_t *new) {
+    return !same_matrix(now, old) && !same_matrix(now, new);
+}
+
+/* The pairs before the first that would leave two packet holds up. */
+static inline uint32_t end_of(const uint8_t *list, uint32_t count) {
+    for (uint32_t i = 0; i < count; i++) {
+        uint8_t up = list[2 * i + 1] & 0x70;
+        if (list[2 * i] == 0x4A && (up & (up - 1))) return i;
+    }
+    return count;
+}
+
+/* One pass for the end, one for the tests, each with a Vsync just before the last pair. A group is looked at after a write that may have
+ * changed it, and the matrix where a wait ends: its registers come into use, and where it waited since the start they are old. The GC hold
+ * needs no look: it is down at the start, and it is a free bit. */
 static inline struct station_verdict vet(const uint8_t *image, size_t image_length, const uint8_t *packet, size_t packet_length,
-                                         const uint8_t *coefficients, size_t coefficients_length, const uint8_t *list, size_t list_length,
-                                         find_pair *find) {
+                                         const uint8_t *coefficients, size_t coefficients_length, uint8_t mark, const uint8_t *list,
+                                         size_t list_length, find_pair *find) {
     struct machine start, now, last;
     uint8_t request[LONGEST];
-    uint32_t count = (uint32_t)(list_length / 2), ends = 0;
+    uint32_t count = (uint32_t)(list_length / 2), ends;
     if (image_length != 256 || packet_length != sizeof start.packet || coefficients_length != sizeof start.matrix)
         return (struct station_verdict){ 7, 0 };
     if ((image[0x4A] & 0x10) || (image[0x4A] & 0x60) == 0x60) return (struct station_verdict){ 8, 0 };
@@ -354,17 +373,27 @@ static inline struct station_verdict vet(const uint8_t *image, size_t image_leng
     memcpy(start.image, image, sizeof start.image);
     memcpy(start.packet, packet, sizeof start.packet);
     memcpy(start.matrix, coefficients, sizeof start.matrix);
+    start.waits = mark && !(image[0x1A] & 0x20) ? SINCE_THE_START : NOTHING;
     last = now = start;
-    while (ends < count && put(&last, list[2 * ends], list[2 * ends + 1])) ends++;
+    ends = end_of(list, count);
+    for (uint32_t i = 0; i < ends; i++) {
+        if (i + 1 == ends) last.waits = NOTHING;
+        put(&last, list[2 * i], list[2 * i + 1]);
+    }
     for (uint32_t i = 0; i < count; i++) {
         uint8_t a = list[2 * i], v = list[2 * i + 1];
+        if (i + 1 == ends && now.waits) {
+            const uint8_t *old = now.waits == SINCE_THE_START ? start.image + 0x18 : matrix(&start);
+            now.waits = NOTHING;
+            if (i > 0 && torn(matrix(&now), old, matrix(&last))) return (struct station_verdict){ 15, i - 1 };
+        }
         if (!rules[a].ours || (v & rules[a].mandated) != rules[a].value || ((v ^ now.image[a]) & rules[a].free) || !put(&now, a, v))
             return (struct station_verdict){ 15, i };
         if (i + 1 >= ends) continue;
         if ((now.image[0x4B] & 0xC0) != 0x40) return (struct station_verdict){ 15, i };
         if (((a == 0x4A || (a >= 0x52 && a <= 0x61)) && memcmp(avi(&now), avi(&start), 16) && memcmp(avi(&now), avi(&last), 16)) ||
             ((a == 0x4A || (a >= 0x70 && a <= 0x7C)) && memcmp(audio(&now), audio(&start), 13) && memcmp(audio(&now), audio(&last), 13)) ||
-            (a >= 0x18 && a <= 0x2F && !same_matrix(matrix(&now), matrix(&start)) && !same_matrix(matrix(&now), matrix(&last))))
+            (a >= 0x18 && a <= 0x2F && torn(matrix(&now), matrix(&start), matrix(&last))))
             return (struct station_verdict){ 15, i };
     }
     return (struct station_verdict){ decode(last.image, 256, request, sizeof request, find).refusal ? 16 : 0, 0 };
@@ -377,9 +406,9 @@ static inline struct station_verdict vet(const uint8_t *image, size_t image_leng
 #define DECODE(name, find) \
     struct station_count name(const uint8_t *i, size_t il, uint8_t *r, size_t rl) { return decode(i, il, r, rl, find); }
 #define VET(name, find) \
-    struct station_verdict name(const uint8_t *i, size_t il, const uint8_t *p, size_t pl, const uint8_t *c, size_t cl, const uint8_t *l, \
-                                size_t ll) { \
-        return vet(i, il, p, pl, c, cl, l, ll, find); \
+    struct station_verdict name(const uint8_t *i, size_t il, const uint8_t *p, size_t pl, const uint8_t *c, size_t cl, uint8_t m, \
+                                const uint8_t *l, size_t ll) { \
+        return vet(i, il, p, pl, c, cl, m, l, ll, find); \
     }
 PLAN(plain_plan, looked_up)
 PLAN(rule_plan, by_rule)

@@ -10,12 +10,14 @@ struct station_count plain_plan(const uint8_t *request, size_t request_length, c
                                 size_t writes_length);
 struct station_count plain_decode(const uint8_t *image, size_t image_length, uint8_t *request, size_t request_length);
 struct station_verdict plain_vet(const uint8_t *image, size_t image_length, const uint8_t *packet, size_t packet_length,
-                                 const uint8_t *coefficients, size_t coefficients_length, const uint8_t *list, size_t list_length);
+                                 const uint8_t *coefficients, size_t coefficients_length, uint8_t mark, const uint8_t *list,
+                                 size_t list_length);
 
 struct station_count rule_plan(const uint8_t *request, size_t request_length, const uint8_t *image, size_t image_length, uint8_t *writes,
                                size_t writes_length);
 struct station_count rule_decode(const uint8_t *image, size_t image_length, uint8_t *request, size_t request_length);
 struct station_verdict rule_vet(const uint8_t *image, size_t image_length, const uint8_t *packet, size_t packet_length,
-                                const uint8_t *coefficients, size_t coefficients_length, const uint8_t *list, size_t list_length);
+                                const uint8_t *coefficients, size_t coefficients_length, uint8_t mark, const uint8_t *list,
+                                size_t list_length);
 
 #endif

@@ -2,7 +2,8 @@
  *
  *   i2c DEVICE BYTE...     bytes of a request in hex, as the text of --help has them
  *
- * Status 0: on show; 1: refused, and nothing was written; 2: misuse; 3: the bus or the chip failed, and the same command may be given again. */
+ * Status 0: on show; 1: refused, and nothing was written; 2: misuse; 3: the bus or the chip failed, or no Vsync came, and the same command
+ * may be given again. */
 #include <errno.h>
 #include <fcntl.h>
 #include <stdio.h>
@@ -10,6 +11,7 @@
 #include <string.h>
 #include <sys/file.h>
 #include <sys/ioctl.h>
+#include <time.h>
 #include <unistd.h>
 #include <linux/i2c.h>
 #include <linux/i2c-dev.h>
@@ -21,6 +23,8 @@ const char *program = "i2c";
 enum { FAILED = 3 };                                    /* beside ACCEPTED, REFUSED and MISUSE */
 enum { CHIP = 0x39, ROW = 32, TRIES = 3, ROUNDS = 5 };   /* its address; registers read in one transfer */
 enum { POWER = 0x41, POWER_DOWN = 0x40, HOLDS = 0x4A, ALL_HOLDS = 0x70, GC_HOLD = 0x10 };
+enum { FLAGS = 0x96, VSYNC_FLAG = 0x20, SENSE = 0xA1, SENSE_DOWN = 0x40 };
+enum { EDGES = 2, PATIENCE = 250, PAUSE = 1 };           /* edges; ms for each, six frames of the slowest mode; ms between two reads */
 
 /* ---- The bus: three functions. */
 
@@ -35,12 +39,14 @@ static int bus_open(const char *device) {
     return -1;
 }
 
-/* All registers. The chip counts the address up by itself; a repeated start, and no stop, stands between the two messages. */
-static int bus_read(int bus, uint8_t image[STATION_IMAGE]) {
-    for (int a = 0; a < STATION_IMAGE; a += ROW) {
-        uint8_t address = (uint8_t)a;
+/* Registers in a row, at most ROW in one transfer. The chip counts the address up by itself; a repeated start, and no stop, stands between
+ * the two messages. */
+static int bus_read(int bus, int first, int count, uint8_t *bytes) {
+    for (int done = 0; done < count; done += ROW) {
+        uint8_t address = (uint8_t)(first + done);
+        uint16_t length = (uint16_t)(count - done < ROW ? count - done : ROW);
         struct i2c_msg messages[] = { { .addr = CHIP, .flags = 0, .len = 1, .buf = &address },
-                                      { .addr = CHIP, .flags = I2C_M_RD, .len = ROW, .buf = image + a } };
+                                      { .addr = CHIP, .flags = I2C_M_RD, .len = length, .buf = bytes + done } };
         struct i2c_rdwr_ioctl_data transfer = { .msgs = messages, .nmsgs = 2 };
         if (ioctl(bus, I2C_RDWR, &transfer) != 2) return -1;
     }
@@ -57,18 +63,66 @@ static int bus_write(int bus, uint8_t address, uint8_t value) {
     return -1;
 }
 
+/* ---- Vsync. 0x96[5] is up once the chip has seen a leading edge; writing a 1 to it takes it down, and the other flags, written 0, stay
+ * (000, 4.11 and 4.11.4). It needs no enable, for the mask 0x94[5] is for the interrupt pin alone. */
+
+enum seen { SEEN, NOT_SEEN, NOT_READ };
+
+static long ms(void) {
+    struct timespec t;
+    clock_gettime(CLOCK_MONOTONIC, &t);
+    return (long)t.tv_sec * 1000 + t.tv_nsec / 1000000;
+}
+
+/* The next leading edge: the flag was seen down, and is up. The time is taken before the read, so that a host which slept between the two
+ * does not give up too early. */
+static enum seen next_edge(int bus) {
+    const struct timespec pause = { 0, PAUSE * 1000000L };
+    long now, from = ms();
+    int was_down = 0;
+    uint8_t flags;
+    do {
+        now = ms();
+        if (!was_down && bus_write(bus, FLAGS, VSYNC_FLAG) < 0) return NOT_READ;
+        if (bus_read(bus, FLAGS, 1, &flags) < 0) return NOT_READ;
+        if (was_down && (flags & VSYNC_FLAG)) return SEEN;
+        was_down |= !(flags & VSYNC_FLAG);
+        nanosleep(&pause, NULL);
+    } while (now - from < PATIENCE);
+    return NOT_SEEN;
+}
+
+/* A rising edge, which is what the coefficients wait for. It is the leading one, or, where Vsync is low, the trailing one: from one leading
+ * edge to the next there is one of either kind. */
+static enum seen vsync(int bus) {
+    enum seen s = SEEN;
+    for (int e = 0; e < EDGES && s == SEEN; e++) s = next_edge(bus);
+    return s;
+}
+
 /* ---- The request: read back, plan, compare, send; until what is read back needs no write. */
 
 struct answer { int status; uint32_t refusal; const char *words; };
 
 static struct answer failed(const char *words) { return (struct answer){ FAILED, 0, words }; }
 
+/* The pairs in order, with one Vsync just before the last; NULL, or what failed. The picture is muted until the last. */
+static const char *send(int bus, const uint8_t *list, uint32_t count) {
+    for (uint32_t i = 0; i < count; i++) {
+        enum seen s = i + 1 == count ? vsync(bus) : SEEN;
+        if (s == NOT_SEEN) return "no Vsync came: is there a picture at the chip's input? It stays muted";
+        if (s == NOT_READ) return "Vsync could not be read; the picture stays muted";
+        if (bus_write(bus, list[2 * i], list[2 * i + 1]) < 0) return "a write failed; none was sent after it";
+    }
+    return NULL;
+}
+
 static struct answer show(int bus, const uint8_t *request, size_t length) {
     uint8_t image[STATION_IMAGE], end[STATION_IMAGE], list[STATION_WRITES];
     uint32_t refusal = station_ncts(request, length).refusal;
     if (refusal) return (struct answer){ REFUSED, refusal, station_text(refusal) };
     for (int round = 0; round < ROUNDS; round++) {
-        if (bus_read(bus, image) < 0) return failed("the registers cannot be read");
+        if (bus_read(bus, 0, STATION_IMAGE, image) < 0) return failed("the registers cannot be read");
         struct station_count plan = station_plan(request, length, image, sizeof image, list, sizeof list);
         if (plan.refusal == STATION_HOLDS_UP && (image[HOLDS] & ALL_HOLDS) == GC_HOLD) {
             if (bus_write(bus, HOLDS, (uint8_t)(image[HOLDS] & ~GC_HOLD)) < 0) return failed("the GC hold is up and cannot be lowered");
@@ -76,11 +130,12 @@ static struct answer show(int bus, const uint8_t *request, size_t length) {
         }
         if (plan.refusal) return failed("two packet holds are up: reset the chip");
         if (image[POWER] & POWER_DOWN) return failed("the chip is powered down (0x41[6]): bring it up first");
+        if (image[SENSE] & SENSE_DOWN) return failed("monitor sense is powered down (0xA1[6]), so no Vsync is seen: bring it up first");
         memcpy(end, image, sizeof end);
         for (uint32_t i = 0; i < plan.count; i++) end[list[2 * i]] = list[2 * i + 1];
         if (!memcmp(end, image, sizeof end)) return (struct answer){ ACCEPTED, 0, "on show" };
-        for (uint32_t i = 0; i < plan.count; i++)
-            if (bus_write(bus, list[2 * i], list[2 * i + 1]) < 0) return failed("a write failed; none was sent after it");
+        const char *why = send(bus, list, plan.count);
+        if (why) return failed(why);
     }
     return failed("the registers do not stay as they are written: a reset, or somebody else writes");
 }

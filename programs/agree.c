@@ -41,8 +41,8 @@ static uint8_t some_address(void) {
     return address;
 }
 
-/* A chip of zeros or noise, its waiting mark too; with a list of ours finished, or cut at any event; with a byte damaged, more often that of
- * the packet holds. */
+/* A chip of zeros or noise; with a list of ours finished, or cut; with a byte damaged, more often that of the packet holds, or another
+ * waiting mark. */
 static void some_chip(struct chip *c) {
     uint8_t writes[STATION_WRITES];
     memset(c, 0, sizeof *c);

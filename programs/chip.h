@@ -22,7 +22,7 @@ int waits_before(uint32_t write, uint32_t count);
 /* All writes of a list, with that Vsync; answers how many of them the machine refused. */
 uint32_t chip_run(struct chip *c, const uint8_t *pairs, uint32_t count);
 
-/* What is old in a run: in use at its beginning. Where a change of the coefficients waits then, it is old too once its Vsync has come, unless
+/* What is old in a run: in use at its beginning. Where a change of the coefficients waits then, it is old once its Vsync has come, unless
  * the hold has risen before and dropped it. `chip_follow` is told of each event, after it. */
 struct beginning { struct sent old, waited; int waits; };
 struct beginning chip_begin(const struct chip *c);

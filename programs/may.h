@@ -10,7 +10,7 @@
  * bytes, so a list of ours writes each of their registers. */
 #define MAY_ASKED "vic 4 ycbcr444 hdmi audio 48kHz 8 matrix table43"
 
-/* The registers of the coefficients, and how many of them hold five. */
-enum { FIRST_COEFFICIENT = 0x18, LAST_COEFFICIENT = 0x2F, FIVE = 10 };
+/* The first register of the coefficients, how many of them hold five, and the register with their hold. */
+enum { FIRST_COEFFICIENT = 0x18, FIVE = 10, COEFFICIENT_HOLD = 0x1A };
 
 #endif

@@ -1,6 +1,7 @@
 /* A page that shows a run, write by write: what the chip machine has in use after each. Plain HTML with its drawings in it; no script, no
  * file beside it. The request and the registers may be a stranger's: they go through the exported calls and nowhere else. */
 #include "chip.h"
+#include "events.h"
 #include "fields.h"
 #include "judge.h"
 #include "list.h"
@@ -20,24 +21,31 @@ static const char help[] =
     "tools/picture --accident >run.html\n"
     "\n"
     "Writes a page that shows a run: time goes from the first write to the last, with\n"
-    "a lane each for the picture, the AVI InfoFrame, the audio InfoFrame, the matrix\n"
-    "and the holds, and the step that each write belongs to. BYTES is the request: a\n"
-    "byte is exactly two hex digits, with or without blanks between.\n"
+    "a lane each for the picture, the AVI InfoFrame, the audio InfoFrame, the matrix,\n"
+    "whether a new one waits for Vsync, and the holds, and the step that each write\n"
+    "belongs to. Just before the last write comes the Vsync that the host waits for.\n"
+    "BYTES is the request: a byte is exactly two hex digits, with or without blanks\n"
+    "between.\n"
     "\n"
     "  --list FILE          no request, but a list of writes that somebody brings, in\n"
     "                       the forms that tools/review reads (- is the standard\n"
     "                       input): its run, the verdict, and the bad pairs\n"
-    "  --cut K              also the run that is cut after K writes and planned\n"
-    "                       again; of a list, cut and left so\n"
+    "  --cut K              also the run that is cut after event K, writes and Vsyncs\n"
+    "                       counted in their order, and planned again; of a list, cut\n"
+    "                       and left so\n"
+    "  --vsync AT,..        a Vsync comes besides after so many writes, 0 is before\n"
+    "                       the first; a number may stand twice\n"
     "  --before BYTES       the request that the chip shows before, in one word;\n"
     "                       where none is given, 720p YCbCr 4:4:4 with eight\n"
     "                       channels and the matrix of Table 43\n"
     "  --image FILE         the chip's registers as they stand, 256 bytes\n"
     "  --packet FILE        its packet buffer, 32 bytes\n"
     "  --coefficients FILE  its coefficient buffer, 24 bytes\n"
+    "  --mark N             its waiting mark: 0 for none; 1 to 255: a change waits\n"
     "  --accident           the accident of last May: a new matrix with no hold and\n"
-    "                       no mute, cut after five coefficients; and our list, cut\n"
-    "                       at the same register\n"
+    "                       no mute, cut after five coefficients; our list, cut at\n"
+    "                       the same register; and cut before its Vsync, so that the\n"
+    "                       hold is lowered and raised again\n"
     "\n"
     "The status is 0 for a page, 1 for a request that is refused, and for a list that\n"
     "cannot be run, refused 8 or 14 (it is said on the error stream), 2 for a command\n"
@@ -45,9 +53,9 @@ static const char help[] =
     "\n"
     "  tools/picture --cut 25 " EXAMPLE " >run.html\n";
 
-/* ---- A run: a moment for the beginning, for each write, and for what stays. */
+/* ---- A run: a moment for the beginning, for each event, and for what stays. */
 
-enum lane { PICTURE, LANE_AVI, LANE_AUDIO, LANE_MATRIX, HOLD_MATRIX, HOLD_AVI, HOLD_AUDIO, LANES };
+enum lane { PICTURE, LANE_AVI, LANE_AUDIO, LANE_MATRIX, LANE_WAITING, HOLD_MATRIX, HOLD_AVI, HOLD_AUDIO, LANES };
 
 /* How a value of a lane looks: its word, its fill and the colour of the word. What is light or hatched stays so without colour. */
 struct look { const char *word, *fill, *ink; };
@@ -56,6 +64,7 @@ static const struct look
                      { "neither", "url(#dots)", "#000" } },
     of_group[] = { [NEITHER] = { "TORN", "url(#torn)", "#000" }, [OLD] = { "old", "url(#old)", "#000" },
                    [NEW] = { "new", "#0072b2", "#fff" }, [BOTH] = { "same as before", "#e4e4e4", "#000" } },
+    of_wait[] = { { "", "none", "#000" }, { "waiting", "#fff", "#000" } },
     of_hold[] = { { "", "none", "#000" }, { "up", "#5d3a9b", "#fff" } };
 
 static const struct { const char *name; int height; const struct look *looks; uint8_t address, mask; } lanes[LANES] = {
@@ -63,15 +72,17 @@ static const struct { const char *name; int height; const struct look *looks; ui
     [LANE_AVI] = { "AVI in use", 26, of_group, 0, 0 },
     [LANE_AUDIO] = { "audio in use", 26, of_group, 0, 0 },
     [LANE_MATRIX] = { "matrix in use", 26, of_group, 0, 0 },
+    [LANE_WAITING] = { "for Vsync", 15, of_wait, 0, 0 },
     [HOLD_MATRIX] = { "hold: matrix", 15, of_hold, 0x1A, 0x20 },
     [HOLD_AVI] = { "hold: AVI", 15, of_hold, 0x4A, 0x40 },
     [HOLD_AUDIO] = { "hold: audio", 15, of_hold, 0x4A, 0x20 },
 };
 
-/* Room for two lists of ours, and for the longest that somebody may bring. */
-enum { REST = 8, MOMENTS = 2 * STATION_WRITES + STATION_LIST / 2 + 8, NO_STEP = STEPS };
-struct moment { int width, number, step, value[LANES]; uint8_t address, before, after; };
-struct run { struct chip chip; struct sent old, new; int count, cut; struct moment moments[MOMENTS]; };
+/* Room for two lists of ours, and for the longest that somebody may bring. Of a moment: the number of its write, from 1, or whether it is a
+ * Vsync; neither at the beginning and at a cut. */
+enum { REST = 8, MOMENTS = 2 * EVENTS + 8, NO_STEP = STEPS };
+struct moment { int width, number, is_vsync, step, value[LANES]; uint8_t address, before, after; };
+struct run { struct chip chip; struct beginning begun; struct sent new; int count, cut; struct moment moments[MOMENTS]; };
 
 /* One more moment: the chip as it stands. */
 static struct moment *look(struct run *r, int width) {
@@ -81,33 +92,47 @@ static struct moment *look(struct run *r, int width) {
     m->width = width;
     m->step = NO_STEP;
     m->value[PICTURE] = (int)(s.mute & 3);
-    m->value[LANE_AVI] = age(AVI, &s, &r->old, &r->new);
-    m->value[LANE_AUDIO] = age(AUDIO, &s, &r->old, &r->new);
-    m->value[LANE_MATRIX] = age(MATRIX, &s, &r->old, &r->new);
+    m->value[LANE_AVI] = age(AVI, &s, &r->begun.old, &r->new);
+    m->value[LANE_AUDIO] = age(AUDIO, &s, &r->begun.old, &r->new);
+    m->value[LANE_MATRIX] = age(MATRIX, &s, &r->begun.old, &r->new);
+    m->value[LANE_WAITING] = (int)s.waiting;
     for (int l = HOLD_MATRIX; l < LANES; l++) m->value[l] = (r->chip.image[lanes[l].address] & lanes[l].mask) != 0;
     return m;
 }
 
-static void begin(struct run *r, const struct chip *c, const struct sent *old, const struct sent *new) {
+static void begin(struct run *r, const struct chip *c, const struct sent *new) {
     r->chip = *c;
-    r->old = *old;
+    r->begun = chip_begin(c);
     r->new = *new;
     r->count = 0;
     r->cut = -1;
     look(r, REST);
 }
 
-/* The first writes of a list; what is in use after the last of them stays for a while. */
-static void play(struct run *r, const uint8_t *pairs, uint32_t writes) {
-    for (uint32_t w = 0; w < writes; w++) {
-        uint8_t address = pairs[2 * w], before = r->chip.image[address];
-        chip_write(&r->chip, pairs + 2 * w);
-        struct moment *m = look(r, w + 1 == writes ? REST : 1);
-        m->number = (int)w + 1;
-        m->step = step_of(pairs, w);
-        m->address = address;
-        m->before = before;
-        m->after = r->chip.image[address];
+static void play_vsync(struct run *r, int width) {
+    chip_vsync(&r->chip);
+    chip_follow(&r->begun, &r->chip, 1);
+    look(r, width)->is_vsync = 1;
+}
+
+static void play_write(struct run *r, const uint8_t *pairs, uint32_t w, int width) {
+    uint8_t address = pairs[2 * w], before = r->chip.image[address];
+    chip_write(&r->chip, pairs + 2 * w);
+    chip_follow(&r->begun, &r->chip, 0);
+    struct moment *m = look(r, width);
+    m->number = (int)w + 1;
+    m->step = step_of(pairs, w);
+    m->address = address;
+    m->before = before;
+    m->after = r->chip.image[address];
+}
+
+/* The first events of a list's run; what is in use after the last of them stays for a while. */
+static void play(struct run *r, const uint8_t *pairs, const struct events *e, uint32_t events) {
+    for (uint32_t k = 0; k < events; k++) {
+        int width = k + 1 == events ? REST : 1;
+        if (e->at[k].kind == WRITE) play_write(r, pairs, e->at[k].write, width);
+        else play_vsync(r, width);
     }
 }
 
@@ -162,6 +187,15 @@ static void draw_lane(const struct run *r, enum lane l, int y) {
     }
 }
 
+static void draw_vsyncs(const struct run *r) {
+    for (int m = 0; m < r->count; m++) {
+        double x = at(r, m) + unit(r) / 2;
+        if (!r->moments[m].is_vsync) continue;
+        printf("<path d='M%.1f %dV%d' stroke='#000' stroke-dasharray='2 2'/>", x, STEPS_TOP, STEPS_TOP + STEPS_HIGH);
+        printf("<text transform='translate(%.1f %d) rotate(-90)' class='up'>Vsync</text>\n", x - 2, STEPS_TOP + STEPS_HIGH - 4);
+    }
+}
+
 static const char *name_of(uint8_t address) { return registers[address].name ? registers[address].name : ""; }
 
 /* The steps, with a tick for each write that says the write where one points at it. */
@@ -202,22 +236,25 @@ static void draw_steps(const struct run *r) {
 static void say(const struct moment *m) {
     for (int l = PICTURE; l <= LANE_MATRIX; l++)
         printf("%s%s <b>%s</b>", l == PICTURE ? "" : l == LANE_MATRIX ? " and " : ", ", lanes[l].name, lanes[l].looks[m->value[l]].word);
-    printf(".");
+    printf("%s.", m->value[LANE_WAITING] ? ", a new one <b>waiting</b> for Vsync" : "");
 }
 
-/* The places where a run may be cut, before its first write and after each; at how many of them something is torn; and at how many from the
+/* The places where a run may be cut, before its first event and after each; at how many of them something is torn; and at how many from the
  * first write on and before the last the picture is not muted. */
-struct places { int all, torn, shown; };
-static struct places places_of(const struct run *r) {
-    struct places p = { 0, 0, 0 };
+struct tally { int all, torn, shown; };
+static struct tally tally_of(const struct run *r) {
+    struct tally t = { 0, 0, 0 };
+    int first = 1, last = r->count - 1;
+    while (first < r->count && !r->moments[first].number) first++;
+    while (last > 0 && r->moments[last].is_vsync) last--;
     for (int m = 0; m < r->count; m++) {
         const int *value = r->moments[m].value;
-        if (m > 0 && r->moments[m].number == 0) continue;
-        p.all++;
-        p.torn += value[LANE_AVI] == NEITHER || value[LANE_AUDIO] == NEITHER || value[LANE_MATRIX] == NEITHER;
-        p.shown += m > 0 && m + 1 < r->count && value[PICTURE] != 1;
+        if (m > 0 && !r->moments[m].number && !r->moments[m].is_vsync) continue;
+        t.all++;
+        t.torn += value[LANE_AVI] == NEITHER || value[LANE_AUDIO] == NEITHER || value[LANE_MATRIX] == NEITHER;
+        t.shown += m >= first && m < last && value[PICTURE] != 1;
     }
-    return p;
+    return t;
 }
 
 static void draw(const struct run *r, const char *title, const char *of_cut) {
@@ -225,6 +262,7 @@ static void draw(const struct run *r, const char *title, const char *of_cut) {
     for (int l = 0; l < LANES; l++) bottom += lanes[l].height + GAP;
     printf("<h2>%s</h2>\n<svg viewBox='0 0 %d %d' role='img' aria-label='%s'>\n", title, WIDE, bottom + 4, title);
     draw_steps(r);
+    draw_vsyncs(r);
     for (int l = 0; l < LANES; l++) {
         draw_lane(r, (enum lane)l, y);
         y += lanes[l].height + GAP;
@@ -235,22 +273,23 @@ static void draw(const struct run *r, const char *title, const char *of_cut) {
         printf("<path d='M%.1f 17V%d' stroke='#000' stroke-width='3' stroke-dasharray='9 5'/>", x, bottom);
         printf("<text x='%.1f' y='13' class='cut'>%s</text>\n", x, of_cut);
     }
-    struct places p = places_of(r);
+    struct tally t = tally_of(r);
     printf("</svg>\n<p>Of %d places where this run may be cut, something in use is torn at <b>%d</b>; from the first write on and before "
-           "the last the picture is not muted at <b>%d</b>.</p>\n", p.all, p.torn, p.shown);
+           "the last the picture is not muted at <b>%d</b>.</p>\n", t.all, t.torn, t.shown);
 }
 
-/* Every write, for who wants to read them. */
+/* Every event, for who wants to read them. */
 static void table(const struct run *r) {
-    printf("<details><summary>Every write</summary>\n<table><tr><th>write<th>step<th>address<th>register<th>old<th>new");
+    printf("<details><summary>Every write, and Vsync</summary>\n<table><tr><th>write<th>step<th>address<th>register<th>old<th>new");
     for (int l = 0; l < LANES; l++) printf("<th>%s", lanes[l].name);
     printf("</tr>\n");
     for (int m = 0; m < r->count; m++) {
         const struct moment *n = &r->moments[m];
         if (m == r->cut) printf("<tr><td colspan=%d><b>cut; planned again</b></tr>\n", 6 + LANES);
-        if (n->number == 0) continue;
-        printf("<tr><td>%d<td>%s<td>0x%02X<td>%s<td>%02X<td>%02X", n->number, step_words[n->step], n->address,
-               name_of(n->address), n->before, n->after);
+        if (n->is_vsync) printf("<tr><td><td colspan=5>Vsync");
+        else if (n->number) printf("<tr><td>%d<td>%s<td>0x%02X<td>%s<td>%02X<td>%02X", n->number, step_words[n->step], n->address,
+                                   name_of(n->address), n->before, n->after);
+        else continue;
         for (int l = 0; l < LANES; l++) printf("<td>%s", lanes[l].looks[n->value[l]].word);
         printf("</tr>\n");
     }
@@ -280,8 +319,9 @@ static const char head[] =
 /* The looks and what they mean. */
 static void key(void) {
     static const struct { const struct look *look; const char *says; } looks[] = {
-        { &of_group[OLD], "as before" },      { &of_group[NEW], "as asked" },    { &of_group[NEITHER], "a mix of both" },
-        { &of_picture[1], "nothing shown" },  { &of_picture[2], "shown" },       { &of_hold[1], "the chip uses its copy" },
+        { &of_group[OLD], "as before" },      { &of_group[NEW], "as asked" },    { &of_group[NEITHER], "a mix" },
+        { &of_picture[1], "nothing shown" },  { &of_picture[2], "shown" },       { &of_hold[1], "copy in use" },
+        { &of_wait[1], "for Vsync" },
     };
     int x = 1;
     printf("<svg viewBox='0 0 %d 28' role='img' aria-label='the key'>\n", WIDE);
@@ -318,24 +358,54 @@ static void say_list(const uint8_t *pairs, uint32_t count) {
 }
 
 static struct chip finished(struct chip c, const uint8_t *pairs, uint32_t count) {
-    for (uint32_t w = 0; w < count; w++) chip_write(&c, pairs + 2 * w);
+    chip_run(&c, pairs, count);
     return c;
 }
 
-/* Our list cut after so many writes, and the second run; and whether that ends as a run without a cut. */
-static void draw_cut(struct run *r, const struct chip *start, const uint8_t *request, size_t length, const uint8_t *pairs, uint32_t count,
-                     uint32_t writes, const struct sent *old, const struct sent *new) {
-    char of_cut[48];
+static const struct places none_besides = { .count = 0 };
+
+/* Where a run is cut: after the last of its first events. */
+static const char *text_of_cut(const struct events *e, uint32_t events) {
+    static char text[48];
+    if (!events) return "cut before the first write";
+    if (e->at[events - 1].kind != WRITE) return "cut after Vsync";
+    snprintf(text, sizeof text, "cut after write %u", (unsigned)e->at[events - 1].write + 1);
+    return text;
+}
+
+/* A change: the chip before it, the request, our list for it and the events of its run, and what is in use at its end. */
+struct change {
+    struct chip start;
+    const uint8_t *request;
+    size_t length;
+    uint8_t pairs[STATION_WRITES];
+    uint32_t count;
+    struct events events;
+    struct sent new;
+};
+
+static void plan_change(struct change *g, const struct chip *start, const uint8_t *request, size_t length) {
+    g->start = *start;
+    g->request = request;
+    g->length = length;
+    g->count = plan(request, length, start, g->pairs);
+    struct chip end = finished(*start, g->pairs, g->count);
+    g->new = chip_sent(&end);
+}
+
+/* The run cut after so many events, and the second run; and whether that ends as a run without a cut. */
+static void draw_cut(struct run *r, const struct change *g, uint32_t events, const char *title) {
+    static struct events second;
     uint8_t again[STATION_WRITES];
-    struct chip end = finished(*start, pairs, count);
-    begin(r, start, old, new);
-    play(r, pairs, writes);
+    struct chip end = finished(g->start, g->pairs, g->count);
+    begin(r, &g->start, &g->new);
+    play(r, g->pairs, &g->events, events);
     cut(r);
     int at_cut = r->cut;
-    uint32_t more = plan(request, length, &r->chip, again);
-    play(r, again, more);
-    snprintf(of_cut, sizeof of_cut, "cut after write %u", (unsigned)writes);
-    draw(r, "Our list, cut, and planned again from what the chip then had", of_cut);
+    uint32_t more = plan(g->request, g->length, &r->chip, again);
+    events_of(&second, more, &none_besides, -1);
+    play(r, again, &second, second.count);
+    draw(r, title, text_of_cut(&g->events, events));
     printf("<p>At the cut: ");
     say(&r->moments[at_cut]);
     printf(" The second list has %u writes, for it leaves out what is right by then; after it the registers are %s.</p>\n", (unsigned)more,
@@ -343,39 +413,54 @@ static void draw_cut(struct run *r, const struct chip *start, const uint8_t *req
     table(r);
 }
 
+/* The events up to the first write to an address, or to the last; that one too. */
+static uint32_t events_to(const struct change *g, uint8_t address, int to_last) {
+    uint32_t events = 0;
+    for (uint32_t k = 0; k < g->events.count; k++) {
+        const struct event *e = &g->events.at[k];
+        if (e->kind == WRITE && g->pairs[2 * e->write] == address && (to_last || !events)) events = k + 1;
+    }
+    return events;
+}
+
+/* The old way: the first registers of the converter as they are to be, with no hold and no mute. */
+static void draw_old_way(struct run *r, const struct change *g) {
+    struct chip end = finished(g->start, g->pairs, g->count);
+    uint8_t pairs[2 * FIVE];
+    begin(r, &g->start, &g->new);
+    for (uint32_t w = 0; w < FIVE; w++) {
+        pairs[2 * w] = (uint8_t)(FIRST_COEFFICIENT + w);
+        pairs[2 * w + 1] = end.image[FIRST_COEFFICIENT + w];
+        play_write(r, pairs, w, 1);
+    }
+    cut(r);
+    look(r, 4 * REST);
+    draw(r, "The old way: the new coefficients with no hold and no mute; the host dies after the fifth", "the host dies here");
+    printf("<p>From the cut on, until somebody comes: ");
+    say(&r->moments[r->cut]);
+    printf("</p>\n");
+}
+
 static void page_of_accident(void) {
     static struct run r;
-    struct chip none = { { 0 }, { 0 }, { 0 } };
-    uint8_t pairs[STATION_WRITES], old_way[STATION_WRITES];
+    static struct change g;
+    struct chip none = { { 0 }, { 0 }, { 0 }, { 0 } };
+    uint8_t pairs[STATION_WRITES];
     struct request before = request_of_text(MAY_BEFORE), asked = request_of_text(MAY_ASKED);
-    uint32_t count = plan(before.bytes, before.length, &none, pairs), cut_at = 0;
-    struct chip start = finished(none, pairs, count);
-    count = plan(asked.bytes, asked.length, &start, pairs);
-    struct chip end = finished(start, pairs, count);
-    struct sent old = chip_sent(&start), new = chip_sent(&end);
-    uint32_t registers_of_it = 0;
-    for (int a = FIRST_COEFFICIENT; a <= LAST_COEFFICIENT; a++, registers_of_it++) {
-        old_way[2 * registers_of_it] = (uint8_t)a;
-        old_way[2 * registers_of_it + 1] = end.image[a];
-    }
-    while (cut_at < count && pairs[2 * cut_at] != FIRST_COEFFICIENT + FIVE - 1) cut_at++;
-    cut_at++;
+    struct chip start = finished(none, pairs, plan(before.bytes, before.length, &none, pairs));
+    plan_change(&g, &start, asked.bytes, asked.length);
+    events_of(&g.events, g.count, &none_besides, -1);
 
     printf("%s<h1>The accident of last May, and the same change by our list</h1>\n", head);
     say_request("On show before:", before.bytes, before.length);
     say_request("Asked for:", asked.bytes, asked.length);
-    say_list(pairs, count);
+    say_list(g.pairs, g.count);
     key();
-    begin(&r, &start, &old, &new);
-    play(&r, old_way, FIVE);
-    cut(&r);
-    look(&r, 4 * REST);
-    draw(&r, "The old way: the new coefficients with no hold and no mute; the host dies after the fifth", "the host dies here");
-    printf("<p>From the cut on, until somebody comes: ");
-    say(&r.moments[r.cut]);
-    printf("</p>\n");
-    draw_cut(&r, &start, asked.bytes, asked.length, pairs, count, cut_at, &old, &new);
-    printf("</body></html>\n");
+    draw_old_way(&r, &g);
+    draw_cut(&r, &g, events_to(&g, FIRST_COEFFICIENT + FIVE - 1, 0), "Our list, cut, and planned again from what the chip then had");
+    draw_cut(&r, &g, events_to(&g, COEFFICIENT_HOLD, 1), "Our list, cut before Vsync; the second list raises the lowered hold again");
+    printf("<p>A hold that rises before Vsync drops the change that waited: the old coefficients stay in use until the second list has "
+           "its Vsync.</p>\n</body></html>\n");
 }
 
 /* The pairs that are bad, each with the rules that it breaks. */
@@ -395,10 +480,12 @@ static void say_bad_pairs(const struct list *l, const struct judgement *j) {
 }
 
 /* The page of a list that somebody brings; it is played as far as the machine takes it. */
-static void page_of_list(const struct chip *c, const struct list *l, const uint8_t *before, size_t length, long cut_at) {
+static void page_of_list(const struct chip *c, const struct list *l, const uint8_t *before, size_t length, const struct places *besides,
+                         long cut_at) {
     static struct run r;
     static struct judgement j;
-    char text[TEXT_OF_A_VERDICT], of_cut[48];
+    static struct events events;
+    char text[TEXT_OF_A_VERDICT];
     uint8_t request[STATION_REQUEST];
     struct station_verdict v = vet(c, l->bytes, l->length);
     judge(c, l->bytes, l->length, &j);
@@ -409,7 +496,7 @@ static void page_of_list(const struct chip *c, const struct list *l, const uint8
         fprintf(stderr, "%s\n", text);
         exit(REFUSED);
     }
-    if (cut_at > (long)j.end) misuse("--cut %ld: the list has %u writes", cut_at, (unsigned)j.end);
+    events_of(&events, j.end, besides, cut_at);
 
     printf("%s<h1>A list that somebody brings, write by write</h1>\n", head);
     if (before) say_request("On show before:", before, length);
@@ -420,8 +507,8 @@ static void page_of_list(const struct chip *c, const struct list *l, const uint8
     if (v.refusal == STATION_BAD_PAIR) printf(" (counted from 0; write %u of this page)", (unsigned)v.place + 1);
     printf(".</p>\n");
     key();
-    begin(&r, c, &j.old, &j.new);
-    play(&r, l->bytes, j.end);
+    begin(&r, c, &j.new);
+    play(&r, l->bytes, &events, events.count);
     draw(&r, "The list, from the first write to the last", "");
     if (j.end < j.count)
         printf("<p>Write %u would leave two packet holds up: the list ends before it, and %u of its %u writes are shown.</p>\n",
@@ -429,12 +516,11 @@ static void page_of_list(const struct chip *c, const struct list *l, const uint8
     say_bad_pairs(l, &j);
     table(&r);
     if (cut_at >= 0) {
-        begin(&r, c, &j.old, &j.new);
-        play(&r, l->bytes, (uint32_t)cut_at);
+        begin(&r, c, &j.new);
+        play(&r, l->bytes, &events, (uint32_t)cut_at);
         cut(&r);
         look(&r, 4 * REST);
-        snprintf(of_cut, sizeof of_cut, "cut after write %ld", cut_at);
-        draw(&r, "The list, cut, and left so", of_cut);
+        draw(&r, "The list, cut, and left so", text_of_cut(&events, (uint32_t)cut_at));
         printf("<p>From the cut on, until somebody comes: ");
         say(&r.moments[r.cut]);
         printf("</p>\n");
@@ -453,20 +539,24 @@ static void take_bytes(const char *word, struct option *o) {
 int main(int count, char **words) {
     static struct run r;
     static struct list l;
-    struct chip c = { { 0 }, { 0 }, { 0 } };
+    static struct change g;
+    struct chip c = { { 0 }, { 0 }, { 0 }, { 0 } };
     struct request before = request_of_text(MAY_ASKED);
-    long cut_at = -1;
+    struct places besides = { .count = 0 };
+    long cut_at = -1, mark = 0;
     int accident = 0;
     struct option options[] = {
         { "--image", take_file, c.image, STATION_IMAGE, 0 },
         { "--packet", take_file, c.packet, STATION_PACKET, 0 },
         { "--coefficients", take_file, c.coefficients, STATION_COEFFICIENTS, 0 },
+        { "--mark", take_number, &mark, UINT8_MAX, 0 },
         { "--before", take_bytes, before.bytes, before.length, 0 },
-        { "--cut", take_number, &cut_at, LIST_PAIRS, 0 },
+        { "--cut", take_number, &cut_at, EVENTS, 0 },
+        { "--vsync", take_places, &besides, 0, 0 },
         { "--list", take_list, &l, 0, 0 },
         { "--accident", NULL, &accident, 0, 0 },
     };
-    enum { BY_IMAGE, BY_PACKET, BY_COEFFICIENTS, BY_BEFORE, BY_CUT, BY_LIST, BY_ACCIDENT, OPTIONS };
+    enum { BY_IMAGE, BY_PACKET, BY_COEFFICIENTS, BY_MARK, BY_BEFORE, BY_CUT, BY_VSYNC, BY_LIST, BY_ACCIDENT, OPTIONS };
     size_t length;
     uint8_t *request = request_of_command(count, words, help, options, OPTIONS, &length), pairs[STATION_WRITES];
     if (accident) {
@@ -476,33 +566,28 @@ int main(int count, char **words) {
     }
     if (options[BY_LIST].given && length) misuse("--list and a request exclude each other");
     if (options[BY_IMAGE].given && options[BY_BEFORE].given) misuse("--image and --before exclude each other");
-    if (!options[BY_IMAGE].given && (options[BY_PACKET].given || options[BY_COEFFICIENTS].given))
-        misuse("a buffer is given, and no --image");
-    uint32_t writes;
-    if (!options[BY_IMAGE].given) {
-        writes = plan(options[BY_BEFORE].into, options[BY_BEFORE].length, &c, pairs);
-        c = finished(c, pairs, writes);
-    }
+    if (!options[BY_IMAGE].given && (options[BY_PACKET].given || options[BY_COEFFICIENTS].given || options[BY_MARK].given))
+        misuse("a buffer or the mark is given, and no --image");
+    c.mark[0] = (uint8_t)mark;
+    if (!options[BY_IMAGE].given) c = finished(c, pairs, plan(options[BY_BEFORE].into, options[BY_BEFORE].length, &c, pairs));
     if (options[BY_LIST].given) {
         int told = !options[BY_IMAGE].given;
-        page_of_list(&c, &l, told ? options[BY_BEFORE].into : NULL, options[BY_BEFORE].length, cut_at);
+        page_of_list(&c, &l, told ? options[BY_BEFORE].into : NULL, options[BY_BEFORE].length, &besides, cut_at);
         return printed(ACCEPTED);
     }
-    writes = plan(request, length, &c, pairs);
-    if (cut_at > (long)writes) misuse("--cut %ld: the list has %u writes", cut_at, (unsigned)writes);
-    struct chip end = finished(c, pairs, writes);
-    struct sent old = chip_sent(&c), new = chip_sent(&end);
+    plan_change(&g, &c, request, length);
+    events_of(&g.events, g.count, &besides, cut_at);
 
     printf("%s<h1>A run, write by write</h1>\n", head);
     if (!options[BY_IMAGE].given) say_request("On show before:", options[BY_BEFORE].into, options[BY_BEFORE].length);
     say_request("Asked for:", request, length);
-    say_list(pairs, writes);
+    say_list(g.pairs, g.count);
     key();
-    begin(&r, &c, &old, &new);
-    play(&r, pairs, writes);
+    begin(&r, &c, &g.new);
+    play(&r, g.pairs, &g.events, g.events.count);
     draw(&r, "Our list, from the first write to the last", "");
     table(&r);
-    if (cut_at >= 0) draw_cut(&r, &c, request, length, pairs, writes, (uint32_t)cut_at, &old, &new);
+    if (cut_at >= 0) draw_cut(&r, &g, (uint32_t)cut_at, "Our list, cut, and planned again from what the chip then had");
     printf("</body></html>\n");
     return printed(ACCEPTED);
 }

@@ -68,7 +68,8 @@ static void print_table(const struct list *l, const struct judgement *j) {
         const struct judged *p = &j->pairs[i];
         int is_last = waits_before(i, j->end);
         if (is_last) table_vsync(&j->turned_over, &j->old_after, &j->new);
-        table_row((unsigned)i, l->bytes[2 * i], p->before, p->after, i < j->end ? &p->now : NULL, is_last ? &j->old_after : &j->old, &j->new);
+        table_row((unsigned)i, l->bytes[2 * i], p->before, p->after, i < j->end ? &p->now : NULL, is_last ? &j->old_after : &j->old,
+                  &j->new);
         if (is_bad(p)) {
             char text[TEXT_OF_FAULTS];
             text_of_faults(l->bytes[2 * i], p, text);
@@ -182,7 +183,8 @@ static void print_notes(const struct list *l, const struct chip *c, const struct
     else printf("%lu pair%s. Places are counted from 0; tools/listing counts its writes from 1.\n", (unsigned long)l->all / 2,
                 l->all == 2 ? "" : "s");
     if (l->parted) printf("Line %lu ends inside a pair.\n", l->parted);
-    if (!given[BY_IMAGE].given) printf("The registers were not given (--image) and are taken as zeros: this says nothing\nof a real chip.\n");
+    if (!given[BY_IMAGE].given)
+        printf("The registers were not given (--image) and are taken as zeros: this says nothing\nof a real chip.\n");
     if (!given[BY_PACKET].given && (c->image[0x4A] & 0x70)) printf("A packet hold is up, and --packet was not given: zeros.\n");
     if (!given[BY_COEFFICIENTS].given && (c->image[0x1A] & 0x20))
         printf("The coefficient hold is up, and --coefficients was not given: zeros.\n");

@@ -1,11 +1,17 @@
-/* The example host for a real bus, host/i2c.c, on a fake one: its own text, with the system calls that reach a bus replaced by a chip in
- * memory, which reads the messages as an adapter would. Writes are lost or their acknowledgement is, once or for good, at each place; the
- * chip is reset at each place. Prints the numbers that docs/HOST.md has (tests/i2c/run compares), then 'N passed, M failed'. */
+/* The example host for a real bus, host/i2c.c, on a fake one: its own text, with the system calls that reach a bus or tell the time
+ * replaced by a chip in memory, which reads the messages as an adapter would, and a clock by which Vsync comes. Writes are lost or their
+ * acknowledgement is, once or for good, at each place; the chip is reset at each place; Vsync comes at any moment, or never. Prints the
+ * numbers that docs/HOST.md has (tests/i2c/run compares), then 'N passed, M failed'. */
 #include <fcntl.h>
 #include <sys/file.h>
 #include <sys/ioctl.h>
+#include <time.h>
 #include <unistd.h>
 
+static int fake_time(struct timespec *t);
+static int fake_pause(const struct timespec *t);
+#define clock_gettime(clock, t) fake_time(t)
+#define nanosleep(t, rest) fake_pause(t)
 static int fake_open(const char *device, int flags);
 static int fake_ioctl(int bus, unsigned long what, void *data);
 static int fake_lock(int bus, int how);
@@ -25,10 +31,34 @@ static int fake_lock(int bus, int how);
 enum { BUS = 7, NOT_TAKEN = 1, NOT_HEARD = 2 };
 static struct chip chip;
 static struct {
-    long sent, fails, resets;                           /* writes sent; the one that fails or meets a reset, from 1; 0: none */
+    long sent, fails, resets;                           /* writes of a list sent; the one that fails or meets a reset, from 1; 0: none */
     int how, for_good, dead, locked;                    /* how it fails, and whether all after it do; no read either; the lock is held */
+    int no_flags;                                       /* no read of the flags, and no write of them */
 } bus;
 static long wrong;                                      /* messages that a real chip would not understand, and writes without the lock */
+static long opened_early;                               /* times that the picture was opened while a change of the coefficients waited */
+
+/* Time, in ms; a transfer takes one. Every `frame` ms Vsync goes up and `pulse` ms later down, or the other way round where it is `low`.
+ * The chip's flag tells of the leading edge, its coefficients wait for the rising one. No frame: no Vsync. A flag may be stuck. */
+static struct { long now, frame, pulse; int low, flag, stuck; } video = { .frame = 17, .pulse = 5 };
+
+static void tick(void) {
+    video.now++;
+    if (!video.frame) return;
+    int leads = video.now % video.frame == 0, trails = video.now % video.frame == video.pulse;
+    if (leads) video.flag = 1;
+    if (video.low ? trails : leads) wrong += chip_vsync(&chip) != 0;
+}
+
+static int fake_time(struct timespec *t) {
+    t->tv_sec = video.now / 1000, t->tv_nsec = video.now % 1000 * 1000000L;
+    return 0;
+}
+
+static int fake_pause(const struct timespec *t) {
+    for (long until = video.now + t->tv_nsec / 1000000; video.now < until; ) tick();
+    return 0;
+}
 
 /* A chip after bring-up: powered, with free bits here and there. */
 static const struct chip fresh = { .image = { [0x0B] = 0x0E, [0x16] = 0x38, [0x41] = 0x10, [0x42] = 0x70, [0xAF] = 0x14, [0xE4] = 0x5A } };
@@ -43,14 +73,27 @@ static int fake_lock(int b, int how) {
     return 0;
 }
 
+/* A flag that is written 1 goes down; the one bit is all that may be written there. */
+static int fake_flags(uint8_t value) {
+    wrong += value != VSYNC_FLAG;
+    if (bus.no_flags) return -1;
+    video.flag = video.stuck;
+    return 1;
+}
+
 static int fake_write(const uint8_t *pair) {
+    if (pair[0] == FLAGS) return fake_flags(pair[1]);
     bus.sent++;
     if (bus.resets == bus.sent) {
         chip = fresh;
         chip.image[0x41] |= 0x40;                       /* as after a hot plug */
     }
     int fails = bus.fails && (bus.sent == bus.fails || (bus.for_good && bus.sent > bus.fails));
-    if (!fails || (bus.how == NOT_HEARD && bus.sent == bus.fails)) wrong += chip_write(&chip, pair) != 0;
+    if (!fails || (bus.how == NOT_HEARD && bus.sent == bus.fails)) {
+        struct sent s = chip_sent(&chip);
+        wrong += chip_write(&chip, pair) != 0;
+        opened_early += s.waiting && s.mute == STATION_MUTED && chip_sent(&chip).mute == STATION_OPEN;
+    }
     if (fails) errno = EREMOTEIO;
     return fails ? -1 : 1;
 }
@@ -60,10 +103,12 @@ static int fake_ioctl(int b, unsigned long what, void *data) {
     struct i2c_rdwr_ioctl_data *d = data;
     struct i2c_msg *m = d->msgs;
     wrong += b != BUS || what != I2C_RDWR || !bus.locked;
+    tick();
     for (uint32_t i = 0; i < d->nmsgs; i++) wrong += m[i].addr != 0x39;
     if (d->nmsgs == 1 && m[0].flags == 0 && m[0].len == 2) return fake_write(m[0].buf);
     if (d->nmsgs == 2 && m[0].flags == 0 && m[0].len == 1 && m[1].flags == I2C_M_RD && m[0].buf[0] + m[1].len <= STATION_IMAGE) {
-        if (bus.dead) return -1;
+        if (bus.dead || (bus.no_flags && m[1].len == 1)) return -1;
+        chip.image[FLAGS] = (uint8_t)((chip.image[FLAGS] & ~VSYNC_FLAG) | (video.flag || video.stuck ? VSYNC_FLAG : 0));
         memcpy(m[1].buf, chip.image + m[0].buf[0], m[1].len);
         return 2;
     }
@@ -86,11 +131,15 @@ static long writes;
 static struct chip start, end;
 static struct sent old, new;
 
-/* The end is that of a run without a cut: the registers and all three groups in use. */
-static int ended(void) {
-    struct sent s = chip_sent(&chip);
-    return !memcmp(chip.image, end.image, sizeof end.image) && !memcmp(&s, &new, sizeof s);
+/* The end is that of a run without a cut: the registers, but for the flags, and all three groups in use; nothing waits. */
+static int is_end(const struct chip *c) {
+    struct chip now = *c;
+    struct sent s = chip_sent(c);
+    now.image[FLAGS] = end.image[FLAGS];
+    return !memcmp(now.image, end.image, sizeof end.image) && !memcmp(&s, &new, sizeof s);
 }
+
+static int ended(void) { return is_end(&chip); }
 
 /* Each group in use is all old or all new. */
 static int whole(const struct chip *c) {
@@ -110,7 +159,7 @@ static int again(struct request q) {
     return status;
 }
 
-static void heal(void) { bus.fails = bus.resets = bus.how = bus.for_good = bus.dead = 0; }
+static void heal(void) { bus.fails = bus.resets = bus.how = bus.for_good = bus.dead = bus.no_flags = video.stuck = 0; }
 
 static void on_the_bus(void) {
     heal();
@@ -137,6 +186,41 @@ static void on_the_bus(void) {
         chip.image[0x41] &= 0xBF;
         tell(again(asked) == ACCEPTED && ended(), "after a reset and bring-up", k);
     }
+}
+
+/* Vsync at each moment of a frame, low and not, at a fast and a slow rate: the picture opens on the new coefficients, after one rising edge
+ * at least. */
+static void with_vsync(void) {
+    static const long frames[] = { 17, 20, 42 };
+    heal();
+    for (size_t f = 0; f < sizeof frames / sizeof frames[0]; f++)
+        for (int low = 0; low < 2; low++)
+            for (long at = 0; at < frames[f]; at++) {
+                chip = start;
+                video.frame = frames[f], video.low = low, video.now = at;
+                tell(again(asked) == ACCEPTED && bus.sent == writes && ended(), "Vsync at a moment", at);
+            }
+    video.frame = 17, video.low = 0;
+}
+
+/* No Vsync, a flag that is stuck, flags that cannot be reached, flags that are off: the picture stays muted, and the next run finishes. A
+ * list that mutes is sent up to its last pair. */
+static void without_vsync(void) {
+    struct { long frame; int stuck, no_flags; } cases[] = { { 0, 0, 0 }, { 17, 1, 0 }, { 17, 0, 1 } };
+    for (long k = 0; k < 3; k++) {
+        chip = start;
+        heal();
+        video.frame = cases[k].frame, video.stuck = cases[k].stuck, bus.no_flags = cases[k].no_flags;
+        long from = video.now;
+        tell(again(asked) == FAILED && bus.sent == writes - 1 && careful(&chip), "no Vsync", k);
+        tell(video.now - from < 2 * writes + 3 * PATIENCE, "no Vsync, and no end of waiting", video.now - from);
+        video.frame = 17;
+        heal();
+        tell(again(asked) == ACCEPTED && ended(), "after no Vsync", k);
+    }
+    chip = start;
+    chip.image[SENSE] |= SENSE_DOWN;
+    tell(again(asked) == FAILED && bus.sent == 0, "flags that are off", 0);
 }
 
 /* Refusals, holds left up, a bus that cannot be read, another family. */
@@ -175,6 +259,7 @@ static void gone_on(void) {
         struct chip c = start;
         int seen = 0;
         for (long w = 0; w < writes; w++) {
+            if (waits_before((uint32_t)w, (uint32_t)writes)) chip_vsync(&c), seen |= !whole(&c);
             if (w == k) continue;
             chip_write(&c, list + 2 * w);
             seen |= !whole(&c);
@@ -196,10 +281,10 @@ static void in_bursts(void) {
             int good = 1;
             for (long w = 0; w < taken; w++) chip_write(&c, list + 2 * w);
             for (long w = from; w < writes; w++) {
+                if (waits_before((uint32_t)w, (uint32_t)writes)) good &= chip_vsync(&c) == 0 && careful(&c);
                 good &= chip_write(&c, list + 2 * w) == 0 && (w == writes - 1 || careful(&c));
             }
-            struct sent s = chip_sent(&c);
-            tell(good && !memcmp(c.image, end.image, sizeof end.image) && !memcmp(&s, &new, sizeof s), "a burst sent again", taken);
+            tell(good && is_end(&c), "a burst sent again", taken);
         }
     }
     printf("bursts: %ld\n", transfers);
@@ -223,13 +308,16 @@ int main(void) {
     tell(again(request_of_text(MAY_BEFORE)) == ACCEPTED, "the first request", 0);
     start = end = chip;
     writes = station_plan(asked.bytes, asked.length, start.image, STATION_IMAGE, list, sizeof list).count;
-    for (long w = 0; w < writes; w++) tell(chip_write(&end, list + 2 * w) == 0, "the list", w);
+    tell(chip_run(&end, list, (uint32_t)writes) == 0, "the list", writes);
     old = chip_sent(&start), new = chip_sent(&end);
     on_the_bus();
+    with_vsync();
+    without_vsync();
     on_states();
     gone_on();
     in_bursts();
     bring_up();
+    tell(opened_early == 0, "the picture opened while new coefficients waited", opened_early);
     tell(wrong == 0, "messages that a chip does not understand, or writes without the lock", wrong);
     printf("%ld passed, %ld failed\n", passed, lost);
     return lost != 0;
