@@ -11,6 +11,9 @@ int main(void) {
         fprintf(stderr, "refused %u: %s\n", (unsigned)c.refusal, station_text(c.refusal));
         return 1;
     }
-    for (uint32_t i = 0; i < c.count; i++) printf("%02x = %02x\n", writes[2 * i], writes[2 * i + 1]);
+    for (uint32_t i = 0; i < c.count; i++) {
+        if (i + 1 == c.count) printf("wait for one Vsync\n");       /* so that the picture opens on the new coefficients */
+        printf("%02x = %02x\n", writes[2 * i], writes[2 * i + 1]);
+    }
     return 0;
 }

@@ -74,12 +74,12 @@ static uint32_t end_of(const uint8_t *list, uint32_t count) {
     return count;
 }
 
-/* The list's one Vsync. */
-static void turn_over(struct chip *c, struct beginning *b, struct judgement *j) {
+/* A Vsync: what is in use after it, and what is old by then. */
+static void turn_over(struct chip *c, struct beginning *b, struct sent *now, struct sent *old) {
     chip_vsync(c);
     chip_follow(b, c, 1);
-    j->old_after = b->old;
-    j->turned_over = chip_sent(c);
+    *now = chip_sent(c);
+    *old = b->old;
 }
 
 /* The rules of the cuts, by what is old and new there. What did not wait is after the Vsync as it was before. */
@@ -88,8 +88,9 @@ static void judge_cuts(struct judgement *j) {
         struct judged *p = &j->pairs[i];
         p->broken[NOT_MUTED] = p->now.mute != STATION_MUTED;
         for (int g = 0; g < GROUPS; g++) p->broken[TORN_AVI + g] = age((enum group)g, &p->now, &j->old, &j->new) == NEITHER;
-        if (waits_before(i + 1, j->end) && p->now.waiting)
-            p->broken[TORN_AT_VSYNC] = age(MATRIX, &j->turned_over, &j->old_after, &j->new) == NEITHER;
+        int torn = p->now.waiting && age(MATRIX, &p->then, &p->old_then, &j->new) == NEITHER;
+        p->broken[TORN_AT_VSYNC] = torn && waits_before(i + 1, j->end);
+        p->early = torn && !waits_before(i + 1, j->end);
     }
 }
 
@@ -99,10 +100,13 @@ static void run(const struct chip *start, const uint8_t *list, struct judgement 
     j->last = c;
     j->old = b.old;
     for (uint32_t i = 0; i < j->count; i++) {
-        if (waits_before(i, j->end)) turn_over(&c, &b, j);
+        if (waits_before(i, j->end)) turn_over(&c, &b, &j->turned_over, &j->old_after);
         judge_pair(&c, list + 2 * i, &j->pairs[i]);
         chip_follow(&b, &c, 0);
         if (i < j->end) j->last = c;
+        struct chip next = c;
+        struct beginning then = b;
+        turn_over(&next, &then, &j->pairs[i].then, &j->pairs[i].old_then);
     }
     j->new = chip_sent(&j->last);
 }

@@ -9,9 +9,10 @@
  * the list's one Vsync; the last rule is of the cut between the two, and the pair before the Vsync breaks it. */
 enum fault { NO_GROUP, NOT_MANDATED, FREE_MOVED, TWO_HOLDS, NOT_MUTED, TORN_AVI, TORN_AUDIO, TORN_MATRIX, TORN_AT_VSYNC, FAULTS };
 
-/* A pair: whether each rule is broken; the byte before it, and after it, or its own value where the machine does not take it; what is in
- * use after it; the bits of the second and the third rule. */
-struct judged { uint8_t broken[FAULTS], before, after, mandated, moved; struct sent now; };
+/* A pair: whether each rule is broken; the byte before it, and after it, or its own value where the machine does not take it; the bits of
+ * the second and the third rule; what is in use after it, and what would be if a Vsync came next, with what is old by then. `early`: that
+ * is torn, at a place where the list has no Vsync. No rule is broken, but a real chip has one whenever it comes. */
+struct judged { uint8_t broken[FAULTS], before, after, mandated, moved, early; struct sent now, then, old_then; };
 
 /* A list: how many pairs there are, and how many come before one that would leave two packet holds up (all, where none would); the chip at
  * that end; what is old, at first and after the Vsync, and what is in use after the Vsync and at the end. */

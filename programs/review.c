@@ -95,6 +95,18 @@ static void print_reasons(const struct judgement *j) {
     }
 }
 
+/* What no rule forbids, and a reviewer should know. */
+static void print_early(const struct judgement *j) {
+    unsigned pairs = 0, first = 0;
+    for (uint32_t i = j->count; i-- > 0; )
+        if (j->pairs[i].early) pairs++, first = i;
+    if (!pairs) return;
+    char text[TEXT_OF_FAULTS];
+    snprintf(text, sizeof text, "a Vsync that comes earlier than just before the last pair, after the pair at %u%s, puts torn coefficients "
+             "into use: some are written after the hold is lowered. No rule forbids it.", first, pairs > 1 ? " or a later one" : "");
+    print_wrapped(printf("\nWorth knowing: ") - 1, 2, text);
+}
+
 /* ---- What the list begins and ends in. */
 
 struct shown { uint8_t request[STATION_REQUEST]; uint32_t length; };
@@ -242,6 +254,7 @@ int main(int count, char **words) {
     if (j.verdict.refusal != STATION_HOLDS_UP && j.verdict.refusal != STATION_LIST_LENGTH) {
         print_table(&l, &j);
         print_reasons(&j);
+        print_early(&j);
         print_ends(&c, &j);
     }
     return printed(print_verdict(v, j.verdict));

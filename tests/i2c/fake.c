@@ -270,11 +270,12 @@ static void gone_on(void) {
     printf("past a lost write: %ld of %ld, open %ld\n", torn, writes, open_and_torn);
 }
 
-/* Neighbours of rising address sent as one transfer, of which the chip takes any number of bytes; then the whole transfer again. */
+/* Neighbours of rising address, but for the last pair, sent as one transfer, of which the chip takes any number of bytes; then the whole
+ * transfer again. */
 static void in_bursts(void) {
     long transfers = 0;
     for (long from = 0, to; from < writes; from = to) {
-        for (to = from + 1; to < writes && list[2 * to] == list[2 * to - 2] + 1; to++) {}
+        for (to = from + 1; to < writes - 1 && list[2 * to] == list[2 * to - 2] + 1; to++) {}
         transfers++;
         for (long taken = from; to - from > 1 && taken <= to; taken++) {
             struct chip c = start;
