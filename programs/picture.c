@@ -187,12 +187,15 @@ static void draw_lane(const struct run *r, enum lane l, int y) {
     }
 }
 
-static void draw_vsyncs(const struct run *r) {
+/* A Vsync: its word, where there is room, among the steps, and a line behind the lanes. */
+static void draw_vsyncs(const struct run *r, int bottom) {
     for (int m = 0; m < r->count; m++) {
         double x = at(r, m) + unit(r) / 2;
         if (!r->moments[m].is_vsync) continue;
-        printf("<path d='M%.1f %dV%d' stroke='#000' stroke-dasharray='2 2'/>", x, STEPS_TOP, STEPS_TOP + STEPS_HIGH);
-        printf("<text transform='translate(%.1f %d) rotate(-90)' class='up'>Vsync</text>\n", x - 2, STEPS_TOP + STEPS_HIGH - 4);
+        printf("<path d='M%.1f %dV%d' stroke='#000' stroke-width='2' stroke-dasharray='2 2'/>", x, STEPS_TOP + STEPS_HIGH, bottom);
+        if (unit(r) > LETTER)
+            printf("<text transform='translate(%.1f %d) rotate(-90)' class='up'>Vsync</text>", x + 3.5, STEPS_TOP + STEPS_HIGH - 4);
+        printf("\n");
     }
 }
 
@@ -262,7 +265,7 @@ static void draw(const struct run *r, const char *title, const char *of_cut) {
     for (int l = 0; l < LANES; l++) bottom += lanes[l].height + GAP;
     printf("<h2>%s</h2>\n<svg viewBox='0 0 %d %d' role='img' aria-label='%s'>\n", title, WIDE, bottom + 4, title);
     draw_steps(r);
-    draw_vsyncs(r);
+    draw_vsyncs(r, bottom);
     for (int l = 0; l < LANES; l++) {
         draw_lane(r, (enum lane)l, y);
         y += lanes[l].height + GAP;
