@@ -348,13 +348,10 @@ static inline int torn(const uint8_t *now, const uint8_t *old, const uint8_t *ne
     return !same_matrix(now, old) && !same_matrix(now, new);
 }
 
-/* The pairs before the first that would leave two packet holds up. */
-static inline uint32_t end_of(const uint8_t *list, uint32_t count) {
-    for (uint32_t i = 0; i < count; i++) {
-        uint8_t up = list[2 * i + 1] & 0x70;
-        if (list[2 * i] == 0x4A && (up & (up - 1))) return i;
-    }
-    return count;
+/* Whether a pair would leave two packet holds up. */
+static inline int leaves_two(const uint8_t *pair) {
+    uint8_t up = pair[1] & 0x70;
+    return pair[0] == 0x4A && (up & (up - 1));
 }
 
 /* One pass for the end, one for the tests, each with a Vsync just before the last pair. A group is looked at after a write that may have
@@ -365,7 +362,7 @@ static inline struct station_verdict vet(const uint8_t *image, size_t image_leng
                                          size_t list_length, find_pair *find) {
     struct machine start, now, last;
     uint8_t request[LONGEST];
-    uint32_t count = (uint32_t)(list_length / 2), ends;
+    uint32_t count = (uint32_t)(list_length / 2), ends = 0;
     if (image_length != 256 || packet_length != sizeof start.packet || coefficients_length != sizeof start.matrix)
         return (struct station_verdict){ 7, 0 };
     if ((image[0x4A] & 0x10) || (image[0x4A] & 0x60) == 0x60) return (struct station_verdict){ 8, 0 };
@@ -375,10 +372,10 @@ static inline struct station_verdict vet(const uint8_t *image, size_t image_leng
     memcpy(start.matrix, coefficients, sizeof start.matrix);
     start.waits = mark && !(image[0x1A] & 0x20) ? SINCE_THE_START : NOTHING;
     last = now = start;
-    ends = end_of(list, count);
-    for (uint32_t i = 0; i < ends; i++) {
-        if (i + 1 == ends) last.waits = NOTHING;
-        put(&last, list[2 * i], list[2 * i + 1]);
+    for (int more = count > 0 && !leaves_two(list); more; ends++) {
+        more = ends + 1 < count && !leaves_two(list + 2 * ends + 2);
+        if (!more) last.waits = NOTHING;
+        put(&last, list[2 * ends], list[2 * ends + 1]);
     }
     for (uint32_t i = 0; i < count; i++) {
         uint8_t a = list[2 * i], v = list[2 * i + 1];
