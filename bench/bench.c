@@ -291,7 +291,7 @@ static int measured(void) {
 
 /* A write over I2C, in periods of the bus clock: start, three bytes with an acknowledge each (the chip's address, the register, the value),
  * stop; start and stop count as one period each. A read of a row of registers as host/i2c.c has it: start, two bytes, start again, the
- * chip's address and the row, stop. What the host waits between two transfers is not counted. */
+ * chip's address and the row, stop. What the host waits, between two transfers and for Vsync, is not counted. */
 enum { BYTE = 8 + 1, OF_A_WRITE = 1 + 3 * BYTE + 1, ROW = 32, OF_A_READ = STATION_IMAGE / ROW * (1 + 2 * BYTE + 1 + (1 + ROW) * BYTE + 1) };
 
 /* The map's defaults (000, section 5) of the registers that a list writes, where they are not 0. */
@@ -348,6 +348,7 @@ static void bus_time(void) {
         printf("\n");
     }
     printf("a write is %d clock periods: start, three bytes of eight bits and an acknowledge (chip, register, value), stop\n", OF_A_WRITE);
+    printf("what a host waits, between two transfers and for Vsync, is not counted\n");
     printf("to read all registers back, in rows of %d as host/i2c.c does, takes %d periods:", ROW, OF_A_READ);
     printf(" %.2f ms at 100 kHz, %.2f ms at 400 kHz\n", OF_A_READ / 100.0, OF_A_READ / 400.0);
 }

@@ -303,6 +303,8 @@ static void bring_up(void) {
     printf("bring-up: %d\n", count);
 }
 
+static void waiting(void) { printf("Vsync: %s, %d ms\n", EDGES == 2 ? "two" : "another number", PATIENCE); }
+
 int main(void) {
     chip = fresh;
     asked = request_of_text(MAY_ASKED);
@@ -318,6 +320,7 @@ int main(void) {
     gone_on();
     in_bursts();
     bring_up();
+    waiting();
     tell(opened_early == 0, "the picture opened while new coefficients waited", opened_early);
     tell(wrong == 0, "messages that a chip does not understand, or writes without the lock", wrong);
     printf("%ld passed, %ld failed\n", passed, lost);
