@@ -107,7 +107,7 @@ struct answer { int status; uint32_t refusal; const char *words; };
 static struct answer failed(const char *words) { return (struct answer){ FAILED, 0, words }; }
 
 /* The pairs in order, with one Vsync just before the last; NULL, or what failed. The picture is muted until the last. */
-static const char *send(int bus, const uint8_t *list, uint32_t count) {
+static const char *send_pairs(int bus, const uint8_t *list, uint32_t count) {
     for (uint32_t i = 0; i < count; i++) {
         enum seen s = i + 1 == count ? vsync(bus) : SEEN;
         if (s == NOT_SEEN) return "no Vsync came: is there a picture at the chip's input? It stays muted";
@@ -130,11 +130,11 @@ static struct answer show(int bus, const uint8_t *request, size_t length) {
         }
         if (plan.refusal) return failed("two packet holds are up: reset the chip");
         if (image[POWER] & POWER_DOWN) return failed("the chip is powered down (0x41[6]): bring it up first");
-        if (image[SENSE] & SENSE_DOWN) return failed("monitor sense is powered down (0xA1[6]), so no Vsync is seen: bring it up first");
         memcpy(end, image, sizeof end);
         for (uint32_t i = 0; i < plan.count; i++) end[list[2 * i]] = list[2 * i + 1];
         if (!memcmp(end, image, sizeof end)) return (struct answer){ ACCEPTED, 0, "on show" };
-        const char *why = send(bus, list, plan.count);
+        if (image[SENSE] & SENSE_DOWN) return failed("monitor sense is powered down (0xA1[6]), so no Vsync is seen: bring it up first");
+        const char *why = send_pairs(bus, list, plan.count);
         if (why) return failed(why);
     }
     return failed("the registers do not stay as they are written: a reset, or somebody else writes");

@@ -221,6 +221,9 @@ static void without_vsync(void) {
     chip = start;
     chip.image[SENSE] |= SENSE_DOWN;
     tell(again(asked) == FAILED && bus.sent == 0, "flags that are off", 0);
+    chip = end;
+    chip.image[SENSE] |= SENSE_DOWN;
+    tell(again(asked) == ACCEPTED && bus.sent == 0, "flags that are off, and nothing to write", 0);
 }
 
 /* Refusals, holds left up, a bus that cannot be read, another family. */
