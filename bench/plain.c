@@ -312,8 +312,7 @@ static const struct { uint8_t ours, mandated, value, free; } rules[256] = {
     FIXED(0xA2, 0xA4), FIXED(0xA3, 0xA4), MANDATED(0xAF, 0x6D, 0x04, 0x90), FIXED(0xE0, 0xD0), FIXED(0xF9, 0),
 };
 
-/* `waits`: a lowered coefficient hold waits for its Vsync, since the start or since a write of the list. */
-enum { NOTHING, SINCE_A_WRITE, SINCE_THE_START };
+/* `waits`: a lowered coefficient hold waits for its Vsync. */
 struct machine { uint8_t image[256], packet[STATION_PACKET], matrix[STATION_COEFFICIENTS], waits; };
 
 /* One write. Read-only bits are in registers that no list may write and that no group and no request has: they need not stay. Answers 0,
@@ -327,7 +326,7 @@ static inline int put(struct machine *m, uint8_t address, uint8_t value) {
         else if (rises & 0x10) m->packet[0] = m->image[0x4B];
     } else if (address == 0x1A && ((value ^ m->image[0x1A]) & 0x20)) {
         if ((value & 0x20) && !m->waits) memcpy(m->matrix, m->image + 0x18, sizeof m->matrix);
-        m->waits = value & 0x20 ? NOTHING : SINCE_A_WRITE;
+        m->waits = !(value & 0x20);
     }
     m->image[address] = value;
     return 1;
@@ -355,8 +354,8 @@ static inline int leaves_two(const uint8_t *pair) {
 }
 
 /* One pass for the end, one for the tests, each with a Vsync just before the last pair. A group is looked at after a write that may have
- * changed it, and the matrix where a wait ends: its registers come into use, and where it waited since the start they are old. The GC hold
- * needs no look: it is down at the start, and it is a free bit. */
+ * changed it, and the matrix where a wait ends, for its registers come into use. The GC hold needs no look: it is down at the start, and it
+ * is a free bit. */
 static inline struct station_verdict vet(const uint8_t *image, size_t image_length, const uint8_t *packet, size_t packet_length,
                                          const uint8_t *coefficients, size_t coefficients_length, uint8_t mark, const uint8_t *list,
                                          size_t list_length, find_pair *find) {
@@ -370,19 +369,18 @@ static inline struct station_verdict vet(const uint8_t *image, size_t image_leng
     memcpy(start.image, image, sizeof start.image);
     memcpy(start.packet, packet, sizeof start.packet);
     memcpy(start.matrix, coefficients, sizeof start.matrix);
-    start.waits = mark && !(image[0x1A] & 0x20) ? SINCE_THE_START : NOTHING;
+    start.waits = mark && !(image[0x1A] & 0x20);
     last = now = start;
     for (int more = count > 0 && !leaves_two(list); more; ends++) {
         more = ends + 1 < count && !leaves_two(list + 2 * ends + 2);
-        if (!more) last.waits = NOTHING;
+        if (!more) last.waits = 0;
         put(&last, list[2 * ends], list[2 * ends + 1]);
     }
     for (uint32_t i = 0; i < count; i++) {
         uint8_t a = list[2 * i], v = list[2 * i + 1];
         if (i + 1 == ends && now.waits) {
-            const uint8_t *old = now.waits == SINCE_THE_START ? start.image + 0x18 : matrix(&start);
-            now.waits = NOTHING;
-            if (i > 0 && torn(matrix(&now), old, matrix(&last))) return (struct station_verdict){ 15, i - 1 };
+            now.waits = 0;
+            if (i > 0 && torn(matrix(&now), matrix(&start), matrix(&last))) return (struct station_verdict){ 15, i - 1 };
         }
         if (!rules[a].ours || (v & rules[a].mandated) != rules[a].value || ((v ^ now.image[a]) & rules[a].free) || !put(&now, a, v))
             return (struct station_verdict){ 15, i };

@@ -74,23 +74,23 @@ static uint32_t end_of(const uint8_t *list, uint32_t count) {
     return count;
 }
 
-/* A Vsync: what is in use after it, and what is old by then. */
-static void turn_over(struct chip *c, struct beginning *b, struct sent *now, struct sent *old) {
-    chip_vsync(c);
-    chip_follow(b, c, 1);
-    *now = chip_sent(c);
-    *old = b->old;
+/* What would be in use if a Vsync came now, and what is old by then. */
+static void look_ahead(struct chip c, struct beginning b, struct judged *p) {
+    chip_vsync(&c);
+    chip_follow(&b, &c, 1);
+    p->then = chip_sent(&c);
+    p->old_then = b.old;
 }
 
-/* The rules of the cuts, by what is old and new there. What did not wait is after the Vsync as it was before. */
+/* The rules of the cuts: "as it began or as the list ends". What did not wait is after the Vsync as it was before. */
 static void judge_cuts(struct judgement *j) {
     for (uint32_t i = 0; i + 1 < j->end; i++) {
         struct judged *p = &j->pairs[i];
         p->broken[NOT_MUTED] = p->now.mute != STATION_MUTED;
         for (int g = 0; g < GROUPS; g++) p->broken[TORN_AVI + g] = age((enum group)g, &p->now, &j->old, &j->new) == NEITHER;
-        int torn = p->now.waiting && age(MATRIX, &p->then, &p->old_then, &j->new) == NEITHER;
-        p->broken[TORN_AT_VSYNC] = torn && waits_before(i + 1, j->end);
-        p->early = torn && !waits_before(i + 1, j->end);
+        if (!p->now.waiting) continue;
+        if (waits_before(i + 1, j->end)) p->broken[TORN_AT_VSYNC] = age(MATRIX, &p->then, &j->old, &j->new) == NEITHER;
+        else p->early = age(MATRIX, &p->then, &p->old_then, &j->new) == NEITHER;
     }
 }
 
@@ -100,13 +100,15 @@ static void run(const struct chip *start, const uint8_t *list, struct judgement 
     j->last = c;
     j->old = b.old;
     for (uint32_t i = 0; i < j->count; i++) {
-        if (waits_before(i, j->end)) turn_over(&c, &b, &j->turned_over, &j->old_after);
+        if (waits_before(i, j->end)) {
+            chip_vsync(&c);
+            chip_follow(&b, &c, 1);
+            j->turned_over = chip_sent(&c);
+        }
         judge_pair(&c, list + 2 * i, &j->pairs[i]);
         chip_follow(&b, &c, 0);
+        look_ahead(c, b, &j->pairs[i]);
         if (i < j->end) j->last = c;
-        struct chip next = c;
-        struct beginning then = b;
-        turn_over(&next, &then, &j->pairs[i].then, &j->pairs[i].old_then);
     }
     j->new = chip_sent(&j->last);
 }

@@ -10,17 +10,17 @@
 enum fault { NO_GROUP, NOT_MANDATED, FREE_MOVED, TWO_HOLDS, NOT_MUTED, TORN_AVI, TORN_AUDIO, TORN_MATRIX, TORN_AT_VSYNC, FAULTS };
 
 /* A pair: whether each rule is broken; the byte before it, and after it, or its own value where the machine does not take it; the bits of
- * the second and the third rule; what is in use after it, and what would be if a Vsync came next, with what is old by then. `early`: that
- * is torn, at a place where the list has no Vsync. No rule is broken, but a real chip has one whenever it comes. */
+ * the second and the third rule; what is in use after it, and what would be if a Vsync came next, with what is old then as demand 3 has it.
+ * `early`: that is torn, at a place where the list has no Vsync. No rule is broken, but a real chip has one whenever it comes. */
 struct judged { uint8_t broken[FAULTS], before, after, mandated, moved, early; struct sent now, then, old_then; };
 
 /* A list: how many pairs there are, and how many come before one that would leave two packet holds up (all, where none would); the chip at
- * that end; what is old, at first and after the Vsync, and what is in use after the Vsync and at the end. */
+ * that end; what was in use at the beginning, and is after the Vsync and at the end. */
 struct judgement {
     struct station_verdict verdict;
     uint32_t count, end;
     struct chip last;
-    struct sent old, old_after, turned_over, new;
+    struct sent old, turned_over, new;
     struct judged pairs[STATION_LIST / 2];
 };
 void judge(const struct chip *c, const uint8_t *list, size_t length, struct judgement *j);

@@ -482,6 +482,12 @@ static void say_bad_pairs(const struct list *l, const struct judgement *j) {
     printf("</ul></details>\n");
 }
 
+/* Of such a list old is what was in use at its beginning, all through. */
+static void begin_list(struct run *r, const struct chip *c, const struct judgement *j) {
+    begin(r, c, &j->new);
+    r->begun.waits = 0;
+}
+
 /* The page of a list that somebody brings; it is played as far as the machine takes it. */
 static void page_of_list(const struct chip *c, const struct list *l, const uint8_t *before, size_t length, const struct places *besides,
                          long cut_at) {
@@ -510,7 +516,7 @@ static void page_of_list(const struct chip *c, const struct list *l, const uint8
     if (v.refusal == STATION_BAD_PAIR) printf(" (counted from 0; write %u of this page)", (unsigned)v.place + 1);
     printf(".</p>\n");
     key();
-    begin(&r, c, &j.new);
+    begin_list(&r, c, &j);
     play(&r, l->bytes, &events, events.count);
     draw(&r, "The list, from the first write to the last", "");
     if (j.end < j.count)
@@ -519,7 +525,7 @@ static void page_of_list(const struct chip *c, const struct list *l, const uint8
     say_bad_pairs(l, &j);
     table(&r);
     if (cut_at >= 0) {
-        begin(&r, c, &j.new);
+        begin_list(&r, c, &j);
         play(&r, l->bytes, &events, (uint32_t)cut_at);
         cut(&r);
         look(&r, 4 * REST);

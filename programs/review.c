@@ -66,10 +66,8 @@ static void print_table(const struct list *l, const struct judgement *j) {
     table_head("at");
     for (uint32_t i = 0; i < j->count; i++) {
         const struct judged *p = &j->pairs[i];
-        int is_last = waits_before(i, j->end);
-        if (is_last) table_vsync(&j->turned_over, &j->old_after, &j->new);
-        table_row((unsigned)i, l->bytes[2 * i], p->before, p->after, i < j->end ? &p->now : NULL, is_last ? &j->old_after : &j->old,
-                  &j->new);
+        if (waits_before(i, j->end)) table_vsync(&j->turned_over, &j->old, &j->new);
+        table_row((unsigned)i, l->bytes[2 * i], p->before, p->after, i < j->end ? &p->now : NULL, &j->old, &j->new);
         if (is_bad(p)) {
             char text[TEXT_OF_FAULTS];
             text_of_faults(l->bytes[2 * i], p, text);
