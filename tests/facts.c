@@ -1,4 +1,4 @@
-/* The library's ten calls at every alignment, in threads at a time, and on a painted stack; and the sizes and names of station.h against
+/* The library's eleven calls at every alignment, in threads at a time, and on a painted stack; and the sizes and names of station.h against
  * what the calls take. */
 #include "facts.h"
 #include "lists.h"
@@ -12,7 +12,7 @@
 /* ---- The calls, each on slices of one kind of input; an answer is its bytes. */
 
 struct slices {
-    uint8_t *request, *image, *packet, *coefficients, *matrix, *writes, *back, *list;
+    uint8_t *request, *image, *packet, *coefficients, *mark, *matrix, *writes, *back, *list;
     size_t length, list_length;
     uint8_t address, value;
 };
@@ -30,8 +30,12 @@ static void preview(const struct slices *s, struct answer *a) {
     ANSWER(struct station_pixel, station_preview(s->matrix, STATION_MATRIX, s->value * 16u, s->address * 16u, 4095));
 }
 static void write_one(const struct slices *s, struct answer *a) {
-    ANSWER(uint32_t, station_write(s->image, STATION_IMAGE, s->packet, STATION_PACKET, s->coefficients, STATION_COEFFICIENTS, s->address,
-                                   s->value));
+    ANSWER(uint32_t, station_write(s->image, STATION_IMAGE, s->packet, STATION_PACKET, s->coefficients, STATION_COEFFICIENTS, s->mark,
+                                   STATION_MARK, s->address, s->value));
+}
+static void vsync(const struct slices *s, struct answer *a) {
+    ANSWER(uint32_t, station_vsync(s->image, STATION_IMAGE, s->packet, STATION_PACKET, s->coefficients, STATION_COEFFICIENTS, s->mark,
+                                   STATION_MARK));
 }
 static void sent(const struct slices *s, struct answer *a) {
     ANSWER(struct station_part, station_sent(s->image, STATION_IMAGE, s->packet, STATION_PACKET, s->value % 2));
@@ -40,26 +44,28 @@ static void mute(const struct slices *s, struct answer *a) {
     ANSWER(struct station_state, station_mute(s->image, STATION_IMAGE, s->packet, STATION_PACKET));
 }
 static void matrix(const struct slices *s, struct answer *a) {
-    ANSWER(struct station_count, station_matrix(s->image, STATION_IMAGE, s->coefficients, STATION_COEFFICIENTS, s->matrix, STATION_MATRIX));
+    ANSWER(struct station_count, station_matrix(s->image, STATION_IMAGE, s->coefficients, STATION_COEFFICIENTS, *s->mark, s->matrix,
+                                                STATION_MATRIX));
 }
 static void class_of(const struct slices *s, struct answer *a) { ANSWER(struct station_masks, station_class(s->address)); }
 static void vet(const struct slices *s, struct answer *a) {
     ANSWER(struct station_verdict, station_vet(s->image, STATION_IMAGE, s->packet, STATION_PACKET, s->coefficients, STATION_COEFFICIENTS,
-                                               s->list, s->list_length));
+                                               *s->mark, s->list, s->list_length));
 }
 
 static const struct { const char *name; void (*call)(const struct slices *, struct answer *); } calls[] = {
     { "station_plan", plan },       { "station_decode", decode },   { "station_ncts", ncts },
-    { "station_preview", preview }, { "station_write", write_one }, { "station_sent", sent },
-    { "station_mute", mute },       { "station_matrix", matrix },   { "station_class", class_of },
-    { "station_vet", vet },
+    { "station_preview", preview }, { "station_write", write_one }, { "station_vsync", vsync },
+    { "station_sent", sent },       { "station_mute", mute },       { "station_matrix", matrix },
+    { "station_class", class_of },  { "station_vet", vet },
 };
-enum { CALLS = sizeof calls / sizeof calls[0], INPUTS = 300, OFFSETS = 16, SLICES = 8 };
+enum { CALLS = sizeof calls / sizeof calls[0], INPUTS = 300, OFFSETS = 16, SLICES = 9 };
 
 /* ---- Inputs, and the slices of one, each at an offset of its own. */
 
 static struct input {
-    uint8_t request[LEAST_ROOM], image[STATION_IMAGE], packet[STATION_PACKET], coefficients[STATION_COEFFICIENTS], matrix[STATION_MATRIX];
+    uint8_t request[LEAST_ROOM], matrix[STATION_MATRIX];
+    struct chip chip;
     size_t length;
     uint8_t address, value;
     struct pairs list;
@@ -67,20 +73,18 @@ static struct input {
 
 /* A list of ours for the image, some of them as long as a list may be. */
 static void make_list(struct input *n, int longest) {
-    struct chip c;
     struct fields f;
-    memcpy(c.image, n->image, sizeof c.image);
     accepted_fields(&f);
-    our_list(&c, &f, &n->list);
-    if (longest) stretch(&c, &n->list, MOST_PAIRS);
+    our_list(&n->chip, &f, &n->list);
+    if (longest) stretch(&n->chip, &n->list, MOST_PAIRS);
 }
 
 static void make_inputs(void) {
     seed(11);
     for (int i = 0; i < INPUTS; i++) {
         struct input *n = &inputs[i];
-        any_start(n->image, n->packet, n->coefficients);
-        if (i % 2) any_image(n->image);                     /* finished ones, for decoding, among them */
+        any_start(&n->chip);
+        if (i % 2) any_image(n->chip.image);                     /* finished ones, for decoding, among them */
         if (i % 3) {
             struct fields f;
             any_fields(&f);
@@ -88,7 +92,7 @@ static void make_inputs(void) {
         } else n->length = any_request(n->request, sizeof n->request);
         memcpy(n->matrix, table_39, sizeof n->matrix);
         if (i % 4 == 0) any_bytes(n->matrix + 1, sizeof n->matrix - 1);
-        n->address = (uint8_t)any(256), n->value = (uint8_t)any(256);
+        n->address = i % 7 ? (uint8_t)any(256) : 0x1A, n->value = (uint8_t)any(256);
         make_list(n, i % 5 == 0);
     }
 }
@@ -98,12 +102,13 @@ struct room { uint8_t bytes[SLICES][STATION_LIST + 64]; } __attribute__((aligned
 static struct slices lay(struct room *r, const struct input *n, int offset) {
     memset(r, 0x5A, sizeof *r);
     struct slices s = { .length = n->length, .list_length = n->list.length, .address = n->address, .value = n->value };
-    uint8_t **const at[SLICES] = { &s.request, &s.image, &s.packet, &s.coefficients, &s.matrix, &s.writes, &s.back, &s.list };
+    uint8_t **const at[SLICES] = { &s.request, &s.image, &s.packet, &s.coefficients, &s.mark, &s.matrix, &s.writes, &s.back, &s.list };
     for (int k = 0; k < SLICES; k++) *at[k] = r->bytes[k] + (offset ? (offset + k) % OFFSETS : 0);
     memcpy(s.request, n->request, n->length);
-    memcpy(s.image, n->image, sizeof n->image);
-    memcpy(s.packet, n->packet, sizeof n->packet);
-    memcpy(s.coefficients, n->coefficients, sizeof n->coefficients);
+    memcpy(s.image, n->chip.image, STATION_IMAGE);
+    memcpy(s.packet, n->chip.packet, STATION_PACKET);
+    memcpy(s.coefficients, n->chip.coefficients, STATION_COEFFICIENTS);
+    *s.mark = n->chip.mark;
     memcpy(s.matrix, n->matrix, sizeof n->matrix);
     memcpy(s.list, n->list.bytes, n->list.length);
     return s;
@@ -114,7 +119,7 @@ struct outcome { struct answer a; uint8_t left[SLICES][STATION_IMAGE]; };
 static void run_one(int call, const struct input *n, int offset, struct outcome *o) {
     struct room r;
     struct slices s = lay(&r, n, offset);
-    const uint8_t *const at[SLICES] = { s.request, s.image, s.packet, s.coefficients, s.matrix, s.writes, s.back, s.list };
+    const uint8_t *const at[SLICES] = { s.request, s.image, s.packet, s.coefficients, s.mark, s.matrix, s.writes, s.back, s.list };
     memset(o, 0, sizeof *o);
     calls[call].call(&s, &o->a);
     for (int k = 0; k < SLICES; k++) memcpy(o->left[k], at[k], STATION_IMAGE);
@@ -204,47 +209,66 @@ static unsigned stack_of(int call) {
 
 /* ---- The names of station.h. */
 
-static void names(void) {
-    uint8_t request[LONGEST], image[STATION_IMAGE] = { 0 }, packet[STATION_PACKET] = { 0 }, coefficients[STATION_COEFFICIENTS] = { 0 };
-    uint8_t writes[STATION_WRITES], back[STATION_REQUEST], m[STATION_MATRIX];
-    size_t length = model_bytes(&example, request);
-    char version[32];
-    struct station_count c = station_plan(request, length, image, sizeof image, writes, sizeof writes);
-    tell(c.refusal == STATION_ACCEPTED && 2 * c.count <= STATION_WRITES, "a list fits into STATION_WRITES");
-    tell(station_plan(request, length, image, sizeof image, writes, STATION_WRITES - 1).refusal == STATION_BUFFER_SHORT,
-         "STATION_WRITES is the least room");
-    tell(station_plan(request, length, image, STATION_IMAGE - 1, writes, sizeof writes).refusal == STATION_IMAGE_LENGTH,
-         "STATION_IMAGE is an image's length");
-    tell(station_write(image, STATION_IMAGE, packet, STATION_PACKET - 1, coefficients, STATION_COEFFICIENTS, 0, 0) == STATION_IMAGE_LENGTH,
+/* The chip of the calls below, and a call on its machine with slices of these lengths. */
+static struct chip chip;
+#define STATE(of_packet, of_coefficients) chip.image, STATION_IMAGE, chip.packet, of_packet, chip.coefficients, of_coefficients
+#define MACHINE STATE(STATION_PACKET, STATION_COEFFICIENTS), &chip.mark, STATION_MARK
+
+static void names_of_the_machine(void) {
+    tell(station_write(STATE(STATION_PACKET - 1, STATION_COEFFICIENTS), &chip.mark, STATION_MARK, 0, 0) == STATION_IMAGE_LENGTH,
          "STATION_PACKET is the packet buffer's length");
-    tell(station_write(image, STATION_IMAGE, packet, STATION_PACKET, coefficients, STATION_COEFFICIENTS - 1, 0, 0) == STATION_IMAGE_LENGTH,
+    tell(station_write(STATE(STATION_PACKET, STATION_COEFFICIENTS - 1), &chip.mark, STATION_MARK, 0, 0) == STATION_IMAGE_LENGTH,
          "STATION_COEFFICIENTS is the coefficient buffer's length");
-    for (uint32_t w = 0; w < c.count; w++) {
-        uint32_t refusal = station_write(image, sizeof image, packet, sizeof packet, coefficients, sizeof coefficients, writes[2 * w],
-                                         writes[2 * w + 1]);
-        struct station_state s = station_mute(image, sizeof image, packet, sizeof packet);
-        if (refusal || s.mute != (w + 1 < c.count ? STATION_MUTED : STATION_OPEN)) {
+    tell(station_write(STATE(STATION_PACKET, STATION_COEFFICIENTS), &chip.mark, STATION_MARK - 1, 0, 0) == STATION_IMAGE_LENGTH &&
+             station_vsync(STATE(STATION_PACKET, STATION_COEFFICIENTS), &chip.mark, STATION_MARK - 1) == STATION_IMAGE_LENGTH,
+         "STATION_MARK is the mark's length");
+}
+
+/* The list, with the Vsync where station.h says. */
+static void run_list(const uint8_t *writes, uint32_t count) {
+    for (uint32_t w = 0; w < count; w++) {
+        uint32_t refusal = w + 1 == count ? station_vsync(MACHINE) : 0;
+        refusal += station_write(MACHINE, writes[2 * w], writes[2 * w + 1]);
+        struct station_state s = station_mute(chip.image, STATION_IMAGE, chip.packet, STATION_PACKET);
+        if (refusal || s.mute != (w + 1 < count ? STATION_MUTED : STATION_OPEN)) {
             tell(0, "STATION_MUTED from the first write, STATION_OPEN after the last");
             break;
         }
     }
-    c = station_decode(image, sizeof image, back, sizeof back);
+    tell(chip.mark == 0, "no change waits after a list that had its Vsync");
+}
+
+static void names(void) {
+    uint8_t request[LONGEST], writes[STATION_WRITES], back[STATION_REQUEST], m[STATION_MATRIX];
+    size_t length = model_bytes(&example, request);
+    char version[32];
+    memset(&chip, 0, sizeof chip);
+    struct station_count c = station_plan(request, length, chip.image, STATION_IMAGE, writes, sizeof writes);
+    tell(c.refusal == STATION_ACCEPTED && 2 * c.count <= STATION_WRITES, "a list fits into STATION_WRITES");
+    tell(station_plan(request, length, chip.image, STATION_IMAGE, writes, STATION_WRITES - 1).refusal == STATION_BUFFER_SHORT,
+         "STATION_WRITES is the least room");
+    tell(station_plan(request, length, chip.image, STATION_IMAGE - 1, writes, sizeof writes).refusal == STATION_IMAGE_LENGTH,
+         "STATION_IMAGE is an image's length");
+    names_of_the_machine();
+    run_list(writes, c.count);
+    c = station_decode(chip.image, STATION_IMAGE, back, sizeof back);
     tell(c.count == length && !memcmp(back, request, length), "the request reads back");
-    tell(station_decode(image, sizeof image, back, STATION_REQUEST - 1).refusal == STATION_BUFFER_SHORT, "STATION_REQUEST is the least room");
+    tell(station_decode(chip.image, STATION_IMAGE, back, STATION_REQUEST - 1).refusal == STATION_BUFFER_SHORT,
+         "STATION_REQUEST is the least room");
     tell(STATION_REQUEST == LONGEST, "STATION_REQUEST is the longest request");
-    tell(station_sent(image, sizeof image, packet, sizeof packet, STATION_AVI).len == AVI_BYTES, "STATION_AVI is the AVI packet");
-    tell(station_sent(image, sizeof image, packet, sizeof packet, STATION_AUDIO).len == AUDIO_BYTES, "STATION_AUDIO is the audio packet");
-    tell(station_matrix(image, sizeof image, coefficients, sizeof coefficients, m, sizeof m).count == STATION_MATRIX, "STATION_MATRIX");
+    tell(station_sent(chip.image, STATION_IMAGE, chip.packet, STATION_PACKET, STATION_AVI).len == AVI_BYTES, "STATION_AVI is the AVI packet");
+    tell(station_sent(chip.image, STATION_IMAGE, chip.packet, STATION_PACKET, STATION_AUDIO).len == AUDIO_BYTES,
+         "STATION_AUDIO is the audio packet");
+    tell(station_matrix(chip.image, STATION_IMAGE, chip.coefficients, STATION_COEFFICIENTS, chip.mark, m, sizeof m).count == STATION_MATRIX,
+         "STATION_MATRIX");
     tell(station_preview(m, STATION_MATRIX - 1, 0, 0, 0).refusal == STATION_FIELD_OUT_OF_RANGE, "STATION_MATRIX is a matrix's length");
     snprintf(version, sizeof version, "%d.%d.%d", STATION_MAJOR, STATION_MINOR, STATION_PATCH);
     tell(!strcmp(version, STATION_VERSION), "STATION_VERSION is of its three numbers");
-    struct chip chip;
     struct pairs l;
     finished_state(&chip, &example);
     our_list(&chip, &example, &l);
     stretch(&chip, &l, STATION_LIST / 2);
-#define VET(length) \
-    station_vet(chip.image, STATION_IMAGE, chip.packet, STATION_PACKET, chip.coefficients, STATION_COEFFICIENTS, l.bytes, length).refusal
+#define VET(length) station_vet(STATE(STATION_PACKET, STATION_COEFFICIENTS), chip.mark, l.bytes, length).refusal
     tell(VET(STATION_LIST) == STATION_ACCEPTED, "a list of STATION_LIST bytes passes");
     tell(VET(STATION_LIST + 2) == STATION_LIST_LENGTH, "STATION_LIST is the longest list");
     tell(strcmp(station_text(STATION_BAD_END), station_text(STATION_BAD_END + 1)) != 0, "station_text knows its last number");

@@ -175,14 +175,20 @@ void left_up(uint8_t *image) {
     image[0x1A] = (uint8_t)((image[0x1A] & 0xDF) | (any(2) ? 0x20 : 0));
 }
 
-void any_start(uint8_t *image, uint8_t *packet, uint8_t *coefficients) {
+uint8_t any_mark(void) {
+    static const uint8_t often[] = { 0, 0, 0, 1, 1, 2, 7, 255 };
+    return any(16) ? often[any(sizeof often)] : (uint8_t)any(256);
+}
+
+void any_start(struct chip *c) {
     struct fields f;
-    any_bytes(image, 256);
-    any_bytes(packet, PACKET_BYTES);
-    any_bytes(coefficients, COEFFICIENT_BYTES);
+    any_bytes(c->image, 256);
+    any_bytes(c->packet, PACKET_BYTES);
+    any_bytes(c->coefficients, COEFFICIENT_BYTES);
     any_fields(&f);
-    if (any(2)) finish(image, &f);
-    left_up(image);
+    if (any(2)) finish(c->image, &f);
+    left_up(c->image);
+    c->mark = any_mark();
 }
 
 /* Another request, which differs in one section, or in one field. */

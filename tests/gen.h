@@ -16,7 +16,8 @@ uint8_t  any_written(void);                             /* a register that a lis
 void     any_fields(struct fields *f);                  /* fields of a request that 1 to 6 let pass (9 may apply) */
 size_t   any_request(uint8_t *bytes, size_t room);      /* valid, damaged, cut, too long, or plain noise; `room` is LEAST_ROOM or more */
 void     any_image(uint8_t *image);                     /* noise, finished, cut, damaged, bare; holds of every kind */
-void     any_start(uint8_t *image, uint8_t *packet, uint8_t *coefficients);     /* a state that planning accepts */
+uint8_t  any_mark(void);                                /* none, 1, or another number that waits as well */
+void     any_start(struct chip *c);                     /* a state that planning accepts, with any mark */
 void     finish(uint8_t *image, const struct fields *f);
 void     left_up(uint8_t *image);                       /* holds that refusal 8 lets pass, as a cut could leave them */
 void     near_image(uint8_t *image, const struct fields *f);    /* one that planning accepts, and that needs few writes for this request */

@@ -1,7 +1,5 @@
-#include "harness.h"
-#include "gen.h"
+#include "check.h"
 #include "lent.h"
-#include "lists.h"
 #include <setjmp.h>
 #include <signal.h>
 #include <stdarg.h>
@@ -11,12 +9,7 @@
 
 char first_difference[160];
 
-static struct {
-    const struct face *f;
-    unsigned share;
-    int stop, loud;
-    struct section *now;
-} run;
+struct running run;
 
 /* A call that touches a page it was not lent, or does not end, is a difference too. */
 static sigjmp_buf out;
@@ -24,7 +17,7 @@ static volatile uint64_t seen;
 static volatile int still;
 static volatile sig_atomic_t why;
 
-static void differs(const char *text, ...) {
+void differs(const char *text, ...) {
     char line[160];
     va_list list;
     va_start(list, text);
@@ -58,7 +51,7 @@ static void on_tick(int number) {
     }
 }
 
-static uint32_t times(uint32_t n) { return (uint32_t)((uint64_t)n * run.share / 1000) + 1; }
+uint32_t times(uint32_t n) { return (uint32_t)((uint64_t)n * run.share / 1000) + 1; }
 
 static int side(void) { return any(4) ? ENDS : BEGINS; }
 
@@ -107,20 +100,51 @@ static void check_decode(const uint8_t *image, size_t il, const uint8_t *buffer,
     else if (!holds(IMAGE, image)) differs("the image was changed");
 }
 
-static void check_write(const uint8_t *image, size_t il, const uint8_t *packet, size_t pl, const uint8_t *coefficients, size_t cl,
-                        uint8_t address, uint8_t value) {
-    static uint8_t i2[ROOM], p2[ROOM], c2[ROOM];
+struct slices slices_of(const struct chip *c) {
+    return (struct slices){ c->image, IMAGE_BYTES, c->packet, PACKET_BYTES, c->coefficients, COEFFICIENT_BYTES, &c->mark, MARK_BYTES };
+}
+
+/* The four slices, lent; and what the model leaves in them. */
+struct lent { uint8_t *image, *packet, *coefficients, *mark; };
+static uint8_t left[4][ROOM];
+
+static struct lent lend_all(const struct slices *s) {
+    return (struct lent){ lend(IMAGE, s->image, s->il, side()), lend(PACKET, s->packet, s->pl, side()),
+                          lend(COEFFICIENTS, s->coefficients, s->cl, side()), lend(MARK, s->mark, s->ml, side()) };
+}
+
+static void leave_all(const struct slices *s) {
+    memcpy(left[0], s->image, s->il);
+    memcpy(left[1], s->packet, s->pl);
+    memcpy(left[2], s->coefficients, s->cl);
+    memcpy(left[3], s->mark, s->ml);
+}
+
+static void compare_all(const char *what, uint32_t got, uint32_t want) {
+    static const struct { enum slot slot; const char *name; } four[4] = {
+        { IMAGE, "image" }, { PACKET, "packet buffer" }, { COEFFICIENTS, "coefficient buffer" }, { MARK, "mark" },
+    };
+    if (got != want) differs("%s: refusal %u, the model has %u", what, got, want);
+    for (int k = 0; k < 4 && got == want; k++)
+        if (!holds(four[k].slot, left[k])) differs("%s: the %s is another", what, four[k].name);
+}
+
+void check_write(const struct slices *s, uint8_t address, uint8_t value) {
+    static const char hex[] = "0123456789abcdef";
+    char what[] = { hex[address >> 4], hex[address & 15], ' ', '=', ' ', hex[value >> 4], hex[value & 15], 0 };
     run.now->cases++;
-    memcpy(i2, image, il);
-    memcpy(p2, packet, pl);
-    memcpy(c2, coefficients, cl);
-    uint32_t want = model_write(i2, il, p2, pl, c2, cl, address, value);
-    uint32_t got = run.f->write(lend(IMAGE, image, il, side()), il, lend(PACKET, packet, pl, side()), pl,
-                                lend(COEFFICIENTS, coefficients, cl, side()), cl, address, value);
-    if (got != want) differs("%02x = %02x: refusal %u, the model has %u", address, value, got, want);
-    else if (!holds(IMAGE, i2)) differs("%02x = %02x: the image is another", address, value);
-    else if (!holds(PACKET, p2)) differs("%02x = %02x: the packet buffer is another", address, value);
-    else if (!holds(COEFFICIENTS, c2)) differs("%02x = %02x: the coefficient buffer is another", address, value);
+    leave_all(s);
+    uint32_t want = model_write(left[0], s->il, left[1], s->pl, left[2], s->cl, left[3], s->ml, address, value);
+    struct lent l = lend_all(s);
+    compare_all(what, run.f->write(l.image, s->il, l.packet, s->pl, l.coefficients, s->cl, l.mark, s->ml, address, value), want);
+}
+
+void check_vsync(const struct slices *s) {
+    run.now->cases++;
+    leave_all(s);
+    uint32_t want = model_vsync(left[0], s->il, left[1], s->pl, left[2], s->cl, left[3], s->ml);
+    struct lent l = lend_all(s);
+    compare_all("Vsync", run.f->vsync(l.image, s->il, l.packet, s->pl, l.coefficients, s->cl, l.mark, s->ml), want);
 }
 
 static void check_sent(const uint8_t *image, size_t il, const uint8_t *packet, size_t pl, uint32_t which) {
@@ -142,16 +166,17 @@ static void check_mute(const uint8_t *image, size_t il, const uint8_t *packet, s
     else if (!holds(IMAGE, image) || !holds(PACKET, packet)) differs("an input was changed");
 }
 
-static void check_matrix(const uint8_t *image, size_t il, const uint8_t *coefficients, size_t cl, const uint8_t *matrix, size_t ml) {
+void check_matrix(const struct slices *s, const uint8_t *matrix, size_t ml) {
     run.now->cases++;
     memcpy(expected, matrix, ml);
-    struct station_count want = model_matrix(image, il, coefficients, cl, expected, ml);
-    struct station_count got = run.f->matrix(lend(IMAGE, image, il, side()), il, lend(COEFFICIENTS, coefficients, cl, side()), cl,
+    struct station_count want = model_matrix(s->image, s->il, s->coefficients, s->cl, *s->mark, expected, ml);
+    struct station_count got = run.f->matrix(lend(IMAGE, s->image, s->il, side()), s->il,
+                                             lend(COEFFICIENTS, s->coefficients, s->cl, side()), s->cl, *s->mark,
                                              lend(MATRIX, matrix, ml, side()), ml);
     if (got.refusal != want.refusal || got.count != want.count)
         differs("%u, count %u, the model has %u, %u", got.refusal, got.count, want.refusal, want.count);
     else if (!holds(MATRIX, expected)) differs("the matrix buffer is another");
-    else if (!holds(IMAGE, image) || !holds(COEFFICIENTS, coefficients)) differs("an input was changed");
+    else if (!holds(IMAGE, s->image) || !holds(COEFFICIENTS, s->coefficients)) differs("an input was changed");
 }
 
 static void check_preview(const uint8_t *matrix, size_t ml, uint32_t a, uint32_t b, uint32_t c) {
@@ -166,30 +191,31 @@ static void check_preview(const uint8_t *matrix, size_t ml, uint32_t a, uint32_t
 enum { VERDICTS = 17 };
 static uint32_t verdicts[VERDICTS], broken[RULES];
 
-static void check_vet(const uint8_t *image, size_t il, const uint8_t *packet, size_t pl, const uint8_t *coefficients, size_t cl,
-                      const uint8_t *list, size_t ll) {
+static void check_vet(const struct slices *s, const uint8_t *list, size_t ll) {
     run.now->cases++;
-    struct station_verdict want = model_vet(image, il, packet, pl, coefficients, cl, list, ll);
-    struct station_verdict got = run.f->vet(lend(IMAGE, image, il, side()), il, lend(PACKET, packet, pl, side()), pl,
-                                            lend(COEFFICIENTS, coefficients, cl, side()), cl, lend(LIST, list, ll, side()), ll);
+    struct station_verdict want = model_vet(s->image, s->il, s->packet, s->pl, s->coefficients, s->cl, *s->mark, list, ll);
+    struct lent l = lend_all(s);
+    struct station_verdict got = run.f->vet(l.image, s->il, l.packet, s->pl, l.coefficients, s->cl, *s->mark,
+                                            lend(LIST, list, ll, side()), ll);
     verdicts[want.refusal]++;
     if (got.refusal != want.refusal || got.place != want.place)
         differs("%zu bytes: %u, place %u, the model has %u, place %u", ll, got.refusal, got.place, want.refusal, want.place);
-    else if (!holds(IMAGE, image) || !holds(PACKET, packet) || !holds(COEFFICIENTS, coefficients) || !holds(LIST, list))
+    else if (!holds(IMAGE, s->image) || !holds(PACKET, s->packet) || !holds(COEFFICIENTS, s->coefficients) || !holds(LIST, list))
         differs("an input was changed");
 }
 
 /* On a state whose lengths are right: the library's verdict; and the comparison, with the rule that is broken, which answers the model's
  * number. */
 static struct station_verdict vetted(const struct chip *c, const struct pairs *l) {
-    return run.f->vet(c->image, 256, c->packet, PACKET_BYTES, c->coefficients, COEFFICIENT_BYTES, l->bytes, l->length);
+    return run.f->vet(c->image, 256, c->packet, PACKET_BYTES, c->coefficients, COEFFICIENT_BYTES, c->mark, l->bytes, l->length);
 }
 
 static uint32_t check_list(const struct chip *c, const struct pairs *l) {
     enum rule rule;
+    struct slices s = slices_of(c);
     uint32_t refusal = model_judge(c, l->bytes, l->length, &rule).refusal;
     broken[rule] += refusal == 15;
-    check_vet(c->image, 256, c->packet, PACKET_BYTES, c->coefficients, COEFFICIENT_BYTES, l->bytes, l->length);
+    check_vet(&s, l->bytes, l->length);
     return refusal;
 }
 
@@ -263,7 +289,7 @@ static void marked(void) {
     /* 12: -1578 and -1 as the chip has them in 13 bits. */
     run.now->cases++;
     image[0x1E] = 0x19, image[0x1F] = 0xD6, image[0x28] = 0x1F, image[0x29] = 0xFF;
-    struct station_count m = run.f->matrix(image, 256, coefficients, 24, matrix, sizeof matrix);
+    struct station_count m = run.f->matrix(image, 256, coefficients, 24, 0, matrix, sizeof matrix);
     if (m.refusal != 0 || model_coefficient(matrix + 7) != -1578 || model_coefficient(matrix + 17) != -1) differs("case 12");
     run.now->cases++;
     struct station_pixel p = run.f->preview(table_39, sizeof table_39, 2048, 3760, 2048);
@@ -272,7 +298,7 @@ static void marked(void) {
 
 /* Whether a kind of request is tried: all of them where there are few, and else about so many of them, by chance. Every value of every
  * field comes among them; `met` counts. */
-enum { KINDS = 3000, EVERY = 24, FREE_COMBINATIONS = 40000 };
+enum { FREE_COMBINATIONS = 40000 };
 static uint32_t met[FIELDS][VALUES];
 
 static int is_kind(uint32_t number, struct fields *f) {
@@ -280,7 +306,7 @@ static int is_kind(uint32_t number, struct fields *f) {
     return kind_of_request(number, f);
 }
 
-static int tries_kind(uint32_t number, uint32_t tried, struct fields *f) {
+int tries_kind(uint32_t number, uint32_t tried, struct fields *f) {
     static uint32_t all;
     if (!all)
         for (uint32_t n = 0; n < kinds(); n++) all += (uint32_t)is_kind(n, f);
@@ -291,12 +317,12 @@ static int tries_kind(uint32_t number, uint32_t tried, struct fields *f) {
     return 1;
 }
 
-static void never_met(uint32_t count, const char *what) {
-    if (run.loud) printf("    %9u lists: %s\n", count, what);
-    if (!count) differs("no list was met: %s", what);
+void never_met(uint32_t count, const char *of, const char *what) {
+    if (run.loud) printf("    %9u %s: %s\n", count, of, what);
+    if (!count) differs("none of the %s: %s", of, what);
 }
 
-static void every_value_met(void) {
+void every_value_met(void) {
     for (int i = 0; i < FIELDS; i++)
         for (int v = 0; v < model_fields[i].count; v++)
             if (!met[i][v]) differs("value %d of field %d was never tried", model_fields[i].values[v], i);
@@ -342,7 +368,7 @@ static void ncts(void) {
     check_ncts(bytes, ROOM - 64);
 }
 
-static size_t any_length(size_t right, size_t room) {
+size_t any_length(size_t right, size_t room) {
     if (any(8)) return right;
     return any(2) ? right - 1 + any(3) : any((uint32_t)room);
 }
@@ -366,9 +392,27 @@ static void plan(void) {
     }
 }
 
+/* The calls on the machine with one of its slices of another length. */
+static void lengths_of_state(const struct slices *s, const uint8_t *buffer, size_t n) {
+    for (int which = 0; which < (n < 64 ? 4 : 1); which++) {
+        struct slices t = *s;
+        *(which == 0 ? &t.il : which == 1 ? &t.pl : which == 2 ? &t.cl : &t.ml) = n;
+        check_write(&t, 0x4A, n % 2 ? 0xC0 : 0xA0);
+        check_write(&t, 0x1A, n % 3 ? 0x20 : 0x00);
+        check_vsync(&t);
+        if (which == 3) continue;
+        check_vet(&t, buffer, n % 4);
+        check_matrix(&t, buffer, MATRIX_BYTES);
+        check_matrix(&t, buffer, MATRIX_BYTES - 1);
+        check_sent(t.image, t.il, t.packet, t.pl, n % 3);
+        check_mute(t.image, t.il, t.packet, t.pl);
+    }
+}
+
 /* Every length of every buffer up to 600, and the order of the refusals where two apply. */
 static void lengths(void) {
-    static uint8_t image[600], buffer[600], packet[64], coefficients[64];
+    static uint8_t image[600], buffer[600], packet[64], coefficients[64], mark[64];
+    const struct slices s = { image, 256, packet, 32, coefficients, 24, mark, 1 };
     uint8_t request[LONGEST];
     uint32_t step = 1 + 3 * (run.share < 1000);
     for (uint32_t i = 0; i < 6; i++) {
@@ -378,6 +422,8 @@ static void lengths(void) {
         any_bytes(buffer, sizeof buffer);
         any_bytes(packet, sizeof packet);
         any_bytes(coefficients, sizeof coefficients);
+        any_bytes(mark, sizeof mark);
+        mark[0] = (const uint8_t[]){ 0, 1, 2, 7, 255, 128 }[i];
         do any_fields(&f); while (!model_pair(&f).exists);
         if (i % 3 == 1) f = (struct fields){ .vic = 4, .family = 1, .link = 1, .sound = 1, .rate = 0, .channels = 2, .coherent = 1 };
         if (i % 3 != 2) finish(image, &f), image[0x4A] &= 0x8F;
@@ -391,23 +437,10 @@ static void lengths(void) {
             check_decode(image, n, buffer, LONGEST - 1);
             check_decode(image, 256, buffer, n);
             check_decode(image, 257, buffer, n);
-            check_write(image, n, packet, 32, coefficients, 24, 0x4A, 0xC0);
-            check_sent(image, n, packet, 32, n % 3);
-            check_mute(image, n, packet, 32);
-            check_matrix(image, n, coefficients, 24, buffer, MATRIX_BYTES);
-            check_matrix(image, n, coefficients, 24, buffer, MATRIX_BYTES - 1);
-            check_matrix(image, 256, coefficients, 24, buffer, n);
+            check_matrix(&s, buffer, n);
             check_preview(buffer, n, 1, 2, 3);
-            check_vet(image, n, packet, 32, coefficients, 24, buffer, n % 4);
-            check_vet(image, 256, packet, 32, coefficients, 24, buffer, n);
-            if (n >= 64) continue;
-            check_write(image, 256, packet, n, coefficients, 24, 0x4A, 0xA0);
-            check_write(image, 256, packet, 32, coefficients, n, 0x1A, 0x20);
-            check_sent(image, 256, packet, n, n % 3);
-            check_mute(image, 256, packet, n);
-            check_matrix(image, 256, coefficients, n, buffer, MATRIX_BYTES);
-            check_vet(image, 256, packet, n, coefficients, 24, buffer, n % 4);
-            check_vet(image, 256, packet, 32, coefficients, n, buffer, n % 4);
+            check_vet(&s, buffer, n);
+            lengths_of_state(&s, buffer, n);
         }
     }
 }
@@ -563,55 +596,70 @@ static void search(void) {
     }
 }
 
-static void any_chip(uint8_t *image, uint8_t *packet, uint8_t *coefficients) {
-    any_image(image);
-    any_bytes(packet, PACKET_BYTES);
-    any_bytes(coefficients, COEFFICIENT_BYTES);
+void any_chip(struct chip *c) {
+    any_image(c->image);
+    any_bytes(c->packet, PACKET_BYTES);
+    any_bytes(c->coefficients, COEFFICIENT_BYTES);
+    c->mark = any_mark();
     if (any(4)) {
         static const uint8_t up[4] = { 0, 0x40, 0x20, 0x10 };
-        image[0x4A] = (uint8_t)((image[0x4A] & 0x8F) | up[any(4)]);
+        c->image[0x4A] = (uint8_t)((c->image[0x4A] & 0x8F) | up[any(4)]);
     }
 }
 
+/* A state with noise after each of its parts, lent in lengths that are mostly right. */
+struct slices any_lengths(const struct chip *c) {
+    static uint8_t image[300], packet[64], coefficients[64], mark[64];
+    any_bytes(image, sizeof image);
+    any_bytes(packet, sizeof packet);
+    any_bytes(coefficients, sizeof coefficients);
+    any_bytes(mark, sizeof mark);
+    memcpy(image, c->image, IMAGE_BYTES);
+    memcpy(packet, c->packet, PACKET_BYTES);
+    memcpy(coefficients, c->coefficients, COEFFICIENT_BYTES);
+    mark[0] = c->mark;
+    size_t il = any_length(256, sizeof image), pl = any_length(32, sizeof packet), cl = any_length(24, sizeof coefficients);
+    return (struct slices){ image, il, packet, pl, coefficients, cl, mark, any_length(1, sizeof mark) };
+}
+
 static void writes(void) {
-    uint8_t image[256], packet[64], coefficients[64];
-    static const uint8_t often[] = { 0x4A, 0x4A, 0x4A, 0x1A, 0x4B, 0x18 };
+    static const uint8_t often[] = { 0x4A, 0x4A, 0x4A, 0x1A, 0x1A, 0x4B, 0x18 };
+    struct chip c;
+    struct slices s;
     for (uint32_t i = times(150000); i > 0; i--) {
         seed(0x800000u + i);
-        any_bytes(packet, sizeof packet);
-        any_bytes(coefficients, sizeof coefficients);
-        any_chip(image, packet, coefficients);
-        uint8_t address = any(2) ? often[any(6)] : (uint8_t)any(256);
-        check_write(image, 256, packet, any_length(32, sizeof packet), coefficients, any_length(24, sizeof coefficients), address,
-                    (uint8_t)any(256));
+        any_chip(&c);
+        s = any_lengths(&c);
+        uint8_t address = any(2) ? often[any(sizeof often)] : (uint8_t)any(256);
+        check_write(&s, address, (uint8_t)any(256));
     }
     /* Every address with every value, on some states. */
-    for (uint32_t i = times(3); i > 0; i--) {
+    for (uint32_t i = times(4); i > 0; i--) {
         seed(0x900000u + i);
-        any_chip(image, packet, coefficients);
-        if (model_holds(image[0x4A]) > 1) image[0x4A] &= 0xCF;
+        any_chip(&c);
+        if (model_holds(c.image[0x4A]) > 1) c.image[0x4A] &= 0xCF;
+        c.image[0x1A] = (uint8_t)((c.image[0x1A] & 0xDF) | (i % 2 ? 0x20 : 0));
+        c.mark = (const uint8_t[]){ 0, 0, 1, 2 }[i % 4];
+        s = slices_of(&c);
         for (int v = 0; v < 65536; v++) {
             int near = (v >> 8) == 0x4A || (v >> 8) == 0x1A;
             if (run.share < 1000 && !near && v % 7) continue;
-            check_write(image, 256, packet, 32, coefficients, 24, (uint8_t)(v >> 8), (uint8_t)v);
+            check_write(&s, (uint8_t)(v >> 8), (uint8_t)v);
         }
     }
 }
 
 static void views(void) {
-    uint8_t image[300], packet[64], coefficients[64], matrix[64];
+    uint8_t matrix[64];
+    struct chip c;
     for (uint32_t i = times(60000); i > 0; i--) {
         seed(0xA00000u + i);
-        any_bytes(image + 256, 44);
-        any_bytes(packet, sizeof packet);
-        any_bytes(coefficients, sizeof coefficients);
+        any_chip(&c);
+        struct slices s = any_lengths(&c);
         any_bytes(matrix, sizeof matrix);
-        any_chip(image, packet, coefficients);
-        size_t il = any_length(256, sizeof image), pl = any_length(32, sizeof packet);
-        check_sent(image, il, packet, pl, any(8) ? any(2) : any(3) ? 2 + any(2) : 1u << any(32));
-        check_mute(image, il, packet, pl);
-        size_t cl = any_length(COEFFICIENT_BYTES, sizeof coefficients);
-        check_matrix(image, il, coefficients, cl, matrix, any(2) ? MATRIX_BYTES + any(20) : any_length(MATRIX_BYTES, sizeof matrix));
+        check_sent(s.image, s.il, s.packet, s.pl, any(8) ? any(2) : any(3) ? 2 + any(2) : 1u << any(32));
+        check_mute(s.image, s.il, s.packet, s.pl);
+        check_matrix(&s, matrix, any(2) ? MATRIX_BYTES + any(20) : any_length(MATRIX_BYTES, sizeof matrix));
     }
 }
 
@@ -627,204 +675,6 @@ static void preview(void) {
         if (any(16) == 0) matrix[0] = (uint8_t)any(256);
         for (int c = 0; c < 3; c++) in[c] = any(8) ? any(4096) : any(2) ? 4095 + any(2) : any(4) * 0x55555555u + any(3);
         check_preview(matrix, any_length(MATRIX_BYTES, sizeof matrix), in[0], in[1], in[2]);
-    }
-}
-
-/* Demand 3, with the library's own planning, machine and views. --------------------------------------------------------------------- */
-
-struct groups { uint8_t avi[AVI_BYTES], audio[AUDIO_BYTES], matrix[24]; uint32_t mute; };
-
-/* What is in use, by the library's views. The chip lies at guard pages. */
-static int look(const struct chip *c, struct groups *g) {
-    uint8_t matrix[MATRIX_BYTES];
-    const uint8_t *image = lend(IMAGE, c->image, 256, ENDS), *packet = lend(PACKET, c->packet, PACKET_BYTES, ENDS);
-    struct station_part avi = run.f->sent(image, 256, packet, PACKET_BYTES, 0), audio = run.f->sent(image, 256, packet, PACKET_BYTES, 1);
-    struct station_state mute = run.f->mute(image, 256, packet, PACKET_BYTES);
-    struct station_count m = run.f->matrix(image, 256, lend(COEFFICIENTS, c->coefficients, 24, ENDS), 24, matrix, sizeof matrix);
-    if (avi.refusal || audio.refusal || mute.refusal || m.refusal || avi.len != AVI_BYTES || audio.len != AUDIO_BYTES) return 0;
-    memcpy(g->avi, (avi.held ? c->packet : c->image) + avi.start, AVI_BYTES);
-    memcpy(g->audio, (audio.held ? c->packet : c->image) + audio.start, AUDIO_BYTES);
-    memcpy(g->matrix, matrix + 1, 24);
-    g->mute = mute.mute;
-    return 1;
-}
-
-static int old_or_new(const struct groups *g, const struct groups *old, const struct groups *new) {
-    return (!memcmp(g->avi, old->avi, AVI_BYTES) || !memcmp(g->avi, new->avi, AVI_BYTES)) &&
-           (!memcmp(g->audio, old->audio, AUDIO_BYTES) || !memcmp(g->audio, new->audio, AUDIO_BYTES)) &&
-           (!memcmp(g->matrix, old->matrix, 24) || !memcmp(g->matrix, new->matrix, 24));
-}
-
-static int same(const struct groups *a, const struct groups *b) {
-    return !memcmp(a->avi, b->avi, AVI_BYTES) && !memcmp(a->audio, b->audio, AUDIO_BYTES) && !memcmp(a->matrix, b->matrix, 24);
-}
-
-static struct station_count planned(const uint8_t *request, size_t rl, const struct chip *c, uint8_t *list) {
-    return run.f->plan(request, rl, c->image, 256, list, 256);
-}
-
-static int sent_to(struct chip *c, const uint8_t *list, uint32_t from, uint32_t to) {
-    for (uint32_t w = from; w < to; w++)
-        if (run.f->write(c->image, 256, c->packet, PACKET_BYTES, c->coefficients, COEFFICIENT_BYTES, list[2 * w], list[2 * w + 1]))
-            return 0;
-    return 1;
-}
-
-/* Document 01's own words for the finished image, the groups in it, and the request that it decodes to. */
-static void finished(const uint8_t *bytes, size_t length, const struct fields *f, const struct chip *start, const struct chip *end,
-                     const struct groups *new) {
-    uint8_t wanted[256], done[256], avi[AVI_BYTES], audio[AUDIO_BYTES], back[LONGEST], asked[LONGEST];
-    struct fields answer = *f;
-    model_wanted(f, model_pair(f), wanted);
-    model_finished(wanted, start->image, done);
-    model_avi(f, avi);
-    model_audio(f, audio);
-    if (memcmp(done, end->image, 256)) differs("VIC %d: the finished image is another", f->vic);
-    /* The reserved bits beside version and length are free, so they are the image's. */
-    if (memcmp(avi + 2, new->avi + 2, AVI_BYTES - 2) || (new->avi[0] & 7) != 2 || (new->avi[1] & 31) != 13)
-        differs("the AVI group at the end");
-    if (memcmp(audio + 2, new->audio + 2, AUDIO_BYTES - 2) || (new->audio[0] & 7) != 1 || (new->audio[1] & 31) != 10)
-        differs("the audio group at the end");
-    if (f->matrix && memcmp(new->matrix, bytes + length - 24, 24)) differs("the matrix group at the end");
-    model_answer(&answer, end->image);
-    for (const struct field *row = model_fields; row < model_fields + FIELDS; row++) {
-        int shown = row->shown(end->image);
-        if (shown != NO_REGISTER && model_has(f, row->section) && shown != *model_field(&answer, row))
-            differs("VIC %d: field %d is shown otherwise", f->vic, (int)(row - model_fields));
-    }
-    model_bytes(&answer, asked);
-    struct station_count d = run.f->decode(end->image, 256, back, sizeof back);
-    if (d.refusal || d.count != length || memcmp(asked, back, length)) differs("VIC %d: the finished image decodes otherwise", f->vic);
-}
-
-/* Writes to the registers from one to another, but for the nine. */
-static uint32_t others(const uint8_t *list, uint32_t count, int first, int last) {
-    uint32_t n = 0;
-    for (uint32_t w = 0; w < count; w++) n += list[2 * w] >= first && list[2 * w] <= last && !model_stays(list[2 * w]);
-    return n;
-}
-
-/* How often a group was left out whole, or all but the nine writes, with no hold up at the start and with one. */
-static const struct { uint8_t first, last, address, hold; const char *what; } parts_left_out[] = {
-    { 0x00, 0xFF, 0x4A, 0x60, "nine writes" },
-    { 0x18, 0x2F, 0x1A, 0x20, "no coefficient" },
-    { 0x52, 0x61, 0x4A, 0x40, "no AVI register" },
-    { 0x70, 0x7C, 0x4A, 0x20, "no audio register" },
-};
-enum { PARTS_LEFT_OUT = sizeof parts_left_out / sizeof parts_left_out[0] };
-static uint32_t times_left_out[PARTS_LEFT_OUT][2];
-
-static void count_left_out(const uint8_t *image, const uint8_t *list, uint32_t count) {
-    for (int k = 0; k < PARTS_LEFT_OUT; k++)
-        if (others(list, count, parts_left_out[k].first, parts_left_out[k].last) == 0 && (k == 0 || count > 9))
-            times_left_out[k][(image[parts_left_out[k].address] & parts_left_out[k].hold) != 0]++;
-}
-
-static void every_part_left_out(void) {
-    for (int k = 0; run.share >= 1000 && k < PARTS_LEFT_OUT; k++)
-        for (int held = 0; held < 2; held++) {
-            char what[40];
-            snprintf(what, sizeof what, "%s%s", parts_left_out[k].what, held ? ", a hold up" : "");
-            never_met(times_left_out[k][held], what);
-        }
-    memset(times_left_out, 0, sizeof times_left_out);
-}
-
-/* Every cut of a request's list: muted, old or new, planned again. */
-static void cuts_of(const struct fields *f, const struct chip *start) {
-    uint8_t bytes[LONGEST], list[256], again[256];
-    struct chip c = *start, end = *start, redone;
-    struct groups old, new, g;
-    size_t length = model_bytes(f, bytes);
-    struct station_count n = planned(bytes, length, start, list);
-    if (!model_pair(f).exists) {
-        run.now->cases++;
-        if (n.refusal != 9) differs("VIC %d: refusal %u for 9", f->vic, n.refusal);
-        return;
-    }
-    if (n.refusal || n.count > 128) {
-        differs("VIC %d: refused %u, count %u", f->vic, n.refusal, n.count);
-        return;
-    }
-    if (!sent_to(&end, list, 0, n.count) || !look(start, &old) || !look(&end, &new)) {
-        differs("VIC %d: the machine refused", f->vic);
-        return;
-    }
-    finished(bytes, length, f, start, &end, &new);
-    count_left_out(start->image, list, n.count);
-    for (uint32_t cut = 0; cut <= n.count; cut++) {
-        run.now->cases++;
-        if (cut && !sent_to(&c, list, cut - 1, cut)) differs("write %u refused", cut);
-        if (!look(&c, &g)) {
-            differs("a view refused after write %u", cut);
-            break;
-        }
-        if (cut == 0 && (!same(&g, &old) || g.mute != old.mute)) differs("moved before the first write");
-        if (cut > 0 && cut < n.count && g.mute != 1) differs("VIC %d: not muted after write %u of %u", f->vic, cut, n.count);
-        if (!old_or_new(&g, &old, &new)) differs("VIC %d: a group is neither old nor new after write %u", f->vic, cut);
-        if (cut == n.count && (g.mute != 2 || !same(&g, &new))) differs("not open or not new after the last write");
-        redone = c;
-        struct station_count m = planned(bytes, length, &redone, again);
-        if (m.refusal || m.count > 128 || !sent_to(&redone, again, 0, m.count) || !look(&redone, &g)) {
-            differs("VIC %d: planned again after write %u: refused", f->vic, cut);
-            continue;
-        }
-        if (memcmp(redone.image, end.image, 256)) differs("VIC %d: planned again after write %u: another image", f->vic, cut);
-        if (!same(&g, &new) || g.mute != 2) differs("VIC %d: planned again after write %u: another group", f->vic, cut);
-    }
-}
-
-/* Every kind of request, each on an image of any kind and on one that needs few writes; every hold that refusal 8 lets pass. */
-static void cuts(void) {
-    struct fields f;
-    struct chip start;
-    for (uint32_t i = 0; i < kinds(); i++) {
-        if (!tries_kind(i, times(KINDS), &f)) continue;
-        for (int near = 0; near < 2; near++) {
-            any_start(start.image, start.packet, start.coefficients);
-            if (near) near_image(start.image, &f), left_up(start.image);
-            start.image[0x4A] = (uint8_t)((start.image[0x4A] & 0x8F) | (const uint8_t[]){ 0, 0x20, 0x40 }[i % 3]);
-            cuts_of(&f, &start);
-        }
-    }
-    every_part_left_out();
-    if (run.share >= 1000) every_value_met();
-}
-
-/* Cut, planned again, cut again, some times over; then another request over the ruins. */
-static void chains(void) {
-    for (uint32_t i = times(6000); i > 0; i--) {
-        uint8_t bytes[LONGEST], list[256];
-        struct chip start, c, end;
-        struct groups old, new, g;
-        struct fields f;
-        seed(0xD00000u + i);
-        any_start(start.image, start.packet, start.coefficients);
-        for (int turn = 0; turn < 2; turn++) {
-            do any_fields(&f); while (!model_pair(&f).exists);
-            if (turn == 0 && i % 2) near_image(start.image, &f);
-            size_t length = model_bytes(&f, bytes);
-            struct station_count n = planned(bytes, length, &start, list);
-            end = c = start;
-            if (n.refusal || n.count > 128 || !sent_to(&end, list, 0, n.count) || !look(&start, &old) || !look(&end, &new)) {
-                differs("refused %u on a state left by a cut", n.refusal);
-                break;
-            }
-            for (uint32_t again = 1 + any(4); again > 0; again--) {
-                run.now->cases++;
-                n = planned(bytes, length, &c, list);
-                if (n.refusal || n.count > 128 || !sent_to(&c, list, 0, any(n.count)) || !look(&c, &g)) {
-                    differs("refused %u after a cut", n.refusal);
-                    break;
-                }
-                if (!old_or_new(&g, &old, &new)) differs("a group is neither old nor new after more than one cut");
-            }
-            struct chip left = c;
-            n = planned(bytes, length, &c, list);
-            if (n.refusal || n.count > 128 || !sent_to(&c, list, 0, n.count) || !look(&c, &g)) differs("refused at the end");
-            else if (memcmp(c.image, end.image, 256) || !same(&g, &new) || g.mute != 2) differs("another end after more than one cut");
-            start = left;
-        }
     }
 }
 
@@ -910,7 +760,7 @@ static void made_right(const struct fields *f, const struct chip *start) {
     size_t length = model_bytes(f, bytes);
     struct station_count n = planned(bytes, length, start, list);
     full_list(start, f, &l);
-    if (n.refusal || n.count > 128 || !sent_to(&full, l.bytes, 0, (uint32_t)count_of(&l)) || !look(&full, &of_full)) {
+    if (n.refusal || n.count > 128 || !sent_whole(&full, l.bytes, (uint32_t)count_of(&l)) || !look(&full, &of_full)) {
         differs("VIC %d: refused %u, count %u", f->vic, n.refusal, n.count);
         return;
     }
@@ -923,7 +773,9 @@ static void made_right(const struct fields *f, const struct chip *start) {
             differs("VIC %d: planned again after write %u of %u: %u writes", f->vic, cut, n.count, m.count);
     }
     if (memcmp(c.image, full.image, 256)) differs("VIC %d: a register is not made right", f->vic);
-    if (!look(&c, &g) || !same(&g, &of_full) || g.mute != of_full.mute) differs("VIC %d: a group is not made right", f->vic);
+    c = *start;
+    if (!sent_whole(&c, list, n.count) || !look(&c, &g) || !same(&g, &of_full) || g.mute != of_full.mute)
+        differs("VIC %d: a group is not made right", f->vic);
 }
 
 /* Images that a request has finished itself, each of their bits turned over; images that need few writes. */
@@ -953,7 +805,7 @@ static void fewer(void) {
     for (uint32_t i = times(6000); i > 0; i--) {
         seed(0x1500000u + i);
         accepted_fields(&f);
-        any_start(c.image, c.packet, c.coefficients);
+        any_start(&c);
         if (i % 8) near_image(c.image, &f);
         any_bytes(writes, sizeof writes);
         check_plan(bytes, model_bytes(&f, bytes), c.image, 256, writes, 256);
@@ -964,7 +816,15 @@ static void fewer(void) {
 
 /* A vendor's list: document 02, request 03. ----------------------------------------------------------------------------------------- */
 
-/* By their own numbers, not the model's: on an image that document 01's example has finished over zeros, no hold up. */
+/* This number and this place, by the library, and the same by the model. */
+static void answered_list(const struct chip *c, const struct pairs *l, uint32_t refusal, uint32_t place, const char *what) {
+    struct station_verdict v = vetted(c, l);
+    if (v.refusal != refusal || v.place != place)
+        differs("%s, mark %d: %u, place %u, not %u, place %u", what, c->mark, v.refusal, v.place, refusal, place);
+    check_list(c, l);
+}
+
+/* By their own numbers, not the model's: on an image that document 01's example has finished over zeros, no hold up, no mark. */
 static void marked_lists(void) {
     static const struct { uint32_t refusal, place; size_t length; uint8_t bytes[16]; const char *what; } cases[] = {
         { 0, 0, 0, { 0 }, "the empty list on a finished image" },
@@ -1008,28 +868,68 @@ static void marked_lists(void) {
         { 14, 0, 1, { 0x4B }, "half a pair" },
         { 14, 0, 3, { 0x4B, 0x80, 0x4B }, "a pair and a half" },
     };
-    struct chip c = { { 0 }, { 0 }, { 0 } };
+    struct chip c = { .mark = 0 };
     finish(c.image, &example);
     for (size_t i = 0; i < sizeof cases / sizeof cases[0]; i++) {
         struct pairs l = { .length = cases[i].length };
         memcpy(l.bytes, cases[i].bytes, sizeof cases[i].bytes);
-        struct station_verdict v = vetted(&c, &l);
-        if (v.refusal != cases[i].refusal || v.place != cases[i].place)
-            differs("%s: %u, place %u, not %u, place %u", cases[i].what, v.refusal, v.place, cases[i].refusal, cases[i].place);
-        check_list(&c, &l);
+        answered_list(&c, &l, cases[i].refusal, cases[i].place, cases[i].what);
         c.image[0x4A] |= 0x10;                          /* 8 comes before 14 and 15, 7 before 8 */
-        v = vetted(&c, &l);
-        if (v.refusal != 8 || v.place != 0) differs("%s, the GC hold up: %u", cases[i].what, v.refusal);
-        check_list(&c, &l);
-        check_vet(c.image, 256, c.packet, PACKET_BYTES - 1, c.coefficients, COEFFICIENT_BYTES, l.bytes, l.length);
+        answered_list(&c, &l, 8, 0, cases[i].what);
+        struct slices s = slices_of(&c);
+        s.pl--, check_vet(&s, l.bytes, l.length);
         c.image[0x4A] &= 0xEF;
     }
 }
 
-/* The accident of May: Table 39's bytes, copied to 0x18 onward without a hold; and under a hold that the third byte drops. */
+/* The same with the coefficient hold down and up and with any mark: request 04. The coefficients in the buffer are 0, those of the
+ * registers the example's, A1 0x0800. `mark` is ANY where it does not matter. */
+enum { ANY = 3 };
+static void marked_waits(void) {
+    static const struct { uint8_t hold, mark; uint32_t refusal, place; size_t length; uint8_t bytes[18]; const char *what; } cases[] = {
+        { 0, ANY, 0, 0, 0, { 0 }, "the empty list" },
+        { 1, ANY, 16, 0, 0, { 0 }, "the empty list, the hold up" },
+        { 0, ANY, 0, 0, 2, { 0x4B, 0x80 }, "one pair: it has no cut" },
+        { 0, ANY, 0, 0, 4, { 0x4B, 0x40, 0x4B, 0x80 }, "muted and opened: what waits is taken between" },
+        { 0, 0, 15, 1, 8, { 0x4B, 0x40, 0x19, 0x01, 0x19, 0x00, 0x4B, 0x80 }, "a coefficient without its hold" },
+        { 0, 1, 0, 0, 8, { 0x4B, 0x40, 0x19, 0x01, 0x19, 0x00, 0x4B, 0x80 }, "the same in a wait" },
+        { 0, 2, 0, 0, 8, { 0x4B, 0x40, 0x19, 0x01, 0x19, 0x00, 0x4B, 0x80 }, "the same with a mark of 2" },
+        { 1, ANY, 0, 0, 10, { 0x4B, 0x40, 0x19, 0x01, 0x19, 0x00, 0x1A, 0x00, 0x4B, 0x80 }, "beside a raised hold" },
+        { 1, ANY, 0, 0, 10, { 0x4B, 0x40, 0x1A, 0x00, 0x19, 0x01, 0x19, 0x00, 0x4B, 0x80 }, "lowered first: written in the wait" },
+        { 0, ANY, 0, 0, 12, { 0x4B, 0x40, 0x1A, 0x20, 0x19, 0x01, 0x1A, 0x00, 0x19, 0x00, 0x4B, 0x80 }, "lowered too early" },
+        { 0, ANY, 0, 0, 16, { 0x4B, 0x40, 0x1A, 0x20, 0x19, 0x01, 0x1A, 0x00, 0x1A, 0x20, 0x19, 0x00, 0x1A, 0x00, 0x4B, 0x80 },
+          "lowered and raised again: the old ones stay" },
+        { 0, ANY, 16, 0, 8, { 0x4B, 0x40, 0x1A, 0x20, 0x19, 0x01, 0x1A, 0x00 }, "lowered by the last pair, after the Vsync" },
+        { 0, ANY, 16, 0, 8, { 0x4B, 0x40, 0x1A, 0x20, 0x1A, 0x00, 0x1A, 0x20 }, "the Vsync ends the wait, the last pair copies" },
+        { 0, 0, 16, 0, 6, { 0x4B, 0x40, 0x3C, 0x10, 0x19, 0x01 }, "a coefficient as the last pair" },
+        { 0, 1, 15, 1, 6, { 0x4B, 0x40, 0x3C, 0x10, 0x19, 0x01 }, "the same in a wait: after the Vsync neither old nor as it ends" },
+        { 1, ANY, 15, 2, 8, { 0x4B, 0x40, 0x19, 0x02, 0x1A, 0x00, 0x19, 0x01 }, "the same after a fall" },
+        { 0, 1, 16, 0, 6, { 0x4B, 0x40, 0x19, 0x01, 0x19, 0x01 }, "a coefficient as the last pair that stands already" },
+        { 0, 0, 15, 3, 10, { 0x4B, 0x40, 0x3C, 0x10, 0x19, 0x01, 0x4A, 0xE0, 0x4B, 0x80 }, "ended early by two holds" },
+        { 0, 1, 15, 1, 10, { 0x4B, 0x40, 0x3C, 0x10, 0x19, 0x01, 0x4A, 0xE0, 0x4B, 0x80 }, "the same in a wait: its Vsync comes earlier" },
+        { 0, 1, 15, 1, 6, { 0x19, 0x01, 0x4A, 0xE0, 0x4B, 0x80 }, "ended early after one pair, which has no cut" },
+        { 0, 1, 15, 0, 4, { 0x4A, 0xE0, 0x4B, 0x80 }, "ended early before the first pair" },
+    };
+    static const uint8_t marks[] = { 0, 1, 2, 7, 255 };
+    struct chip c = { .mark = 0 };
+    finish(c.image, &example);
+    for (size_t i = 0; i < sizeof cases / sizeof cases[0]; i++) {
+        struct pairs l = { .length = cases[i].length };
+        memcpy(l.bytes, cases[i].bytes, sizeof cases[i].bytes);
+        c.image[0x1A] = cases[i].hold ? 0x20 : 0x00;
+        for (size_t k = 0; k < sizeof marks; k++) {
+            if (cases[i].mark != ANY && cases[i].mark != marks[k]) continue;
+            c.mark = marks[k];
+            answered_list(&c, &l, cases[i].refusal, cases[i].place, cases[i].what);
+        }
+    }
+}
+
+/* The accident of May: Table 39's bytes, copied to 0x18 onward without a hold; and under a hold that the third byte drops. With one Vsync,
+ * and that one just before the last pair, the second is no accident: what it drops waits. */
 static void accident_of_may(void) {
     for (int held = 0; held < 2; held++) {
-        struct chip c = { { 0 }, { 0 }, { 0 } };
+        struct chip c = { .mark = 0 };
         struct pairs l = { .length = 0 };
         finish(c.image, &example);
         put_in(&l, 0, 0x4B, 0x40);
@@ -1039,41 +939,48 @@ static void accident_of_may(void) {
             put_in(&l, count_of(&l), (uint8_t)(0x18 + k), k == 0 ? byte | 0xA0 : byte);
         }
         put_in(&l, count_of(&l), 0x4B, 0x80);
-        struct station_verdict v = vetted(&c, &l);
-        if (v.refusal != 15 || v.place != (held ? 4 : 1)) differs("the accident of May: %u, place %u", v.refusal, v.place);
-        check_list(&c, &l);
+        answered_list(&c, &l, held ? 0 : 15, held ? 0 : 1, "the accident of May");
     }
 }
 
-/* What a passing list gives, by the library's own machine and views: muted and old or new at each cut, a request at the end; and at each
- * cut another request is planned, accepted, and finishes as ever. */
-static void gives(const struct chip *start, const struct pairs *l) {
+/* At a cut of a passing list, another request is planned, accepted, and finishes as ever. */
+static void planned_at(const struct chip *cut, uint32_t place) {
     uint8_t bytes[LONGEST], list[256];
-    struct chip c = *start, end = *start, redone;
-    struct groups old, new, g;
+    struct chip end = *cut;
+    struct groups g;
     struct fields f;
+    accepted_fields(&f);
+    size_t length = model_bytes(&f, bytes);
+    struct station_count n = planned(bytes, length, cut, list);
+    if (n.refusal || n.count > 128 || !sent_whole(&end, list, n.count) || !look(&end, &g))
+        differs("planned after pair %u of a passing list: refused %u", place, n.refusal);
+    else finished(bytes, length, &f, cut, &end, &g);
+}
+
+/* What a passing list gives, by the library's own machine and views, with one Vsync just before its last pair: muted and old or new at each
+ * cut and after the Vsync, a request at the end. */
+static void gives(const struct chip *start, const struct pairs *l) {
+    uint8_t bytes[LONGEST];
+    struct chip c = *start, end = *start;
+    struct groups old, new, g;
     uint32_t count = (uint32_t)count_of(l);
-    if (!sent_to(&end, l->bytes, 0, count) || !look(start, &old) || !look(&end, &new)) {
+    if (!sent_whole(&end, l->bytes, count) || !look(start, &old) || !look(&end, &new)) {
         differs("a write of a passing list refused");
         return;
     }
     if (run.f->decode(end.image, 256, bytes, sizeof bytes).refusal) differs("a passing list ends in no request");
-    for (uint32_t cut = 1; cut <= count; cut++) {
-        run.now->cases++;
-        if (!sent_to(&c, l->bytes, cut - 1, cut) || !look(&c, &g)) {
-            differs("a view refused after pair %u of a passing list", cut);
-            return;
+    for (uint32_t place = 1; place <= count; place++)
+        for (int turn = place < count; turn < 2; turn++) {      /* the Vsync before the last pair; the pair */
+            int went = turn == 0 ? turned(&c) : sent_to(&c, l->bytes, place - 1, place), last = place == count && turn == 1;
+            run.now->cases++;
+            if (!went || !look(&c, &g)) {
+                differs("refused at pair %u of a passing list", place);
+                return;
+            }
+            if (!last && count > 1 && g.mute != 1) differs("not muted at pair %u of a passing list of %u", place, count);
+            if ((last || count > 1) && !old_or_new(&g, &old, &new)) differs("neither old nor new at pair %u of a passing list", place);
+            planned_at(&c, place);
         }
-        if (cut < count && g.mute != 1) differs("not muted after pair %u of a passing list of %u", cut, count);
-        if (!old_or_new(&g, &old, &new)) differs("a group is neither old nor new after pair %u of a passing list", cut);
-        accepted_fields(&f);
-        size_t length = model_bytes(&f, bytes);
-        redone = c;
-        struct station_count n = planned(bytes, length, &c, list);
-        if (n.refusal || n.count > 128 || !sent_to(&redone, list, 0, n.count) || !look(&redone, &g))
-            differs("planned after pair %u of a passing list: refused %u", cut, n.refusal);
-        else finished(bytes, length, &f, &c, &redone, &g);
-    }
 }
 
 /* Every kind of request, planned by the library on a state of every kind, and on images that need few writes: its own list passes. */
@@ -1081,6 +988,7 @@ static void own_lists(void) {
     struct fields f;
     uint32_t count = 0;
     marked_lists();
+    marked_waits();
     accident_of_may();
     for (uint32_t i = 0; i < kinds(); i++) {
         uint8_t bytes[LONGEST];
@@ -1138,6 +1046,7 @@ static void changed_lists(void) {
             l = ours, stretch(&c, &l, count);
             if (check_list(&c, &l) != (count <= MOST_PAIRS ? 0 : 14)) differs("a list of %zu fair pairs is not what it should be", count);
             l.length++, check_list(&c, &l);
+            l.length--, l.bytes[2 * (256 + any((uint32_t)count - 256))] = 0x30, check_list(&c, &l);     /* a place of more than a byte */
         }
     }
 }
@@ -1162,7 +1071,8 @@ static void single_pairs(void) {
 /* Lists of every kind; the empty one against decoding; lengths that are wrong, more than one at a time. */
 static void vendors(void) {
     static struct pairs l;
-    static uint8_t image[300], packet[64], coefficients[64], longest[ROOM];
+    static uint8_t longest[ROOM];
+    struct slices s;
     struct chip c;
     for (uint32_t i = times(24000), given = times(500); i > 0; i--) {
         seed(0xF00000u + i);
@@ -1177,6 +1087,7 @@ static void vendors(void) {
         l.length = 0;
         any_bytes(c.packet, PACKET_BYTES);
         any_bytes(c.coefficients, COEFFICIENT_BYTES);
+        c.mark = any_mark();
         uint32_t refusal = check_list(&c, &l);
         d = run.f->decode(c.image, 256, bytes, sizeof bytes);
         if (refusal != 8 && (refusal == 0) != (d.refusal == 0)) differs("the empty list: %u, decoding: %u", refusal, d.refusal);
@@ -1184,30 +1095,24 @@ static void vendors(void) {
     for (uint32_t i = times(6000); i > 0; i--) {
         seed(0x1100000u + i);
         any_vendors(&c, &l);
-        any_bytes(image, sizeof image);
-        any_bytes(packet, sizeof packet);
-        any_bytes(coefficients, sizeof coefficients);
-        memcpy(image, c.image, 256);
-        memcpy(packet, c.packet, PACKET_BYTES);
-        memcpy(coefficients, c.coefficients, COEFFICIENT_BYTES);
-        if (any(2)) image[0x4A] |= (const uint8_t[]){ 0x60, 0x10, 0x70, 0x50 }[any(4)];
+        if (any(2)) c.image[0x4A] |= (const uint8_t[]){ 0x60, 0x10, 0x70, 0x50 }[any(4)];
+        s = any_lengths(&c);
         if (any(2)) l.length = any(2) ? l.length + 1 : 2 * MOST_PAIRS - 1 + any(4);
-        check_vet(image, any_length(256, sizeof image), packet, any_length(PACKET_BYTES, sizeof packet), coefficients,
-                  any_length(COEFFICIENT_BYTES, sizeof coefficients), l.bytes, l.length);
+        check_vet(&s, l.bytes, l.length);
     }
     single_pairs();
     any_state(&c);
-    for (size_t less = 0; less < 2; less++)             /* a very long one */
-        check_vet(c.image, 256, c.packet, PACKET_BYTES, c.coefficients, COEFFICIENT_BYTES, longest, ROOM - 64 - less);
+    s = slices_of(&c);
+    for (size_t less = 0; less < 2; less++) check_vet(&s, longest, ROOM - 64 - less);      /* a very long one */
     if (run.share >= 1000) {
         static const struct { uint32_t number; const char *what; } numbers[] = {
             { 0, "accepted" }, { 7, "refused 7" }, { 8, "refused 8" }, { 14, "refused 14" }, { 16, "refused 16" },
         };
-        for (size_t k = 0; k < sizeof numbers / sizeof numbers[0]; k++) never_met(verdicts[numbers[k].number], numbers[k].what);
+        for (size_t k = 0; k < sizeof numbers / sizeof numbers[0]; k++) never_met(verdicts[numbers[k].number], "lists", numbers[k].what);
         for (int rule = NO_RULE + 1; rule < RULES; rule++) {
-            char what[40];
+            char what[48];
             snprintf(what, sizeof what, "refused 15, %s", model_rules[rule]);
-            never_met(broken[rule], what);
+            never_met(broken[rule], "lists", what);
         }
     }
     memset(verdicts, 0, sizeof verdicts);
@@ -1227,6 +1132,7 @@ static const struct { const char *name; void (*run)(void); } sections[SECTIONS] 
     { "range and Q", ranges },
     { "the model's search", search },
     { "machine writes", writes },
+    { "Vsync and the mark", turns },
     { "views", views },
     { "preview", preview },
     { "lists: by hand, and our own", own_lists },

@@ -5,7 +5,7 @@
 #include <sys/mman.h>
 
 /* Pages are of 64 KB on some machines, so the guards are as large. */
-enum { GUARD = 1 << 16, BESIDE = 64, MARK = 0xC5 };
+enum { GUARD = 1 << 16, BESIDE = 64, PAINT = 0xC5 };
 
 static struct { uint8_t *room, *at; size_t length; int side; } slots[SLOTS];
 
@@ -23,7 +23,7 @@ void lent_open(void) {
 uint8_t *lend(enum slot s, const uint8_t *bytes, size_t length, int side) {
     if (length > ROOM - BESIDE) abort();
     uint8_t *at = side == ENDS ? slots[s].room + ROOM - length : slots[s].room;
-    memset(side == ENDS ? at - BESIDE : at + length, MARK, BESIDE);
+    memset(side == ENDS ? at - BESIDE : at + length, PAINT, BESIDE);
     if (length) memcpy(at, bytes, length);
     slots[s].at = at;
     slots[s].length = length;
@@ -34,6 +34,6 @@ uint8_t *lend(enum slot s, const uint8_t *bytes, size_t length, int side) {
 int holds(enum slot s, const uint8_t *expected) {
     const uint8_t *at = slots[s].at, *beside = slots[s].side == ENDS ? at - BESIDE : at + slots[s].length;
     for (int i = 0; i < BESIDE; i++)
-        if (beside[i] != MARK) return 0;
+        if (beside[i] != PAINT) return 0;
     return slots[s].length == 0 || memcmp(at, expected, slots[s].length) == 0;
 }

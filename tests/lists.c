@@ -35,9 +35,13 @@ void any_state(struct chip *c) {
     if (any(3) == 0) finish(c->image, &f);
     c->image[0x4A] = (uint8_t)((c->image[0x4A] & 0x8F) | allowed_holds[any(3)]);
     if (any(3) == 0) c->image[0x1A] ^= 0x20;
+    c->mark = any_mark();
     if (any(3)) return;
     our_list(c, &f, &l);                                        /* cut */
-    for (size_t i = 0, writes = any((uint32_t)count_of(&l)); i < writes; i++) model_run(c, l.bytes[2 * i], l.bytes[2 * i + 1]);
+    for (size_t i = 0, writes = any((uint32_t)count_of(&l)); i < writes; i++) {
+        if (any(32) == 0) model_edge(c);
+        model_run(c, l.bytes[2 * i], l.bytes[2 * i + 1]);
+    }
 }
 
 void finished_state(struct chip *c, const struct fields *f) {
@@ -45,6 +49,7 @@ void finished_state(struct chip *c, const struct fields *f) {
     any_bytes(c->image, 256);
     c->image[0x4A] &= 0x8F;
     finish(c->image, f);
+    c->mark = any(2) ? 0 : any_mark();
 }
 
 /* Changes of a list. ---------------------------------------------------------------------------------------------------------------- */
@@ -207,6 +212,22 @@ static void other_steps(struct pairs *l) {
     add(l, &ours, last, last + 1);
 }
 
+/* A list of ours whose writes to 0x1A have the coefficient hold otherwise: never raised, dropped among the coefficients, or by chance; with
+ * more such writes put in, and perhaps with an early end. */
+static void other_hold(const struct chip *c, struct pairs *l) {
+    uint32_t how = any(4), turn = 0;
+    for (size_t at = 0; at < count_of(l); at++) {
+        if (l->bytes[2 * at] != 0x1A) continue;
+        turn++;
+        if (how == 0 || (how == 1 && turn == 2) || (how == 2 && any(2))) l->bytes[2 * at + 1] &= 0xDF;
+    }
+    for (uint32_t n = any(2) ? any(3) : 0; n > 0; n--) {
+        uint8_t named = l->bytes[2 * last_place(l, 0x1A) + 1] & 0xDF;
+        put_in(l, 1 + any((uint32_t)count_of(l) - 1), 0x1A, kept_value(c->image, 0x1A, named | (any(2) ? 0x20 : 0)));
+    }
+    if (any(3) == 0) l->length = 2 * (1 + any((uint32_t)count_of(l)));
+}
+
 /* Two lists of ours, one after the other, with or without the writes that open and mute between them, and with pairs put between. */
 static void joined(const struct chip *c, struct pairs *l) {
     struct fields f, g;
@@ -278,7 +299,7 @@ void any_vendors(struct chip *c, struct pairs *l) {
     any_state(c);
     if (any(4) == 0) near_image(c->image, &f);
     (any(2) ? our_list : full_list)(c, &f, l);
-    switch (any(8)) {
+    switch (any(10)) {
     case 0: break;                                              /* ours */
     case 1: other_steps(l); break;
     case 2:                                                     /* on an image that is finished, so that what is left out may be right */
@@ -290,6 +311,7 @@ void any_vendors(struct chip *c, struct pairs *l) {
     case 4: back_and_forth(c, l); break;
     case 5: short_list(c, l); break;
     case 6: noise(c, l); break;
+    case 7: case 8: other_hold(c, l); break;
     default: stretch(c, l, any(8) ? count_of(l) + any(100) : MOST_PAIRS - 1 + any(3)); break;
     }
     if (any(2))

@@ -7,8 +7,8 @@
 /* A list, with room for more than is allowed. `length` is in bytes, for it may be odd. */
 struct pairs { size_t length; uint8_t bytes[4 * MOST_PAIRS]; };
 
-void   any_state(struct chip *c);                       /* zero, noise, finished or cut; every hold that refusal 8 lets pass */
-void   finished_state(struct chip *c, const struct fields *f);      /* as a list leaves it: no hold is up; the rest is noise */
+void   any_state(struct chip *c);                       /* zero, noise, finished or cut; every hold that refusal 8 lets pass; any mark */
+void   finished_state(struct chip *c, const struct fields *f);      /* as a list leaves it: no hold is up; any mark; the rest is noise */
 void   accepted_fields(struct fields *f);               /* of a request that planning accepts */
 void   our_list(const struct chip *c, const struct fields *f, struct pairs *l);     /* as planned */
 void   full_list(const struct chip *c, const struct fields *f, struct pairs *l);    /* with nothing left out */

@@ -1,8 +1,8 @@
 /* tests: `tests lib` compares the library with the model; `tests self` the model with itself, which tries the harness; `tests wrong` runs
- * every wrong library of tests/wrong and says how many were caught, after five right ones (the model, the two plain ones of bench/, and the
- * planner of wrong/fewer.c and the judge of wrong/vet.c without a fault). `tests facts` is what station.h says of sizes, alignment, threads
- * and stack. Each ends with 'N passed, M failed'. `tests line` and `tests verdict` print what the programs `desk` and `vet` should print,
- * `tests input` writes inputs for `vet`. */
+ * every wrong library of tests/wrong and says how many were caught, after six right ones (the model, the two plain ones of bench/, and the
+ * planner of wrong/fewer.c, the machine of wrong/mark.c and the judge of wrong/vet.c without a fault). `tests facts` is what station.h says
+ * of sizes, alignment, threads and stack. Each ends with 'N passed, M failed'. `tests line` and `tests verdict` print what the programs
+ * `desk` and `vet` should print, `tests input` writes inputs for `vet`. */
 #include "../bench/plain.h"
 #include "facts.h"
 #include "harness.h"
@@ -12,9 +12,9 @@
 #include <stdlib.h>
 #include <string.h>
 
-static const struct face model = { model_plan, model_decode, model_ncts,    model_write, model_sent,
+static const struct face model = { model_plan, model_decode, model_ncts,    model_write, model_vsync, model_sent,
                                    model_mute, model_matrix, model_preview, model_class, model_vet };
-static const struct face library = { station_plan, station_decode, station_ncts,    station_write, station_sent,
+static const struct face library = { station_plan, station_decode, station_ncts,    station_write, station_vsync, station_sent,
                                      station_mute, station_matrix, station_preview, station_class, station_vet };
 
 static int compared(const char *what, const struct face *f, unsigned share) {
@@ -43,6 +43,7 @@ static const struct { const char *what; void (*put)(struct face *); unsigned sha
     { "the plain planner, decoder and vet of bench/", put_plain, 5 * SHARE },
     { "the same, N and CTS by the rule", put_rule, 5 * SHARE },
     { "the planner of wrong/fewer.c without a fault", put_right_planner, 5 * SHARE },
+    { "the machine of wrong/mark.c without a fault", put_right_machine, 5 * SHARE },
     { "the judge of wrong/vet.c without a fault", put_right_judge, 5 * SHARE },
 };
 enum { RIGHT = sizeof right / sizeof right[0] };
@@ -94,17 +95,20 @@ static int line(void) {
                   audio[2]) < 0;
 }
 
-/* The line of the program `vet`: registers, packet buffer, coefficient buffer, list. A part that the input ends in, or before, is short. */
+/* The line of the program `vet`: registers, packet buffer, coefficient buffer, mark, list. A part that the input ends in, or before, is
+ * short. */
 static int verdict(void) {
-    static const size_t bytes[3] = { IMAGE_BYTES, PACKET_BYTES, COEFFICIENT_BYTES };
-    const uint8_t *part[4];
-    size_t left = whole_input(), length[4], from = 0;
-    for (int i = 0; i < 4; i++) {
+    static const size_t bytes[4] = { IMAGE_BYTES, PACKET_BYTES, COEFFICIENT_BYTES, MARK_BYTES };
+    const uint8_t *part[5];
+    size_t left = whole_input(), length[5], from = 0;
+    struct station_verdict v = { 7, 0 };
+    for (int i = 0; i < 5; i++) {
         part[i] = input + from;
-        length[i] = i < 3 && left > bytes[i] ? bytes[i] : left;
+        length[i] = i < 4 && left > bytes[i] ? bytes[i] : left;
         from += length[i], left -= length[i];
     }
-    struct station_verdict v = model_vet(part[0], length[0], part[1], length[1], part[2], length[2], part[3], length[3]);
+    if (length[3] == MARK_BYTES)
+        v = model_vet(part[0], length[0], part[1], length[1], part[2], length[2], *part[3], part[4], length[4]);
     if (v.refusal == 0) return printf("accepted\n") < 0;
     if (v.refusal == 15) return printf("refused 15 at %u\n", (unsigned)v.place) < 0;
     return printf("refused %u\n", (unsigned)v.refusal) < 0;
@@ -112,13 +116,22 @@ static int verdict(void) {
 
 static int usage(void) {
     fprintf(stderr, "usage: tests lib|self [SHARE OF THE RANDOM CASES IN 1/1000]\n       tests wrong\n       tests facts\n"
-                    "       tests line <REQUEST\n       tests verdict <REGISTERS, BUFFERS AND LIST\n"
-                    "       tests input noise|pairs|vendor NUMBER\n");
+                    "       tests line <REQUEST\n       tests verdict <REGISTERS, BUFFERS, MARK AND LIST\n"
+                    "       tests input noise|pairs|vendor|waits NUMBER\n");
     return 2;
 }
 
-/* Inputs for it, to the standard output: so many bytes of noise; a passing list of ours, stretched to so many pairs; the list of a vendor that
- * has this number. Each has its own seed. */
+/* On a finished image: two bytes of a coefficient without a hold, the second as it was. It passes in a wait alone. */
+static void list_for_a_wait(struct chip *c, struct pairs *l, uint8_t mark) {
+    static const uint8_t pairs[] = { 0x4B, 0x40, 0x19, 0x01, 0x19, 0x00, 0x4B, 0x80 };
+    *c = (struct chip){ .mark = mark };
+    finish(c->image, &example);
+    l->length = sizeof pairs;
+    memcpy(l->bytes, pairs, sizeof pairs);
+}
+
+/* Inputs for it, to the standard output: so many bytes of noise; a passing list of ours, stretched to so many pairs; the list of a vendor
+ * that has this number; the list for a wait, with this mark. Each has its own seed. */
 static int make_input(const char *what, uint32_t n) {
     static struct pairs l;
     struct chip c;
@@ -135,10 +148,12 @@ static int make_input(const char *what, uint32_t n) {
         our_list(&c, &f, &l);
         stretch(&c, &l, n < 2 * MOST_PAIRS ? n : 2 * MOST_PAIRS);
     } else if (!strcmp(what, "vendor")) any_vendors(&c, &l);
+    else if (!strcmp(what, "waits")) list_for_a_wait(&c, &l, (uint8_t)n);
     else return usage();
     fwrite(c.image, 1, IMAGE_BYTES, stdout);
     fwrite(c.packet, 1, PACKET_BYTES, stdout);
     fwrite(c.coefficients, 1, COEFFICIENT_BYTES, stdout);
+    fwrite(&c.mark, 1, MARK_BYTES, stdout);
     return fwrite(l.bytes, 1, l.length, stdout) != l.length;
 }
 

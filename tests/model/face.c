@@ -37,10 +37,43 @@ struct station_count model_decode(const uint8_t *image, size_t image_length, uin
     return (struct station_count){ 0, (uint32_t)model_bytes(&f, request) };
 }
 
+/* The state, from the host's buffers and back to them. A call that does not take the packet buffer has none. */
+static struct chip taken(const uint8_t *image, const uint8_t *packet, const uint8_t *coefficients, uint8_t mark) {
+    struct chip c = { .mark = mark };
+    for (int i = 0; i < IMAGE_BYTES; i++) c.image[i] = image[i];
+    for (int i = 0; packet && i < PACKET_BYTES; i++) c.packet[i] = packet[i];
+    for (int i = 0; i < COEFFICIENT_BYTES; i++) c.coefficients[i] = coefficients[i];
+    return c;
+}
+
+static void given_back(const struct chip *c, uint8_t *image, uint8_t *packet, uint8_t *coefficients, uint8_t *mark) {
+    for (int i = 0; i < IMAGE_BYTES; i++) image[i] = c->image[i];
+    for (int i = 0; i < PACKET_BYTES; i++) packet[i] = c->packet[i];
+    for (int i = 0; i < COEFFICIENT_BYTES; i++) coefficients[i] = c->coefficients[i];
+    *mark = c->mark;
+}
+
+static int wrong_lengths(size_t image, size_t packet, size_t coefficients) {
+    return image != IMAGE_BYTES || packet != PACKET_BYTES || coefficients != COEFFICIENT_BYTES;
+}
+
 uint32_t model_write(uint8_t *image, size_t image_length, uint8_t *packet, size_t packet_length, uint8_t *coefficients,
-                     size_t coefficients_length, uint8_t address, uint8_t value) {
-    if (image_length != IMAGE_BYTES || packet_length != PACKET_BYTES || coefficients_length != COEFFICIENT_BYTES) return 7;
-    return model_step(image, packet, coefficients, address, value);
+                     size_t coefficients_length, uint8_t *mark, size_t mark_length, uint8_t address, uint8_t value) {
+    if (wrong_lengths(image_length, packet_length, coefficients_length) || mark_length != MARK_BYTES) return 7;
+    struct chip c = taken(image, packet, coefficients, *mark);
+    uint32_t refusal = model_run(&c, address, value);
+    if (!refusal) given_back(&c, image, packet, coefficients, mark);
+    return refusal;
+}
+
+/* Two packet holds that are up do not matter. */
+uint32_t model_vsync(uint8_t *image, size_t image_length, uint8_t *packet, size_t packet_length, uint8_t *coefficients,
+                     size_t coefficients_length, uint8_t *mark, size_t mark_length) {
+    if (wrong_lengths(image_length, packet_length, coefficients_length) || mark_length != MARK_BYTES) return 7;
+    struct chip c = taken(image, packet, coefficients, *mark);
+    model_edge(&c);
+    given_back(&c, image, packet, coefficients, mark);
+    return 0;
 }
 
 struct station_part model_sent(const uint8_t *image, size_t image_length, const uint8_t *packet, size_t packet_length, uint32_t which) {
@@ -63,11 +96,12 @@ struct station_state model_mute(const uint8_t *image, size_t image_length, const
 }
 
 struct station_count model_matrix(const uint8_t *image, size_t image_length, const uint8_t *coefficients, size_t coefficients_length,
-                                  uint8_t *matrix, size_t matrix_length) {
+                                  uint8_t mark, uint8_t *matrix, size_t matrix_length) {
     if (image_length != IMAGE_BYTES || coefficients_length != COEFFICIENT_BYTES) return (struct station_count){ 7, 0 };
     if (matrix_length < MATRIX_BYTES) return (struct station_count){ 10, 0 };
-    const uint8_t *in_use = image[0x1A] & 0x20 ? coefficients : image + 0x18;
-    matrix[0] = image[0x18] >> 5 & 3;                       /* the mode acts at once, hold or no hold */
+    const struct chip c = taken(image, NULL, coefficients, mark);
+    const uint8_t *in_use = model_matrix_in_use(&c);
+    matrix[0] = image[0x18] >> 5 & 3;                       /* the mode acts at once, hold or wait */
     for (int i = 0; i < 12; i++) {
         uint8_t high = in_use[2 * i] & 0x1F;
         matrix[1 + 2 * i] = high & 0x10 ? high | 0xE0 : high;
@@ -82,13 +116,10 @@ struct station_masks model_class(uint8_t address) {
 }
 
 struct station_verdict model_vet(const uint8_t *image, size_t image_length, const uint8_t *packet, size_t packet_length,
-                                 const uint8_t *coefficients, size_t coefficients_length, const uint8_t *list, size_t list_length) {
-    struct chip c;
+                                 const uint8_t *coefficients, size_t coefficients_length, uint8_t mark, const uint8_t *list,
+                                 size_t list_length) {
     enum rule rule;
-    if (image_length != IMAGE_BYTES || packet_length != PACKET_BYTES || coefficients_length != COEFFICIENT_BYTES)
-        return (struct station_verdict){ 7, 0 };
-    for (int i = 0; i < IMAGE_BYTES; i++) c.image[i] = image[i];
-    for (int i = 0; i < PACKET_BYTES; i++) c.packet[i] = packet[i];
-    for (int i = 0; i < COEFFICIENT_BYTES; i++) c.coefficients[i] = coefficients[i];
+    if (wrong_lengths(image_length, packet_length, coefficients_length)) return (struct station_verdict){ 7, 0 };
+    const struct chip c = taken(image, packet, coefficients, mark);
     return model_judge(&c, list, list_length, &rule);
 }

@@ -64,7 +64,7 @@ int         model_offers(int vic, int family);
 struct pair model_pair(const struct fields *f);
 
 /* frames.c: the registers of a packet, from its version to its last data byte. */
-enum { AVI_BYTES = 16, AUDIO_BYTES = 13, PACKET_BYTES = 32, COEFFICIENT_BYTES = 24, IMAGE_BYTES = 256 };
+enum { AVI_BYTES = 16, AUDIO_BYTES = 13, PACKET_BYTES = 32, COEFFICIENT_BYTES = 24, IMAGE_BYTES = 256, MARK_BYTES = 1 };
 void model_avi(const struct fields *f, uint8_t *registers);
 void model_audio(const struct fields *f, uint8_t *registers);
 
@@ -82,9 +82,14 @@ uint32_t model_short_count(const uint8_t *wanted, const uint8_t *image);
 void model_finished(const uint8_t *wanted, const uint8_t *image, uint8_t *finished);
 int  model_stands(const uint8_t *wanted, const uint8_t *image);
 
-/* machine.c: one write; the number of packet holds that are up in a byte of 0x4A. */
-int      model_holds(uint8_t byte_4a);
-uint32_t model_step(uint8_t *image, uint8_t *packet, uint8_t *coefficients, uint8_t address, uint8_t value);
+/* machine.c: the state of the chip; one write; one rising edge of Vsync; the number of packet holds that are up in a byte of 0x4A; whether a
+ * change of the coefficients waits for its Vsync; and the 24 bytes in use, of the registers or of the buffer. */
+struct chip { uint8_t image[IMAGE_BYTES], packet[PACKET_BYTES], coefficients[COEFFICIENT_BYTES], mark; };
+uint32_t       model_run(struct chip *c, uint8_t address, uint8_t value);
+void           model_edge(struct chip *c);
+int            model_holds(uint8_t byte_4a);
+int            model_waits(const struct chip *c);
+const uint8_t *model_matrix_in_use(const struct chip *c);
 
 /* decode.c: the request that ends in an image, as decoding answers it. Only the values that the image shows are tried; but all of each field
  * in the set `free`, bit by bit the rows of the table; and with the bit SECTIONS_FREE also sections that the image does not show, and
@@ -95,11 +100,11 @@ int model_ends(const uint8_t *image, uint32_t free, struct fields *f);
 /* vet.c: the verdict on a vendor's list, and the rule that its first bad pair breaks. What is in use: the GC byte, the two packets, and the
  * coefficients as numbers of 13 bits. */
 enum { MOST_PAIRS = 512 };
-enum rule { NO_RULE, OTHER_REGISTER, MANDATED_BITS, FREE_BITS, TWO_HOLDS, NOT_MUTED, AVI_GROUP, AUDIO_GROUP, MATRIX_GROUP, RULES };
+enum rule {
+    NO_RULE, OTHER_REGISTER, MANDATED_BITS, FREE_BITS, TWO_HOLDS, NOT_MUTED, AVI_GROUP, AUDIO_GROUP, MATRIX_GROUP, MATRIX_AT_VSYNC, RULES
+};
 extern const char *const model_rules[RULES];        /* in words */
-struct chip { uint8_t image[IMAGE_BYTES], packet[PACKET_BYTES], coefficients[COEFFICIENT_BYTES]; };
 struct in_use { uint8_t gc, avi[AVI_BYTES], audio[AUDIO_BYTES]; int coefficient[12]; };
-uint32_t      model_run(struct chip *c, uint8_t address, uint8_t value);
 struct in_use model_in_use(const struct chip *c);
 int           model_muted(const struct in_use *u);
 int           model_same_avi(const struct in_use *a, const struct in_use *b);
@@ -112,12 +117,14 @@ struct station_verdict model_judge(const struct chip *c, const uint8_t *list, si
 struct station_count model_plan(const uint8_t *, size_t, const uint8_t *, size_t, uint8_t *, size_t);
 struct station_count model_decode(const uint8_t *, size_t, uint8_t *, size_t);
 struct station_pair  model_ncts(const uint8_t *, size_t);
-uint32_t             model_write(uint8_t *, size_t, uint8_t *, size_t, uint8_t *, size_t, uint8_t, uint8_t);
+uint32_t             model_write(uint8_t *, size_t, uint8_t *, size_t, uint8_t *, size_t, uint8_t *, size_t, uint8_t, uint8_t);
+uint32_t             model_vsync(uint8_t *, size_t, uint8_t *, size_t, uint8_t *, size_t, uint8_t *, size_t);
 struct station_part  model_sent(const uint8_t *, size_t, const uint8_t *, size_t, uint32_t);
 struct station_state model_mute(const uint8_t *, size_t, const uint8_t *, size_t);
-struct station_count model_matrix(const uint8_t *, size_t, const uint8_t *, size_t, uint8_t *, size_t);
+struct station_count model_matrix(const uint8_t *, size_t, const uint8_t *, size_t, uint8_t, uint8_t *, size_t);
 struct station_pixel model_preview(const uint8_t *, size_t, uint32_t, uint32_t, uint32_t);
 struct station_masks model_class(uint8_t);
-struct station_verdict model_vet(const uint8_t *, size_t, const uint8_t *, size_t, const uint8_t *, size_t, const uint8_t *, size_t);
+struct station_verdict model_vet(const uint8_t *, size_t, const uint8_t *, size_t, const uint8_t *, size_t, uint8_t, const uint8_t *,
+                                 size_t);
 
 #endif

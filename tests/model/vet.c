@@ -1,9 +1,5 @@
-/* A vendor's list: document 02, request 03, and its readings. */
+/* A vendor's list: document 02, requests 03 and 04, and their readings. */
 #include "model.h"
-
-uint32_t model_run(struct chip *c, uint8_t address, uint8_t value) {
-    return model_step(c->image, c->packet, c->coefficients, address, value);
-}
 
 struct in_use model_in_use(const struct chip *c) {
     struct in_use u;
@@ -12,7 +8,7 @@ struct in_use model_in_use(const struct chip *c) {
     for (int i = 0; i < AVI_BYTES; i++) u.avi[i] = holds & 0x40 ? c->packet[i] : c->image[0x52 + i];
     for (int i = 0; i < AUDIO_BYTES; i++) u.audio[i] = holds & 0x20 ? c->packet[i] : c->image[0x70 + i];
     for (int i = 0; i < 12; i++) {
-        const uint8_t *two = (c->image[0x1A] & 0x20 ? c->coefficients : c->image + 0x18) + 2 * i;
+        const uint8_t *two = model_matrix_in_use(c) + 2 * i;
         u.coefficient[i] = (two[0] & 0x1F) * 256 + two[1];      /* the low 13 bits of its pair */
     }
     return u;
@@ -53,13 +49,29 @@ enum rule model_cut_breaks(const struct in_use *now, const struct in_use *old, c
     return NO_RULE;
 }
 
+/* So many pairs run: all of them, or those before the first that would leave two packet holds up. */
+static uint32_t pairs_run(const struct chip *start, const uint8_t *list, uint32_t count) {
+    struct chip c = *start;
+    uint32_t n = 0;
+    while (n < count && model_run(&c, list[2 * n], list[2 * n + 1]) == 0) n++;
+    return n;
+}
+
+/* The state after them: one Vsync comes just before the last of them. */
+static struct chip end_of(const struct chip *start, const uint8_t *list, uint32_t ends) {
+    struct chip c = *start;
+    for (uint32_t i = 0; i < ends; i++) {
+        if (i + 1 == ends) model_edge(&c);
+        model_run(&c, list[2 * i], list[2 * i + 1]);
+    }
+    return c;
+}
+
 /* The first bad pair, or `count`. */
 static uint32_t first_bad(const struct chip *start, const uint8_t *list, uint32_t count, enum rule *rule) {
-    struct chip last = *start, now = *start;
-    struct in_use old = model_in_use(start), end, at_cut;
-    uint32_t ends = 0;      /* the list ends before the first pair that would leave two packet holds up */
-    while (ends < count && model_run(&last, list[2 * ends], list[2 * ends + 1]) == 0) ends++;
-    end = model_in_use(&last);
+    uint32_t ends = pairs_run(start, list, count);
+    struct chip last = end_of(start, list, ends), now = *start;
+    struct in_use old = model_in_use(start), end = model_in_use(&last), at_cut;
     *rule = NO_RULE;
     for (uint32_t i = 0; i < count; i++) {
         *rule = pair_breaks(&now, list[2 * i], list[2 * i + 1]);
@@ -68,6 +80,12 @@ static uint32_t first_bad(const struct chip *start, const uint8_t *list, uint32_
         if (i + 1 >= ends) continue;                            /* no pair follows: no cut */
         at_cut = model_in_use(&now);
         *rule = model_cut_breaks(&at_cut, &old, &end);
+        if (*rule != NO_RULE) return i;
+        if (i + 2 < ends) continue;                             /* the last pair follows: between the Vsync and it is a cut too */
+        model_edge(&now);
+        at_cut = model_in_use(&now);
+        *rule = model_cut_breaks(&at_cut, &old, &end);
+        if (*rule == MATRIX_GROUP) *rule = MATRIX_AT_VSYNC;
         if (*rule != NO_RULE) return i;
     }
     return count;
@@ -87,5 +105,7 @@ struct station_verdict model_judge(const struct chip *c, const uint8_t *list, si
     return (struct station_verdict){ 0, 0 };
 }
 
-const char *const model_rules[RULES] = { "none",      "register", "mandated bits", "free bits",   "two holds",
-                                         "not muted", "AVI group", "audio group",  "coefficients" };
+const char *const model_rules[RULES] = {
+    "none", "register", "mandated bits", "free bits", "two holds", "not muted", "AVI group", "audio group", "coefficients",
+    "coefficients at its Vsync",
+};

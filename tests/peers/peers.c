@@ -72,20 +72,22 @@ static void unpacked(const struct fields *f, uint8_t type, const uint8_t *regist
 int main(void) {
     uint32_t images = 0;
     for (uint32_t n = 0; n < kinds(); n++) {
-        uint8_t image[IMAGE_BYTES], packet[PACKET_BYTES], coefficients[COEFFICIENT_BYTES], list[256], bytes[LONGEST];
+        uint8_t list[256], bytes[LONGEST];
+        struct chip chip;
         struct fields f;
         seed(n);
         if (!kind_of_request(n, &f)) continue;
-        any_start(image, packet, coefficients);
-        struct station_count c = station_plan(bytes, model_bytes(&f, bytes), image, sizeof image, list, sizeof list);
+        any_start(&chip);
+        struct station_count c = station_plan(bytes, model_bytes(&f, bytes), chip.image, IMAGE_BYTES, list, sizeof list);
         if (c.refusal == 9) continue;                   /* no exact pair: nothing is finished */
         expect(c.refusal == 0, &f, "a request that is refused");
         for (uint32_t w = 0; w < c.count; w++)
-            station_write(image, sizeof image, packet, sizeof packet, coefficients, sizeof coefficients, list[2 * w], list[2 * w + 1]);
-        struct station_part avi = station_sent(image, sizeof image, packet, sizeof packet, 0);
-        struct station_part audio = station_sent(image, sizeof image, packet, sizeof packet, 1);
-        unpacked(&f, TYPE_AVI, (avi.held ? packet : image) + avi.start, avi.len, n);
-        unpacked(&f, TYPE_AUDIO, (audio.held ? packet : image) + audio.start, audio.len, n);
+            station_write(chip.image, IMAGE_BYTES, chip.packet, PACKET_BYTES, chip.coefficients, COEFFICIENT_BYTES, &chip.mark, MARK_BYTES,
+                          list[2 * w], list[2 * w + 1]);
+        struct station_part avi = station_sent(chip.image, IMAGE_BYTES, chip.packet, PACKET_BYTES, 0);
+        struct station_part audio = station_sent(chip.image, IMAGE_BYTES, chip.packet, PACKET_BYTES, 1);
+        unpacked(&f, TYPE_AVI, (avi.held ? chip.packet : chip.image) + avi.start, avi.len, n);
+        unpacked(&f, TYPE_AUDIO, (audio.held ? chip.packet : chip.image) + audio.start, audio.len, n);
         images++;
     }
     printf("%u finished images, the AVI and the audio InfoFrame of each read by Linux's hdmi.c\n", (unsigned)images);

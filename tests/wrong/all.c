@@ -2,6 +2,6 @@
 #include "../harness.h"
 
 const struct wrong_set wrong_sets[] = {
-    { wrong_plans, ALL },    { wrong_fewer, ALL }, { wrong_numbers, ALL },   { wrong_decodes, ALL },
-    { wrong_machines, ALL }, { wrong_views, ALL }, { wrong_vets, ON_LISTS }, { NULL, ALL },
+    { wrong_plans, ALL }, { wrong_fewer, ALL }, { wrong_numbers, ALL },   { wrong_decodes, ALL }, { wrong_machines, ALL },
+    { wrong_marks, ALL }, { wrong_views, ALL }, { wrong_vets, ON_LISTS }, { NULL, ALL },
 };

@@ -2,7 +2,7 @@
 #include "wrong.h"
 
 #define WRITE(name) static uint32_t name(WRITE_ARGUMENTS)
-#define RIGHT model_write(i, il, p, pl, c, cl, address, value)
+#define RIGHT model_write(i, il, p, pl, c, cl, m, ml, address, value)
 
 WRITE(copy_after) {
     int was_up = il == 256 && (i[0x1A] & 0x20);
@@ -82,7 +82,7 @@ WRITE(packet_of_31) { return pl == 31 ? 0 : RIGHT; }
 PUT(write, packet_of_31)
 
 WRITE(nothing_written) {
-    (void)i, (void)il, (void)p, (void)pl, (void)c, (void)cl, (void)address, (void)value;
+    (void)i, (void)il, (void)p, (void)pl, (void)c, (void)cl, (void)m, (void)ml, (void)address, (void)value;
     return 0;
 }
 PUT(write, nothing_written)

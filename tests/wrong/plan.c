@@ -80,6 +80,22 @@ SPOIL(hold_never_raised) {
     for (int n = 0; n < 3; n++) *value(s, 0x1A, n) &= 0xDF;
 }
 
+/* No place for the Vsync between the lowered hold and the opening write. */
+SPOIL(lowered_after_open) {
+    uint32_t fall = place(&s->l, 0x1A, 2);
+    uint8_t pair[2] = { s->l.pairs[2 * fall], s->l.pairs[2 * fall + 1] };
+    take_out(&s->l, fall, fall + 1);
+    memcpy(s->l.pairs + 2 * s->l.count, pair, 2);
+    s->l.count++;
+}
+
+/* The hold is lowered among the coefficients, and A2 comes first: all is well unless a Vsync comes among them. */
+SPOIL(lowered_first) {
+    uint8_t *first = s->l.pairs + 2 * place(&s->l, 0x18, 0), *third = first + 4, pair[2] = { third[0], third[1] & 0xDF };
+    memmove(first + 2, first, 4);
+    memcpy(first, pair, 2);
+}
+
 /* The error list's checksum 256 shows in no request today: no packet's sum is already zero. So a plain wrong one. */
 SPOIL(checksum_off) { --*value(s, 0x54, 0); }
 SPOIL(colorimetry_always) {
@@ -258,6 +274,8 @@ const struct wrong wrong_plans[] = {
     { "addresses that do not rise in a step", put_addresses_not_rising, 0 },
     { "a hold write that keeps the other hold", put_other_hold_kept, 1 },
     { "the coefficient hold never raised", put_hold_never_raised, 1 },
+    { "the coefficient hold lowered after the opening write", put_lowered_after_open, 1 },
+    { "the coefficient hold lowered before they are written", put_lowered_first, 1 },
     { "a checksum one too small", put_checksum_off, 1 },
     { "colorimetry given for RGB", put_colorimetry_always, 1 },
     { "Q 1 and 2 exchanged", put_ranges_exchanged, 1 },

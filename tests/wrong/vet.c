@@ -67,6 +67,24 @@
     FAULT(image_changed, "the list run on the lent image") \
     FAULT(packet_changed, "the lent packet buffer filled") \
     FAULT(coefficients_changed, "the lent coefficient buffer filled") \
+    FAULT(mark_ignored, "a vet that ignores the mark") \
+    FAULT(mark_of_two_none, "a vet that takes a mark of 2 for none") \
+    FAULT(mark_beside_hold, "a vet that takes the registers beside a hold and a mark") \
+    FAULT(old_without_mark, "the registers at the start though a change waits") \
+    FAULT(fall_at_once, "a vet whose lowered hold acts at once") \
+    FAULT(rise_copies, "a vet whose rise in a wait copies") \
+    FAULT(event_never, "a list without its Vsync") \
+    FAULT(event_first, "the Vsync before the first pair") \
+    FAULT(event_after_last, "the Vsync after the last pair") \
+    FAULT(event_one_earlier, "the Vsync one pair earlier") \
+    FAULT(event_before_each, "a Vsync before each pair") \
+    FAULT(event_of_old_last, "a list that ends early without its Vsync") \
+    FAULT(event_at_two_holds, "the Vsync of a list that ends early after its end") \
+    FAULT(event_not_looked_at, "the state after the Vsync not looked at") \
+    FAULT(event_of_one_pair, "the state after the Vsync of one pair looked at") \
+    FAULT(event_names_last, "the last pair named where the Vsync is bad") \
+    FAULT(event_moves_old, "old moved by the Vsync to the change that waited") \
+    FAULT(event_for_the_end_alone, "the Vsync in the end alone, not at the cut") \
     FAULT(reads_past_list, "a read one byte past the list")
 
 #define NUMBER(name, words) name##_fault,
@@ -97,12 +115,16 @@ static int pair_is_good(enum fault fault, const struct chip *now, uint8_t a, uin
 
 /* One write; 0 where two holds would be up. */
 static int goes(enum fault fault, struct chip *c, uint8_t a, uint8_t v) {
+    const struct chip was = *c;
     if (fault == two_holds_without_gc_fault && a == 0x4A && (v & 0x10) && (v & 0x60) != 0x60) {
         if (v & 0x60 & ~c->image[a]) memcpy(c->packet, c->image + (v & 0x40 ? 0x52 : 0x70), v & 0x40 ? 16 : 13);
         c->image[a] = v;
         return 1;
     }
-    return model_run(c, a, v) == 0;
+    if (model_run(c, a, v) != 0) return 0;
+    if (fault == fall_at_once_fault && (was.image[0x1A] & ~c->image[0x1A] & 0x20)) c->mark = 0;
+    if (fault == rise_copies_fault && (~was.image[0x1A] & c->image[0x1A] & 0x20)) memcpy(c->coefficients, was.image + 0x18, 24);
+    return 1;
 }
 
 /* The image without its holds, so that the registers are in use. */
@@ -110,13 +132,15 @@ static struct in_use in_registers(const struct chip *c) {
     struct chip other = *c;
     other.image[0x4A] &= 0x9F;
     other.image[0x1A] &= 0xDF;
+    other.mark = 0;
     return model_in_use(&other);
 }
 
 static struct in_use seen(enum fault fault, enum fault by_registers, const struct chip *c) {
     struct in_use u = fault == by_registers ? in_registers(c) : model_in_use(c);
+    if (fault == mark_beside_hold_fault && c->mark && (c->image[0x1A] & 0x20)) u = in_registers(c);
     if (fault == matrix_of_24_bytes_fault) {
-        const uint8_t *bytes = c->image[0x1A] & 0x20 ? c->coefficients : c->image + 0x18;
+        const uint8_t *bytes = model_matrix_in_use(c);
         for (int i = 0; i < 12; i++) u.coefficient[i] = bytes[2 * i] * 256 + bytes[2 * i + 1];
     }
     for (int i = 0; fault == matrix_of_12_bits_fault && i < 12; i++) u.coefficient[i] &= 0xFFF;
@@ -138,25 +162,47 @@ static int same_groups(const struct in_use *a, const struct in_use *b) {
     return model_same_avi(a, b) && model_same_audio(a, b) && model_same_matrix(a, b);
 }
 
-/* The end of a list: the state there, and how many of the pairs have run. */
-struct list_end { struct chip last; uint32_t pairs; };
+/* The end of a list: the state there, how many of the pairs have run, and the place of the pair that its Vsync comes before. */
+#define NONE UINT32_MAX
+struct list_end { struct chip last; uint32_t pairs, event; };
 
-static struct list_end end_of(enum fault fault, const struct chip *start, const uint8_t *l, uint32_t n) {
-    struct list_end e = { *start, 0 };
-    for (; e.pairs < n; e.pairs++) {
-        uint8_t a = l[2 * e.pairs], v = l[2 * e.pairs + 1];
-        int good = pair_is_good(fault, &e.last, a, v);
+static int turns_at(enum fault fault, const struct list_end *e, uint32_t at) { return at == e->event || fault == event_before_each_fault; }
+
+static void run_to_end(enum fault fault, const struct chip *start, const uint8_t *l, uint32_t n, struct list_end *e) {
+    e->last = *start;
+    for (e->pairs = 0; e->pairs < n; e->pairs++) {
+        uint8_t a = l[2 * e->pairs], v = l[2 * e->pairs + 1];
+        int good = pair_is_good(fault, &e->last, a, v);
         if (!good && fault == bad_pair_stops_fault) break;
+        if (turns_at(fault, e, e->pairs)) model_edge(&e->last);
         if (!good && fault == bad_pair_skipped_fault) continue;
-        if (goes(fault, &e.last, a, v)) continue;
-        if (fault == two_holds_written_fault) e.last.image[a] = v;
+        if (goes(fault, &e->last, a, v)) continue;
+        if (fault == two_holds_written_fault) e->last.image[a] = v;
         else if (fault != two_holds_skipped_fault) break;
     }
-    if (fault == two_holds_end_at_start_fault && e.pairs < n) e.last = *start;
+    if (fault == event_after_last_fault) model_edge(&e->last);
+    if (fault == two_holds_end_at_start_fault && e->pairs < n) e->last = *start;
+}
+
+/* The Vsync's place, where so many of the pairs run. A place that is not reached is none. */
+static uint32_t event_place(enum fault fault, uint32_t n, uint32_t ends) {
+    if (ends == 0 || fault == event_never_fault || fault == event_after_last_fault) return NONE;
+    if (fault == event_first_fault) return 0;
+    if (fault == event_one_earlier_fault && ends > 1) return ends - 2;
+    if (fault == event_of_old_last_fault && ends < n) return NONE;
+    if (fault == event_at_two_holds_fault && ends < n) return ends;
+    return ends - 1;
+}
+
+static struct list_end end_of(enum fault fault, const struct chip *start, const uint8_t *l, uint32_t n) {
+    struct list_end e = { .event = NONE };
+    run_to_end(fault, start, l, n, &e);
+    e.event = event_place(fault, n, e.pairs);
+    run_to_end(fault, start, l, n, &e);
     return e;
 }
 
-struct groups_of_a_list { struct in_use old, end; int avi_was_new; };
+struct groups_of_a_list { struct in_use old, end; int avi_was_new, waits; };
 
 static int cut_is_good(enum fault fault, struct groups_of_a_list *g, const struct in_use *now) {
     struct in_use quiet = *now;
@@ -178,17 +224,34 @@ static int is_cut(enum fault fault, uint32_t at, uint32_t n, const struct list_e
     return at + 1 < e->pairs;
 }
 
+/* The Vsync before this pair: is the state after it good? */
+static int turn_is_good(enum fault fault, struct groups_of_a_list *g, struct chip *now, const struct chip *start, uint32_t at, uint32_t n) {
+    if (fault == event_for_the_end_alone_fault) return 1;
+    model_edge(now);
+    if (fault == event_moves_old_fault && g->waits) memcpy(g->old.coefficient, in_registers(start).coefficient, sizeof g->old.coefficient);
+    if (fault == event_not_looked_at_fault || (fault == cut_before_last_not_tested_fault && at + 1 == n)) return 1;
+    if (at == 0 && fault != event_of_one_pair_fault) return 1;
+    struct in_use u = seen(fault, now_of_registers_fault, now);
+    return cut_is_good(fault, g, &u);
+}
+
 /* The place of the bad pair, or NONE. */
-#define NONE UINT32_MAX
 static uint32_t bad_place(enum fault fault, const struct chip *start, const uint8_t *l, uint32_t n, const struct list_end *e) {
     struct chip now = *start;
-    struct groups_of_a_list g = { seen(fault, old_of_registers_fault, start), seen(fault, end_of_registers_fault, &e->last), 0 };
+    struct groups_of_a_list g = { seen(fault, old_of_registers_fault, start), seen(fault, end_of_registers_fault, &e->last), 0,
+                                  model_waits(start) };
     uint32_t place = NONE;
+    if (fault == old_without_mark_fault && model_waits(start)) g.old = in_registers(start);
     if (fault == first_cut_tested_fault && n > 0 && !model_muted(&g.old)) return 0;
     for (uint32_t k = 0; k < n && (place == NONE || fault == last_bad_pair_fault); k++) {
         uint8_t a = l[2 * k], v = l[2 * k + 1];
+        if (turns_at(fault, e, k) && k < e->pairs && !turn_is_good(fault, &g, &now, start, k, n)) {
+            place = k == 0 || fault == event_names_last_fault ? k : k - 1;
+            if (fault != last_bad_pair_fault) break;
+        }
         int good = pair_is_good(fault, &now, a, v), went = goes(fault, &now, a, v);
         struct in_use u = seen(fault, now_of_registers_fault, &now);
+        if (now.image[0x1A] & 0x20) g.waits = 0;
         if (!good) place = k;
         else if (!went && fault == two_holds_one_later_fault) place = k + 1;
         else if (!went && fault == two_holds_one_earlier_fault) place = k > 0 ? k - 1 : 0;
@@ -209,13 +272,14 @@ static uint32_t named_place(enum fault fault, uint32_t place) {
 static volatile uint8_t eye;
 
 static struct station_verdict judge(enum fault fault, VET_ARGUMENTS) {
-    struct chip start = { { 0 }, { 0 }, { 0 } };
+    struct chip start = { .mark = mark };
     struct fields f;
     if (fault == seven_not_given_fault && pl == PACKET_BYTES - 1) pl++;
     if (il != IMAGE_BYTES || pl != PACKET_BYTES || cl != COEFFICIENT_BYTES) return (struct station_verdict){ 7, 0 };
     memcpy(start.image, i, IMAGE_BYTES);
     memcpy(start.packet, p, fault == seven_not_given_fault ? PACKET_BYTES - 1 : PACKET_BYTES);
     memcpy(start.coefficients, c, COEFFICIENT_BYTES);
+    if (fault == mark_ignored_fault || (fault == mark_of_two_none_fault && mark == 2)) start.mark = 0;
     size_t most = fault == pairs_513_fault ? MOST_PAIRS + 1 : fault == pairs_511_fault ? MOST_PAIRS - 1 : MOST_PAIRS;
     int fourteen = (ll % 2 && fault != odd_accepted_fault) || ll / 2 > most;
     int eight = (i[0x4A] & 0x10) || (fault != eight_by_gc_alone_fault && (i[0x4A] & 0x60) == 0x60);
@@ -238,11 +302,11 @@ static struct station_verdict judge(enum fault fault, VET_ARGUMENTS) {
 }
 
 #define JUDGE(name, words) \
-    static struct station_verdict name(VET_ARGUMENTS) { return judge(name##_fault, i, il, p, pl, c, cl, l, ll); } \
+    static struct station_verdict name(VET_ARGUMENTS) { return judge(name##_fault, i, il, p, pl, c, cl, mark, l, ll); } \
     PUT(vet, name)
 FAULTS(JUDGE)
 
-static struct station_verdict no_fault(VET_ARGUMENTS) { return judge(NO_FAULT, i, il, p, pl, c, cl, l, ll); }
+static struct station_verdict no_fault(VET_ARGUMENTS) { return judge(NO_FAULT, i, il, p, pl, c, cl, mark, l, ll); }
 void put_right_judge(struct face *f) { f->vet = no_fault; }
 
 #define ROW(name, words) { words, put_##name, 0 },

@@ -47,36 +47,35 @@ static struct station_state bits_swapped(const uint8_t *i, size_t il, const uint
 }
 PUT(mute, bits_swapped)
 
-#define MATRIX(name) \
-    static struct station_count name(const uint8_t *i, size_t il, const uint8_t *c, size_t cl, uint8_t *m, size_t ml)
+#define MATRIX(name) static struct station_count name(MATRIX_ARGUMENTS)
 
 MATRIX(mode_held) {
-    struct station_count n = model_matrix(i, il, c, cl, m, ml);
+    struct station_count n = model_matrix(i, il, c, cl, mark, m, ml);
     if (!n.refusal && (i[0x1A] & 0x20)) m[0] = c[0] >> 5 & 3;
     return n;
 }
 PUT(matrix, mode_held)
 
 MATRIX(sign_lost) {
-    struct station_count n = model_matrix(i, il, c, cl, m, ml);
+    struct station_count n = model_matrix(i, il, c, cl, mark, m, ml);
     if (!n.refusal) m[1] &= 0x1F;
     return n;
 }
 PUT(matrix, sign_lost)
 
 MATRIX(whole_bytes) {
-    struct station_count n = model_matrix(i, il, c, cl, m, ml);
-    if (!n.refusal) m[7] = (i[0x1A] & 0x20 ? c : i + 0x18)[6];
+    struct station_count n = model_matrix(i, il, c, cl, mark, m, ml);
+    if (!n.refusal) m[7] = (mark || (i[0x1A] & 0x20) ? c : i + 0x18)[6];
     return n;
 }
 PUT(matrix, whole_bytes)
 
 MATRIX(matrix_hold_ignored) {
     uint8_t image[256];
-    if (il != 256) return model_matrix(i, il, c, cl, m, ml);
+    if (il != 256) return model_matrix(i, il, c, cl, mark, m, ml);
     memcpy(image, i, 256);
     image[0x1A] &= 0xDF;
-    return model_matrix(image, il, c, cl, m, ml);
+    return model_matrix(image, il, c, cl, mark, m, ml);
 }
 PUT(matrix, matrix_hold_ignored)
 

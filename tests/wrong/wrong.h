@@ -7,18 +7,22 @@
 
 /* `on_cuts`: the replay of the cuts must catch it by itself. */
 struct wrong { const char *fault; void (*put)(struct face *); int on_cuts; };
-extern const struct wrong wrong_plans[], wrong_fewer[], wrong_numbers[], wrong_decodes[], wrong_machines[], wrong_views[], wrong_vets[];
+extern const struct wrong wrong_plans[], wrong_fewer[], wrong_numbers[], wrong_decodes[], wrong_machines[], wrong_marks[], wrong_views[],
+    wrong_vets[];
 /* The sets, the last without rows; `first` is the section of the harness to begin with. */
 extern const struct wrong_set { const struct wrong *rows; int first; } wrong_sets[];
-/* The planner of wrong/fewer.c and the judge of wrong/vet.c, without a fault: they must not be caught. */
+/* The planner of wrong/fewer.c, the machine of wrong/mark.c and the judge of wrong/vet.c, without a fault: they must not be caught. */
 void put_right_planner(struct face *f);
+void put_right_machine(struct face *f);
 void put_right_judge(struct face *f);
 
 /* The argument lists that are long. */
 #define PLAN_ARGUMENTS const uint8_t *r, size_t rl, const uint8_t *i, size_t il, uint8_t *w, size_t wl
-#define WRITE_ARGUMENTS uint8_t *i, size_t il, uint8_t *p, size_t pl, uint8_t *c, size_t cl, uint8_t address, uint8_t value
+#define VSYNC_ARGUMENTS uint8_t *i, size_t il, uint8_t *p, size_t pl, uint8_t *c, size_t cl, uint8_t *m, size_t ml
+#define WRITE_ARGUMENTS VSYNC_ARGUMENTS, uint8_t address, uint8_t value
+#define MATRIX_ARGUMENTS const uint8_t *i, size_t il, const uint8_t *c, size_t cl, uint8_t mark, uint8_t *m, size_t ml
 #define VET_ARGUMENTS \
-    const uint8_t *i, size_t il, const uint8_t *p, size_t pl, const uint8_t *c, size_t cl, const uint8_t *l, size_t ll
+    const uint8_t *i, size_t il, const uint8_t *p, size_t pl, const uint8_t *c, size_t cl, uint8_t mark, const uint8_t *l, size_t ll
 
 /* The fields of a request, as far as it has its sections. */
 static inline struct fields asked(const uint8_t *r, size_t rl) {
