@@ -206,7 +206,7 @@ static uint32_t situations_met[SITUATIONS];
 static void meets(enum situation s, int met) { situations_met[s] += met != 0; }
 
 static void every_situation_met(void) {
-    for (int s = 0; run.share >= 1000 && s < SITUATIONS; s++) never_met(situations_met[s], "runs", situations[s]);
+    for (int s = 0; run.share >= 1000 && s < SITUATIONS; s++) never_met(situations_met[s], "times", situations[s]);
     memset(situations_met, 0, sizeof situations_met);
 }
 

@@ -1,5 +1,6 @@
 /* The C face by the model: lengths, the order of the refusals, what is written to the lent buffers. */
 #include "model.h"
+#include <string.h>
 
 struct station_count model_plan(const uint8_t *request, size_t request_length, const uint8_t *image, size_t image_length, uint8_t *writes,
                                 size_t writes_length) {
@@ -40,16 +41,16 @@ struct station_count model_decode(const uint8_t *image, size_t image_length, uin
 /* The state, from the host's buffers and back to them. A call that does not take the packet buffer has none. */
 static struct chip taken(const uint8_t *image, const uint8_t *packet, const uint8_t *coefficients, uint8_t mark) {
     struct chip c = { .mark = mark };
-    for (int i = 0; i < IMAGE_BYTES; i++) c.image[i] = image[i];
-    for (int i = 0; packet && i < PACKET_BYTES; i++) c.packet[i] = packet[i];
-    for (int i = 0; i < COEFFICIENT_BYTES; i++) c.coefficients[i] = coefficients[i];
+    memcpy(c.image, image, IMAGE_BYTES);
+    if (packet) memcpy(c.packet, packet, PACKET_BYTES);
+    memcpy(c.coefficients, coefficients, COEFFICIENT_BYTES);
     return c;
 }
 
 static void given_back(const struct chip *c, uint8_t *image, uint8_t *packet, uint8_t *coefficients, uint8_t *mark) {
-    for (int i = 0; i < IMAGE_BYTES; i++) image[i] = c->image[i];
-    for (int i = 0; i < PACKET_BYTES; i++) packet[i] = c->packet[i];
-    for (int i = 0; i < COEFFICIENT_BYTES; i++) coefficients[i] = c->coefficients[i];
+    memcpy(image, c->image, IMAGE_BYTES);
+    memcpy(packet, c->packet, PACKET_BYTES);
+    memcpy(coefficients, c->coefficients, COEFFICIENT_BYTES);
     *mark = c->mark;
 }
 
