@@ -910,7 +910,7 @@ static void marked_waits(void) {
         { 0, 1, 15, 1, 6, { 0x19, 0x01, 0x4A, 0xE0, 0x4B, 0x80 }, "ended early after one pair, which has no cut" },
         { 0, 1, 15, 0, 4, { 0x4A, 0xE0, 0x4B, 0x80 }, "ended early before the first pair" },
     };
-    static const uint8_t marks[] = { 0, 1, 2, 7, 255 };
+    static const uint8_t marks[] = { 0, 1, 2, 7, 128, 255 };
     struct chip c = { .mark = 0 };
     finish(c.image, &example);
     for (size_t i = 0; i < sizeof cases / sizeof cases[0]; i++) {
@@ -983,7 +983,8 @@ static void gives(const struct chip *start, const struct pairs *l) {
         }
 }
 
-/* Every kind of request, planned by the library on a state of every kind, and on images that need few writes: its own list passes. */
+/* Every kind of request, planned by the library on a state of every kind, and on images that need few writes: its own list passes, whether
+ * a change waits or not. */
 static void own_lists(void) {
     struct fields f;
     uint32_t count = 0;
@@ -999,10 +1000,12 @@ static void own_lists(void) {
         if (any(2)) near_image(c.image, &f);
         struct station_count n = planned(bytes, model_bytes(&f, bytes), &c, l.bytes);
         l.length = n.count <= 128 ? 2 * n.count : 0;
-        struct station_verdict v = vetted(&c, &l);
-        if (n.refusal || v.refusal || v.place)
-            differs("VIC %d: planned %u, our own list is refused %u at %u", f.vic, n.refusal, v.refusal, v.place);
-        check_list(&c, &l);
+        for (int turn = 0; turn < 2; turn++, c.mark = !c.mark) {       /* with the other mark too */
+            struct station_verdict v = vetted(&c, &l);
+            if (n.refusal || v.refusal || v.place)
+                differs("VIC %d: planned %u, our own list is refused %u at %u", f.vic, n.refusal, v.refusal, v.place);
+            check_list(&c, &l);
+        }
         if (count++ % EVERY == 0) gives(&c, &l);
     }
     if (run.share >= 1000) every_value_met();
