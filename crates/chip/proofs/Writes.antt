@@ -19,9 +19,9 @@ use Rattle.bits.proofs.Laws.{merge-bit, bit-code}
 use Rattle.registers.specs.Classes.{readOnly}
 use Rattle.chip.specs.declared.Chip.{Chip}
 use Rattle.chip.specs.declared.Wrote.{Wrote}
-use Rattle.chip.specs.Machine.{Group, Buffer, avi, audio, gc, matrix, packets, converter, up, registersOf, holdsOf}
-use Rattle.chip.specs.Write.{filled, bufferAfter, put, stored, imageAfter, two, refuses, writeTests, refusedWrite, writeOf, holdsAfter, Stores}
-use Rattle.chip.specs.Step.{TwoUp, writeRules, Keeps, Step}
+use Rattle.chip.specs.Machine.{Group, Buffer, avi, audio, gc, matrix, packets, converter, up, registersOf, holdsOf, held, inUse}
+use Rattle.chip.specs.Write.{filled, bufferAfter, markAs, put, vsyncOf, lentAs, stored, imageAfter, two, refuses, writeTests, refusedWrite, writeOf, holdsAfter, Stores}
+use Rattle.chip.specs.Step.{TwoUp, writeRules, Keeps, Step, Turn}
 
 -- a test for two packet holds decides that two are up
 pub two-up : (image : List ℕ) → Decides (two (holdsOf packets image)) (TwoUp image)
@@ -204,21 +204,46 @@ module _ (s : Chip) (address value : ℕ) where
     abbrev after : ℕ
     after = holdsOf b (imageAfter s address value)
 
-    abbrev full : List ℕ
-    full = filled (b .groups) before after (s .image) (b .bytes s)
+    -- what the holds fill, and the same where a lowered hold waits or not
+    abbrev refilled : List ℕ
+    refilled = filled (b .groups) before after (s .image) (b .bytes s)
 
-    same-holds : getD (imageAfter s address value) (b .register) 0 ≡ getD (s .image) (b .register) 0 → b .bytes s ≡ full
+    abbrev full : List ℕ
+    full = cond (b .waits s) (b .bytes s) refilled
+
+    same-holds : getD (imageAfter s address value) (b .register) 0 ≡ getD (s .image) (b .register) 0 → b .bytes s ≡ refilled
     same-holds e = sym (ap (λ (x : ℕ). filled (b .groups) before x (s .image) (b .bytes s)) e ∙ filled-same (b .groups) before (s .image) (b .bytes s))
 
     refreshed : bufferAfter b address (stored address value (s .image)) s ≡ full
-    refreshed = go (eqb address (b .register)) refl
+    refreshed = either (b .waits s)
       where
         go : (t : Bool) → eqb address (b .register) ≡ t
-            → cond t (filled (b .groups) before (stored address value (s .image)) (s .image) (b .bytes s)) (b .bytes s) ≡ full
+            → cond t (filled (b .groups) before (stored address value (s .image)) (s .image) (b .bytes s)) (b .bytes s) ≡ refilled
         go true e =
             ap (λ (x : ℕ). filled (b .groups) before x (s .image) (b .bytes s))
             (sym (rw (eqb-true address (b .register) e) (getD-set-same (s .image) (b .register) (stored (b .register) value (s .image)) 0 inside)))
         go false e = same-holds (getD-set-other (s .image) address (b .register) _ 0 (λ q. eqb-false address (b .register) e (sym q)))
+
+        either : (w : Bool)
+            → cond (not w && eqb address (b .register)) (filled (b .groups) before (stored address value (s .image)) (s .image) (b .bytes s)) (b .bytes s)
+            ≡ cond w (b .bytes s) refilled
+        either true = refl
+        either false = go (eqb address (b .register)) refl
+
+    -- where nothing is filled the bytes stay, waiting or not; and what keeps its length keeps it
+    full-none : refilled ≡ b .bytes s → full ≡ b .bytes s
+    full-none e = go (b .waits s)
+      where
+        go : (w : Bool) → cond w (b .bytes s) refilled ≡ b .bytes s
+        go true = refl
+        go false = e
+
+    full-length : (n : ℕ) → length (b .bytes s) ≡ n → length refilled ≡ n → length full ≡ n
+    full-length n l e = go (b .waits s)
+      where
+        go : (w : Bool) → length (cond w (b .bytes s) refilled) ≡ n
+        go true = l
+        go false = e
 
   -- each buffer, whatever the write
   module _ (whole : length (s .image) ≡ 256) where
@@ -252,8 +277,8 @@ module _ (s : Chip) (address value : ℕ) where
         go true e = ap (λ (w : Wrote). w .chip .coefficients) (written-as true e)
         go false e =
             coefficients-after e
-            ∙ filled-none (converter .groups) (holdsOf converter (s .image)) (holdsOf converter (imageAfter s address value)) (s .image)
-            (s .coefficients) (rw (image-after e) at t)
+            ∙ full-none converter (rw whole (lit< tt)) (filled-none (converter .groups) (holdsOf converter (s .image))
+            (holdsOf converter (imageAfter s address value)) (s .image) (s .coefficients) (rw (image-after e) at t))
 
     packet-long : length (s .packet) ≡ 32 → length (writeOf s address value .chip .packet) ≡ 32
     packet-long l = go (refuses s address value) refl
@@ -267,7 +292,51 @@ module _ (s : Chip) (address value : ℕ) where
       where
         go : (b : Bool) → refuses s address value ≡ b → length (writeOf s address value .chip .coefficients) ≡ 24
         go true e = ap (λ (w : Wrote). length (w .chip .coefficients)) (written-as true e) ∙ l
-        go false e = ap length (coefficients-after e) ∙ filled-length (converter .groups) (holdsOf converter (s .image)) (holdsOf converter (imageAfter s address value)) 24 (s .image) (s .coefficients) whole l refl
+        go false e = ap length (coefficients-after e) ∙ full-length converter (rw whole (lit< tt)) 24 l
+            (filled-length (converter .groups) (holdsOf converter (s .image)) (holdsOf converter (imageAfter s address value)) 24 (s .image)
+            (s .coefficients) whole l refl)
+
+    -- the mark
+    mark-after : refuses s address value ≡ false → writeOf s address value .chip .waiting ≡ markAs (held s) (held (writeOf s address value .chip)) (s .waiting)
+    unfolding put
+    mark-after e = ap (λ (w : Wrote). w .chip .waiting) (written-as false e)
+        ∙ go (eqb address (converter .register)) refl
+        ∙ ap (λ (image : List ℕ). markAs (held s) (up matrix (holdsOf converter image)) (s .waiting)) (sym (image-after e))
+      where
+        stays : (h : Bool) → s .waiting ≡ markAs h h (s .waiting)
+        stays true = refl
+        stays false = refl
+
+        go : (t : Bool) → eqb address (converter .register) ≡ t
+            → cond t (markAs (held s) (up matrix (stored address value (s .image))) (s .waiting)) (s .waiting)
+            ≡ markAs (held s) (up matrix (holdsOf converter (imageAfter s address value))) (s .waiting)
+        go true q =
+            let z : holdsOf converter (imageAfter s address value) ≡ stored address value (s .image) =
+            ap (λ (a : ℕ). getD (imageAfter s address value) a 0) (sym (eqb-true address (converter .register) q))
+            ∙ getD-set-same (s .image) address _ 0 (rw (whole, eqb-true address (converter .register) q) (lit< tt)) in
+            ap (λ (n : ℕ). markAs (held s) (up matrix n) (s .waiting)) (sym z)
+        go false q =
+            let z : holdsOf converter (imageAfter s address value) ≡ holdsOf converter (s .image) =
+            getD-set-other (s .image) address (converter .register) _ 0 (λ z. eqb-false address (converter .register) q (sym z)) in
+            stays (held s) ∙ ap (λ (n : ℕ). markAs (held s) (up matrix n) (s .waiting)) (sym z)
+
+    mark-stays : held (writeOf s address value .chip) ≡ held s → writeOf s address value .chip .waiting ≡ s .waiting
+    mark-stays h = go (refuses s address value) refl
+      where
+        same : (b : Bool) → markAs b b (s .waiting) ≡ s .waiting
+        same true = refl
+        same false = refl
+
+        go : (b : Bool) → refuses s address value ≡ b → writeOf s address value .chip .waiting ≡ s .waiting
+        go true e = ap (λ (w : Wrote). w .chip .waiting) (written-as true e)
+        go false e = mark-after e ∙ ap (λ (b : Bool). markAs (held s) b (s .waiting)) h ∙ same (held s)
+
+    rise-drops : s .waiting ≡ true → writeOf s address value .chip .coefficients ≡ s .coefficients
+    rise-drops w = go (refuses s address value) refl
+      where
+        go : (b : Bool) → refuses s address value ≡ b → writeOf s address value .chip .coefficients ≡ s .coefficients
+        go true e = ap (λ (w : Wrote). w .chip .coefficients) (written-as true e)
+        go false e = coefficients-after e ∙ rw w
 
     pub stepped : Step s address value
     stepped =
@@ -283,17 +352,49 @@ module _ (s : Chip) (address value : ℕ) where
           sized = rw (written-as (refuses s address value) refl) (image-sized (refuses s address value));
           packetSized = packet-long;
           coefficientsSized = coefficients-long;
-          avi = λ z d u. let e = allowed z in packet-after e ∙ rw (risen packets avi e u, d);
-          audio = λ z d u.
+          avi = λ z q d u. let e = allowed z in packet-after e ∙ rw (risen packets avi e u, d);
+          audio = λ z q d u.
               let e = allowed z in
               let v = risen packets audio e u in
               packet-after e ∙ rw (alone (up avi n) (up audio n) (up gc n) (lone e) .0 v, v, d);
-          gc = λ z d u.
+          gc = λ z q d u.
               let e = allowed z in
               let v = risen packets gc e u in
               let o = alone (up avi n) (up audio n) (up gc n) (lone e) .1 v in
               packet-after e ∙ rw (o .0, o .1, v, d);
           packet = packet-stays;
-          matrix = λ z d u. let e = allowed z in coefficients-after e ∙ rw (risen converter matrix e u, d);
+          matrix = λ z q d u. let e = allowed z in coefficients-after e ∙ rw (q, risen converter matrix e u, d);
           coefficients = coefficients-stay;
+          falls = λ z b a. mark-after (allowed z) ∙ rw (b, a);
+          rises = λ z b a. mark-after (allowed z) ∙ rw (b, a);
+          dropped = rise-drops;
+          waits = mark-stays;
         }
+
+-- ---- a Vsync
+
+module _ (s : Chip) where
+  abbrev marked : Bool → Chip
+  marked w = lentAs (s .image) (s .packet) (s .coefficients) w
+
+  pub turned : Turn s
+  unfolding vsyncOf inUse
+  turned = record {
+    image = refl;
+    packet = refl;
+    coefficients = refl;
+    ends = λ d. rw d;
+    takes = λ d. rw d;
+    beside = λ u. ap marked (rw u);
+    raised = λ u. rw (u, or-true (s .waiting));
+    waiting = λ w. rw w;
+    idle = λ w. (ap marked (rw w (and-false (held s))), λ d. rw (w, d));
+  }
+    where
+      or-true : (w : Bool) → (w || true) ≡ true
+      or-true true = refl
+      or-true false = refl
+
+      and-false : (h : Bool) → (h && false) ≡ false
+      and-false true = refl
+      and-false false = refl

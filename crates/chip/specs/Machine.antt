@@ -1,6 +1,7 @@
--- Document 01, "The chip machine": its groups and their holds, and what is in use. What one write does is `Step`.
+-- Document 01, "The chip machine", with the waiting mark of document 02, request 04: its groups and their holds, and what is in use. What a
+-- write and a Vsync do is `Step` and `Turn`.
 use mathlib.Core.Path.{_≡_}
-use mathlib.Core.Bool.{Bool, cond}
+use mathlib.Core.Bool.{Bool, false, cond, _||_}
 use mathlib.Core.List.{List, [], _∷_}
 use Prim.Native.Nat.{ℕ, _+_, _*_}
 use lib.Dec.{eqb}
@@ -18,11 +19,13 @@ pub record Group : Type 0 where
   pub first : ℕ
   pub count : ℕ
 
--- a buffer: the register with the holds that fill it, the groups that these hold, and its bytes in a state
+-- a buffer: the register with the holds that fill it, the groups that these hold, its bytes in a state, and whether a lowered hold of it
+-- waits there
 pub record Buffer : Type 0 where
   pub register : ℕ
   pub groups : List Group
   pub bytes : Chip → List ℕ
+  pub waits : Chip → Bool
 
 -- "Packet holds: 0x4A[6] AVI, [5] audio, [4] GC"; "A packet's registers run from its version to its last data byte, reserved ones included:
 -- 16 for AVI, 13 for audio"; "GC's is 0x4B alone"
@@ -39,12 +42,13 @@ gc = record { hold = 4; first = reg.avMute; count = 1 }
 abbrev pub matrix : Group
 matrix = record { hold = 5; first = csc; count = cscCount }
 
--- "one packet buffer (a packet fills its front, the rest stays) and one coefficient buffer"
+-- "one packet buffer (a packet fills its front, the rest stays) and one coefficient buffer"; "The state gains a waiting mark", the
+-- coefficient hold's
 abbrev pub packets : Buffer
-packets = record { register = infoframeUpdate; groups = avi ∷ audio ∷ gc ∷ []; bytes = λ s. s .packet }
+packets = record { register = infoframeUpdate; groups = avi ∷ audio ∷ gc ∷ []; bytes = λ s. s .packet; waits = λ s. false }
 
 abbrev pub converter : Buffer
-converter = record { register = coefficientUpdate; groups = matrix ∷ []; bytes = λ s. s .coefficients }
+converter = record { register = coefficientUpdate; groups = matrix ∷ []; bytes = λ s. s .coefficients; waits = λ s. s .waiting }
 
 -- the byte of a buffer's holds in an image, and whether a group's hold is up in such a byte
 abbrev pub holdsOf : Buffer → List ℕ → ℕ
@@ -66,10 +70,14 @@ infix 80 _gets_
 abbrev pub _gets_ : ℕ → ℕ → Write
 address gets value = record { address = address; value = value }
 
--- "While it is up the buffer is sent; when down, the registers": the bytes of a group that the chip goes by. (Of the matrix's first byte
--- only the coefficient bits count: see `enableInUse` and `modeInUse`.)
+-- "While it is up the buffer is sent; when down, the registers", but for a lowered hold that waits: the bytes of a group that the chip goes
+-- by. (Of the matrix's first byte only the coefficient bits count: see `enableInUse` and `modeInUse`.)
 unfoldable pub inUse : Buffer → Group → Chip → List ℕ
-inUse b g s = cond (up g (holdsOf b (s .image))) (take (g .count) (b .bytes s)) (registersOf g (s .image))
+inUse b g s = cond (b .waits s || up g (holdsOf b (s .image))) (take (g .count) (b .bytes s)) (registersOf g (s .image))
+
+-- the coefficient hold, 0x1A[5], is up
+abbrev pub held : Chip → Bool
+held s = up matrix (holdsOf converter (s .image))
 
 -- the twelve coefficients in use, "the low 13 bits" of each pair
 unfoldable pub coefficients : Chip → List ℕ

@@ -1,6 +1,7 @@
--- How the code makes a write: `Step` says of it, bit by bit, what document 01 does ("The chip machine").
+-- How the code makes a write, and takes a Vsync: `Step` and `Turn` say of it, bit by bit, what documents 01 ("The chip machine") and 02
+-- (request 04) do.
 use mathlib.Core.Path.{_≡_}
-use mathlib.Core.Bool.{Bool, cond, not, _&&_, _||_}
+use mathlib.Core.Bool.{Bool, true, false, cond, not, _&&_, _||_}
 use mathlib.Core.List.{List, [], _∷_, _++_}
 use Prim.Native.Nat.{ℕ}
 use lib.Dec.{eqb}
@@ -10,7 +11,7 @@ use Rattle.registers.specs.Classes.{readOnly}
 use Rattle.refusals.specs.Rows.{twoHolds, Test, _if_, lowest, answer}
 use Rattle.chip.specs.declared.Chip.{Chip}
 use Rattle.chip.specs.declared.Wrote.{Wrote}
-use Rattle.chip.specs.Machine.{Group, Buffer, avi, audio, gc, packets, converter, holdsOf, up, registersOf}
+use Rattle.chip.specs.Machine.{Group, Buffer, avi, audio, gc, matrix, packets, converter, holdsOf, up, registersOf, held}
 
 -- "A hold going 0 to 1 copies that packet's registers, as they stood before the write, to the packet buffer" ("a packet fills its front,
 -- the rest stays"): a buffer's bytes as the holds go from one byte to another
@@ -19,14 +20,25 @@ filled [] old new image bytes = bytes
 filled (g ∷ gs) old new image bytes =
     cond (up g new && not (up g old)) (registersOf g image ++ drop (g .count) bytes) (filled gs old new image bytes)
 
--- a buffer's bytes after a byte is stored at an address
+-- a buffer's bytes after a byte is stored at an address; a rise in a wait "copies nothing"
 abbrev pub bufferAfter : Buffer → ℕ → ℕ → Chip → List ℕ
 bufferAfter b address byte s =
-    cond (eqb address (b .register)) (filled (b .groups) (holdsOf b (s .image)) byte (s .image) (b .bytes s)) (b .bytes s)
+    cond (not (b .waits s) && eqb address (b .register)) (filled (b .groups) (holdsOf b (s .image)) byte (s .image) (b .bytes s)) (b .bytes s)
 
--- three lent slices as a state
-abbrev pub lentAs : List ℕ → List ℕ → List ℕ → Chip
-lentAs image packet coefficients = record { image = image; packet = packet; coefficients = coefficients }
+-- the mark as the coefficient hold goes from `before` to `after`: a fall sets it, a rise "drops the mark", and a hold that stays leaves it
+abbrev pub markAs : Bool → Bool → Bool → Bool
+markAs true false mark = true
+markAs false true mark = false
+markAs true true mark = mark
+markAs false false mark = mark
+
+-- the mark after a byte is stored at an address
+abbrev pub markAfter : ℕ → ℕ → Chip → Bool
+markAfter address byte s = cond (eqb address (converter .register)) (markAs (held s) (up matrix byte) (s .waiting)) (s .waiting)
+
+-- three lent slices and a mark as a state
+abbrev pub lentAs : List ℕ → List ℕ → List ℕ → Bool → Chip
+lentAs image packet coefficients waiting = record { image = image; packet = packet; coefficients = coefficients; waiting = waiting }
 
 -- a byte stored as it is
 unfoldable pub put : ℕ → ℕ → Chip → Chip
@@ -34,6 +46,7 @@ put address byte s = record {
   image = set (s .image) address byte;
   packet = bufferAfter packets address byte s;
   coefficients = bufferAfter converter address byte s;
+  waiting = markAfter address byte s;
 }
 
 -- "Read-only bits never change"
@@ -74,3 +87,7 @@ unfoldable pub writeOf : Chip → ℕ → ℕ → Wrote
 writeOf s address value =
     answer (lowest (writeTests s address value)) (refusedWrite s)
     (record { refusal = 0; chip = put address (stored address value (s .image)) s })
+
+-- a Vsync: where the hold is down the wait is over; "a mark beside a raised hold counts for nothing", and stays
+unfoldable pub vsyncOf : Chip → Chip
+vsyncOf s = lentAs (s .image) (s .packet) (s .coefficients) (held s && s .waiting)

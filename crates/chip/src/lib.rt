@@ -1,23 +1,25 @@
-// The chip machine: document 01, "The chip machine".
+// The chip machine: document 01, "The chip machine", and document 02, request 04.
 ghost use mathlib.Core.Path.{_≡_};
-ghost use mathlib.Core.Bool.{cond, _||_};
+ghost use mathlib.Core.Bool.{cond, not, _&&_, _||_};
 ghost use mathlib.Core.List.{_++_};
 ghost use Prim.Native.Nat.{ℕ, _+_, _≤_};
 ghost use lib.Dec.{eqb};
 ghost use lib.ListN.{length, getD, take, drop};
 ghost use Rattle.map.specs.Map.{infoframeUpdate, coefficientUpdate};
 ghost use Rattle.chip.specs.declared.Chip.{Chip};
-ghost use Rattle.chip.specs.Machine.{packets, converter};
-ghost use Rattle.chip.specs.Write.{lentAs, filled, two, Stores};
-ghost use Rattle.chip.specs.Step.{Hands, Step};
+ghost use Rattle.chip.specs.Machine.{matrix, packets, converter, up};
+ghost use Rattle.chip.specs.Write.{lentAs, filled, two, markAs, Stores};
+ghost use Rattle.chip.specs.Step.{Hands, Step, Turned, Turn};
 use map::Map;
 use refusals::Refusal;
 
-// The state: the register image, the packet buffer and the coefficient buffer.
+// The state: the register image, the packet buffer, the coefficient buffer, and the mark of a lowered coefficient hold that waits for its
+// Vsync.
 pub struct Chip {
     pub image: [u8; 256],
     pub packet: [u8; 32],
     pub coefficients: [u8; 24],
+    pub waiting: bool,
 }
 
 // The state that a write hands back, and the number of its refusal, 0 for none.
@@ -86,13 +88,19 @@ fn hold_packet(image: &[u8; 256], packet: &mut [u8; 32], address: u8, byte: u8)
     }
 }
 
-// The coefficient buffer likewise.
-fn hold_coefficients(image: &[u8; 256], coefficients: &mut [u8; 24], address: u8, byte: u8)
-    ensures { λ _. ⌜ now (coefficients .exit) ≡ cond (eqb address coefficientUpdate)
+// The coefficient buffer likewise; where a lowered hold waits, a rise copies nothing.
+fn hold_coefficients(
+    image: &[u8; 256],
+    coefficients: &mut [u8; 24],
+    waiting: bool,
+    address: u8,
+    byte: u8,
+)
+    ensures { λ _. ⌜ now (coefficients .exit) ≡ cond (not waiting && eqb address coefficientUpdate)
         (filled (converter .groups) (getD (now (image .entry)) coefficientUpdate 0) byte (now (image .entry)) (now (coefficients .entry)))
         (now (coefficients .entry)) ⌝ }
 {
-    if address == Map::COEFFICIENT_UPDATE {
+    if !waiting & (address == Map::COEFFICIENT_UPDATE) {
         let held = image[Map::COEFFICIENT_UPDATE as usize];
         if (byte / Map::COEFFICIENT_UPDATE_MASK % 2 == 1)
             & !(held / Map::COEFFICIENT_UPDATE_MASK % 2 == 1)
@@ -105,6 +113,45 @@ fn hold_coefficients(image: &[u8; 256], coefficients: &mut [u8; 24], address: u8
             );
         }
     }
+}
+
+// Whether the coefficient hold is up in a byte of 0x1A.
+pub fn is_held(byte: u8) -> bool
+    ensures { λ r. ⌜ r ≡ up matrix byte ⌝ }
+{
+    byte / Map::COEFFICIENT_UPDATE_MASK % 2 == 1
+}
+
+// The mark as the coefficient hold goes from one state to another: a fall sets it, a rise drops it.
+fn mark_as(before: bool, after: bool, waiting: bool) -> bool
+    ensures { λ r. ⌜ r ≡ markAs before after waiting ⌝ }
+{
+    (before & !after) | (waiting & (before | !after))
+}
+
+// The mark after a byte is stored at an address.
+fn hold_mark(image: &[u8; 256], waiting: bool, address: u8, byte: u8) -> bool
+    ensures { λ r. ⌜ r ≡ cond (eqb address coefficientUpdate)
+        (markAs (up matrix (getD (now (image .entry)) coefficientUpdate 0)) (up matrix byte) waiting) waiting ⌝ }
+{
+    if address != Map::COEFFICIENT_UPDATE {
+        return waiting;
+    }
+    let before = image[Map::COEFFICIENT_UPDATE as usize];
+    mark_as(is_held(before), is_held(byte), waiting)
+}
+
+// Whether a mark still waits after a Vsync, by the byte of 0x1A: beside a raised hold it stays.
+pub fn still_waits(byte: u8, waiting: bool) -> bool
+    ensures { λ r. ⌜ r ≡ (up matrix byte && waiting) ⌝ }
+{
+    is_held(byte) & waiting
+}
+
+// Whether a byte was stored, and the mark then.
+pub struct Stored {
+    pub done: bool,
+    pub waiting: bool,
 }
 
 // Whether two packet holds are up, or would be after a byte is stored at an address.
@@ -125,20 +172,28 @@ pub fn store(
     image: &mut [u8; 256],
     packet: &mut [u8; 32],
     coefficients: &mut [u8; 24],
+    waiting: bool,
     address: u8,
     byte: u8,
-) -> bool
-    ensures { λ r. ⌜ Stores (lentAs (now (image .entry)) (now (packet .entry)) (now (coefficients .entry))) address byte r
-        (lentAs (now (image .exit)) (now (packet .exit)) (now (coefficients .exit))) ⌝ }
+) -> Stored
+    ensures { λ r. ⌜ Stores (lentAs (now (image .entry)) (now (packet .entry)) (now (coefficients .entry)) waiting) address byte (r .done)
+        (lentAs (now (image .exit)) (now (packet .exit)) (now (coefficients .exit)) (r .waiting)) ⌝ }
 {
     let held = image[Map::INFOFRAME_UPDATE as usize];
     if leaves_two(held, address, byte) {
-        return false;
+        return Stored {
+            done: false,
+            waiting: waiting,
+        };
     }
+    let mark = hold_mark(image, waiting, address, byte);
     hold_packet(image, packet, address, byte);
-    hold_coefficients(image, coefficients, address, byte);
+    hold_coefficients(image, coefficients, waiting, address, byte);
     image[address as usize] = byte;
-    true
+    Stored {
+        done: true,
+        waiting: mark,
+    }
 }
 
 impl Chip {
@@ -151,7 +206,15 @@ impl Chip {
         let mut coefficients = self.coefficients;
         let keep = registers::read_only(address);
         let byte = bits::merge(keep, image[address as usize], value);
-        if !store(&mut image, &mut packet, &mut coefficients, address, byte) {
+        let stored = store(
+            &mut image,
+            &mut packet,
+            &mut coefficients,
+            self.waiting,
+            address,
+            byte,
+        );
+        if !stored.done {
             return Wrote {
                 refusal: Refusal::TWO_HOLDS,
                 chip: self,
@@ -163,7 +226,24 @@ impl Chip {
                 image: image,
                 packet: packet,
                 coefficients: coefficients,
+                waiting: stored.waiting,
             },
+        }
+    }
+
+    // One Vsync: where the coefficient hold is down, a wait is over, and the registers are in use.
+    pub fn vsync(self) -> Chip
+        ensures { λ r. ⌜ Turned self r ⌝ }
+    {
+        let image = self.image;
+        let packet = self.packet;
+        let coefficients = self.coefficients;
+        let hold = image[Map::COEFFICIENT_UPDATE as usize];
+        Chip {
+            image: image,
+            packet: packet,
+            coefficients: coefficients,
+            waiting: still_waits(hold, self.waiting),
         }
     }
 }
@@ -171,4 +251,9 @@ impl Chip {
 // What each write does and leaves alone.
 pub fn step()
     ensures { λ _. ⌜ ((s : Chip) → length (s .image) ≡ 256 → (address value : ℕ) → Step s address value) ⌝ }
+{}
+
+// What a Vsync does, and what is in use by the mark.
+pub fn turn()
+    ensures { λ _. ⌜ ((s : Chip) → Turn s) ⌝ }
 {}

@@ -1,7 +1,6 @@
 -- `chip::hold_coefficients` meets its contract: the 24 bytes are copied whole. Assumes nothing.
 use mathlib.Core.Path.{sym, _∙_}
 use lib.ListN.{getD}
-use borrow.Author.Tests.{eq-eqb, ne-eqb}
 use Rattle.bits.proofs.Laws.{bit-code}
 use Rattle.map.specs.Map.{coefficientUpdate}
 use borrow.Author.Needs.{needs}
@@ -28,16 +27,16 @@ returns c =
     let f = c .before .before .before in
     let i = f .before .before in
     let a = i .before .args in
-    c .fill .ensures ∙ sym (rw (eq-eqb _ _ (i .if1 .taken)) (simp (bit-code 5 (a .byte), bit-code 5 (getD (a .image .now) coefficientUpdate 0), f .if2 .taken)))
+    c .fill .ensures ∙ sym (rw (i .if1 .taken) (simp (bit-code 5 (a .byte), bit-code 5 (getD (a .image .now) coefficientUpdate 0), f .if2 .taken)))
 
 returns-2 : tie.Need-returns-2
 returns-2 c =
     let i = c .before .before in
     let a = i .before .args in
-    sym (rw (eq-eqb _ _ (i .if1 .taken)) (simp (bit-code 5 (a .byte), bit-code 5 (getD (a .image .now) coefficientUpdate 0), c .if2 .left)))
+    sym (rw (i .if1 .taken) (simp (bit-code 5 (a .byte), bit-code 5 (getD (a .image .now) coefficientUpdate 0), c .if2 .left)))
 
 returns-3 : tie.Need-returns-3
-returns-3 c = rw (ne-eqb _ _ (c .if1 .left))
+returns-3 c = rw (c .if1 .left)
 
 pub hold-coefficients-spec : {M : Type 1} → statement M
 hold-coefficients-spec =

@@ -19,11 +19,11 @@ unfolding stored
 byte m = m .merge .ensures ∙ rw (m .before .read-only .ensures) refl
 
 at : (b : tie.After-store) → let a = b .before .before .before .before .before .before .before .before .before .args in
-    Stores (a .self) (a .address) (stored (a .address) (a .value) (a .self .image)) (b .store .result) (lentAs (b .store .last .0) (b .store .last .1 .0) (b .store .last .1 .1 .0))
+    Stores (a .self) (a .address) (stored (a .address) (a .value) (a .self .image)) (b .store .result .done) (lentAs (b .store .last .0) (b .store .last .1 .0) (b .store .last .1 .1 .0) (b .store .result .waiting))
 at b =
     let m = b .before .before .before .before in
     let a = m .before .before .before .before .before .args in
-    subst (λ (n : ℕ). Stores (a .self) (a .address) n (b .store .result) (lentAs (b .store .last .0) (b .store .last .1 .0) (b .store .last .1 .1 .0))) (byte m) (b .store .ensures)
+    subst (λ (n : ℕ). Stores (a .self) (a .address) n (b .store .result .done) (lentAs (b .store .last .0) (b .store .last .1 .0) (b .store .last .1 .1 .0) (b .store .result .waiting))) (byte m) (b .store .ensures)
 
 read-only-requires : tie.Need-read-only-requires
 read-only-requires c κs = search needs
@@ -39,13 +39,13 @@ store-requires c κs = search needs
 
 returns : tie.Need-returns
 returns c =
-    let b = c .before in
+    let b = c .before .before in
     let z = b .before .before .before .before .before .before .before .before .before in
     refused-write (z .args .self) (z .args .address) (z .args .value) (whole z) _ _ (at b) (not-true _ (c .if1 .taken))
 
 returns-2 : tie.Need-returns-2
 returns-2 c =
-    let b = c .before in
+    let b = c .before .before in
     let z = b .before .before .before .before .before .before .before .before .before in
     taken-write (z .args .self) (z .args .address) (z .args .value) (whole z) _ _ (at b) (not-false _ (c .if1 .left))
 
