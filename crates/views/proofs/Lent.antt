@@ -1,27 +1,28 @@
--- A write over lent slices. Assumes nothing.
-use mathlib.Core.Path.{_≡_, refl, _∙_}
-use mathlib.Core.Logic.{_≢_}
-use mathlib.Core.Bool.{Bool, true, false, not}
+-- A write and a Vsync over lent slices. Assumes nothing.
+use mathlib.Core.Path.{_≡_, refl, sym, ap, _∙_}
+use mathlib.Core.Logic.{_≢_, _⊎_}
+use mathlib.Core.Bool.{Bool, true, false, not, _&&_}
 use mathlib.Core.List.{List, [], _∷_}
 use Prim.Native.Nat.{ℕ}
+use native.Mathlib.Omega.{arith}
 use lib.Dec.{eqb}
-use lib.ListN.{length, take, replicate}
+use lib.ListN.{length, set, take, replicate}
 use Rattle.lists.proofs.Copied.{over-whole}
-use borrow.Author.Tests.{eqb-true, not-false}
+use borrow.Author.Tests.{eqb-true, eq-eqb, ne-eqb, not-false}
 use Rattle.lists.proofs.Both.{both-left, both-right}
 use Rattle.lists.proofs.Decides.{Decides, opposite, equal, one-fails}
-use Rattle.refusals.specs.Rows.{imageLength, Condition, _if_, lowest, answer}
-use Rattle.refusals.proofs.Tests.{Decided, lowest-given, in-stages, none-at}
+use Rattle.refusals.specs.Rows.{imageLength, Condition, Given, _if_, lowest, answer}
+use Rattle.refusals.proofs.Tests.{Decided, lowest-given, in-stages, none-at, numbered}
 use Rattle.chip.specs.declared.Chip.{Chip}
 use Rattle.chip.specs.declared.Wrote.{Wrote}
-use Rattle.chip.specs.Write.{refusedWrite, writeOf}
+use Rattle.chip.specs.Write.{writeOf, vsyncOf}
 use Rattle.chip.specs.Step.{writeRules}
-use Rattle.views.specs.Entry.{isSized, Gathers, enterTests, enterOf}
-use Rattle.views.specs.Theorems.{WrongLengths, enterRules, WriteRefusals, Sized}
+use Rattle.views.specs.Entry.{isSized, Lent, stateOf, slicesOf, Entry, refusedEntry, takenEntry, wroteIn, isLent, Gathers, enterTests, enterOf, turnOf}
+use Rattle.views.specs.Theorems.{WrongLengths, WrongLent, enterRules, turnRules, WriteRefusals, VsyncRefusals, Sized, LentSized}
 use Rattle.chip.proofs.Writes.{stepped}
 use Rattle.views.proofs.Seen.{unlike}
 
--- the three lengths
+-- the three lengths of a state
 pub sized : (s : Chip) → not (isSized s) ≡ false → Sized s
 sized s e =
     let t = not-false (isSized s) e in
@@ -45,31 +46,102 @@ gathered-whole s state z g =
       over-whole (s .coefficients) (replicate 24 0) (z .coefficients),
     ) refl
 
-module _ (s : Chip) (address value : ℕ) where
-  pub turned-away : not (isSized s) ≡ true → enterOf s address value ≡ record { refusal = 7; chip = s }
-  unfolding enterOf
-  turned-away e = rw e
+-- a slice of one byte, stored
+pub stored-alone : (bytes : List ℕ) (byte : ℕ) → length bytes ≡ 1 → set bytes 0 byte ≡ byte ∷ []
+stored-alone [] byte e = absurd (omega arith)
+stored-alone (a ∷ []) byte e = refl
+stored-alone (a ∷ b ∷ bytes) byte e = absurd (omega arith)
 
-  pub let-in : not (isSized s) ≡ false → enterOf s address value ≡ writeOf s address value
-  unfolding enterOf
-  let-in e = rw e
+module _ (l : Lent) where
+  -- the four lengths of the slices, and the three of their state
+  pub lent-sized : isLent l ≡ true → LentSized l
+  lent-sized t =
+      let u = both-right (eqb (length (l .image)) 256) _ t in
+      let v = both-right (eqb (length (l .packet)) 32) _ u in
+      record {
+        image = eqb-true _ _ (both-left _ _ t);
+        packet = eqb-true _ _ (both-left _ _ u);
+        coefficients = eqb-true _ _ (both-left _ _ v);
+        mark = eqb-true _ _ (both-right (eqb (length (l .coefficients)) 24) _ v);
+      }
 
-  abbrev rules : List Condition
-  rules = take (length (enterTests s)) (enterRules s address value)
+  pub state-sized : LentSized l → Sized (stateOf l)
+  state-sized z = record { image = z .image; packet = z .packet; coefficients = z .coefficients }
 
-  decided : Decided (enterTests s) rules
-  decided = (refl, wrong-lengths s, λ _. tt)
+  pub is-lent : LentSized l → isLent l ≡ true
+  is-lent z = rw (eq-eqb _ _ (z .image), eq-eqb _ _ (z .packet), eq-eqb _ _ (z .coefficients), eq-eqb _ _ (z .mark))
 
-  pub refusals : WriteRefusals s address value
-  unfolding enterOf
-  refusals = record {
-    given =
-        in-stages (refusedWrite s) (writeOf s address value) (λ (w : Wrote). w .refusal) rules (writeRules s address value) (lowest (enterTests s)) refl refl
-        (lowest-given (enterTests s) rules refl decided) (λ z. stepped s address value (sized s (none-at (enterTests s) 0 z) .image) .refusals);
-    kept = go (not (isSized s)) refl;
+  wrong-lent : Decides (not (isLent l)) (WrongLent l)
+  wrong-lent =
+      one-fails (eqb (length (l .image)) 256) _ (opposite (equal _ 256))
+      (one-fails (eqb (length (l .packet)) 32) _ (opposite (equal _ 32)) (unlike (length (l .coefficients)) (length (l .mark)) 24 1))
+
+  turn-decided : Decided (enterTests l) (turnRules l)
+  turn-decided = (refl, wrong-lent, λ _. tt)
+
+  lengths-given : Given (turnRules l) (lowest (enterTests l))
+  lengths-given = lowest-given (enterTests l) (turnRules l) refl turn-decided
+
+  -- a Vsync
+  pub turn-away : isLent l ≡ false → turnOf l ≡ record { refusal = 7; slices = l }
+  unfolding turnOf
+  turn-away e = rw e
+
+  pub turn-in : isLent l ≡ true → turnOf l ≡ takenEntry (vsyncOf (stateOf l))
+  unfolding turnOf
+  turn-in e = rw e
+
+  pub turn-refusals : VsyncRefusals l
+  unfolding turnOf
+  turn-refusals = record {
+    given = rw (numbered (refusedEntry l) (takenEntry (vsyncOf (stateOf l))) (λ (e : Entry). e .refusal) (lowest (enterTests l)) (λ _. refl) refl) lengths-given;
+    kept = go (isLent l);
   }
     where
-      go : (b : Bool) → not (isSized s) ≡ b
-          → let w : Wrote = answer (lowest (imageLength if b ∷ [])) (refusedWrite s) (writeOf s address value) in w .refusal ≢ 0 → w .chip ≡ s
-      go true e h = refl
-      go false e h = stepped s address value (sized s e .image) .refused h
+      go : (b : Bool)
+          → let e : Entry = answer (lowest (imageLength if not b ∷ [])) (refusedEntry l) (takenEntry (vsyncOf (stateOf l))) in
+          e .refusal ≢ 0 → e .slices ≡ l
+      go true h = absurd (h refl)
+      go false h = refl
+
+  -- a write
+  module _ (address value : ℕ) where
+    abbrev wrote : Wrote
+    wrote = writeOf (stateOf l) address value
+
+    pub turned-away : isLent l ≡ false → enterOf l address value ≡ record { refusal = 7; slices = l }
+    unfolding enterOf
+    turned-away e = rw e
+
+    pub let-in : isLent l ≡ true → enterOf l address value ≡ wroteIn l (writeOf (stateOf l) address value)
+    unfolding enterOf
+    let-in e = rw e
+
+    -- a write of the machine, in slices: its number, and the slices by it
+    pub wrote-number : wroteIn l (writeOf (stateOf l) address value) .refusal ≡ writeOf (stateOf l) address value .refusal
+    wrote-number = numbered (refusedEntry l) (takenEntry (wrote .chip)) (λ (e : Entry). e .refusal) (wrote .refusal) (λ _. refl) refl
+
+    pub wrote-refused : (w : Wrote) → w .refusal ≢ 0 → wroteIn l w ≡ refusedEntry l (w .refusal)
+    wrote-refused w h = rw (ne-eqb _ _ h)
+
+    pub wrote-taken : (w : Wrote) → w .refusal ≡ 0 → wroteIn l w ≡ takenEntry (w .chip)
+    wrote-taken w h = rw (eq-eqb _ _ h)
+
+    pub refusals : WriteRefusals l address value
+    unfolding enterOf
+    refusals = record {
+      given =
+          in-stages (refusedEntry l) (wroteIn l wrote) (λ (e : Entry). e .refusal) (turnRules l) (writeRules (stateOf l) address value) (lowest (enterTests l)) refl refl
+          lengths-given (λ z. rw wrote-number (stepped (stateOf l) address value (lent-sized (not-false (isLent l) (none-at (enterTests l) 0 z)) .image) .refusals));
+      kept = go (isLent l);
+    }
+      where
+        kept-in : (b : Bool) → eqb (wrote .refusal) 0 ≡ b → wroteIn l wrote .refusal ≢ 0 → wroteIn l wrote .slices ≡ l
+        kept-in true e h = absurd (h (wrote-number ∙ eqb-true _ _ e))
+        kept-in false e h = rw e
+
+        go : (b : Bool)
+            → let e : Entry = answer (lowest (imageLength if not b ∷ [])) (refusedEntry l) (wroteIn l wrote) in
+            e .refusal ≢ 0 → e .slices ≡ l
+        go true h = kept-in (eqb (wrote .refusal) 0) refl h
+        go false h = refl

@@ -16,8 +16,8 @@ use Rattle.refusals.proofs.Tests.{Decided, lowest-given, none-at, numbered}
 use Rattle.views.specs.declared.view.Part.{Part}
 use Rattle.views.specs.declared.view.Mute.{Mute}
 use Rattle.chip.specs.Machine.{Group, avi, audio, packets, up, holdsOf, inUse, gcInUse, mute, registersOf}
-use Rattle.chip.specs.Write.{lentAs, two}
-use Rattle.views.specs.View.{packetAt, lentRefusal, viewRefusal, sentOf, placed, noPart, sentPart, startIn, muteOf, noMute, lentTests}
+use Rattle.chip.specs.Write.{two}
+use Rattle.views.specs.View.{packetAt, viewedOf, lentRefusal, viewRefusal, sentOf, placed, noPart, sentPart, startIn, muteOf, noMute, lentTests}
 use Rattle.views.specs.Theorems.{bytesIn, lentRules, viewRules, ViewRefusals}
 use Rattle.bits.proofs.Laws.{bit-code, two-bits-code}
 use Rattle.chip.proofs.Writes.{two-up}
@@ -137,16 +137,16 @@ module _ (image packet : List ℕ) where
   mute-refused h = sym (rw (ne-eqb _ _ h))
 
   module _ (e : lentRefusal image packet ≡ 0) where
-    pub mute-shown : (bits : ℕ) → bits ≡ mute (lentAs image packet []) → record { refusal = 0; mute = bits } ≡ muteOf image packet
+    pub mute-shown : (bits : ℕ) → bits ≡ mute (viewedOf image packet) → record { refusal = 0; mute = bits } ≡ muteOf image packet
     unfolding muteOf
     mute-shown bits m = ap (λ (n : ℕ). record { refusal = 0; mute = n }) m ∙ sym (rw (eq-eqb (lentRefusal image packet) 0 e))
 
   -- off the buffer's first byte where the GC hold is up, else off the register
-  pub mute-held : getD image 0x4A 0 / 16 % 2 ≡ 1 → getD packet 0 0 / 64 % 4 ≡ mute (lentAs image packet [])
+  pub mute-held : getD image 0x4A 0 / 16 % 2 ≡ 1 → getD packet 0 0 / 64 % 4 ≡ mute (viewedOf image packet)
   unfolding gcInUse inUse
   mute-held h = sym (simp (bit-code 4 (getD image 0x4A 0), eq-eqb _ _ h, getD-take 1 packet 0 0 (lit< tt), two-bits-code 6 (getD packet 0 0)))
 
-  pub mute-down : getD image 0x4A 0 / 16 % 2 ≢ 1 → getD image 0x4B 0 / 64 % 4 ≡ mute (lentAs image packet [])
+  pub mute-down : getD image 0x4A 0 / 16 % 2 ≢ 1 → getD image 0x4B 0 / 64 % 4 ≡ mute (viewedOf image packet)
   unfolding gcInUse inUse
   mute-down h =
       sym (simp (bit-code 4 (getD image 0x4A 0), ne-eqb _ _ h, getD-take 1 (drop 0x4B image) 0 0 (lit< tt), getD-drop 0x4B image 0 0, two-bits-code 6 (getD image 0x4B 0)))

@@ -1,23 +1,25 @@
 -- What the calls answer of a state, and after a write over slices. Assumes nothing.
-use mathlib.Core.Path.{_≡_, refl, ap, _∙_}
-use mathlib.Core.Logic.{_↔_}
-use mathlib.Core.Bool.{false}
+use mathlib.Core.Path.{_≡_, refl, sym, ap, _∙_}
+use mathlib.Core.Logic.{_↔_, _≢_}
+use mathlib.Core.Bool.{Bool, true, false}
 use Prim.Native.Nat.{ℕ, _+_, _*_, _<_, _≤_}
 use native.Mathlib.Omega.{arith}
-use borrow.Author.Tests.{eq-eqb}
+use lib.Dec.{eqb}
+use borrow.Author.Tests.{eq-eqb, ne-eqb, eqb-true, eqb-false}
 use Rattle.lists.proofs.Both.{neither-right}
 use Rattle.bits.specs.Merge.{bit}
 use Rattle.chip.specs.declared.Chip.{Chip}
 use Rattle.chip.specs.Machine.{packets, holdsOf, inUse, gcInUse, mute}
-use Rattle.chip.specs.Write.{two, imageAfter, refuses, writeOf}
+use Rattle.chip.specs.declared.Wrote.{Wrote}
+use Rattle.chip.specs.Write.{lentAs, two, imageAfter, refuses, writeOf, vsyncOf}
 use Rattle.chip.proofs.Writes.{allowed, stepped}
 use Rattle.views.specs.declared.view.Mute.{Mute}
-use Rattle.views.specs.Entry.{enterOf}
+use Rattle.views.specs.Entry.{marked, markByte, Lent, stateOf, slicesOf, Entry, refusedEntry, takenEntry, wroteIn, enterOf, turnOf}
 use Rattle.views.specs.View.{lentRefusal, viewRefusal, sentOf, muteOf}
-use Rattle.views.specs.Theorems.{Sized, Faces, Entered}
+use Rattle.views.specs.Theorems.{Sized, LentSized, Slices, Faces, Entered, EnteredVsync}
 use Rattle.views.proofs.Seen.{cleared, later}
 use Rattle.views.proofs.Used as used
-use Rattle.views.proofs.Lent.{let-in}
+use Rattle.views.proofs.Lent.{is-lent, turn-in, let-in, wrote-number, wrote-refused, wrote-taken}
 
 -- two bits, as one number and one by one
 muted-bits : (a b : ℕ) → a < 2 → b < 2 → (a + 2 * b ≡ 1) ↔ ((a ≡ 1) × (b ≡ 0))
@@ -39,26 +41,110 @@ shown s z l =
       mute = m;
       muted = rw n (muted-bits (bit 6 (gcInUse s)) (bit 7 (gcInUse s)) (omega arith) (omega arith));
       opened = rw n (open-bits (bit 6 (gcInUse s)) (bit 7 (gcInUse s)) (omega arith) (omega arith));
-      count = λ out h. used.answered s (z .image) (z .coefficients) out h .0;
-      matrix = λ out h. used.answered s (z .image) (z .coefficients) out h .1;
+      count = used.counts s (z .image) (z .coefficients);
+      matrix = used.answered s (z .image) (z .coefficients);
       twelve = used.said s (z .image) (z .coefficients);
     }
 
-module _ (s : Chip) (z : Sized s) (address value : ℕ) where
-  same : enterOf s address value ≡ writeOf s address value
-  same = let-in s address value (rw (eq-eqb _ _ (z .image), eq-eqb _ _ (z .packet), eq-eqb _ _ (z .coefficients)) refl)
+-- ---- the slices and their state
 
-  after : Sized (writeOf s address value .chip)
-  after =
-      let t = stepped s address value (z .image) in
-      record { image = t .sized ∙ z .image; packet = t .packetSized (z .packet); coefficients = t .coefficientsSized (z .coefficients) }
+one-byte : (w : Bool) → marked (markByte w) ≡ w
+one-byte true = refl
+one-byte false = refl
 
-  -- a write that is taken leaves no two packet holds up
-  lone : writeOf s address value .refusal ≡ 0 → two (holdsOf packets (writeOf s address value .chip .image)) ≡ false
-  unfolding refuses
-  lone r =
-      rw (stepped s address value (z .image) .after r)
-      (neither-right (two (holdsOf packets (s .image))) (two (holdsOf packets (imageAfter s address value))) (allowed s address value r))
+pub state-slices : (s : Chip) → stateOf (slicesOf s) ≡ s
+state-slices s = ap (lentAs (s .image) (s .packet) (s .coefficients)) (one-byte (s .waiting))
 
-  pub entered : Entered s address value
-  entered = record { same = same; sized = rw same after; faces = λ r. rw same (shown (writeOf s address value .chip) after (lone (rw same at r))) }
+pub slices : Slices
+slices = record {
+  takes = λ l. record { image = refl; packet = refl; coefficients = refl; waits = λ h. rw (ne-eqb _ _ h); none = λ h. rw (eq-eqb _ _ h) };
+  leaves = λ s. record { image = refl; packet = refl; coefficients = refl; waits = λ h. rw h; none = λ h. rw h };
+  back = state-slices;
+}
+
+slices-sized : (s : Chip) → Sized s → LentSized (slicesOf s)
+slices-sized s z = record { image = z .image; packet = z .packet; coefficients = z .coefficients; mark = refl }
+
+module _ (l : Lent) (z : LentSized l) where
+  abbrev s : Chip
+  s = stateOf l
+
+  -- ---- a Vsync
+
+  turned : turnOf l ≡ takenEntry (vsyncOf s)
+  turned = turn-in l (is-lent l z)
+
+  turned-sized : Sized (vsyncOf s)
+  unfolding vsyncOf
+  turned-sized = record { image = z .image; packet = z .packet; coefficients = z .coefficients }
+
+  turned-state : stateOf (turnOf l .slices) ≡ vsyncOf s
+  turned-state = ap (λ (e : Entry). stateOf (e .slices)) turned ∙ state-slices (vsyncOf s)
+
+  lone-still : two (holdsOf packets (l .image)) ≡ false → two (holdsOf packets (vsyncOf s .image)) ≡ false
+  unfolding vsyncOf
+  lone-still h = h
+
+  pub entered-vsync : EnteredVsync l
+  entered-vsync = record {
+    taken = turned;
+    state = turned-state;
+    sized = rw turned (slices-sized (vsyncOf s) turned-sized);
+    faces = λ h. rw turned-state (shown (vsyncOf s) turned-sized (lone-still h));
+  }
+
+  -- ---- a write
+
+  module _ (address value : ℕ) where
+    abbrev wrote : Wrote
+    wrote = writeOf s address value
+
+    same : enterOf l address value ≡ wroteIn l wrote
+    same = let-in l address value (is-lent l z)
+
+    number : enterOf l address value .refusal ≡ wrote .refusal
+    number = ap (λ (e : Entry). e .refusal) same ∙ wrote-number l address value
+
+    taken : wrote .refusal ≡ 0 → enterOf l address value ≡ takenEntry (wrote .chip)
+    taken h = same ∙ wrote-taken l address value wrote h
+
+    refused : wrote .refusal ≢ 0 → enterOf l address value ≡ refusedEntry l (wrote .refusal)
+    refused h = same ∙ wrote-refused l address value wrote h
+
+    after : Sized (wrote .chip)
+    after =
+        let t = stepped s address value (z .image) in
+        record { image = t .sized ∙ z .image; packet = t .packetSized (z .packet); coefficients = t .coefficientsSized (z .coefficients) }
+
+    -- a write that is taken leaves no two packet holds up
+    lone : wrote .refusal ≡ 0 → two (holdsOf packets (wrote .chip .image)) ≡ false
+    unfolding refuses
+    lone r =
+        rw (stepped s address value (z .image) .after r)
+        (neither-right (two (holdsOf packets (s .image))) (two (holdsOf packets (imageAfter s address value))) (allowed s address value r))
+
+    state : stateOf (enterOf l address value .slices) ≡ wrote .chip
+    state = go (eqb (wrote .refusal) 0) refl
+      where
+        go : (b : Bool) → eqb (wrote .refusal) 0 ≡ b → stateOf (enterOf l address value .slices) ≡ wrote .chip
+        go true e = ap (λ (e : Entry). stateOf (e .slices)) (taken (eqb-true _ _ e)) ∙ state-slices (wrote .chip)
+        go false e =
+            let n = eqb-false _ _ e in
+            ap (λ (e : Entry). stateOf (e .slices)) (refused n) ∙ sym (stepped s address value (z .image) .refused n)
+
+    sized : LentSized (enterOf l address value .slices)
+    sized = go (eqb (wrote .refusal) 0) refl
+      where
+        go : (b : Bool) → eqb (wrote .refusal) 0 ≡ b → LentSized (enterOf l address value .slices)
+        go true e = rw (taken (eqb-true _ _ e)) (slices-sized (wrote .chip) after)
+        go false e = rw (refused (eqb-false _ _ e)) z
+
+    pub entered : Entered l address value
+    entered = record {
+      number = number;
+      taken = taken;
+      refused = refused;
+      state = state;
+      sized = sized;
+      faces = λ r. rw state (shown (wrote .chip) after (lone (sym number ∙ r)));
+    }

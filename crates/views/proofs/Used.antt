@@ -1,7 +1,7 @@
 -- What the converter goes by, byte by byte. Assumes nothing.
 use mathlib.Core.Path.{_≡_, refl, sym, ap, ap₂, _∙_}
 use mathlib.Core.Logic.{_≢_}
-use mathlib.Core.Bool.{Bool, true, false, cond, not, _&&_}
+use mathlib.Core.Bool.{Bool, true, false, cond, not, _&&_, _||_}
 use mathlib.Core.List.{List, [], _∷_, _++_}
 use Prim.Native.Nat.{ℕ, suc, _+_, _*_, _/_, _%_, _≤_, _<_}
 use native.Mathlib.Omega.{arith}
@@ -19,10 +19,10 @@ use Rattle.matrix.proofs.Pairs.{two-left, fields-small, length-fields, length-b
 use Rattle.chip.specs.declared.Chip.{Chip}
 use Rattle.views.specs.declared.converter.Count.{Count}
 use Rattle.chip.specs.Machine.{matrix, converter, registersOf, up, holdsOf, inUse, coefficients, modeInUse}
-use Rattle.views.specs.Converter.{matrixBytes, matrixTests, matrixRefusal, noCount, matrixAnswer, matrixOut}
+use Rattle.views.specs.Entry.{marked}
+use Rattle.views.specs.Converter.{askedOf, matrixBytes, matrixTests, matrixRefusal, noCount, matrixAnswer, matrixOut}
 use Rattle.views.specs.Theorems.{matrixRules, MatrixRefusals}
-use Rattle.chip.specs.Write.{lentAs}
-use Rattle.bits.proofs.Laws.{bit-code, two-bits-code}
+use Rattle.bits.proofs.Laws.{two-bits-code}
 use Rattle.views.proofs.Seen.{unlike}
 
 -- a turn stores one coefficient more: what is stored, and what is left to store, is the whole
@@ -44,7 +44,7 @@ pub turned : (bytes out whole : List ℕ) (i : ℕ) → length bytes ≤ 2 * i �
 unfolding fields
 turned bytes out whole i h e = rw (drop-of-length-le bytes h) at e
 
-module _ (image buffer out : List ℕ) where
+module _ (image buffer : List ℕ) (mark : ℕ) (out : List ℕ) where
   -- the refusal, and the answer by its number
   refusal-given : Given (matrixRules image buffer out) (matrixRefusal image buffer out)
   unfolding matrixRefusal
@@ -56,72 +56,79 @@ module _ (image buffer out : List ℕ) where
   unfolding matrixAnswer
   counted = numbered noCount _ (λ (c : Count). c .refusal) (matrixRefusal image buffer out) (λ _. refl) refl
 
-  pub refused : (n : ℕ) → n ≢ 0 → matrixRefusal image buffer out ≡ n
-      → (record { refusal = n; count = 0 } ≡ matrixAnswer image buffer out) × (out ≡ matrixOut image buffer out)
-  unfolding matrixAnswer matrixOut
-  refused n h e = rw (e, ne-eqb n 0 h) (refl, refl)
-
   pub seven : not (eqb (length image) 256 && eqb (length buffer) 24) ≡ true → matrixRefusal image buffer out ≡ 7
   unfolding matrixRefusal
   seven e = rw e
 
-  module _ (l : length image ≡ 256) (k : length buffer ≡ 24) where
-    pub ten : length out < 25 → matrixRefusal image buffer out ≡ 10
-    unfolding matrixRefusal
-    ten h = rw (eq-eqb _ _ l, eq-eqb _ _ k, lt-ltb _ _ h)
+  pub ten : length image ≡ 256 → length buffer ≡ 24 → length out < 25 → matrixRefusal image buffer out ≡ 10
+  unfolding matrixRefusal
+  ten l k h = rw (eq-eqb _ _ l, eq-eqb _ _ k, lt-ltb _ _ h)
 
-    -- the bytes in use, the buffer's where the hold is up, else the registers
-    pub held : getD image 0x1A 0 / 32 % 2 ≡ 1 → buffer ≡ inUse converter matrix (lentAs image [] buffer)
-    unfolding inUse
-    held h = sym (simp (bit-code 5 (getD image 0x1A 0), eq-eqb _ _ h) (take-all 24 buffer (omega arith)))
+  pub refused : (n : ℕ) → n ≢ 0 → matrixRefusal image buffer out ≡ n
+      → (record { refusal = n; count = 0 } ≡ matrixAnswer image buffer out) × (out ≡ matrixOut image buffer mark out)
+  unfolding matrixAnswer matrixOut
+  refused n h e = rw (e, ne-eqb n 0 h) (refl, refl)
 
-    pub down : getD image 0x1A 0 / 32 % 2 ≢ 1 → registersOf matrix image ≡ inUse converter matrix (lentAs image [] buffer)
-    unfolding inUse
-    down h = sym (simp (bit-code 5 (getD image 0x1A 0), ne-eqb _ _ h))
-
-    -- the 24 bytes that are in use
-    in-use-long : length (inUse converter matrix (lentAs image [] buffer)) ≡ 24
-    unfolding inUse
-    in-use-long = go (up matrix (holdsOf converter image))
-      where
-        go : (b : Bool) → length (cond b (take 24 buffer) (take 24 (drop 24 image))) ≡ 24
-        go true = length-take-le 24 buffer (omega arith)
-        go false = length-take-le 24 (drop 24 image) (simp length-drop (omega arith))
-
-    bytes-long : length (matrixBytes image buffer) ≡ 25
-    unfolding matrixBytes coefficients
-    bytes-long =
-        let f = length-fields (inUse converter matrix (lentAs image [] buffer)) in
-        omega (arith, in-use-long, length-bytes (fields (inUse converter matrix (lentAs image [] buffer))))
-
-    -- the mode stored first, and the coefficients of the bytes in use after it
-    pub written : (bytes : List ℕ) → bytes ≡ inUse converter matrix (lentAs image [] buffer) → 25 ≤ length out
-        → {after : List ℕ} → after ≡ sets (set out 0 (getD image 0x18 0 / 32 % 4)) 1 (coefficientBytes (fields bytes))
-        → (record { refusal = 0; count = 25 } ≡ matrixAnswer image buffer out) × (after ≡ matrixOut image buffer out)
-    unfolding matrixAnswer matrixOut matrixRefusal matrixBytes coefficients
-    written bytes e h f = rw (eq-eqb _ _ l, eq-eqb _ _ k, le-ltb _ _ h) (
-      refl,
-      f ∙ ap₂ (λ (m : ℕ) (b : List ℕ). sets out 0 (m ∷ coefficientBytes (fields b))) (sym (two-bits-code 5 (getD image 0x18 0))) e
-          ∙ sets-front (matrixBytes image buffer) out (rw bytes-long h) ∙ ap (λ (n : ℕ). matrixBytes image buffer ++ drop n out) bytes-long,
-    )
-
-  pub refusals : MatrixRefusals image buffer out
+  pub refusals : MatrixRefusals image buffer mark out
   refusals = record {
     given = rw counted refusal-given;
     kept = λ h. let r = refused (matrixRefusal image buffer out) (λ e. h (counted ∙ e)) refl in (sym (ap (λ (c : Count). c .count) (r .0)), sym (r .1));
   }
 
+  -- the bytes in use
+  abbrev bytesUsed : List ℕ
+  bytesUsed = inUse converter matrix (askedOf image buffer mark)
+
+  module _ (l : length image ≡ 256) (k : length buffer ≡ 24) where
+    -- the buffer's where a lowered hold waits or the hold is up, else the registers
+    pub latched : (marked mark || up matrix (getD image 0x1A 0)) ≡ true → buffer ≡ inUse converter matrix (askedOf image buffer mark)
+    unfolding inUse
+    latched h = sym (rw h (take-all 24 buffer (omega arith)))
+
+    pub let-go : (marked mark || up matrix (getD image 0x1A 0)) ≡ false → registersOf matrix image ≡ inUse converter matrix (askedOf image buffer mark)
+    unfolding inUse
+    let-go h = sym (rw h)
+
+    -- 24 they are
+    in-use-long : length bytesUsed ≡ 24
+    unfolding inUse
+    in-use-long = go (marked mark || up matrix (holdsOf converter image))
+      where
+        go : (b : Bool) → length (cond b (take 24 buffer) (take 24 (drop 24 image))) ≡ 24
+        go true = length-take-le 24 buffer (omega arith)
+        go false = length-take-le 24 (drop 24 image) (simp length-drop (omega arith))
+
+    bytes-long : length (matrixBytes image buffer mark) ≡ 25
+    unfolding matrixBytes coefficients
+    bytes-long =
+        let f = length-fields bytesUsed in
+        omega (arith, in-use-long, length-bytes (fields bytesUsed))
+
+    -- the mode stored first, and the coefficients of the bytes in use after it
+    pub written : (bytes : List ℕ) → bytes ≡ inUse converter matrix (askedOf image buffer mark) → 25 ≤ length out
+        → {after : List ℕ} → after ≡ sets (set out 0 (getD image 0x18 0 / 32 % 4)) 1 (coefficientBytes (fields bytes))
+        → (record { refusal = 0; count = 25 } ≡ matrixAnswer image buffer out) × (after ≡ matrixOut image buffer mark out)
+    unfolding matrixAnswer matrixOut matrixRefusal matrixBytes coefficients
+    written bytes e h f = rw (eq-eqb _ _ l, eq-eqb _ _ k, le-ltb _ _ h) (
+      refl,
+      f ∙ ap₂ (λ (m : ℕ) (b : List ℕ). sets out 0 (m ∷ coefficientBytes (fields b))) (sym (two-bits-code 5 (getD image 0x18 0))) e
+          ∙ sets-front (matrixBytes image buffer mark) out (rw bytes-long h) ∙ ap (λ (n : ℕ). matrixBytes image buffer mark ++ drop n out) bytes-long,
+    )
+
 -- what a state of the machine shows
 module _ (s : Chip) (i : length (s .image) ≡ 256) (k : length (s .coefficients) ≡ 24) where
-  shown : matrixBytes (s .image) (s .coefficients) ≡ modeInUse s ∷ coefficientBytes (coefficients s)
+  shown : (mark : ℕ) → marked mark ≡ s .waiting → matrixBytes (s .image) (s .coefficients) mark ≡ modeInUse s ∷ coefficientBytes (coefficients s)
   unfolding matrixBytes coefficients inUse
-  shown = refl
+  shown mark m = rw m
 
-  pub answered : (out : List ℕ) → 25 ≤ length out
-      → (matrixAnswer (s .image) (s .coefficients) out ≡ record { refusal = 0; count = 25 })
-      × (matrixOut (s .image) (s .coefficients) out ≡ (modeInUse s ∷ coefficientBytes (coefficients s)) ++ drop 25 out)
-  unfolding matrixAnswer matrixOut matrixRefusal
-  answered out h = rw (eq-eqb _ _ i, eq-eqb _ _ k, le-ltb _ _ h) (refl, ap (λ (l : List ℕ). l ++ drop 25 out) shown)
+  pub counts : (out : List ℕ) → 25 ≤ length out → matrixAnswer (s .image) (s .coefficients) out ≡ record { refusal = 0; count = 25 }
+  unfolding matrixAnswer matrixRefusal
+  counts out h = rw (eq-eqb _ _ i, eq-eqb _ _ k, le-ltb _ _ h)
+
+  pub answered : (mark : ℕ) → marked mark ≡ s .waiting → (out : List ℕ) → 25 ≤ length out
+      → matrixOut (s .image) (s .coefficients) mark out ≡ (modeInUse s ∷ coefficientBytes (coefficients s)) ++ drop 25 out
+  unfolding matrixOut matrixRefusal
+  answered mark m out h = rw (eq-eqb _ _ i, eq-eqb _ _ k, le-ltb _ _ h) (ap (λ (l : List ℕ). l ++ drop 25 out) (shown mark m))
 
   pub said : fields (coefficientBytes (coefficients s)) ≡ coefficients s
   unfolding coefficients

@@ -1,17 +1,17 @@
 -- What is sent and the mute, asked for over slices, as the code finds them. `ViewRefusals` and `Faces` (Theorems) tie them to document 01,
 -- "The chip machine".
 use mathlib.Core.Path.{_≡_}
-use mathlib.Core.Bool.{Bool, cond, not, _&&_}
+use mathlib.Core.Bool.{Bool, false, cond, not, _&&_}
 use mathlib.Core.List.{List, [], _∷_}
 use Prim.Native.Nat.{ℕ, _+_}
 use lib.Dec.{eqb, ltb}
 use lib.ListN.{length}
 use Rattle.refusals.specs.Rows.{fieldOutOfRange, imageLength, twoHolds, Test, _if_, lowest, answer}
 use Rattle.chip.specs.Machine.{Group, avi, audio, packets, up, holdsOf, inUse, mute}
-use Rattle.chip.specs.Write.{two}
+use Rattle.chip.specs.declared.Chip.{Chip}
+use Rattle.chip.specs.Write.{lentAs, two}
 use Rattle.views.specs.declared.view.Part.{Part}
 use Rattle.views.specs.declared.view.Mute.{Mute}
-use Rattle.chip.specs.Write.{lentAs}
 
 -- "it is asked for by number, 0 AVI or 1 audio"
 abbrev pub packetAt : ℕ → Group
@@ -28,9 +28,13 @@ lentRefusal image packet = lowest (lentTests image packet)
 unfoldable pub viewRefusal : List ℕ → List ℕ → ℕ → ℕ
 viewRefusal image packet which = lowest (fieldOutOfRange if ltb 1 which ∷ lentTests image packet)
 
--- "a refused view is an empty part": the bytes that are sent. A view is not lent the coefficient buffer, and asks nothing of it.
+-- what a view is asked of: the coefficient buffer and its mark are not lent, and play no part
+abbrev pub viewedOf : List ℕ → List ℕ → Chip
+viewedOf image packet = lentAs image packet [] false
+
+-- "a refused view is an empty part": the bytes that are sent
 unfoldable pub sentOf : List ℕ → List ℕ → ℕ → List ℕ
-sentOf image packet which = answer (viewRefusal image packet which) (λ number. []) (inUse packets (packetAt which) (lentAs image packet []))
+sentOf image packet which = answer (viewRefusal image packet which) (λ number. []) (inUse packets (packetAt which) (viewedOf image packet))
 
 -- "a part of the register image or of the buffer, whichever the chip reads": the buffer's front where the hold is up, else the registers
 abbrev pub placed : Bool → ℕ → ℕ → Part
@@ -59,7 +63,7 @@ abbrev pub noMute : ℕ → Mute
 noMute number = record { refusal = number; mute = 0 }
 
 unfoldable pub muteOf : List ℕ → List ℕ → Mute
-muteOf image packet = answer (lentRefusal image packet) noMute (record { refusal = 0; mute = mute (lentAs image packet []) })
+muteOf image packet = answer (lentRefusal image packet) noMute (record { refusal = 0; mute = mute (viewedOf image packet) })
 
 -- what each call promises: the part, its bytes and where it starts; the same in numbers; its refusal; the mute
 abbrev pub Sends : List ℕ → List ℕ → ℕ → ℕ × ℕ → ℕ × ℕ → List ℕ → ℕ × ℕ → Type 0

@@ -1,4 +1,4 @@
-// What the colour converter goes by, over lent slices: document 01, "The chip machine".
+// What the colour converter goes by, over lent slices: documents 01, "The chip machine", and 02, request 04.
 ghost use mathlib.Core.Path.{_≡_};
 ghost use Prim.Native.Nat.{_≤_};
 ghost use lib.ListN.{length};
@@ -6,6 +6,7 @@ ghost use lib.Seq.{sets};
 ghost use Rattle.matrix.specs.Coefficient.{coefficientBytes};
 ghost use Rattle.matrix.specs.Matrix.{fields};
 ghost use Rattle.views.specs.Converter.{ShowsMatrix};
+use chip::is_held;
 use map::Map;
 use refusals::Refusal;
 
@@ -30,9 +31,10 @@ fn store_coefficients(bytes: &[u8], out: &mut [u8])
     }
 }
 
-// The mode, which acts at once, and the twelve coefficients in use, 25 bytes as the request has them: refusals 7 and 10.
-pub fn matrix_in_use(image: &[u8], coefficients: &[u8], out: &mut [u8]) -> Count
-    ensures { λ r. ⌜ ShowsMatrix (now (image .entry)) (now (coefficients .entry)) (now (out .entry)) r (now (out .exit)) ⌝ }
+// The mode, which acts at once, and the twelve coefficients in use, 25 bytes as the request has them: refusals 7 and 10. While the hold is
+// up, or a lowered one waits, the buffer is in use.
+pub fn matrix_in_use(image: &[u8], coefficients: &[u8], mark: u8, out: &mut [u8]) -> Count
+    ensures { λ r. ⌜ ShowsMatrix (now (image .entry)) (now (coefficients .entry)) mark (now (out .entry)) r (now (out .exit)) ⌝ }
 {
     if !((image.len() == 256) & (coefficients.len() == 24)) {
         return Count {
@@ -47,7 +49,7 @@ pub fn matrix_in_use(image: &[u8], coefficients: &[u8], out: &mut [u8]) -> Count
         };
     }
     out[0] = (image[Map::CSC as usize] >> Map::CSC_SCALING_FACTOR_SHIFT) % 4;
-    if image[Map::COEFFICIENT_UPDATE as usize] / Map::COEFFICIENT_UPDATE_MASK % 2 == 1 {
+    if (mark != 0) | is_held(image[Map::COEFFICIENT_UPDATE as usize]) {
         store_coefficients(coefficients, out);
         return Count {
             refusal: Refusal::NONE,

@@ -1,4 +1,5 @@
-// The faces of the chip machine over lent slices: a write, what is sent, the mute, the matrix in use. Document 01, "The chip machine".
+// The faces of the chip machine over lent slices: a write, a Vsync, what is sent, the mute, the matrix in use. Documents 01, "The chip
+// machine", and 02, request 04.
 ghost use mathlib.Core.Path.{_≡_};
 ghost use mathlib.Core.Bool.{false};
 ghost use mathlib.Core.List.{List};
@@ -6,7 +7,9 @@ ghost use Prim.Native.Nat.{ℕ};
 ghost use Rattle.chip.specs.declared.Chip.{Chip};
 ghost use Rattle.chip.specs.Machine.{packets, holdsOf};
 ghost use Rattle.chip.specs.Write.{two};
-ghost use Rattle.views.specs.Theorems.{WriteRefusals, ViewRefusals, MatrixRefusals, Sized, Faces, Entered};
+ghost use Rattle.views.specs.Entry.{Lent};
+ghost use Rattle.views.specs.Theorems.{WriteRefusals, VsyncRefusals, ViewRefusals, MatrixRefusals};
+ghost use Rattle.views.specs.Theorems.{Sized, LentSized, Slices, Faces, Entered, EnteredVsync};
 
 mod converter;
 mod entry;
@@ -15,6 +18,7 @@ mod view;
 pub use converter::Count;
 pub use converter::matrix_in_use;
 pub use entry::gathered;
+pub use entry::vsync_into;
 pub use entry::write_into;
 pub use view::Mute;
 pub use view::Part;
@@ -26,7 +30,12 @@ pub use view::sent_refusal;
 
 // The refusals of a write over slices.
 pub fn refusals_of_a_write()
-    ensures { λ _. ⌜ ((s : Chip) (address value : ℕ) → WriteRefusals s address value) ⌝ }
+    ensures { λ _. ⌜ ((l : Lent) (address value : ℕ) → WriteRefusals l address value) ⌝ }
+{}
+
+// The refusals of a Vsync over slices.
+pub fn refusals_of_a_vsync()
+    ensures { λ _. ⌜ ((l : Lent) → VsyncRefusals l) ⌝ }
 {}
 
 // The refusals of a view, and the bytes that its numbers name.
@@ -36,7 +45,12 @@ pub fn refusals_of_a_view()
 
 // The refusals of the matrix in use.
 pub fn refusals_of_the_matrix()
-    ensures { λ _. ⌜ ((image buffer out : List ℕ) → MatrixRefusals image buffer out) ⌝ }
+    ensures { λ _. ⌜ ((image buffer : List ℕ) (mark : ℕ) (out : List ℕ) → MatrixRefusals image buffer mark out) ⌝ }
+{}
+
+// The slices as a state, and a state in slices.
+pub fn slices()
+    ensures { λ _. ⌜ Slices ⌝ }
 {}
 
 // The views of a state are what the machine has in use.
@@ -46,5 +60,10 @@ pub fn faces()
 
 // A write over slices is the machine's own, and keeps their lengths; the views follow it.
 pub fn entered()
-    ensures { λ _. ⌜ ((s : Chip) → Sized s → (address value : ℕ) → Entered s address value) ⌝ }
+    ensures { λ _. ⌜ ((l : Lent) → LentSized l → (address value : ℕ) → Entered l address value) ⌝ }
+{}
+
+// So is a Vsync.
+pub fn entered_vsync()
+    ensures { λ _. ⌜ ((l : Lent) → LentSized l → EnteredVsync l) ⌝ }
 {}

@@ -1,10 +1,8 @@
 // What the chip sends, over lent slices: document 01, "The chip machine".
 ghost use mathlib.Core.Path.{_≡_};
-ghost use mathlib.Core.List.{[]};
 ghost use lib.Dec.{eqb};
 ghost use Rattle.chip.specs.Machine.{mute};
-ghost use Rattle.chip.specs.Write.{lentAs};
-ghost use Rattle.views.specs.View.{lentRefusal, placed, Sends, Places, Refuses, Mutes};
+ghost use Rattle.views.specs.View.{lentRefusal, viewedOf, placed, Sends, Places, Refuses, Mutes};
 use chip::two_up;
 use map::Map;
 use refusals::Refusal;
@@ -109,7 +107,7 @@ pub fn sent<'a>(image: &'a [u8], packet: &'a [u8], which: u32) -> &'a [u8]
 
 // The mute bits of the GC byte in use; what lies past the end of a slice is 0.
 pub fn mute_bits(image: &[u8], packet: &[u8]) -> u8
-    ensures { λ r. ⌜ r ≡ mute (lentAs (now (image .entry)) (now (packet .entry)) []) ⌝ }
+    ensures { λ r. ⌜ r ≡ mute (viewedOf (now (image .entry)) (now (packet .entry))) ⌝ }
 {
     let holds = lists::byte_at(image, Map::INFOFRAME_UPDATE as usize);
     if holds / Map::GC_PACKET_UPDATE_MASK % 2 == 1 {

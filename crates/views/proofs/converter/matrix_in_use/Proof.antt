@@ -1,28 +1,41 @@
 -- `views::converter::matrix_in_use` meets its contract, return by return. Assumes nothing.
-use mathlib.Core.Path.{_≡_, _∙_}
+use mathlib.Core.Path.{_≡_, sym, ap, _∙_}
+use mathlib.Core.Bool.{Bool, true, false, _||_}
 use native.Mathlib.Omega.{arith}
-use lib.ListN.{length, length-set}
+use lib.ListN.{length, getD, length-set}
+use Rattle.chip.specs.Machine.{matrix, up}
+use Rattle.views.specs.Entry.{marked}
 use Rattle.views.proofs.Seen.{both-long}
-use Rattle.views.proofs.Used.{seven, ten, refused, held, down, written}
+use Rattle.views.proofs.Used.{seven, ten, refused, latched, let-go, written}
 use borrow.Author.Needs.{needs}
 use Rattle.views.proofs.converter.matrix_in_use.Statement.{statement}
 use Rattle.views.proofs.converter.matrix_in_use.Tie as tie
 
 -- past the first test both slices have their lengths
-long : (c : tie.Else1)
-    → (length (c .before .before .before .before .args .image .now) ≡ 256) × (length (c .before .before .before .before .args .coefficients .now) ≡ 24)
-long c = let a = c .before .before .before .before .args in both-long (length (a .image .now)) (length (a .coefficients .now)) 256 24 (c .if1 .left)
+abbrev start : tie.Else1 → tie.Start
+start c = c .before .before .before .before
+
+long : (c : tie.Else1) → (length (start c .args .image .now) ≡ 256) × (length (start c .args .coefficients .now) ≡ 24)
+long c = let a = start c .args in both-long (length (a .image .now)) (length (a .coefficients .now)) 256 24 (c .if1 .left)
+
+abbrev past : tie.After-is-held → tie.Else1
+past c = c .before .before .before .before
+
+-- the test of the hold and the mark is the machine's
+asked : (c : tie.After-is-held) (b : Bool) → let a = start (past c) .args in (marked (a .mark) || c .is-held .result) ≡ b
+    → (marked (a .mark) || up matrix (getD (a .image .now) 0x1A 0)) ≡ b
+asked c b e = ap (λ (u : Bool). marked (start (past c) .args .mark) || u) (sym (c .is-held .ensures)) ∙ e
 
 returns : tie.Need-returns
 returns c =
     let a = c .before .before .before .before .args in
-    refused (a .image .now) (a .coefficients .now) (a .out .now) 7 (omega arith) (seven _ _ (a .out .now) (c .if1 .taken))
+    refused (a .image .now) (a .coefficients .now) (a .mark) (a .out .now) 7 (omega arith) (seven _ _ (a .mark) (a .out .now) (c .if1 .taken))
 
 returns-2 : tie.Need-returns-2
 returns-2 c =
     let e = c .before in
-    let a = e .before .before .before .before .args in
-    refused (a .image .now) (a .coefficients .now) (a .out .now) 10 (omega arith) (ten _ _ (a .out .now) (long e .0) (long e .1) (c .if2 .taken))
+    let a = start e .args in
+    refused (a .image .now) (a .coefficients .now) (a .mark) (a .out .now) 10 (omega arith) (ten _ _ (a .mark) (a .out .now) (long e .0) (long e .1) (c .if2 .taken))
 
 cast-out : tie.Need-cast-out
 cast-out c = search needs
@@ -33,14 +46,17 @@ shared-slice-read-out c = let l = long (c .before .before) in omega arith
 slice-write-out : tie.Need-slice-write-out
 slice-write-out c = search needs
 
-cast-if3 : tie.Need-cast-if3
-cast-if3 c = search needs
+cast-is-held : tie.Need-cast-is-held
+cast-is-held c = search needs
 
-shared-slice-read-if3 : tie.Need-shared-slice-read-if3
-shared-slice-read-if3 c = let l = long (c .before .before .before) in omega arith
+shared-slice-read-is-held : tie.Need-shared-slice-read-is-held
+shared-slice-read-is-held c = let l = long (c .before .before .before) in omega arith
+
+is-held-requires : tie.Need-is-held-requires
+is-held-requires c κs = search needs
 
 store-coefficients-requires : tie.Need-store-coefficients-requires
-store-coefficients-requires c κs = let l = long (c .before .before .before .before .before) in (l .1, simp length-set (omega arith))
+store-coefficients-requires c κs = let l = long (past (c .before .before)) in (l .1, simp length-set (omega arith))
 
 same-length : tie.Need-same-length
 same-length c = c .before .before .store-coefficients .kept .1 .0 ∙ simp length-set
@@ -48,10 +64,11 @@ same-length c = c .before .before .store-coefficients .kept .1 .0 ∙ simp lengt
 returns-3 : tie.Need-returns-3
 returns-3 c =
     let i = c .before .before .before .before in
-    let e = i .before .before .before .before in
-    let a = e .before .before .before .before .args in
-    written (a .image .now) (a .coefficients .now) (a .out .now) (long e .0) (long e .1) _
-    (held _ _ (a .out .now) (long e .0) (long e .1) (i .if3 .taken)) (omega arith) (c .before .before .store-coefficients .ensures)
+    let e = past (i .before) in
+    let a = start e .args in
+    written (a .image .now) (a .coefficients .now) (a .mark) (a .out .now) (long e .0) (long e .1) _
+    (latched _ _ (a .mark) (a .out .now) (long e .0) (long e .1) (asked (i .before) true (i .if3 .taken))) (omega arith)
+    (c .before .before .store-coefficients .ensures)
 
 cast-start : tie.Need-cast-start
 cast-start c = search needs
@@ -69,7 +86,7 @@ part-store-coefficients-start : tie.Need-part-store-coefficients-start
 part-store-coefficients-start c = search needs
 
 part-store-coefficients-end : tie.Need-part-store-coefficients-end
-part-store-coefficients-end c = let l = long (c .before .before .before .before) in omega arith
+part-store-coefficients-end c = let l = long (past (c .before)) in omega arith
 
 store-coefficients-requires-2 : tie.Need-store-coefficients-requires-2
 store-coefficients-requires-2 c κs = search needs
@@ -80,10 +97,11 @@ same-length-2 c = c .before .before .store-coefficients2 .kept .1 .0 ∙ simp le
 returns-4 : tie.Need-returns-4
 returns-4 c =
     let i = c .before .before .before .before .before in
-    let e = i .before .before .before .before in
-    let a = e .before .before .before .before .args in
-    written (a .image .now) (a .coefficients .now) (a .out .now) (long e .0) (long e .1) _
-    (down _ _ (a .out .now) (long e .0) (long e .1) (i .if3 .left)) (omega arith) (c .before .before .store-coefficients2 .ensures)
+    let e = past (i .before) in
+    let a = start e .args in
+    written (a .image .now) (a .coefficients .now) (a .mark) (a .out .now) (long e .0) (long e .1) _
+    (let-go _ _ (a .mark) (a .out .now) (long e .0) (long e .1) (asked (i .before) false (i .if3 .left))) (omega arith)
+    (c .before .before .store-coefficients2 .ensures)
 
 pub matrix-in-use-spec : {M : Type 1} → statement M
 matrix-in-use-spec =
@@ -94,8 +112,9 @@ matrix-in-use-spec =
     cast-out
     shared-slice-read-out
     slice-write-out
-    cast-if3
-    shared-slice-read-if3
+    cast-is-held
+    shared-slice-read-is-held
+    is-held-requires
     store-coefficients-requires
     same-length
     returns-3
