@@ -1,24 +1,24 @@
 -- A write and a Vsync over lent slices. Assumes nothing.
-use mathlib.Core.Path.{_≡_, refl, sym, ap, _∙_}
-use mathlib.Core.Logic.{_≢_, _⊎_}
-use mathlib.Core.Bool.{Bool, true, false, not, _&&_}
+use mathlib.Core.Path.{_≡_, refl, _∙_}
+use mathlib.Core.Logic.{_≢_}
+use mathlib.Core.Bool.{Bool, true, false, not}
 use mathlib.Core.List.{List, [], _∷_}
 use Prim.Native.Nat.{ℕ}
 use native.Mathlib.Omega.{arith}
 use lib.Dec.{eqb}
-use lib.ListN.{length, set, take, replicate}
+use lib.ListN.{length, set, replicate}
 use Rattle.lists.proofs.Copied.{over-whole}
 use borrow.Author.Tests.{eqb-true, eq-eqb, ne-eqb, not-false}
 use Rattle.lists.proofs.Both.{both-left, both-right}
 use Rattle.lists.proofs.Decides.{Decides, opposite, equal, one-fails}
-use Rattle.refusals.specs.Rows.{imageLength, Condition, Given, _if_, lowest, answer}
+use Rattle.refusals.specs.Rows.{imageLength, Given, _if_, lowest, answer}
 use Rattle.refusals.proofs.Tests.{Decided, lowest-given, in-stages, none-at, numbered}
 use Rattle.chip.specs.declared.Chip.{Chip}
 use Rattle.chip.specs.declared.Wrote.{Wrote}
 use Rattle.chip.specs.Write.{writeOf, vsyncOf}
 use Rattle.chip.specs.Step.{writeRules}
-use Rattle.views.specs.Entry.{isSized, Lent, stateOf, slicesOf, Entry, refusedEntry, takenEntry, wroteIn, isLent, Gathers, enterTests, enterOf, turnOf}
-use Rattle.views.specs.Theorems.{WrongLengths, WrongLent, enterRules, turnRules, WriteRefusals, VsyncRefusals, Sized, LentSized}
+use Rattle.views.specs.Entry.{isSized, Lent, stateOf, Entry, refusedEntry, takenEntry, wroteIn, isLent, Gathers, enterTests, enterOf, turnOf}
+use Rattle.views.specs.Theorems.{WrongLengths, WrongLent, turnRules, WriteRefusals, VsyncRefusals, Sized, LentSized}
 use Rattle.chip.proofs.Writes.{stepped}
 use Rattle.views.proofs.Seen.{unlike}
 
@@ -76,33 +76,59 @@ module _ (l : Lent) where
       one-fails (eqb (length (l .image)) 256) _ (opposite (equal _ 256))
       (one-fails (eqb (length (l .packet)) 32) _ (opposite (equal _ 32)) (unlike (length (l .coefficients)) (length (l .mark)) 24 1))
 
-  turn-decided : Decided (enterTests l) (turnRules l)
-  turn-decided = (refl, wrong-lent, λ _. tt)
+  decided : Decided (enterTests l) (turnRules l)
+  decided = (refl, wrong-lent, λ _. tt)
 
   lengths-given : Given (turnRules l) (lowest (enterTests l))
-  lengths-given = lowest-given (enterTests l) (turnRules l) refl turn-decided
+  lengths-given = lowest-given (enterTests l) (turnRules l) refl decided
+
+  -- what a call of these tests answers, by what it answers past them
+  abbrev past : Entry → Entry
+  past e = answer (lowest (enterTests l)) (refusedEntry l) e
+
+  stopped : (e : Entry) → isLent l ≡ false → past e ≡ record { refusal = 7; slices = l }
+  stopped e f = rw f
+
+  passed : (e : Entry) → isLent l ≡ true → past e ≡ e
+  passed e t = rw t
+
+  kept : (e : Entry) → (e .refusal ≢ 0 → e .slices ≡ l) → past e .refusal ≢ 0 → past e .slices ≡ l
+  kept e k = go (isLent l)
+    where
+      go : (b : Bool) → let e : Entry = answer (lowest (imageLength if not b ∷ [])) (refusedEntry l) e in e .refusal ≢ 0 → e .slices ≡ l
+      go true h = k h
+      go false h = refl
+
+  -- a write of the machine, in slices
+  pub wrote-refused : (w : Wrote) → w .refusal ≢ 0 → wroteIn l w ≡ refusedEntry l (w .refusal)
+  wrote-refused w h = rw (ne-eqb _ _ h)
+
+  pub wrote-taken : (w : Wrote) → w .refusal ≡ 0 → wroteIn l w ≡ takenEntry (w .chip)
+  wrote-taken w h = rw (eq-eqb _ _ h)
+
+  pub wrote-number : (w : Wrote) → wroteIn l w .refusal ≡ w .refusal
+  wrote-number w = numbered (refusedEntry l) (takenEntry (w .chip)) (λ (e : Entry). e .refusal) (w .refusal) (λ _. refl) refl
+
+  wrote-kept : (w : Wrote) → wroteIn l w .refusal ≢ 0 → wroteIn l w .slices ≡ l
+  wrote-kept w h = rw (wrote-refused w (λ e. h (wrote-number w ∙ e)))
 
   -- a Vsync
   pub turn-away : isLent l ≡ false → turnOf l ≡ record { refusal = 7; slices = l }
   unfolding turnOf
-  turn-away e = rw e
+  turn-away = stopped (takenEntry (vsyncOf (stateOf l)))
 
   pub turn-in : isLent l ≡ true → turnOf l ≡ takenEntry (vsyncOf (stateOf l))
   unfolding turnOf
-  turn-in e = rw e
+  turn-in = passed (takenEntry (vsyncOf (stateOf l)))
 
   pub turn-refusals : VsyncRefusals l
   unfolding turnOf
-  turn-refusals = record {
-    given = rw (numbered (refusedEntry l) (takenEntry (vsyncOf (stateOf l))) (λ (e : Entry). e .refusal) (lowest (enterTests l)) (λ _. refl) refl) lengths-given;
-    kept = go (isLent l);
-  }
-    where
-      go : (b : Bool)
-          → let e : Entry = answer (lowest (imageLength if not b ∷ [])) (refusedEntry l) (takenEntry (vsyncOf (stateOf l))) in
-          e .refusal ≢ 0 → e .slices ≡ l
-      go true h = absurd (h refl)
-      go false h = refl
+  turn-refusals =
+      let e : Entry = takenEntry (vsyncOf (stateOf l)) in
+      record {
+        given = rw (numbered (refusedEntry l) e (λ (e : Entry). e .refusal) (lowest (enterTests l)) (λ _. refl) refl) lengths-given;
+        kept = kept e (λ h. absurd (h refl));
+      }
 
   -- a write
   module _ (address value : ℕ) where
@@ -111,37 +137,17 @@ module _ (l : Lent) where
 
     pub turned-away : isLent l ≡ false → enterOf l address value ≡ record { refusal = 7; slices = l }
     unfolding enterOf
-    turned-away e = rw e
+    turned-away = stopped (wroteIn l wrote)
 
     pub let-in : isLent l ≡ true → enterOf l address value ≡ wroteIn l (writeOf (stateOf l) address value)
     unfolding enterOf
-    let-in e = rw e
-
-    -- a write of the machine, in slices: its number, and the slices by it
-    pub wrote-number : wroteIn l (writeOf (stateOf l) address value) .refusal ≡ writeOf (stateOf l) address value .refusal
-    wrote-number = numbered (refusedEntry l) (takenEntry (wrote .chip)) (λ (e : Entry). e .refusal) (wrote .refusal) (λ _. refl) refl
-
-    pub wrote-refused : (w : Wrote) → w .refusal ≢ 0 → wroteIn l w ≡ refusedEntry l (w .refusal)
-    wrote-refused w h = rw (ne-eqb _ _ h)
-
-    pub wrote-taken : (w : Wrote) → w .refusal ≡ 0 → wroteIn l w ≡ takenEntry (w .chip)
-    wrote-taken w h = rw (eq-eqb _ _ h)
+    let-in = passed (wroteIn l wrote)
 
     pub refusals : WriteRefusals l address value
     unfolding enterOf
     refusals = record {
       given =
           in-stages (refusedEntry l) (wroteIn l wrote) (λ (e : Entry). e .refusal) (turnRules l) (writeRules (stateOf l) address value) (lowest (enterTests l)) refl refl
-          lengths-given (λ z. rw wrote-number (stepped (stateOf l) address value (lent-sized (not-false (isLent l) (none-at (enterTests l) 0 z)) .image) .refusals));
-      kept = go (isLent l);
+          lengths-given (λ z. rw (wrote-number wrote) (stepped (stateOf l) address value (lent-sized (not-false (isLent l) (none-at (enterTests l) 0 z)) .image) .refusals));
+      kept = kept (wroteIn l wrote) (wrote-kept wrote);
     }
-      where
-        kept-in : (b : Bool) → eqb (wrote .refusal) 0 ≡ b → wroteIn l wrote .refusal ≢ 0 → wroteIn l wrote .slices ≡ l
-        kept-in true e h = absurd (h (wrote-number ∙ eqb-true _ _ e))
-        kept-in false e h = rw e
-
-        go : (b : Bool)
-            → let e : Entry = answer (lowest (imageLength if not b ∷ [])) (refusedEntry l) (wroteIn l wrote) in
-            e .refusal ≢ 0 → e .slices ≡ l
-        go true h = kept-in (eqb (wrote .refusal) 0) refl h
-        go false h = refl

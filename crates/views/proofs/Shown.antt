@@ -5,7 +5,7 @@ use mathlib.Core.Bool.{Bool, true, false}
 use Prim.Native.Nat.{ℕ, _+_, _*_, _<_, _≤_}
 use native.Mathlib.Omega.{arith}
 use lib.Dec.{eqb}
-use borrow.Author.Tests.{eq-eqb, ne-eqb, eqb-true, eqb-false}
+use borrow.Author.Tests.{eq-eqb, ne-eqb, eqb-true, eqb-false, not-true}
 use Rattle.lists.proofs.Both.{neither-right}
 use Rattle.bits.specs.Merge.{bit}
 use Rattle.chip.specs.declared.Chip.{Chip}
@@ -55,8 +55,12 @@ one-byte false = refl
 pub state-slices : (s : Chip) → stateOf (slicesOf s) ≡ s
 state-slices s = ap (lentAs (s .image) (s .packet) (s .coefficients)) (one-byte (s .waiting))
 
+marks : (byte : ℕ) → (marked byte ≡ true) ↔ (byte ≢ 0)
+marks byte = ((λ t. eqb-false byte 0 (not-true (eqb byte 0) t)), λ h. rw (ne-eqb byte 0 h))
+
 pub slices : Slices
 slices = record {
+  marks = marks;
   takes = λ l. record { image = refl; packet = refl; coefficients = refl; waits = λ h. rw (ne-eqb _ _ h); none = λ h. rw (eq-eqb _ _ h) };
   leaves = λ s. record { image = refl; packet = refl; coefficients = refl; waits = λ h. rw h; none = λ h. rw h };
   back = state-slices;
@@ -103,13 +107,13 @@ module _ (l : Lent) (z : LentSized l) where
     same = let-in l address value (is-lent l z)
 
     number : enterOf l address value .refusal ≡ wrote .refusal
-    number = ap (λ (e : Entry). e .refusal) same ∙ wrote-number l address value
+    number = ap (λ (e : Entry). e .refusal) same ∙ wrote-number l wrote
 
     taken : wrote .refusal ≡ 0 → enterOf l address value ≡ takenEntry (wrote .chip)
-    taken h = same ∙ wrote-taken l address value wrote h
+    taken h = same ∙ wrote-taken l wrote h
 
     refused : wrote .refusal ≢ 0 → enterOf l address value ≡ refusedEntry l (wrote .refusal)
-    refused h = same ∙ wrote-refused l address value wrote h
+    refused h = same ∙ wrote-refused l wrote h
 
     after : Sized (wrote .chip)
     after =

@@ -14,7 +14,7 @@ use Rattle.chip.specs.Machine.{avi, audio, packets, holdsOf, inUse, coefficient
 use Rattle.chip.specs.Write.{two, writeOf, vsyncOf}
 use Rattle.chip.specs.Step.{TwoUp, writeRules}
 use Rattle.views.specs.declared.view.Part.{Part}
-use Rattle.views.specs.Entry.{marked, Lent, stateOf, slicesOf, Entry, enterOf, turnOf}
+use Rattle.views.specs.Entry.{marked, Lent, stateOf, slicesOf, enterOf, turnOf}
 use Rattle.views.specs.View.{viewRefusal, sentOf, sentPart, muteOf}
 use Rattle.views.specs.Converter.{matrixAnswer, matrixOut}
 
@@ -111,6 +111,7 @@ pub record Leaves (s : Chip) (l : Lent) : Type 0 where
 
 -- the state in the slices, and the slices of a state
 pub record Slices : Type 0 where
+  pub marks : (byte : ℕ) → (marked byte ≡ true) ↔ (byte ≢ 0)
   pub takes : (l : Lent) → Takes l (stateOf l)
   pub leaves : (s : Chip) → Leaves s (slicesOf s)
   -- so nothing of a state is lost between two calls

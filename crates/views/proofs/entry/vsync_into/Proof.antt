@@ -1,6 +1,6 @@
 -- `views::entry::vsync_into` meets its contract. Assumes nothing.
 use mathlib.Core.Path.{_≡_, sym, ap, _∙_}
-use mathlib.Core.Bool.{true}
+use mathlib.Core.Bool.{true, false}
 use mathlib.Core.List.{[], _∷_}
 use Prim.Native.Nat.{ℕ}
 use native.Mathlib.Omega.{arith}
@@ -24,6 +24,9 @@ start c = c .before .before .before .before .before .before .before .before .bef
 fit : (c : tie.Else1) → isLent (at (start (c .before))) ≡ true
 fit c = sym (c .before .is-lent .ensures) ∙ not-false (c .before .is-lent .result) (c .if1 .left)
 
+unfit : (c : tie.Then1) → isLent (at (start (c .before))) ≡ false
+unfit c = sym (c .before .is-lent .ensures) ∙ not-true (c .before .is-lent .result) (c .if1 .taken)
+
 fine : (c : tie.Else1) → LentSized (at (start (c .before)))
 fine c = lent-sized (at (start (c .before))) (fit c)
 
@@ -44,7 +47,7 @@ same-length-4 c = search needs
 
 returns : tie.Need-returns
 returns c =
-    let e = turn-away (at (start (c .before))) (sym (c .before .is-lent .ensures) ∙ not-true (c .before .is-lent .result) (c .if1 .taken)) in
+    let e = turn-away (at (start (c .before))) (unfit c) in
     (ap (λ (e : Entry). e .refusal) (sym e), ap (λ (e : Entry). e .slices) (sym e))
 
 cast-still-waits : tie.Need-cast-still-waits

@@ -1,6 +1,6 @@
 -- `views::entry::write_into` meets its contract. Assumes nothing.
 use mathlib.Core.Path.{_≡_, sym, ap, _∙_}
-use mathlib.Core.Bool.{true}
+use mathlib.Core.Bool.{true, false}
 use native.Mathlib.Omega.{arith}
 use Rattle.chip.specs.declared.Chip.{Chip}
 use Rattle.chip.specs.Write.{writeOf}
@@ -21,6 +21,9 @@ start c = c .before .before .before .before .before .before .before .before .bef
 
 fit : (c : tie.Else1) → isLent (at (start (c .before))) ≡ true
 fit c = sym (c .before .is-lent .ensures) ∙ not-false (c .before .is-lent .result) (c .if1 .left)
+
+unfit : (c : tie.Then1) → isLent (at (start (c .before))) ≡ false
+unfit c = sym (c .before .is-lent .ensures) ∙ not-true (c .before .is-lent .result) (c .if1 .taken)
 
 fine : (c : tie.Else1) → LentSized (at (start (c .before)))
 fine c = lent-sized (at (start (c .before))) (fit c)
@@ -62,7 +65,7 @@ same-length-4 c = search needs
 returns : tie.Need-returns
 returns c =
     let z = start (c .before) in
-    let e = turned-away (at z) (z .args .address) (z .args .value) (sym (c .before .is-lent .ensures) ∙ not-true (c .before .is-lent .result) (c .if1 .taken)) in
+    let e = turned-away (at z) (z .args .address) (z .args .value) (unfit c) in
     (ap (λ (e : Entry). e .refusal) (sym e), ap (λ (e : Entry). e .slices) (sym e))
 
 slice-read-gathered : tie.Need-slice-read-gathered
@@ -90,7 +93,7 @@ returns-2 : tie.Need-returns-2
 returns-2 c =
     let w = c .before .before in
     let z = start (past w .before) in
-    let e = entered w ∙ wrote-refused (at z) (z .args .address) (z .args .value) (w .write .result) (c .if2 .taken) in
+    let e = entered w ∙ wrote-refused (at z) (w .write .result) (c .if2 .taken) in
     (ap (λ (e : Entry). e .refusal) (sym e), ap (λ (e : Entry). e .slices) (sym e))
 
 spread-requires : tie.Need-spread-requires
@@ -114,7 +117,7 @@ returns-3 c =
     let i = s .before .before .before .before .before .before in
     let w = i .before .before in
     let z = start (past w .before) in
-    let e = entered w ∙ wrote-taken (at z) (z .args .address) (z .args .value) (w .write .result) (i .if2 .left) in
+    let e = entered w ∙ wrote-taken (at z) (w .write .result) (i .if2 .left) in
     (ap (λ (e : Entry). e .refusal) (sym e), s .spread .ensures ∙ ap (λ (e : Entry). e .slices) (sym e))
 
 pub write-into-spec : {M : Type 1} → statement M
