@@ -9,7 +9,7 @@ use Rattle.chip.specs.declared.Chip.{Chip}
 use Rattle.views.specs.declared.view.Part.{Part}
 use Rattle.views.specs.declared.view.Mute.{Mute}
 use Rattle.views.specs.declared.converter.Count.{Count}
-use Rattle.views.specs.Entry.{enterOf}
+use Rattle.views.specs.Entry.{Lent, enterOf, turnOf}
 use Rattle.views.specs.View.{sentPart, muteOf}
 use Rattle.views.specs.Converter.{matrixAnswer, matrixOut}
 use Rattle.vendor.specs.declared.Verdict.{Verdict}
@@ -35,8 +35,11 @@ verdictOut v = record { refusal = v .refusal; place = v .place }
 abbrev pub classOut : Class → ClassOut
 classOut c = record { «read_only» = c .«read_only»; mandated = c .mandated; named = c .named; free = c .free; bits = c .bits }
 
-abbrev pub StationWrite : Chip → ℕ → ℕ → ℕ → Chip → Type 0
-StationWrite s address value out left = (out ≡ enterOf s address value .refusal) × (left ≡ enterOf s address value .chip)
+abbrev pub StationWrite : Lent → ℕ → ℕ → ℕ → Lent → Type 0
+StationWrite l address value out left = (out ≡ enterOf l address value .refusal) × (left ≡ enterOf l address value .slices)
+
+abbrev pub StationVsync : Lent → ℕ → Lent → Type 0
+StationVsync l out left = (out ≡ turnOf l .refusal) × (left ≡ turnOf l .slices)
 
 abbrev pub StationSent : List ℕ → List ℕ → ℕ → PartOut → Type 0
 StationSent image packet which out = out ≡ partOut (sentPart image packet which)
@@ -44,9 +47,9 @@ StationSent image packet which out = out ≡ partOut (sentPart image packet whic
 abbrev pub StationMute : List ℕ → List ℕ → StateOut → Type 0
 StationMute image packet out = out ≡ muteOut (muteOf image packet)
 
-abbrev pub StationMatrix : List ℕ → List ℕ → List ℕ → CountOut → List ℕ → Type 0
-StationMatrix image coefficients matrix out left =
-    (out ≡ bytesOut (matrixAnswer image coefficients matrix)) × (left ≡ matrixOut image coefficients matrix)
+abbrev pub StationMatrix : List ℕ → List ℕ → ℕ → List ℕ → CountOut → List ℕ → Type 0
+StationMatrix image coefficients mark matrix out left =
+    (out ≡ bytesOut (matrixAnswer image coefficients matrix)) × (left ≡ matrixOut image coefficients mark matrix)
 
 abbrev pub StationVet : Chip → List ℕ → VerdictOut → Type 0
 StationVet s list out = out ≡ verdictOut (vetOf s list)

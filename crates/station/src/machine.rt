@@ -1,6 +1,7 @@
 // The C face of the chip machine, of a vendor's list on it and of the class table: each call is a call of the library, taken apart.
 ghost use Rattle.chip.specs.Write.{lentAs};
-ghost use Rattle.station.specs.Machine.{StationWrite, StationSent, StationMute, StationMatrix, StationVet, StationClass};
+ghost use Rattle.views.specs.Entry.{lent};
+ghost use Rattle.station.specs.Machine.{StationWrite, StationVsync, StationSent, StationMute, StationMatrix, StationVet, StationClass};
 use crate::CountOut;
 
 // struct station_part
@@ -42,13 +43,28 @@ pub extern "C" fn station_write(
     image: &mut [u8],
     packet: &mut [u8],
     coefficients: &mut [u8],
+    mark: &mut [u8],
     address: u8,
     value: u8,
 ) -> u32
-    ensures { λ r. ⌜ StationWrite (lentAs (now (image .entry)) (now (packet .entry)) (now (coefficients .entry))) address value r
-        (lentAs (now (image .exit)) (now (packet .exit)) (now (coefficients .exit))) ⌝ }
+    ensures { λ r. ⌜ StationWrite (lent (now (image .entry)) (now (packet .entry)) (now (coefficients .entry)) (now (mark .entry))) address value r
+        (lent (now (image .exit)) (now (packet .exit)) (now (coefficients .exit)) (now (mark .exit))) ⌝ }
 {
-    views::write_into(image, packet, coefficients, address, value) as u32
+    views::write_into(image, packet, coefficients, mark, address, value) as u32
+}
+
+// One Vsync of the chip machine: refusal 7.
+#[no_mangle]
+pub extern "C" fn station_vsync(
+    image: &mut [u8],
+    packet: &mut [u8],
+    coefficients: &mut [u8],
+    mark: &mut [u8],
+) -> u32
+    ensures { λ r. ⌜ StationVsync (lent (now (image .entry)) (now (packet .entry)) (now (coefficients .entry)) (now (mark .entry))) r
+        (lent (now (image .exit)) (now (packet .exit)) (now (coefficients .exit)) (now (mark .exit))) ⌝ }
+{
+    views::vsync_into(image, packet, coefficients, mark) as u32
 }
 
 // Where the packet that is sent stands: refusals 5, 7 and 13.
@@ -79,10 +95,15 @@ pub extern "C" fn station_mute(image: &[u8], packet: &[u8]) -> StateOut
 
 // The mode and the twelve coefficients in use, as a request has them: refusals 7 and 10.
 #[no_mangle]
-pub extern "C" fn station_matrix(image: &[u8], coefficients: &[u8], matrix: &mut [u8]) -> CountOut
-    ensures { λ r. ⌜ StationMatrix (now (image .entry)) (now (coefficients .entry)) (now (matrix .entry)) r (now (matrix .exit)) ⌝ }
+pub extern "C" fn station_matrix(
+    image: &[u8],
+    coefficients: &[u8],
+    mark: u8,
+    matrix: &mut [u8],
+) -> CountOut
+    ensures { λ r. ⌜ StationMatrix (now (image .entry)) (now (coefficients .entry)) mark (now (matrix .entry)) r (now (matrix .exit)) ⌝ }
 {
-    let count = views::matrix_in_use(image, coefficients, matrix);
+    let count = views::matrix_in_use(image, coefficients, mark, matrix);
     CountOut {
         refusal: count.refusal as u32,
         count: count.count,

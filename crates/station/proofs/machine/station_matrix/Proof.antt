@@ -8,8 +8,8 @@ use Rattle.station.proofs.machine.station_matrix.Tie as tie
 matrix-in-use-requires : tie.Need-matrix-in-use-requires
 matrix-in-use-requires c κs = search needs
 
-cast-t7 : tie.Need-cast-t7
-cast-t7 c = search needs
+cast-t8 : tie.Need-cast-t8
+cast-t8 c = search needs
 
 same-length : tie.Need-same-length
 same-length c = search needs
@@ -18,4 +18,4 @@ returns : tie.Need-returns
 returns c = let e = c .before .before .before .matrix-in-use .ensures in (ap bytesOut (e .0), e .1)
 
 pub station-matrix-spec : {M : Type 1} → statement M
-station-matrix-spec = tie.close (tie.spec matrix-in-use-requires cast-t7 same-length returns)
+station-matrix-spec = tie.close (tie.spec matrix-in-use-requires cast-t8 same-length returns)
