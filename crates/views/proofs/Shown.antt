@@ -66,7 +66,7 @@ slices = record {
   back = state-slices;
 }
 
-slices-sized : (s : Chip) → Sized s → LentSized (slicesOf s)
+pub slices-sized : (s : Chip) → Sized s → LentSized (slicesOf s)
 slices-sized s z = record { image = z .image; packet = z .packet; coefficients = z .coefficients; mark = refl }
 
 module _ (l : Lent) (z : LentSized l) where
