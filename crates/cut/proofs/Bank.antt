@@ -14,7 +14,7 @@ use Rattle.chip.specs.declared.Chip.{Chip}
 use Rattle.chip.specs.Machine.{Write, Group, Buffer, packets, converter, avi, audio, gc, matrix, up, registersOf, holdsOf}
 use Rattle.chip.specs.Write.{filled}
 use Rattle.chip.specs.Machine.{inUse}
-use Rattle.chip.specs.Write.{bufferAfter, put}
+use Rattle.chip.specs.Write.{put}
 use Rattle.cut.proofs.Latch.{View, Faithful}
 
 -- a write whose byte is stored as it is
@@ -68,9 +68,6 @@ matrix-same n = ap (λ (b : ℕ). eqb b 1) (one-hold (bit 5 n) (omega arith))
 packets-alike : (n : ℕ) → Alike (packets .groups) (only (packets .groups) n) n
 packets-alike n = (avi-same n, (audio-same n, (gc-same n, tt)))
 
-converter-alike : (n : ℕ) → Alike (converter .groups) (only (converter .groups) n) n
-converter-alike n = (matrix-same n, tt)
-
 -- under which a group stays: its hold is the only one up afterwards, or is down before and after and the write is elsewhere
 abbrev pub quiet : Group → ℕ → ℕ → ℕ → Bool
 quiet g n n′ a = cond (up g n′) (eqb n′ (2 ^ g .hold)) (not (up g n) && (ltb a (g .first) || leb (g .first + g .count) a))
@@ -110,31 +107,37 @@ pub part-fills : (g : Group) (image buffer : List ℕ) → length image ≡ 256 
     → take (g .count) (registersOf g image ++ buffer) ≡ registersOf g image
 part-fills g image buffer e h = take-at (registersOf g image) buffer (g .count) (simp (length-take, length-drop) (omega arith))
 
--- a group whose hold is down is sent from the registers
-pub down-part : (B : Buffer) (g : Group) (s : Chip) → up g (holdsOf B (s .image)) ≡ false → inUse B g s ≡ registersOf g (s .image)
+-- a group whose hold is down, and does not wait, is sent from the registers
+pub down-part : (B : Buffer) (g : Group) (s : Chip) → B .waits s ≡ false → up g (holdsOf B (s .image)) ≡ false
+    → inUse B g s ≡ registersOf g (s .image)
 unfolding inUse
-down-part B g s h = rw h
+down-part B g s i h = rw (i, h)
 
--- what is asked of a bank and a group of it; for each group of the chip all four compute
+-- what is asked of a bank and a group of it; for the packets' groups all five compute
 record Sound (B : Buffer) (g : Group) : Type 0 where
   inside : ltb (B .register) 256 ≡ true
   ending : leb (g .first + g .count) 256 ≡ true
-  own : (w : Write) (s : Chip) → B .bytes (store w s) ≡ bufferAfter B (w .address) (w .value) s
+  still : (s : Chip) → B .waits s ≡ false
+  own : (w : Write) (s : Chip) → B .bytes (store w s)
+      ≡ cond (eqb (w .address) (B .register)) (filled (B .groups) (holdsOf B (s .image)) (w .value) (s .image) (B .bytes s)) (B .bytes s)
   alone : (n : ℕ) (image buffer : List ℕ)
       → filled (B .groups) n (2 ^ g .hold) image buffer ≡ cond (not (up g n)) (registersOf g image ++ drop (g .count) buffer) buffer
 
+-- the holds after a write, of any buffer
+pub status-store : (B : Buffer) → ltb (B .register) 256 ≡ true → (w : Write) (s : Chip) → Whole s
+    → status B (store w s .image) ≡ next B (status B (s .image)) w
+unfolding put
+status-store B inside w s e = go (eqb (w .address) (B .register)) refl
+  where
+    go : (r : Bool) → eqb (w .address) (B .register) ≡ r
+        → status B (set (s .image) (w .address) (w .value)) ≡ cond r (only (B .groups) (w .value)) (status B (s .image))
+    go true q = ap (only (B .groups)) (ap (λ (a : ℕ). getD (set (s .image) a (w .value)) (B .register) 0) (eqb-true _ _ q)
+        ∙ getD-set-same (s .image) (B .register) (w .value) 0 (rw e (ltb-true _ _ inside)))
+    go false q = ap (only (B .groups)) (getD-set-other (s .image) (w .address) (B .register) (w .value) 0 (λ h. eqb-false _ _ q (sym h)))
+
+-- of a buffer whose holds never wait
 module _ (B : Buffer) (g : Group) (alike : (n : ℕ) → Alike (B .groups) (only (B .groups) n) n)
     (same : (n : ℕ) → up g (only (B .groups) n) ≡ up g n) (ok : Sound B g) where
-  status-store : (w : Write) (s : Chip) → Whole s → status B (store w s .image) ≡ next B (status B (s .image)) w
-  unfolding put
-  status-store w s e = go (eqb (w .address) (B .register)) refl
-    where
-      go : (r : Bool) → eqb (w .address) (B .register) ≡ r
-          → status B (set (s .image) (w .address) (w .value)) ≡ cond r (only (B .groups) (w .value)) (status B (s .image))
-      go true q = ap (only (B .groups)) (ap (λ (a : ℕ). getD (set (s .image) a (w .value)) (B .register) 0) (eqb-true _ _ q)
-          ∙ getD-set-same (s .image) (B .register) (w .value) 0 (rw e (ltb-true _ _ (ok .inside))))
-      go false q = ap (only (B .groups)) (getD-set-other (s .image) (w .address) (B .register) (w .value) 0 (λ h. eqb-false _ _ q (sym h)))
-
   -- the buffer after a write that leaves the group's hold the only one up
   buffer-store : (w : Write) (s : Chip) → next B (status B (s .image)) w ≡ 2 ^ g .hold → up g (next B (status B (s .image)) w) ≡ true
       → B .bytes (store w s)
@@ -154,8 +157,14 @@ module _ (B : Buffer) (g : Group) (alike : (n : ℕ) → Alike (B .groups) (only
   quiet-keeps : (w : Write) (s : Chip) → Whole s → quiet g (status B (s .image)) (next B (status B (s .image)) w) (w .address) ≡ true
       → inUse B g (store w s) ≡ inUse B g s
   unfolding inUse
-  quiet-keeps w s e q = rw (← same (holdsOf B (store w s .image)), status-store w s e) (go (up g (next B (status B (s .image)) w)) refl q)
+  quiet-keeps w s e q =
+      plain (store w s)
+      ∙ rw (← same (holdsOf B (store w s .image)), status-store B (ok .inside) w s e) (go (up g (next B (status B (s .image)) w)) refl q)
+      ∙ sym (plain s)
     where
+      plain : (t : Chip) → inUse B g t ≡ cond (up g (holdsOf B (t .image))) (take (g .count) (B .bytes t)) (registersOf g (t .image))
+      plain t = rw (ok .still t)
+
       after : (u : Bool) → take (g .count) (cond (not u) (registersOf g (s .image) ++ drop (g .count) (B .bytes s)) (B .bytes s))
           ≡ cond u (take (g .count) (B .bytes s)) (registersOf g (s .image))
       after true = refl
@@ -169,12 +178,13 @@ module _ (B : Buffer) (g : Group) (alike : (n : ℕ) → Alike (B .groups) (only
       go : (u : Bool) → up g (next B (status B (s .image)) w) ≡ u
           → cond u (eqb (next B (status B (s .image)) w) (2 ^ g .hold))
           (not (up g (status B (s .image))) && (ltb (w .address) (g .first) || leb (g .first + g .count) (w .address))) ≡ true
-          → cond u (take (g .count) (B .bytes (store w s))) (registersOf g (store w s .image)) ≡ inUse B g s
+          → cond u (take (g .count) (B .bytes (store w s))) (registersOf g (store w s .image))
+          ≡ cond (up g (holdsOf B (s .image))) (take (g .count) (B .bytes s)) (registersOf g (s .image))
       go true p t = ap (λ (l : List ℕ). take (g .count) l) (buffer-store w s (eqb-true _ _ t) p) ∙ after (up g (holdsOf B (s .image)))
       go false p t = down (up g (holdsOf B (s .image))) (rw same at t)
 
   faithful : Faithful store (view B g) Whole (λ s. status B (s .image)) (inUse B g)
-  faithful = record { lasts = size-store; tracks = status-store; keeps = quiet-keeps }
+  faithful = record { lasts = size-store; tracks = status-store B (ok .inside); keeps = quiet-keeps }
 
 -- a group of the chip, shown truly by its view
 abbrev pub Shown : Buffer → Group → Type 0
@@ -191,7 +201,3 @@ audio-shown = faithful packets audio packets-alike audio-same (search)
 pub gc-shown : Shown packets gc
 unfolding put
 gc-shown = faithful packets gc packets-alike gc-same (search)
-
-pub matrix-shown : Shown converter matrix
-unfolding put
-matrix-shown = faithful converter matrix converter-alike matrix-same (search)

@@ -1,8 +1,9 @@
--- Demand 3 for any list that is `Good`: one that mutes first and opens last, whose walks pass, and that leaves each register as the
--- finished image has it. What the walks show of the groups in use is `Latch`'s. Assumes nothing.
+-- Any list that is `Good`, one that mutes first and opens last, whose walks pass, and that leaves each register as the finished image has
+-- it: what its writes do to the registers and the packets in use, at every cut. What the walks show of the groups in use is `Latch`'s; the
+-- coefficients, and Vsyncs, come in `Runs`. Assumes nothing.
 use mathlib.Core.Path.{_≡_, refl, sym, ap, subst, _∙_}
 use mathlib.Core.Logic.{_⊎_, inl, inr, ⊎-map, _≢_}
-use mathlib.Core.Bool.{false≢true, Bool, true, false, _||_, cond}
+use mathlib.Core.Bool.{false≢true, Bool, true, false, not, _||_, cond}
 use mathlib.Core.List.{List, [], _∷_, _++_, map, map-append}
 use Prim.Native.Nat.{ℕ, zero, suc, _+_, _*_, _≤_, _<_}
 use native.Mathlib.Nat.{not-suc-le-zero, le-of-suc-le-suc}
@@ -11,26 +12,23 @@ use lib.Dec.{eqb, ltb, lit<}
 use lib.ListN.{length-append, length-map, List·getD-map, length, getD, take}
 use lib.Seq.{ext-getD, take-append-le, getD-take, getD-drop, getD-set-same, getD-set-other}
 use borrow.Author.Tests.{eqb-true, eqb-false, ltb-true, ltb-false}
+use Rattle.lists.specs.Find.{every}
 use Rattle.map.specs.Map as reg
 use Rattle.bits.specs.Merge.{bit}
 use Rattle.bits.proofs.Below.{at-below}
-use Rattle.matrix.specs.Matrix.{fields}
 use Rattle.chip.specs.declared.Chip.{Chip}
 use Rattle.chip.specs.Machine.{Write, _gets_, Group, Buffer, avi, audio, gc, matrix, packets, converter, up, registersOf, holdsOf, inUse}
-use Rattle.chip.specs.Machine.{gcInUse, Muted, Open, mute, coefficients}
+use Rattle.chip.specs.Machine.{held, gcInUse, Muted, Open, mute}
 use Rattle.chip.specs.Write.{writeOf}
 use Rattle.writes.specs.Steps.{Step, _raising_, steps}
 use Rattle.writes.specs.List.{decided, written, listWith, isWritten, leftUp, finished, ready}
-use Rattle.cut.specs.Run.{Event, write, Fair, Careful, Covered, begun, Retried}
-use Rattle.cut.specs.Demand.{sent, After, Same, Demand3, cuts}
 use Rattle.cut.proofs.Planned.{Planner, cutOf, endOf, OldOrNew}
-use Rattle.cut.proofs.Retry.{some-begun, retries}
-use Rattle.cut.proofs.FairRun.{untouched}
-use Rattle.cut.proofs.Latch.{nexts, walk, acts, status-acts, calm, once}
+use Rattle.cut.proofs.Latch.{nexts, walk, acts, Faithful, status-acts, calm, once}
 use Rattle.cut.proofs.Bank.{store, only, status, avi-same, audio-same, gc-same, matrix-same, view, Whole, Shown, image-store}
-use Rattle.cut.proofs.Bank.{size-store, down-part, avi-shown, audio-shown, gc-shown, matrix-shown}
+use Rattle.cut.proofs.Bank.{size-store, down-part, status-store, avi-shown, audio-shown, gc-shown}
 use Rattle.cut.proofs.Bytes.{clean, place, mute-byte, Seen, packets-seen, converter-seen, walk-seen, nexts-seen}
 use Rattle.cut.proofs.Bytes.{Agree, agree-self, agree-trans, agree-free, written-agree, agree-acts}
+use Rattle.cut.proofs.Turning.{mark, safe, lead, safe-seen, lead-seen}
 use Rattle.cut.proofs.Taken.{neat, neat-only, tidy, neat-at, tidy-seen, Fit, run-acts, run-all, taken-at}
 use Rattle.writes.proofs.Last.{last, read, last-none}
 use Rattle.writes.proofs.Image.{is-image}
@@ -66,14 +64,31 @@ neat-elim P p0 p32 p64 q t =
 pub record Walked (n m : ℕ) (ms : List Step) : Type 0 where
   pub avi-once : walk (view packets avi) true n (map clean (steps ms)) ≡ true
   pub audio-once : walk (view packets audio) true n (map clean (steps ms)) ≡ true
-  pub matrix-once : walk (view converter matrix) true m (map clean (steps ms)) ≡ true
+  pub matrix-safe : safe true (mark (up matrix m) false) (map clean (steps ms)) ≡ true
+  pub matrix-leads : lead (map clean (steps ms)) ≡ true
   pub gc-calm : walk (view packets gc) false n (map clean ms) ≡ true
   pub tidies : walk tidy false n (map clean (steps ms)) ≡ true
   pub ends : nexts tidy n (map clean (steps ms)) ≡ 0
   pub closes : nexts tidy n (map clean ms) ≡ 0
   pub matrix-ends : nexts (view converter matrix) m (map clean (steps ms)) ≡ 0
 
+-- a step is not to the coefficient hold's register, or it has the hold up
+abbrev pub elsewhere-or-up : Step → Bool
+elsewhere-or-up i = not (eqb (i .register) reg.coefficientUpdate) || up matrix (clean i .value)
+
+abbrev pub not-hold : Step → Bool
+not-hold i = not (eqb (i .register) reg.coefficientUpdate)
+
+-- the step that lowers the coefficient hold, with those before it and after it
+pub record Lowers (ms : List Step) : Type 0 where
+  pub front : List Step
+  pub back : List Step
+  pub split : ms ≡ front ++ reg.coefficientUpdate raising 0 ∷ back
+  pub raised : every elsewhere-or-up front ≡ true
+  pub lowered : every not-hold back ≡ true
+
 pub record Good (want : ℕ → ℕ) (image : List ℕ) (ms : List Step) : Type 0 where
+  pub lowers : Lowers ms
   pub walked : Walked (status packets image) (status converter image) ms
   pub finishes : (a : ℕ) → a < 256 → read (written want image) a (last a (steps ms) 0) (getD image a 0) ≡ finished want image a
   pub rests : (a : ℕ) → a < 256 → isWritten a ≡ false → last a (steps ms) 0 ≡ 0
@@ -83,7 +98,7 @@ take-map f zero l = refl
 take-map f (suc k) [] = refl
 take-map f (suc k) (x ∷ xs) = ap (λ (r : List Write). f x ∷ r) (take-map f k xs)
 
-sized-acts : (ws : List Write) (s : Chip) → Whole s → Whole (acts store ws s)
+pub sized-acts : (ws : List Write) (s : Chip) → Whole s → Whole (acts store ws s)
 sized-acts [] s e = e
 sized-acts (w ∷ ws) s e = sized-acts ws (store w s) (size-store w s e)
 
@@ -140,6 +155,16 @@ finished-near want s u near a h = go (isWritten a) refl
     go true t = ap (λ (w : Write). w .value) (written-agree want (u .image) (s .image) end (near .kept))
     go false t = near .rest a h t
 
+-- after the last write: the picture is open, and the packets in use are those of the registers
+pub record PacketsAfter (r : Chip) : Type 0 where
+  pub opened : Open r
+  pub avi : inUse packets avi r ≡ registersOf avi (r .image)
+  pub audio : inUse packets audio r ≡ registersOf audio (r .image)
+
+-- the coefficient hold, as a view of nothing
+converter-tracked : Faithful store (view converter matrix) Whole (λ s. status converter (s .image)) (λ s. [])
+converter-tracked = record { lasts = size-store; tracks = status-store converter refl; keeps = λ w s z q. refl }
+
 -- a value that is old or new at every cut of every run, and that ends as the registers do
 pub record Latched (P : Planner) (shown : Chip → List ℕ) : Type 0 where
   pub either : (want : ℕ → ℕ) (s : Chip) → Ready (s .image) → (k : ℕ) → OldOrNew shown s (endOf P want s) (cutOf P want s k)
@@ -171,7 +196,7 @@ module _ (mid : (ℕ → ℕ) → List ℕ → List Step)
     seen-p = packets-seen want (s .image) (gc-bit (getD (s .image) reg.infoframeUpdate 0) neat-start)
 
     -- no write is refused, so a run, and a cut one, store their bytes as they are
-    fit : Fit want (s .image) s is
+    pub fit : Fit want (s .image) s is
     fit = record {
       agree = agree-self (s .image);
       sized = r .whole;
@@ -182,7 +207,7 @@ module _ (mid : (ℕ → ℕ) → List ℕ → List Step)
     pub cut-acts : (k : ℕ) → cutOf P want s k ≡ acts store (take k (map f is)) s
     cut-acts k = run-acts want (s .image) is s k fit
 
-    done-acts : endOf P want s ≡ acts store (map f is) s
+    pub done-acts : endOf P want s ≡ acts store (map f is) s
     done-acts = run-all want (s .image) is s fit
 
     pub taken : (k : ℕ) → k < length (map f is)
@@ -200,14 +225,14 @@ module _ (mid : (ℕ → ℕ) → List ℕ → List Step)
       group-cut t k = rw (cut-acts k, done-acts)
           (once store F (map f is) s k (r .whole) (walk-seen want (s .image) B g see true (status B (s .image)) is ∙ t))
 
-      group-done : nexts (view B g) (status B (s .image)) (map clean is) ≡ 0 → up g 0 ≡ false
+      group-done : ((t : Chip) → B .waits t ≡ false) → nexts (view B g) (status B (s .image)) (map clean is) ≡ 0 → up g 0 ≡ false
           → ((n : ℕ) → up g (only (B .groups) n) ≡ up g n)
           → inUse B g (endOf P want s) ≡ registersOf g (endOf P want s .image)
-      group-done t z same =
-          down-part B g (endOf P want s)
+      group-done i t z same =
+          down-part B g (endOf P want s) (i (endOf P want s))
           (sym (same (holdsOf B (endOf P want s .image))) ∙ ap (λ (n : ℕ). up g n) (rw done-acts (holds-acts is s (r .whole)) ∙ t) ∙ z)
 
-    ready-cut : (k : ℕ) → Ready (cutOf P want s k .image)
+    pub ready-cut : (k : ℕ) → Ready (cutOf P want s k .image)
     ready-cut k = record {
       whole = rw (cut-acts k) (sized-acts (take k (map f is)) s (r .whole));
       holds = sym (neat-only (holdsOf packets (cutOf P want s k .image)))
@@ -221,7 +246,7 @@ module _ (mid : (ℕ → ℕ) → List ℕ → List Step)
     unfolding gcInUse written decided
     mute-store x u e h =
         let d : inUse packets gc (store (f (reg.avMute raising x)) u) ≡ registersOf gc (store (f (reg.avMute raising x)) u .image) =
-        down-part packets gc (store (f (reg.avMute raising x)) u)
+        down-part packets gc (store (f (reg.avMute raising x)) u) refl
         (sym (gc-same (holdsOf packets (store (f (reg.avMute raising x)) u .image)))
         ∙ ap (λ (n : ℕ). up gc n) (gc-shown .tracks (f (reg.avMute raising x)) u e) ∙ h) in
         rw (d, image-store, getD-take {A = ℕ} 1 _ 0 0 (lit< tt), getD-drop, getD-set-same (u .image) reg.avMute _ 0 (rw e (lit< tt)))
@@ -266,7 +291,7 @@ module _ (mid : (ℕ → ℕ) → List ℕ → List Step)
         ∙ facts .closes in
         is-open (endOf P want s) (rw e (mute-store reg.clearAvMuteMask u (sized-acts ws dark dark-sized) (ap (λ (n : ℕ). up gc n) h)))
 
-    mutes : (j : ℕ) → suc j < length (P want (s .image)) → Muted (cutOf P want s (suc j))
+    pub mutes : (j : ℕ) → suc j < length (P want (s .image)) → Muted (cutOf P want s (suc j))
     unfolding gcInUse dark
     mutes j h =
         let le : j ≤ length ws = omega (arith, count) in
@@ -278,27 +303,42 @@ module _ (mid : (ℕ → ℕ) → List ℕ → List Step)
         is-muted (cutOf P want s (suc j)) (rw (e, c) (mute-store reg.setAvMuteMask s (r .whole)
         (neat-elim (λ (n : ℕ). up gc n ≡ false) refl refl refl (holdsOf packets (s .image)) neat-start)))
 
-    ended : After (endOf P want s)
-    unfolding coefficients
+    pub ended : PacketsAfter (endOf P want s)
     ended = record {
       opened = opens;
-      avi = group-done packets avi avi-shown seen-p (facts .ends) refl avi-same;
-      audio = group-done packets audio audio-shown seen-p (facts .ends) refl audio-same;
-      matrix = ap fields (group-done converter matrix matrix-shown (converter-seen want (s .image)) (facts .matrix-ends) refl matrix-same);
+      avi = group-done packets avi avi-shown seen-p (λ t. refl) (facts .ends) refl avi-same;
+      audio = group-done packets audio audio-shown seen-p (λ t. refl) (facts .ends) refl audio-same;
     }
+
+    -- the coefficient hold is down
+    pub held-end : held (endOf P want s) ≡ false
+    held-end =
+        let e : status converter (endOf P want s .image) ≡ 0 =
+        rw done-acts (status-acts store converter-tracked (map f is) s (r .whole)
+        ∙ nexts-seen want (s .image) converter matrix (converter-seen want (s .image)) (status converter (s .image)) is) ∙ facts .matrix-ends in
+        sym (matrix-same (holdsOf converter (endOf P want s .image))) ∙ ap (λ (n : ℕ). up matrix n) e
+
+    -- and whatever a walk over the steps says of the coefficients, it says of the writes
+    pub safe-list : safe true (mark (held s) false) (P want (s .image)) ≡ true
+    safe-list =
+        safe-seen want (s .image) true (mark (held s) false) is
+        ∙ ap (λ (b : Bool). safe true (mark b false) (map clean is)) (sym (matrix-same (holdsOf converter (s .image)))) ∙ facts .matrix-safe
+
+    pub lead-list : lead (P want (s .image)) ≡ true
+    lead-list = lead-seen want (s .image) is ∙ facts .matrix-leads
 
     -- the registers after some of the steps
     pub stand : (vs : List Step) (a : ℕ) → a < 256 → getD (acts store (map f vs) s .image) a 0 ≡ read f a (last a vs 0) (getD (s .image) a 0)
     stand vs a h = stored-last f (place want (s .image)) a (getD (s .image) a 0) h vs s 0 (r .whole) refl
 
-    registers : (a : ℕ) → a < 256 → getD (endOf P want s .image) a 0 ≡ finished want (s .image) a
+    pub registers : (a : ℕ) → a < 256 → getD (endOf P want s .image) a 0 ≡ finished want (s .image) a
     registers a h = rw done-acts (stand is a h) ∙ good want (s .image) r .finishes a h
 
-    others-stay : (k a : ℕ) → a < 256 → isWritten a ≡ false → getD (cutOf P want s k .image) a 0 ≡ getD (s .image) a 0
+    pub others-stay : (k a : ℕ) → a < 256 → isWritten a ≡ false → getD (cutOf P want s k .image) a 0 ≡ getD (s .image) a 0
     others-stay k a h t = rw (cut-acts k, take-map f k is, stand (take k is) a h, last-none a is 0 k (good want (s .image) r .rests a h t))
 
     -- a register that a write moves is the mute's, or the picture is muted before and after
-    covered : (a k : ℕ) → a ≢ reg.avMute → getD (cutOf P want s (suc k) .image) a 0 ≢ getD (cutOf P want s k .image) a 0
+    pub covered : (a k : ℕ) → a ≢ reg.avMute → getD (cutOf P want s (suc k) .image) a 0 ≢ getD (cutOf P want s k .image) a 0
         → Muted (cutOf P want s k) × Muted (cutOf P want s (suc k))
     unfolding dark written
     covered a zero h m =
@@ -317,7 +357,7 @@ module _ (mid : (ℕ → ℕ) → List ℕ → List Step)
             let l : length ws ≤ j = omega (arith, count, ltb-false (suc (suc j)) (length (P want (s .image))) e) in
             absurd (m (late (suc j) (omega (arith, l)) ∙ sym (late j l)))
 
-    vic : (k : ℕ) → getD (cutOf P want s k .image) reg.vicManual 0 ≢ getD (s .image) reg.vicManual 0
+    pub vic : (k : ℕ) → getD (cutOf P want s k .image) reg.vicManual 0 ≢ getD (s .image) reg.vicManual 0
         → Muted (cutOf P want s k) ⊎ (length (P want (s .image)) ≤ k)
     vic zero m = absurd (m refl)
     vic (suc j) m = go (ltb (suc j) (length (P want (s .image)))) refl
@@ -365,84 +405,3 @@ module _ (mid : (ℕ → ℕ) → List ℕ → List Step)
     either = λ want s r k. group-cut want s r packets audio audio-shown (seen-p want s r) (facts want s r .audio-once) k;
     ending = ending-part audio (inUse packets audio) (λ l. l) (λ want s r. ended want s r .audio);
   }
-
-  pub matrix-latched : Latched P coefficients
-  unfolding coefficients
-  matrix-latched = record {
-    either = λ want s r k. ⊎-map (ap fields) (ap fields)
-        (group-cut want s r converter matrix matrix-shown (converter-seen want (s .image)) (facts want s r .matrix-once) k);
-    ending = ending-part matrix coefficients fields (λ want s r. ended want s r .matrix);
-  }
-
-  -- after any number of cuts the state is near, so that a run from there ends as the run without a cut
-  abbrev planned : (ℕ → ℕ) → List ℕ → List Event
-  planned want image = sent (P want image)
-
-  pub near-cuts : (want : ℕ → ℕ) (s u : Chip) (ks : List ℕ) → Near s u → Near s (cuts (planned want) ks u)
-  near-cuts want s u [] near = near
-  near-cuts want s u (k ∷ ks) near = near-cuts want s (cutOf P want u k) ks (near-cut want s u k near)
-
-  pub same-end : (want : ℕ → ℕ) (s u : Chip) → Ready (s .image) → Near s u → Same (endOf P want s) (endOf P want u)
-  same-end want s u r near = record {
-    registers = ends-alike want s u r near;
-    avi = avi-latched .ending want s u r near;
-    audio = audio-latched .ending want s u r near;
-    matrix = matrix-latched .ending want s u r near;
-  }
-
-  module _ (want : ℕ → ℕ) (s : Chip) (r : Ready (s .image))
-      (fair : (k : ℕ) → k < length (P want (s .image)) → Fair (s .image) (getD (P want (s .image)) k (0 gets 0))) where
-    abbrev list : List Write
-    list = P want (s .image)
-
-    as-long : length (sent list) ≡ length list
-    as-long = length-map list write
-
-    -- fair on the image of the start is fair on that of a cut, which has the same free bits
-    still-fair : (k : ℕ) (w : Write) → Fair (s .image) w → Fair (cutOf P want s k .image) w
-    still-fair k w f = record {
-      itsRegister = f .itsRegister;
-      itsMandated = f .itsMandated;
-      itsFree = f .itsFree
-          ∙ sym (agree-free (cutOf P want s k .image) (s .image) (near-cut want s s k (near-self s r) .kept) (w .address));
-    }
-
-    careful : Careful (sent list) s
-    careful = record {
-      fair = λ k h. rw (List·getD-map write list k (0 gets 0)) (still-fair k _ (fair k (rw as-long at h)));
-      taken = λ k h. rw (List·getD-map write list k (0 gets 0)) (taken want s r k (rw as-long at h));
-      between = λ k lo hi. record {
-        muted = muted k lo (rw as-long at hi);
-        avi = avi-latched .either want s r k;
-        audio = audio-latched .either want s r k;
-        matrix = matrix-latched .either want s r k;
-      };
-    }
-      where
-        muted : (k : ℕ) → 0 < k → k < length (P want (s .image)) → Muted (cutOf P want s k)
-        muted zero lo hi = absurd (not-suc-le-zero lo)
-        muted (suc j) lo hi = mutes want s r j hi
-
-    covers : Covered (sent list) s
-    covers = record { moves = covered want s r; vic = λ k m. rw as-long (vic want s r k m) }
-
-    whole-end : length (endOf P want s .image) ≡ 256
-    whole-end = rw (done-acts want s r) (sized-acts list s (r .whole))
-
-    again : (n : ℕ → ℕ) → Retried n (sent list) s
-    again = retries (sent list) s (r .whole) (careful .taken)
-
-    pub demand3 : Demand3 (planned want) want s
-    demand3 = record {
-      careful = careful;
-      covered = covers;
-      untouched = untouched (sent list) s (careful .fair);
-      ended = ended want s r;
-      registers = is-image want (s .image) (endOf P want s .image) whole-end (registers want s r);
-      whole = λ ks. near-cuts want s s ks (near-self s r) .ready .whole;
-      ready = λ ks. near-cuts want s s ks (near-self s r) .ready .holds;
-      again = λ ks. same-end want s (cuts (planned want) ks s) r (near-cuts want s s ks (near-self s r));
-      retries = again;
-      retriesBetween = λ n k lo hi. rw (again n .cuts k, again n .ends)
-          (careful .between (begun n (sent list) k) (some-begun n (sent list) k lo hi) hi);
-    }

@@ -13,12 +13,13 @@ use Rattle.map.specs.Map as reg
 use Rattle.registers.specs.Classes.{classAt, readOnly, free}
 use Rattle.chip.specs.declared.Chip.{Chip}
 use Rattle.chip.specs.Machine.{Write}
-use Rattle.chip.specs.Write.{put, stored, imageAfter, refuses, writeOf}
+use Rattle.chip.specs.Write.{put, stored, imageAfter, refuses, writeOf, vsyncOf}
 use Rattle.chip.proofs.Writes.{wrote, written-as}
 use Rattle.writes.specs.List.{isWritten}
 use Rattle.writes.proofs.Carries.{masked}
-use Rattle.cut.specs.Run.{Event, write, happens, run, cut, event, Fair, IsFair, Stays, Untouched}
+use Rattle.cut.specs.Run.{Event, write, vsync, happens, run, cut, event, Fair, IsFair, Stays, Untouched}
 use Rattle.cut.proofs.Bytes.{at-set}
+use Rattle.cut.proofs.Retry.{vsync-image}
 
 -- what holds of the image as it is, and of the image that a write would leave, holds after the write, taken or refused
 pub after-write : (P : List ℕ → Type 0) (s : Chip) (a v : ℕ) → P (s .image) → P (imageAfter s a v) → P (writeOf s a v .chip .image)
@@ -71,12 +72,16 @@ keeps es s fair a j zero h f = refl
 keeps [] s fair a j (suc k) h f = refl
 keeps (write w ∷ es) s fair a j (suc k) h f =
     keeps es (happens (write w) s .chip) (later (write w) es s fair) a j k h f ∙ write-keeps w s (fair 0 (zero-lt-suc _)) a j h f
+keeps (vsync ∷ es) s fair a j (suc k) h f =
+    keeps es (vsyncOf s) (later vsync es s fair) a j k h f ∙ ap (λ (image : List ℕ). bit j (getD image a 0)) (vsync-image s)
 
 pub leaves : (es : List Event) (s : Chip) → Fairly es s → (a k : ℕ) → isWritten a ≡ false → getD (cut es s k .image) a 0 ≡ getD (s .image) a 0
 leaves es s fair a zero t = refl
 leaves [] s fair a (suc k) t = refl
 leaves (write w ∷ es) s fair a (suc k) t =
     leaves es (happens (write w) s .chip) (later (write w) es s fair) a k t ∙ write-leaves w s (fair 0 (zero-lt-suc _)) a t
+leaves (vsync ∷ es) s fair a (suc k) t =
+    leaves es (vsyncOf s) (later vsync es s fair) a k t ∙ ap (λ (image : List ℕ). getD image a 0) (vsync-image s)
 
 -- HDCP's bits 0xAF[7] and 0xAF[4] are free
 protected : (bit 7 (free reg.hdcpHdmiCfg) ≡ 1) × (bit 4 (free reg.hdcpHdmiCfg) ≡ 1)

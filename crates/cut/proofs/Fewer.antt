@@ -12,20 +12,23 @@ use Rattle.lists.specs.Among.{among}
 use Rattle.lists.specs.Find.{every}
 use Rattle.lists.specs.Those.{those}
 use Rattle.lists.proofs.Both.{both-left, both-right}
+use Rattle.map.specs.Map as reg
 use Rattle.chip.specs.declared.Chip.{Chip}
 use Rattle.chip.specs.Machine.{Write, _gets_, Buffer, avi, audio, gc, matrix, packets, converter, up, holdsOf}
 use Rattle.writes.specs.Steps.{Step, _raising_, steps}
-use Rattle.writes.specs.List.{written, theThree, stays, middleOf, writeList, ready}
+use Rattle.writes.specs.List.{written, theThree, stays, listWith, middleOf, writeList, ready}
 use Rattle.writes.proofs.Last.{last, last-zero, read}
 use Rattle.writes.proofs.Fewer.{plain, raises-none, every-plain, there-bytes, leftSteps, steps-left, by-steps}
-use Rattle.cut.specs.Run.{Fair}
-use Rattle.cut.specs.Demand.{sent, toItsEnd, Same, Demand3}
+use Rattle.cut.specs.Run.{Event, run, Fair}
+use Rattle.cut.specs.Demand.{Finished, Same, Demand3}
 use Rattle.cut.proofs.Latch.{View, nexts, walk}
 use Rattle.cut.proofs.Skipped.{nexts-those, walk-those}
 use Rattle.cut.proofs.Bank.{next, view}
 use Rattle.cut.proofs.Bytes.{clean}
 use Rattle.cut.proofs.Taken.{tidy}
-use Rattle.cut.proofs.Cut.{Ready, Near, Walked, Good, demand3, same-end}
+use Rattle.cut.proofs.Turning.{mark, safe, lead, safe-those, lead-those}
+use Rattle.cut.proofs.Cut.{Ready, Near, Walked, Lowers, elsewhere-or-up, not-hold, Good}
+use Rattle.cut.proofs.Demanded.{demand3, same-end}
 use Rattle.cut.proofs.Fairness.{each-fair}
 use Rattle.cut.proofs.WriteList.{planned-good}
 
@@ -124,7 +127,9 @@ module _ (want : ℕ → ℕ) (image : List ℕ) where
   still-walked n m ms w = record {
     avi-once = through (view packets avi) true n (idle packets refl) (w .avi-once);
     audio-once = through (view packets audio) true n (idle packets refl) (w .audio-once);
-    matrix-once = through (view converter matrix) true m (idle converter refl) (w .matrix-once);
+    matrix-safe = subst (λ (l : List Step). safe true (mark (up matrix m) false) (map clean l) ≡ true) (steps-left want image ms)
+        (safe-those test away true (mark (up matrix m) false) (steps ms) (w .matrix-safe));
+    matrix-leads = subst (λ (l : List Step). lead (map clean l) ≡ true) (steps-left want image ms) (lead-those test away (steps ms) (w .matrix-leads));
     gc-calm = walk-those (view packets gc) clean test (idle packets refl) false n ms (w .gc-calm);
     tidies = through tidy false n (idle packets refl) (w .tidies);
     ends = lands tidy n (idle packets refl) ∙ w .ends;
@@ -132,6 +137,13 @@ module _ (want : ℕ → ℕ) (image : List ℕ) where
     matrix-ends = lands (view converter matrix) m (idle converter refl) ∙ w .matrix-ends;
   }
     where
+      away : (i : Step) → test i ≡ false → eqb (i .register) (converter .register) ≡ false
+      away i e = go (eqb (i .register) (converter .register)) refl
+        where
+          go : (c : Bool) → eqb (i .register) (converter .register) ≡ c → c ≡ false
+          go true z = absurd (false≢true (sym e ∙ three-stays i (ap (λ (a : ℕ). among a theThree) (eqb-true (i .register) (converter .register) z))))
+          go false z = refl
+
       through : (L : View Write) (may : Bool) (n : ℕ) → ((i : Step) → test i ≡ false → (k : ℕ) → L .next k (clean i) ≡ k)
           → walk L may n (map clean (steps ms)) ≡ true → walk L may n (map clean (steps (those test ms))) ≡ true
       through L may n d t = subst (λ (l : List Step). walk L may n (map clean l) ≡ true) (steps-left want image ms)
@@ -142,12 +154,40 @@ module _ (want : ℕ → ℕ) (image : List ℕ) where
       lands L n d = subst (λ (l : List Step). nexts L n (map clean l) ≡ nexts L n (map clean (steps ms))) (steps-left want image ms)
           (nexts-those L clean test d n (steps ms))
 
+  -- what is left out is not the step that lowers the coefficient hold
+  every-those : (p : Step → Bool) (is : List Step) → every p is ≡ true → every p (those test is) ≡ true
+  every-those p [] t = refl
+  every-those p (i ∷ is) t = go (test i) (every-those p is (both-right (p i) _ t))
+    where
+      go : (c : Bool) → every p (those test is) ≡ true → every p (cond c (i ∷ []) [] ++ those test is) ≡ true
+      go true h = rw (both-left (p i) _ t) h
+      go false h = h
+
+  those-middle : (x y : List Step) (i : Step) → test i ≡ true → those test (x ++ i ∷ y) ≡ those test x ++ i ∷ those test y
+  those-middle [] y i e = rw e
+  those-middle (v ∷ x) y i e = go (test v) (those-middle x y i e)
+    where
+      go : (c : Bool) → those test (x ++ i ∷ y) ≡ those test x ++ i ∷ those test y
+          → cond c (v ∷ []) [] ++ those test (x ++ i ∷ y) ≡ (cond c (v ∷ []) [] ++ those test x) ++ i ∷ those test y
+      go true h = ap (λ (l : List Step). v ∷ l) h
+      go false h = h
+
+  still-lowers : (ms : List Step) → Lowers ms → Lowers (those test ms)
+  still-lowers ms l = record {
+    front = those test (l .front);
+    back = those test (l .back);
+    split = ap (those test) (l .split) ∙ those-middle (l .front) (l .back) _ (three-stays (reg.coefficientUpdate raising 0) refl);
+    raised = every-those elsewhere-or-up (l .front) (l .raised);
+    lowered = every-those not-hold (l .back) (l .lowered);
+  }
+
   pub fewer-good : Ready image → Good want image (leftSteps want image)
   fewer-good r =
       let old : Good want image (middleOf want image) = planned-good want image r in
       let ms : List Step = middleOf want image in
       let b : Bool = up audio (holdsOf packets image) in
       record {
+        lowers = still-lowers ms (old .lowers);
         walked = still-walked _ _ ms (old .walked);
         finishes = λ a h. subst (λ (l : List Step). read f a (last a l 0) (getD image a 0) ≡ read f a (last a (steps ms) 0) (getD image a 0))
             (steps-left want image ms) (last-left (steps ms) (every-plain b) a) ∙ old .finishes a h;
@@ -157,18 +197,24 @@ module _ (want : ℕ → ℕ) (image : List ℕ) where
 
 -- ---- demand 3
 
+pub left-fair : (want : ℕ → ℕ) (image : List ℕ) (k : ℕ) → k < length (listWith leftSteps want image)
+    → Fair image (getD (listWith leftSteps want image) k (0 gets 0))
+left-fair want image =
+    subst (λ (ws : List Write). (k : ℕ) → k < length ws → Fair image (getD ws k (0 gets 0))) (by-steps want image) (each-fair want image)
+
 module _ (want : ℕ → ℕ) (s : Chip) (whole : length (s .image) ≡ 256) (clear : ready (s .image) ≡ true) where
   fit : Ready (s .image)
   fit = record { whole = whole; holds = clear }
 
-  pub holds : Demand3 (λ image. sent (writeList want image)) want s
+  pub holds : Demand3 (writeList want) want s
   holds =
-      subst (λ (plan : List ℕ → List Write). Demand3 (λ image. sent (plan image)) want s) (fun-ext (λ image. sym (by-steps want image)))
-      (demand3 leftSteps fewer-good want s fit
-      (subst (λ (ws : List Write). (k : ℕ) → k < length ws → Fair (s .image) (getD ws k (0 gets 0))) (by-steps want (s .image))
-      (each-fair want (s .image))))
+      subst (λ (plan : List ℕ → List Write). Demand3 plan want s) (fun-ext (λ image. sym (by-steps want image)))
+      (demand3 leftSteps fewer-good left-fair want s fit)
 
-  -- a run from a near state ends as from this one
-  pub ends-same : (u : Chip) → Near s u
-      → Same (toItsEnd (λ image. sent (writeList want image)) s) (toItsEnd (λ image. sent (writeList want image)) u)
-  ends-same u near = rw (by-steps want (s .image), by-steps want (u .image)) (same-end leftSteps fewer-good want s u fit near)
+  -- a finished run from a near state ends as one from this
+  pub ends-same : (u : Chip) → Near s u → (es fs : List Event) → Finished (writeList want (s .image)) es
+      → Finished (writeList want (u .image)) fs → Same (run es s) (run fs u)
+  ends-same u near es fs e f =
+      same-end leftSteps fewer-good left-fair want s u fit near es fs
+      (subst (λ (ws : List Write). Finished ws es) (by-steps want (s .image)) e)
+      (subst (λ (ws : List Write). Finished ws fs) (by-steps want (u .image)) f)

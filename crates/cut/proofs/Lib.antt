@@ -2,11 +2,15 @@ pub mod Retry
 pub mod Latch
 pub mod Bank
 pub mod Bytes
+pub mod Turning
 pub mod FairRun
 pub mod Taken
+pub mod Erased
 pub mod Last
 pub mod Planned
 pub mod Cut
+pub mod Runs
+pub mod Demanded
 pub mod Fairness
 pub mod WriteList
 pub mod Skipped

@@ -16,15 +16,14 @@ use Rattle.map.specs.Map as reg
 use Rattle.registers.specs.Classes.{classAt, readOnly, free}
 use Rattle.chip.specs.declared.Chip.{Chip}
 use Rattle.chip.specs.Machine.{Write, avi, audio, gc, packets, up, holdsOf}
-use Rattle.chip.specs.Write.{put, stored, two, refuses, writeOf}
+use Rattle.chip.specs.Write.{put, stored, two, refuses, writeOf, vsyncOf}
 use Rattle.chip.proofs.Writes.{written-as, allowed}
 use Rattle.writes.specs.List.{writeList, ready}
-use Rattle.cut.specs.Run.{Event, write, happens, cut, Fair}
-use Rattle.cut.specs.Demand.{sent}
+use Rattle.cut.specs.Run.{Event, write, vsync, happens, cut, Fair}
 use Rattle.cut.specs.Mended.{Mended}
 use Rattle.cut.proofs.Bytes.{Kept, Agree, agree-self, agree-trans, at-set}
 use Rattle.cut.proofs.FairRun.{after-write, Fairly, later, keeps, leaves}
-use Rattle.cut.proofs.Retry.{Taken, sized-happens}
+use Rattle.cut.proofs.Retry.{Taken, sized-happens, vsync-image}
 use Rattle.cut.proofs.Taken.{neat-two}
 use Rattle.cut.proofs.Cut.{Ready, Near}
 use Rattle.cut.proofs.Fewer.{ends-same}
@@ -72,6 +71,8 @@ single es s t o zero = o
 single [] s t o (suc k) = o
 single (write w ∷ es) s t o (suc k) =
     single es (happens (write w) s .chip) (next-taken (write w) es s t) (lone s (w .address) (w .value) (t 0 (zero-lt-suc _))) k
+single (vsync ∷ es) s t o (suc k) =
+    single es (vsyncOf s) (next-taken vsync es s t) (ap (λ (image : List ℕ). two (holdsOf packets image)) (vsync-image s) ∙ o) k
 
 pub sized : (es : List Event) (s : Chip) → length (s .image) ≡ 256 → (k : ℕ) → length (cut es s k .image) ≡ 256
 sized es s z zero = z
@@ -83,6 +84,8 @@ agrees es s f zero = agree-self (s .image)
 agrees [] s f (suc k) = agree-self (s .image)
 agrees (write w ∷ es) s f (suc k) =
     agree-trans _ _ _ (agrees es (happens (write w) s .chip) (later (write w) es s f) k) (agree-fair w s (f 0 (zero-lt-suc _)))
+agrees (vsync ∷ es) s f (suc k) =
+    subst (λ (image : List ℕ). Agree (cut es (vsyncOf s) k .image) image) (vsync-image s) (agrees es (vsyncOf s) (later vsync es s f) k)
 
 -- the GC hold is a free bit
 gc-free : bit 4 (free reg.infoframeUpdate) ≡ 1
@@ -119,11 +122,11 @@ module _ (es : List Event) (s : Chip) (r : Ready (s .image)) (f : Fairly es s) (
   }
 
 pub mended : (want : ℕ → ℕ) (es : List Event) (s : Chip) → length (s .image) ≡ 256 → ready (s .image) ≡ true → Fairly es s → Taken es s
-    → Mended (λ image. sent (writeList want image)) es s
+    → Mended (writeList want) es s
 mended want es s whole clear f t =
     let r : Ready (s .image) = record { whole = whole; holds = clear } in
     record {
       whole = λ k. near es s r f t k .ready .whole;
       ready = λ k. near es s r f t k .ready .holds;
-      again = λ k. ends-same want s whole clear (cut es s k) (near es s r f t k);
+      again = λ k fs gs a b. ends-same want s whole clear (cut es s k) (near es s r f t k) fs gs a b;
     }

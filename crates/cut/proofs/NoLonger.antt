@@ -7,7 +7,7 @@ use mathlib.Core.List.{List, [], _∷_}
 use Prim.Native.Nat.{ℕ, suc, _+_, _<_, _≤_}
 use native.Mathlib.Omega.{arith}
 use lib.Dec.{eqb, ltb}
-use lib.ListN.{length, getD, take, length-map}
+use lib.ListN.{length, getD, take}
 use borrow.Author.Tests.{eqb-true, eq-eqb, not-true}
 use Rattle.lists.specs.Among.{among}
 use Rattle.lists.specs.Find.{every}
@@ -22,11 +22,13 @@ use Rattle.writes.proofs.Last.{last, read}
 use Rattle.writes.proofs.Image.{image-at}
 use Rattle.writes.proofs.Counted.{no-more-of}
 use Rattle.writes.proofs.Fewer.{plain, raises-none, every-plain, leftSteps, steps-left, by-steps, nine-of-three, fewer}
-use Rattle.cut.specs.Run.{Event, write, cut}
-use Rattle.cut.specs.Demand.{sent, cuts}
+use Rattle.cut.specs.Run.{Event, cut, writesOf, writesBy}
+use Rattle.cut.specs.Demand.{Cut, cuts, Planned}
 use Rattle.cut.specs.Within.{NoLonger}
-use Rattle.cut.proofs.Cut.{Ready, Near, near-self, finished-near, near-cut, take-map, cut-acts, stand}
-use Rattle.cut.proofs.Fewer.{plain-those, fewer-good}
+use Rattle.cut.proofs.Cut.{Ready, Near, near-self, finished-near, take-map, cut-acts, stand}
+use Rattle.cut.proofs.Runs.{alike}
+use Rattle.cut.proofs.Demanded.{near-run}
+use Rattle.cut.proofs.Fewer.{plain-those, fewer-good, left-fair}
 use Rattle.cut.proofs.Within.{every-take}
 
 -- the last of some plain steps at a register: none, or one that raises nothing
@@ -60,18 +62,21 @@ module _ (want : ℕ → ℕ) where
       (plain-those (λ i. stays image (written want image i)) (steps (middleOf want image)) (every-plain (up audio (holdsOf packets image))))
 
   -- a cut leaves a register as it was, or as it is to be
-  as-was-or-will : (u : Chip) → Ready (u .image) → (k a : ℕ) → a < 256 → among a theThree ≡ false
-      → let t : Chip = cut (sent (writeList want (u .image))) u k in
+  as-was-or-will : (u : Chip) → Ready (u .image) → (es : List Event) → writesOf es ≡ writeList want (u .image) → (k a : ℕ) → a < 256
+      → among a theThree ≡ false
+      → let t : Chip = cut es u k in
       (getD (t .image) a 0 ≡ getD (u .image) a 0) ⊎ (getD (t .image) a 0 ≡ finished want (u .image) a)
-  as-was-or-will u r k a h n =
+  as-was-or-will u r es runs k a h n =
       let f : Step → Write = written want (u .image) in
       let is : List Step = steps (leftSteps want (u .image)) in
-      let x = stand leftSteps fewer-good want u r (take k is) a h in
-      let e : getD (cut (sent (writeList want (u .image))) u k .image) a 0 ≡ read f a (last a (take k is) 0) (getD (u .image) a 0) =
-      rw (by-steps want (u .image), cut-acts leftSteps fewer-good want u r k, take-map f k is) x in
+      let j : ℕ = writesBy es k in
+      let x = stand leftSteps fewer-good want u r (take j is) a h in
+      let e : getD (cut es u k .image) a 0 ≡ read f a (last a (take j is) 0) (getD (u .image) a 0) =
+      ap (λ (l : List ℕ). getD l a 0) (alike leftSteps fewer-good want u r es (runs ∙ by-steps want (u .image)) k .image)
+      ∙ rw (cut-acts leftSteps fewer-good want u r j, take-map f j is) x in
       ⊎-elim (λ q. inl (e ∙ ap (λ (o : ℕ). read f a o (getD (u .image) a 0)) q))
       (λ q. inr (e ∙ ap (λ (o : ℕ). read f a o (getD (u .image) a 0)) (q .0) ∙ plain-finished (u .image) a n (q .1)))
-      (plain-last a n (take k is) 0 (every-take plain is k (all-plain (u .image))))
+      (plain-last a n (take j is) 0 (every-take plain is j (all-plain (u .image))))
 
   -- after some cuts a register is as it was at the start, or as it is to be
   module _ (s : Chip) (r : Ready (s .image)) where
@@ -79,20 +84,22 @@ module _ (want : ℕ → ℕ) where
     Settled u =
         (a : ℕ) → a < 256 → among a theThree ≡ false → (getD (u .image) a 0 ≡ getD (s .image) a 0) ⊎ (getD (u .image) a 0 ≡ finished want (s .image) a)
 
-    abbrev planned : List ℕ → List Event
-    planned image = sent (writeList want image)
+    abbrev planned : List ℕ → List Write
+    planned = writeList want
 
-    near-next : (u : Chip) (k : ℕ) → Near s u → Near s (cut (planned (u .image)) u k)
-    near-next u k near = subst (λ (ws : List Write). Near s (cut (sent ws) u k)) (sym (by-steps want (u .image))) (near-cut leftSteps fewer-good want s u k near)
+    near-next : (u : Chip) (es : List Event) (k : ℕ) → writesOf es ≡ planned (u .image) → Near s u → Near s (cut es u k)
+    near-next u es k e near = near-run leftSteps fewer-good left-fair want s u es k (e ∙ by-steps want (u .image)) near
 
-    settled-next : (u : Chip) (k : ℕ) → Near s u → Settled u → Settled (cut (planned (u .image)) u k)
-    settled-next u k near t a h n =
+    settled-next : (u : Chip) (es : List Event) (k : ℕ) → writesOf es ≡ planned (u .image) → Near s u → Settled u → Settled (cut es u k)
+    settled-next u es k runs near t a h n =
         ⊎-elim (λ e. ⊎-elim (λ q. inl (e ∙ q)) (λ q. inr (e ∙ q)) (t a h n)) (λ e. inr (e ∙ finished-near want s u near a h))
-        (as-was-or-will u (near .ready) k a h n)
+        (as-was-or-will u (near .ready) es runs k a h n)
 
-    after : (ks : List ℕ) (u : Chip) → Near s u → Settled u → Near s (cuts planned ks u) × Settled (cuts planned ks u)
-    after [] u near t = (near, t)
-    after (k ∷ ks) u near t = after ks (cut (planned (u .image)) u k) (near-next u k near) (settled-next u k near t)
+    after : (cs : List Cut) (u : Chip) → Planned planned cs u → Near s u → Settled u → Near s (cuts cs u) × Settled (cuts cs u)
+    after [] u p near t = (near, t)
+    after (c ∷ cs) u p near t =
+        after cs (cut (c .events) u (c .place)) (p .1) (near-next u (c .events) (c .place) (p .0) near)
+        (settled-next u (c .events) (c .place) (p .0) near t)
 
     -- so a register that differs there differed at the start
     differed : (u : Chip) → Near s u → Settled u → (a : ℕ) → a < 256 → differs (u .image) (finishedImage want (u .image)) a ≡ true
@@ -107,17 +114,17 @@ module _ (want : ℕ → ℕ) where
 
     counted : (image : List ℕ) → length (planned image) ≡ differing image (finishedImage want image) + 9
     counted image =
-        length-map (writeList want image) write ∙ fewer want image .count
+        fewer want image .count
         ∙ ap (λ (n : ℕ). differing image (finishedImage want image) + n) (nine-of-three want image)
 
     pub no-longer : NoLonger planned s
-    no-longer ks =
-        let u : Chip = cuts planned ks s in
-        let p = after ks s (near-self s r) (λ a h n. inl refl) in
+    no-longer cs q =
+        let u : Chip = cuts cs s in
+        let p = after cs s q (near-self s r) (λ a h n. inl refl) in
         let m : differing (u .image) (finishedImage want (u .image)) ≤ differing (s .image) (finishedImage want (s .image)) =
         no-more-of (differs (s .image) (finishedImage want (s .image))) (differs (u .image) (finishedImage want (u .image))) 0 256
         (λ a lo hi. differed u (p .0) (p .1) a (omega (arith, hi))) in
         omega (arith, m, counted (u .image), counted (s .image))
 
-pub shorter : (want : ℕ → ℕ) (s : Chip) → length (s .image) ≡ 256 → ready (s .image) ≡ true → NoLonger (λ image. sent (writeList want image)) s
+pub shorter : (want : ℕ → ℕ) (s : Chip) → length (s .image) ≡ 256 → ready (s .image) ≡ true → NoLonger (writeList want) s
 shorter want s whole clear = no-longer want s (record { whole = whole; holds = clear })

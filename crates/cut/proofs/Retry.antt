@@ -14,10 +14,10 @@ use Rattle.bits.proofs.Laws.{merge-left}
 use Rattle.registers.specs.Classes.{readOnly}
 use Rattle.chip.specs.declared.Chip.{Chip}
 use Rattle.chip.specs.declared.Wrote.{Wrote}
-use Rattle.chip.specs.Machine.{Group, packets, converter, up, holdsOf}
-use Rattle.chip.specs.Write.{put, stored, imageAfter, two, refuses, writeOf}
+use Rattle.chip.specs.Machine.{Group, matrix, packets, converter, up, holdsOf, held}
+use Rattle.chip.specs.Write.{lentAs, put, stored, imageAfter, two, refuses, writeOf, vsyncOf}
 use Rattle.chip.proofs.Writes.{written-as, allowed, stepped}
-use Rattle.cut.specs.Run.{Event, write, happens, run, cut, event, retried, begun, Retried}
+use Rattle.cut.specs.Run.{Event, write, vsync, happens, run, cut, event, retried, begun, Retried}
 
 -- a byte that was stored is stored again as it is
 merge-set : (l : List ℕ) (a m v : ℕ) → merge 8 m (getD (set l a (merge 8 m (getD l a 0) v)) a 0) v ≡ merge 8 m (getD l a 0) v
@@ -42,8 +42,8 @@ none-rises n (g ∷ gs) = go (up g n) (none-rises n gs)
 sized-after : (s : Chip) (a v : ℕ) → length (s .image) ≡ 256 → length (writeOf s a v .chip .image) ≡ 256
 sized-after s a v z = stepped s a v z .sized ∙ z
 
-abbrev taking : ℕ → List ℕ → List ℕ → List ℕ → Wrote
-taking n image packet coefficients = record { refusal = n; chip = record { image = image; packet = packet; coefficients = coefficients } }
+abbrev taking : ℕ → List ℕ → List ℕ → List ℕ → Bool → Wrote
+taking n image packet coefficients waiting = record { refusal = n; chip = lentAs image packet coefficients waiting }
 
 module _ (s : Chip) (a v : ℕ) (z : length (s .image) ≡ 256) (taken : writeOf s a v .refusal ≡ 0) where
   abbrev t : Chip
@@ -76,14 +76,31 @@ module _ (s : Chip) (a v : ℕ) (z : length (s .image) ≡ 256) (taken : writeOf
   coefficients-stay =
       stepped t a v (sized-after s a v z) .coefficients (rw image-stays (none-rises (holdsOf converter (t .image)) (converter .groups)))
 
+  mark-stays : writeOf t a v .chip .waiting ≡ t .waiting
+  mark-stays = stepped t a v (sized-after s a v z) .waits (ap (λ (image : List ℕ). up matrix (holdsOf converter image)) image-stays)
+
   pub sent-again : writeOf t a v ≡ record { refusal = 0; chip = t }
   sent-again =
       let w : Wrote = writeOf t a v in
       let c : Chip = w .chip in
-      ap (λ (x : Wrote). taking (x .refusal) (c .image) (c .packet) (c .coefficients)) (written-as t a v false let-in)
-      ∙ ap (λ (l : List ℕ). taking 0 l (c .packet) (c .coefficients)) image-stays
-      ∙ ap (λ (l : List ℕ). taking 0 (t .image) l (c .coefficients)) packet-stays
-      ∙ ap (λ (l : List ℕ). taking 0 (t .image) (t .packet) l) coefficients-stay
+      ap (λ (x : Wrote). taking (x .refusal) (c .image) (c .packet) (c .coefficients) (c .waiting)) (written-as t a v false let-in)
+      ∙ ap (λ (l : List ℕ). taking 0 l (c .packet) (c .coefficients) (c .waiting)) image-stays
+      ∙ ap (λ (l : List ℕ). taking 0 (t .image) l (c .coefficients) (c .waiting)) packet-stays
+      ∙ ap (λ (l : List ℕ). taking 0 (t .image) (t .packet) l (c .waiting)) coefficients-stay
+      ∙ ap (λ (b : Bool). taking 0 (t .image) (t .packet) (t .coefficients) b) mark-stays
+
+-- a Vsync twice is a Vsync
+pub turned-again : (s : Chip) → vsyncOf (vsyncOf s) ≡ vsyncOf s
+unfolding vsyncOf
+turned-again s = ap (λ (b : Bool). lentAs (s .image) (s .packet) (s .coefficients) b) (go (held s) (s .waiting))
+  where
+    go : (h w : Bool) → (h && (h && w)) ≡ (h && w)
+    go true w = refl
+    go false w = refl
+
+pub vsync-image : (s : Chip) → vsyncOf s .image ≡ s .image
+unfolding vsyncOf
+vsync-image s = refl
 
 -- ---- a list of events
 
@@ -96,10 +113,12 @@ Taken es s = (k : ℕ) → k < length es → happens (event es k) (cut es s k) .
 
 pub sized-happens : (e : Event) (s : Chip) → Whole s → Whole (happens e s .chip)
 sized-happens (write w) s z = sized-after s (w .address) (w .value) z
+sized-happens vsync s z = ap length (vsync-image s) ∙ z
 
 again : (e : Event) (s : Chip) → Whole s → happens e s .refusal ≡ 0
     → happens e (happens e s .chip) ≡ record { refusal = 0; chip = happens e s .chip }
 again (write w) s z h = sent-again s (w .address) (w .value) z h
+again vsync s z h = ap (λ (t : Chip). record { refusal = 0; chip = t }) (turned-again s)
 
 -- an event that changes nothing, any number of times before the others
 module _ (e : Event) (t : Chip) (idle : happens e t ≡ record { refusal = 0; chip = t }) where

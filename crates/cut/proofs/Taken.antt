@@ -89,11 +89,11 @@ module _ (want : ℕ → ℕ) (image₀ : List ℕ) where
   next-neat i is s fit =
       ⊎-elim (λ q. q) (λ q. absurd (false≢true (q .0))) (first tidy false (status packets (s .image)) (f i) (map f is) (fit .walks))
 
-  head-taken : (i : Step) (is : List Step) (s : Chip) → Fit s (i ∷ is)
+  pub head-taken : (i : Step) (is : List Step) (s : Chip) → Fit s (i ∷ is)
       → writeOf s (f i .address) (f i .value) ≡ record { refusal = 0; chip = store (f i) s }
   head-taken i is s fit = took (f i) s (fit .sized) (written-stored want image₀ i s (fit .agree)) (fit .holds) (next-neat i is s fit .0)
 
-  tail-fit : (i : Step) (is : List Step) (s : Chip) → Fit s (i ∷ is) → Fit (store (f i) s) is
+  pub tail-fit : (i : Step) (is : List Step) (s : Chip) → Fit s (i ∷ is) → Fit (store (f i) s) is
   tail-fit i is s fit = record {
     agree = agree-store want image₀ i s (fit .agree);
     sized = size-store (f i) s (fit .sized);

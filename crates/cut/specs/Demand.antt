@@ -1,28 +1,87 @@
--- Demand 3: what planning adds to a careful run. `planned image` is the list for an image; `want a` is the byte whose named bits are wanted
--- in register a.
+-- Demand 3, as request 04 of document 02 changes it: what planning adds to a careful run. `planned image` is the list for an image; `want a`
+-- is the byte whose named bits are wanted in register a.
 use mathlib.Core.Path.{_≡_}
-use mathlib.Core.Bool.{true}
-use mathlib.Core.List.{List, [], _∷_, map}
+use mathlib.Core.Logic.{_⊎_}
+use mathlib.Core.Bool.{Bool, true, not, _||_}
+use mathlib.Core.List.{List, [], _∷_, _++_, map}
 use Prim.Native.Nat.{ℕ, _<_}
-use lib.ListN.{length}
+use lib.Dec.{eqb}
+use lib.ListN.{length, take}
+use Rattle.lists.specs.Find.{every}
+use Rattle.bits.specs.Merge.{bit}
 use Rattle.matrix.specs.Matrix.{fields}
 use Rattle.chip.specs.declared.Chip.{Chip}
 use Rattle.chip.specs.Machine.{Write, avi, audio, matrix, packets, registersOf, inUse, coefficients, Open}
+use Rattle.chip.specs.Write.{vsyncOf}
 use Rattle.writes.specs.List.{finishedImage, ready}
-use Rattle.cut.specs.Run.{Event, write, run, cut, allInUse, Between, Careful, Covered, Untouched, retried, begun, Retried}
+use Rattle.cut.specs.Run.{Event, write, vsync, run, cut, writesOf, writesBy, standing, old, Between, Careful, Covered, Untouched}
+use Rattle.cut.specs.Run.{retried, begun, Retried}
 
--- a list of writes, sent one after the other
+-- ---- a finished run
+
+-- a list of writes, sent one after the other with no Vsync
 abbrev pub sent : List Write → List Event
 sent = map write
 
--- planned on the registers as they stand, "and run to its end"
-abbrev pub toItsEnd : (List ℕ → List Event) → Chip → Chip
-toItsEnd planned s = run (planned (s .image)) s
+-- the same with one Vsync just before the last write, as a host sends it
+abbrev pub waited : List Write → List Event
+waited [] = []
+waited (w ∷ []) = vsync ∷ write w ∷ []
+waited (w ∷ v ∷ ws) = write w ∷ waited (v ∷ ws)
 
--- cut at a place, planned again "on the registers as the cut left them", cut again, and so on: the state that the last cut leaves
-abbrev pub cuts : (List ℕ → List Event) → List ℕ → Chip → Chip
-cuts planned [] s = s
-cuts planned (k ∷ ks) s = cuts planned ks (cut (planned (s .image)) s k)
+-- no write of these is to the register of the coefficient hold
+abbrev pub leavesHold : List Write → Bool
+leavesHold = every (λ w. not (eqb (w .address) 0x1A))
+
+-- "The host waits for one Vsync between the lowered coefficient hold and the opening write; a run without that event is not a finished one":
+-- a Vsync after which 0x1A is not written, and the last write is. (That the last write to 0x1A lowers the hold, and the last of all opens:
+-- `Room`.)
+pub record Finished (ws : List Write) (es : List Event) : Type 0 where
+  pub runs : writesOf es ≡ ws
+  pub before : List Event
+  pub after : List Event
+  pub waits : es ≡ before ++ vsync ∷ after
+  pub lowered : leavesHold (writesOf after) ≡ true
+  pub unopened : 0 < length (writesOf after)
+
+-- there is room for it: the last write to 0x1A lowers the hold, and those before it have it up; the last write of all is to 0x4B. So just
+-- before the last write is such a place, and the host finds it without looking at a pair.
+pub record Room (ws : List Write) : Type 0 where
+  pub front : List Write
+  pub lowering : Write
+  pub back : List Write
+  pub opening : Write
+  pub split : ws ≡ front ++ lowering ∷ back ++ opening ∷ []
+  pub raised : every (λ w. not (eqb (w .address) 0x1A) || eqb (bit 5 (w .value)) 1) front ≡ true
+  pub hold : lowering .address ≡ 0x1A
+  pub down : bit 5 (lowering .value) ≡ 0
+  pub lowered : leavesHold back ≡ true
+  pub mute : opening .address ≡ 0x4B
+  pub waits : Finished ws (waited ws)
+
+-- planned on the registers as they stand, "and run to its end", with its Vsync
+abbrev pub toItsEnd : (List ℕ → List Write) → Chip → Chip
+toItsEnd planned s = run (waited (planned (s .image))) s
+
+-- ---- cuts
+
+-- a run that was cut: its events, and how many of them happened
+pub record Cut : Type 0 where
+  pub events : List Event
+  pub place : ℕ
+
+-- cut, planned again "on the registers as the cut left them", with whatever wait it left, cut again, and so on: the state that the last cut
+-- leaves
+abbrev pub cuts : List Cut → Chip → Chip
+cuts [] s = s
+cuts (c ∷ cs) s = cuts cs (cut (c .events) s (c .place))
+
+-- each a run of the list that is planned where the one before left off
+abbrev pub Planned : (List ℕ → List Write) → List Cut → Chip → Type 0
+Planned planned [] s = Unit {0}
+Planned planned (c ∷ cs) s = (writesOf (c .events) ≡ planned (s .image)) × Planned planned cs (cut (c .events) s (c .place))
+
+-- ---- the demand
 
 -- "all are new and the picture is open": what is in use is what stands in the registers
 pub record After (r : Chip) : Type 0 where
@@ -38,23 +97,36 @@ pub record Same (s t : Chip) : Type 0 where
   pub audio : inUse packets audio t ≡ inUse packets audio s
   pub matrix : coefficients t ≡ coefficients s
 
-pub record Demand3 (planned : List ℕ → List Event) (want : ℕ → ℕ) (s : Chip) : Type 0 where
+-- of one run of the list ws, with Vsync events anywhere, that ends in the image `end`
+pub record Clauses (end : List ℕ) (ws : List Write) (es : List Event) (s : Chip) : Type 0 where
+  -- "Before the first write nothing has moved", but by Vsync
+  pub before : (k : ℕ) → writesBy es k ≡ 0 → (cut es s k ≡ s) ⊎ (cut es s k ≡ vsyncOf s)
   -- "From the first write until the last the picture is muted, and .. each all old or all new." No write is refused.
-  pub careful : Careful (planned (s .image)) s
-  pub covered : Covered (planned (s .image)) s
-  pub untouched : Untouched (planned (s .image)) s
-  -- "After the last, all are new and the picture is open."
-  pub ended : After (toItsEnd planned s)
+  pub careful : Careful (standing end) es s
+  pub covered : Covered es s
+  pub untouched : Untouched es s
   -- the registers after the last write
-  pub registers : toItsEnd planned s .image ≡ finishedImage want (s .image)
+  pub registers : run es s .image ≡ end
+  -- "After the last, all are new and the picture is open.", of a finished run
+  pub ended : Finished ws es → After (run es s)
+  -- a run that is not finished has opened the picture all the same, and all are new after one Vsync more
+  pub opened : Open (run es s)
+  pub late : After (vsyncOf (run es s))
+  -- each event again any number of times, as a bus that retries does: the same states in the same order; and so muted, each group old or
+  -- new, until the last write of the list is sent
+  pub retries : (n : ℕ → ℕ) → Retried n es s
+  pub retriesBetween : (n : ℕ → ℕ) (k : ℕ) → let j : ℕ = begun n es k in 0 < writesBy es j → writesBy es j < length (writesOf es)
+      → Between (old (take j es) s) (standing end) (cut (retried n es) s k)
+
+pub record Demand3 (planned : List ℕ → List Write) (want : ℕ → ℕ) (s : Chip) : Type 0 where
+  -- every run of the list: "Vsync events anywhere between the writes"
+  pub runs : (es : List Event) → writesOf es ≡ planned (s .image) → Clauses (finishedImage want (s .image)) (planned (s .image)) es s
+  -- the list leaves room for its Vsync
+  pub room : Room (planned (s .image))
   -- after one cut, two, or any number of them the registers can be planned on: not refused by (7) or (8)
-  pub whole : (ks : List ℕ) → length (cuts planned ks s .image) ≡ 256
-  pub ready : (ks : List ℕ) → ready (cuts planned ks s .image) ≡ true
+  pub whole : (cs : List Cut) → Planned planned cs s → length (cuts cs s .image) ≡ 256
+  pub ready : (cs : List Cut) → Planned planned cs s → ready (cuts cs s .image) ≡ true
   -- "If the same request is planned again on the registers as the cut left them, and run to its end, the registers and all three groups in
-  -- use are those of the run without a cut."
-  pub again : (ks : List ℕ) → Same (toItsEnd planned s) (toItsEnd planned (cuts planned ks s))
-  -- each write sent again any number of times, as a bus that retries does: the same states in the same order; and so muted, each group old
-  -- or new, until the last write of the list is sent
-  pub retries : (n : ℕ → ℕ) → Retried n (planned (s .image)) s
-  pub retriesBetween : (n : ℕ → ℕ) (k : ℕ) → let es : List Event = planned (s .image) in 0 < k → begun n es k < length es
-      → Between (allInUse s) (allInUse (run (retried n es) s)) (cut (retried n es) s k)
+  -- use are those of the run without a cut": of finished runs
+  pub again : (cs : List Cut) → Planned planned cs s → (es fs : List Event) → Finished (planned (s .image)) es
+      → Finished (planned (cuts cs s .image)) fs → Same (run es s) (run fs (cuts cs s))

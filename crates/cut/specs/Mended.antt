@@ -5,12 +5,14 @@ use mathlib.Core.List.{List}
 use Prim.Native.Nat.{ℕ}
 use lib.ListN.{length}
 use Rattle.chip.specs.declared.Chip.{Chip}
+use Rattle.chip.specs.Machine.{Write}
 use Rattle.writes.specs.List.{ready}
-use Rattle.cut.specs.Run.{Event, cut}
-use Rattle.cut.specs.Demand.{toItsEnd, Same}
+use Rattle.cut.specs.Run.{Event, run, cut}
+use Rattle.cut.specs.Demand.{Finished, Same}
 
--- cut anywhere: planning there is refused by neither (7) nor (8), and ends as planning at its start does
-pub record Mended (planned : List ℕ → List Event) (es : List Event) (s : Chip) : Type 0 where
+-- cut anywhere: planning there is refused by neither (7) nor (8), and a finished run from there ends as one from its start does
+pub record Mended (planned : List ℕ → List Write) (es : List Event) (s : Chip) : Type 0 where
   pub whole : (k : ℕ) → length (cut es s k .image) ≡ 256
   pub ready : (k : ℕ) → ready (cut es s k .image) ≡ true
-  pub again : (k : ℕ) → Same (toItsEnd planned s) (toItsEnd planned (cut es s k))
+  pub again : (k : ℕ) (fs gs : List Event) → Finished (planned (s .image)) fs → Finished (planned (cut es s k .image)) gs
+      → Same (run fs s) (run gs (cut es s k))

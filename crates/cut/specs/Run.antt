@@ -1,36 +1,49 @@
--- Runs of the chip machine over a list of events, whoever made the list: what a careful one does at every cut. "Old" is what is in use at
--- the start, "new" what is in use at the end.
+-- Runs of the chip machine over a list of events, whoever made the list: what a careful one does at every cut. "Demand 3 then allows Vsync
+-- events anywhere between the writes" (document 02, request 04): a run of some writes is any list of events that has these writes in order.
 use mathlib.Core.Path.{_≡_}
 use mathlib.Core.Logic.{_⊎_, _≢_}
-use mathlib.Core.Bool.{true, false}
+use mathlib.Core.Bool.{Bool, true, false, cond, not, _&&_}
 use mathlib.Core.List.{List, [], _∷_, _++_}
 use Prim.Native.Nat.{ℕ, zero, suc, _-_, _<_, _≤_}
+use lib.Dec.{eqb}
 use lib.ListN.{length, getD, take, replicate}
 use Rattle.bits.specs.Merge.{under, bit}
 use Rattle.map.specs.Map as reg
 use Rattle.registers.specs.Classes.{readOnly, mandated, free, bits}
+use Rattle.matrix.specs.Matrix.{fields}
 use Rattle.chip.specs.declared.Chip.{Chip}
 use Rattle.chip.specs.declared.Wrote.{Wrote}
-use Rattle.chip.specs.Machine.{Write, _gets_, avi, audio, packets, inUse, coefficients, Muted}
-use Rattle.chip.specs.Write.{writeOf}
+use Rattle.chip.specs.Machine.{Write, _gets_, avi, audio, matrix, packets, up, registersOf, held, inUse, coefficients, Muted}
+use Rattle.chip.specs.Write.{writeOf, vsyncOf}
 use Rattle.writes.specs.List.{isWritten}
 
--- what happens to the chip: document 01 knows writes alone
+-- what happens to the chip: "a Vsync event joins the writes"
 pub data Event : Type 0 where
   write : Write → Event
+  vsync : Event
 
--- the number of its refusal, and the state after it; a refused write changes nothing
+-- the number of its refusal, and the state after it; a refused write changes nothing, and a Vsync is never refused
 abbrev pub happens : Event → Chip → Wrote
 happens (write w) s = writeOf s (w .address) (w .value)
+happens vsync s = record { refusal = 0; chip = vsyncOf s }
 
 -- the state after a list of events
 abbrev pub run : List Event → Chip → Chip
 run [] s = s
 run (e ∷ es) s = run es (happens e s .chip)
 
--- "a cut after any write": the state after the first k
+-- "a cut after any write", or Vsync: the state after the first k events
 abbrev pub cut : List Event → Chip → ℕ → Chip
 cut es s k = run (take k es) s
+
+-- the writes among some events, in their order, and how many of them the first k events have
+abbrev pub writesOf : List Event → List Write
+writesOf [] = []
+writesOf (write w ∷ es) = w ∷ writesOf es
+writesOf (vsync ∷ es) = writesOf es
+
+abbrev pub writesBy : List Event → ℕ → ℕ
+writesBy es k = length (writesOf (take k es))
 
 -- the event at place k
 abbrev pub event : List Event → ℕ → Event
@@ -46,6 +59,30 @@ pub record InUse : Type 0 where
 
 abbrev pub allInUse : Chip → InUse
 allInUse s = record { avi = inUse packets avi s; audio = inUse packets audio s; matrix = coefficients s }
+
+-- what is in use where every hold is down and none waits: the registers of an image
+abbrev pub standing : List ℕ → InUse
+standing image = record { avi = registersOf avi image; audio = registersOf audio image; matrix = fields (registersOf matrix image) }
+
+-- a change waits: a lowered coefficient hold whose Vsync has not come
+abbrev pub waits : Chip → Bool
+waits s = not (held s) && s .waiting
+
+-- a Vsync comes among these events before a write that raises the coefficient hold, 0x1A[5]
+abbrev pub turnedOver : List Event → Bool
+turnedOver [] = false
+turnedOver (vsync ∷ es) = true
+turnedOver (write w ∷ es) = not (eqb (w .address) 0x1A && up matrix (w .value)) && turnedOver es
+
+-- "If a change waits at the start, old means the coefficients in use until its Vsync and the waiting ones after it; if the hold is raised
+-- before that Vsync, the change is dropped and old stays the coefficients in use." The events so far, from s. The waiting ones are those in
+-- the registers of the start. Of the packets old is what is in use at the start.
+abbrev pub old : List Event → Chip → InUse
+old es s = record {
+  avi = inUse packets avi s;
+  audio = inUse packets audio s;
+  matrix = cond (waits s && turnedOver es) (fields (registersOf matrix (s .image))) (coefficients s);
+}
 
 -- "each all old or all new"
 abbrev pub Either : List ℕ → List ℕ → List ℕ → Type 0
@@ -68,13 +105,15 @@ pub record Fair (image : List ℕ) (w : Write) : Type 0 where
 
 abbrev pub IsFair : Event → Chip → Type 0
 IsFair (write w) s = Fair (s .image) w
+IsFair vsync s = Unit {0}
 
-pub record Careful (es : List Event) (s : Chip) : Type 0 where
+-- `new` is what is in use after the last write and its Vsync
+pub record Careful (new : InUse) (es : List Event) (s : Chip) : Type 0 where
   -- every event is fair where it happens, and none is refused (13): "two packet holds are up, or the write would leave two up"
   pub fair : (k : ℕ) → k < length es → IsFair (event es k) (cut es s k)
   pub taken : (k : ℕ) → k < length es → happens (event es k) (cut es s k) .refusal ≡ 0
   -- "From the first write until the last the picture is muted, and .. each all old or all new."
-  pub between : (k : ℕ) → 0 < k → k < length es → Between (allInUse s) (allInUse (run es s)) (cut es s k)
+  pub between : (k : ℕ) → 0 < writesBy es k → writesBy es k < length (writesOf es) → Between (old (take k es) s) new (cut es s k)
 
 -- ---- what such a run leaves alone, and when a register may move
 
@@ -87,7 +126,7 @@ pub record Covered (es : List Event) (s : Chip) : Type 0 where
   -- mute's own has the picture muted before it and after it
   pub moves : (a k : ℕ) → a ≢ reg.avMute → getD (cut es s (suc k) .image) a 0 ≢ getD (cut es s k .image) a 0
       → Muted (cut es s k) × Muted (cut es s (suc k))
-  pub vic : (k : ℕ) → getD (cut es s k .image) reg.vicManual 0 ≢ getD (s .image) reg.vicManual 0 → Muted (cut es s k) ⊎ (length es ≤ k)
+  pub vic : (k : ℕ) → getD (cut es s k .image) reg.vicManual 0 ≢ getD (s .image) reg.vicManual 0 → Muted (cut es s k) ⊎ (length (writesOf es) ≤ writesBy es k)
 
 -- "HDCP and CEC are never built, and their bits (0xAF[7], 0xAF[4] among them) stay as the image has them": no cut has moved these two, nor
 -- any free or read-only bit, nor any register that no list writes

@@ -1,0 +1,152 @@
+-- Demand 3 for any list that is `Good`: its runs, the room for its Vsync, and planning again after cuts. Assumes nothing.
+use mathlib.Core.Path.{_≡_, refl, sym, ap, subst, _∙_}
+use mathlib.Core.Bool.{false≢true, Bool, true, false, not, _&&_, _||_}
+use mathlib.Core.List.{List, [], _∷_, _++_, map, map-append}
+use Prim.Native.Nat.{ℕ, _<_}
+use native.Mathlib.Nat.{zero-lt-suc}
+use native.Mathlib.Omega.{arith}
+use lib.Dec.{eqb}
+use lib.ListN.{length, getD}
+use borrow.Author.Tests.{eqb-false}
+use Rattle.lists.specs.Find.{every}
+use Rattle.lists.proofs.Both.{both-left, both-right}
+use Rattle.map.specs.Map as reg
+use Rattle.bits.specs.Merge.{bit}
+use Rattle.chip.specs.declared.Chip.{Chip}
+use Rattle.chip.specs.Machine.{Write, _gets_, matrix, up}
+use Rattle.writes.specs.Steps.{Step, _raising_, steps}
+use Rattle.writes.specs.List.{written, listWith, finishedImage, ready}
+use Rattle.cut.specs.Run.{Event, write, vsync, run, cut, writesOf, writesBy, Fair}
+use Rattle.cut.specs.Demand.{sent, waited, leavesHold, Finished, Room, Cut, cuts, Planned, Same, Clauses, Demand3}
+use Rattle.cut.proofs.Planned.{Planner, cutOf, endOf}
+use Rattle.cut.proofs.Bytes.{clean, Agree}
+use Rattle.cut.proofs.Turning.{hold-seen}
+use Rattle.cut.proofs.Erased.{Alike}
+use Rattle.cut.proofs.Cut as cut
+use Rattle.cut.proofs.Cut.{Ready, Near, near-self, Good, Lowers, elsewhere-or-up, not-hold}
+use Rattle.cut.proofs.Runs.{alike, image-end, clauses, after-same}
+
+-- ---- the list with its Vsync before the last write
+
+pub waited-writes : (ws : List Write) → writesOf (waited ws) ≡ ws
+waited-writes [] = refl
+waited-writes (w ∷ []) = refl
+waited-writes (w ∷ v ∷ ws) = ap (λ (l : List Write). w ∷ l) (waited-writes (v ∷ ws))
+
+pub waited-last : (ws : List Write) (w : Write) → waited (ws ++ w ∷ []) ≡ sent ws ++ vsync ∷ write w ∷ []
+waited-last [] w = refl
+waited-last (v ∷ []) w = refl
+waited-last (v ∷ x ∷ ws) w = ap (λ (l : List Event). write v ∷ l) (waited-last (x ∷ ws) w)
+
+pub waited-finishes : (ws : List Write) (w : Write) → not (eqb (w .address) 0x1A) ≡ true → Finished (ws ++ w ∷ []) (waited (ws ++ w ∷ []))
+waited-finishes ws w n = record {
+  runs = waited-writes (ws ++ w ∷ []);
+  before = sent ws;
+  after = write w ∷ [];
+  waits = waited-last ws w;
+  lowered = rw n;
+  unopened = zero-lt-suc _;
+}
+
+-- ---- room for it
+
+module _ (want : ℕ → ℕ) (image : List ℕ) where
+  abbrev f : Step → Write
+  f = written want image
+
+  raised-list : (is : List Step) → every elsewhere-or-up is ≡ true
+      → every (λ w. not (eqb (w .address) 0x1A) || eqb (bit 5 (w .value)) 1) (map f is) ≡ true
+  unfolding written
+  raised-list [] t = refl
+  raised-list (i ∷ is) t = go (eqb (i .register) 0x1A) refl (both-left (elsewhere-or-up i) _ t) (raised-list is (both-right (elsewhere-or-up i) _ t))
+    where
+      go : (r : Bool) → eqb (i .register) 0x1A ≡ r → (not r || up matrix (clean i .value)) ≡ true → {more : Bool} → more ≡ true
+          → ((not r || up matrix (f i .value)) && more) ≡ true
+      go true e u m = rw (hold-seen want image i e ∙ u, m)
+      go false e u m = m
+
+  away-list : (is : List Step) → every not-hold is ≡ true → leavesHold (map f is) ≡ true
+  unfolding written
+  away-list [] t = refl
+  away-list (i ∷ is) t = rw (both-left (not-hold i) _ t, away-list is (both-right (not-hold i) _ t))
+
+  down-bit : bit 5 (f (reg.coefficientUpdate raising 0) .value) ≡ 0
+  down-bit =
+      let d : up matrix (f (reg.coefficientUpdate raising 0) .value) ≡ false = hold-seen want image (reg.coefficientUpdate raising 0) refl in
+      let n : (bit 5 (f (reg.coefficientUpdate raising 0) .value) ≡ 1) → ⊥ = eqb-false _ 1 d in
+      omega arith
+
+  pub room-for : (ms : List Step) → Lowers ms → Room (map f (steps ms))
+  unfolding written
+  room-for ms l =
+      let first : Step = reg.avMute raising reg.setAvMuteMask in
+      let last : Step = reg.avMute raising reg.clearAvMuteMask in
+      let low : Step = reg.coefficientUpdate raising 0 in
+      let e : map f (steps ms) ≡ f first ∷ map f ms ++ f last ∷ [] = ap (λ (x : List Write). f first ∷ x) (map-append f ms (last ∷ [])) in
+      let m : map f ms ≡ map f (l .front) ++ f low ∷ map f (l .back) = ap (map f) (l .split) ∙ map-append f (l .front) (low ∷ l .back) in
+      record {
+        front = f first ∷ map f (l .front);
+        lowering = f low;
+        back = map f (l .back);
+        opening = f last;
+        split = e ∙ ap (λ (x : List Write). f first ∷ x ++ f last ∷ []) m
+            ∙ ap (λ (x : List Write). f first ∷ x) (append-assoc (map f (l .front)) (f low ∷ map f (l .back)) (f last ∷ []));
+        raised = raised-list (l .front) (l .raised);
+        hold = refl;
+        down = down-bit;
+        lowered = away-list (l .back) (l .lowered);
+        mute = refl;
+        waits = subst (λ (ws : List Write). Finished ws (waited ws)) (sym e) (waited-finishes (f first ∷ map f ms) (f last) refl);
+      }
+    where
+      append-assoc : (x y z : List Write) → (x ++ y) ++ z ≡ x ++ y ++ z
+      append-assoc [] y z = refl
+      append-assoc (v ∷ x) y z = ap (λ (l : List Write). v ∷ l) (append-assoc x y z)
+
+-- ---- planned again
+
+-- what is near by its registers
+near-alike : (s t u : Chip) → Alike t u → Near s u → Near s t
+near-alike s t u a n = record {
+  ready = subst Ready (sym (a .image)) (n .ready);
+  kept = subst (λ (l : List ℕ). Agree l (s .image)) (sym (a .image)) (n .kept);
+  rest = λ b h w. ap (λ (l : List ℕ). getD l b 0) (a .image) ∙ n .rest b h w;
+}
+
+module _ (mid : (ℕ → ℕ) → List ℕ → List Step)
+    (good : (want : ℕ → ℕ) (image : List ℕ) → Ready image → Good want image (mid want image))
+    (fair : (want : ℕ → ℕ) (image : List ℕ) (k : ℕ) → k < length (listWith mid want image)
+    → Fair image (getD (listWith mid want image) k (0 gets 0))) (want : ℕ → ℕ) where
+  abbrev P : List ℕ → List Write
+  P = listWith mid want
+
+  pub near-run : (s u : Chip) (es : List Event) (k : ℕ) → writesOf es ≡ P (u .image) → Near s u → Near s (cut es u k)
+  near-run s u es k e n =
+      near-alike s (cut es u k) _ (alike mid good want u (n .ready) es e k) (cut.near-cut mid good want s u (writesBy es k) n)
+
+  pub near-cuts : (s u : Chip) (cs : List Cut) → Planned P cs u → Near s u → Near s (cuts cs u)
+  near-cuts s u [] p n = n
+  near-cuts s u (c ∷ cs) p n = near-cuts s (cut (c .events) u (c .place)) cs (p .1) (near-run s u (c .events) (c .place) (p .0) n)
+
+  pub all-runs : (s : Chip) → Ready (s .image) → (es : List Event) → writesOf es ≡ P (s .image)
+      → Clauses (finishedImage want (s .image)) (P (s .image)) es s
+  all-runs s r es e = clauses mid good want s r es e (fair want (s .image))
+
+  -- finished runs from near states end alike
+  pub same-end : (s u : Chip) → Ready (s .image) → Near s u → (es fs : List Event) → Finished (P (s .image)) es → Finished (P (u .image)) fs
+      → Same (run es s) (run fs u)
+  same-end s u r n es fs e f =
+      let a = all-runs s r es (e .runs) in
+      let b = all-runs u (n .ready) fs (f .runs) in
+      after-same (run es s) (run fs u) (a .ended e) (b .ended f)
+      (b .registers ∙ sym (image-end mid good want u (n .ready)) ∙ cut.ends-alike mid good want s u r n ∙ image-end mid good want s r
+      ∙ sym (a .registers))
+
+  pub demand3 : (s : Chip) → Ready (s .image) → Demand3 P want s
+  demand3 s r = record {
+    runs = all-runs s r;
+    room = room-for want (s .image) (mid want (s .image)) (good want (s .image) r .lowers);
+    whole = λ cs p. near-cuts s s cs p (near-self s r) .ready .whole;
+    ready = λ cs p. near-cuts s s cs p (near-self s r) .ready .holds;
+    again = λ cs p es fs e f. same-end s (cuts cs s) r (near-cuts s s cs p (near-self s r)) es fs e f;
+  }
