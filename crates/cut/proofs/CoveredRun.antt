@@ -62,7 +62,7 @@ one-more (vsync ∷ es) zero w h e = absurd (false≢true (ap is-write e))
 one-more (write v ∷ es) (suc k) w h e = ap suc (one-more es k w (le-of-suc-le-suc h) e)
 one-more (vsync ∷ es) (suc k) w h e = one-more es k w (le-of-suc-le-suc h) e
 
-module _ (new : InUse) (es : List Event) (s : Chip) (r : Ready (s .image)) (c : Careful new es s) where
+module _ (was : List Event → InUse) (new : InUse) (es : List Event) (s : Chip) (r : Ready (s .image)) (c : Careful was new es s) where
   -- an event that writes another register, or none, leaves the mute
   same-mute : (k : ℕ) → k < length es → address (event es k) ≢ reg.avMute → gcInUse (cut es s (suc k)) ≡ gcInUse (cut es s k)
   same-mute k h n =

@@ -85,6 +85,7 @@ pub record Lowers (ms : List Step) : Type 0 where
   pub back : List Step
   pub split : ms ≡ front ++ reg.coefficientUpdate raising 0 ∷ back
   pub raised : every elsewhere-or-up front ≡ true
+  pub risen : every not-hold front ≡ false
   pub lowered : every not-hold back ≡ true
 
 pub record Good (want : ℕ → ℕ) (image : List ℕ) (ms : List Step) : Type 0 where

@@ -70,6 +70,17 @@ module _ (want : ℕ → ℕ) (image : List ℕ) where
   away-list [] t = refl
   away-list (i ∷ is) t = rw (both-left (not-hold i) _ t, away-list is (both-right (not-hold i) _ t))
 
+  -- one of the steps is to the hold's register, and so is one of the writes
+  some-list : (is : List Step) → every not-hold is ≡ false → leavesHold (map f is) ≡ false
+  unfolding written
+  some-list [] t = absurd (false≢true (sym t))
+  some-list (i ∷ is) t = go (not-hold i) t (some-list is)
+    where
+      go : (b : Bool) → (b && every not-hold is) ≡ false → (every not-hold is ≡ false → leavesHold (map f is) ≡ false)
+          → (b && leavesHold (map f is)) ≡ false
+      go true t ih = ih t
+      go false t ih = refl
+
   down-bit : bit 5 (f (reg.coefficientUpdate raising 0) .value) ≡ 0
   down-bit =
       let d : up matrix (f (reg.coefficientUpdate raising 0) .value) ≡ false = hold-seen want image (reg.coefficientUpdate raising 0) refl in
@@ -92,6 +103,7 @@ module _ (want : ℕ → ℕ) (image : List ℕ) where
         split = e ∙ ap (λ (x : List Write). f first ∷ x ++ f last ∷ []) m
             ∙ ap (λ (x : List Write). f first ∷ x) (append-assoc (map f (l .front)) (f low ∷ map f (l .back)) (f last ∷ []));
         raised = raised-list (l .front) (l .raised);
+        risen = some-list (l .front) (l .risen);
         hold = refl;
         down = down-bit;
         lowered = away-list (l .back) (l .lowered);

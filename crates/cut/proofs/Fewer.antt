@@ -1,13 +1,13 @@
 -- The write list meets demand 3, as the full one does: what is left out leaves the holds, and stands in its register already. Assumes
 -- nothing.
 use mathlib.Core.Path.{_≡_, refl, sym, ap, ap₂, subst, fun-ext, _∙_}
-use mathlib.Core.Bool.{false≢true, Bool, true, false, cond}
+use mathlib.Core.Bool.{false≢true, Bool, true, false, cond, _&&_}
 use mathlib.Core.List.{List, [], _∷_, _++_, map}
 use Prim.Native.Nat.{ℕ, suc, _<_}
 use native.Mathlib.Nat.{suc-ne-zero}
 use lib.Dec.{eqb}
 use lib.ListN.{length, getD}
-use borrow.Author.Tests.{eqb-true}
+use borrow.Author.Tests.{eqb-true, not-false}
 use Rattle.lists.specs.Among.{among}
 use Rattle.lists.specs.Find.{every}
 use Rattle.lists.specs.Those.{those}
@@ -163,6 +163,19 @@ module _ (want : ℕ → ℕ) (image : List ℕ) where
       go true h = rw (both-left (p i) _ t) h
       go false h = h
 
+  -- nor is it any of those to the hold's register
+  some-those : (is : List Step) → every not-hold is ≡ false → every not-hold (those test is) ≡ false
+  some-those [] t = t
+  some-those (i ∷ is) t = go (test i) refl (not-hold i) refl t (some-those is)
+    where
+      go : (c : Bool) → test i ≡ c → (h : Bool) → not-hold i ≡ h → (h && every not-hold is) ≡ false
+          → (every not-hold is ≡ false → every not-hold (those test is) ≡ false) → every not-hold (cond c (i ∷ []) [] ++ those test is) ≡ false
+      go true e true f t ih = rw (f, ih t)
+      go true e false f t ih = rw f
+      go false e true f t ih = ih t
+      go false e false f t ih =
+          absurd (false≢true (sym e ∙ three-stays i (ap (λ (a : ℕ). among a theThree) (eqb-true (i .register) reg.coefficientUpdate (not-false _ f)))))
+
   those-middle : (x y : List Step) (i : Step) → test i ≡ true → those test (x ++ i ∷ y) ≡ those test x ++ i ∷ those test y
   those-middle [] y i e = rw e
   those-middle (v ∷ x) y i e = go (test v) (those-middle x y i e)
@@ -178,6 +191,7 @@ module _ (want : ℕ → ℕ) (image : List ℕ) where
     back = those test (l .back);
     split = ap (those test) (l .split) ∙ those-middle (l .front) (l .back) _ (three-stays (reg.coefficientUpdate raising 0) refl);
     raised = every-those elsewhere-or-up (l .front) (l .raised);
+    risen = some-those (l .front) (l .risen);
     lowered = every-those not-hold (l .back) (l .lowered);
   }
 

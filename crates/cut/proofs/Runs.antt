@@ -67,7 +67,7 @@ acts-append (e ∷ es) fs s = acts-append es fs (act e s)
 
 -- ---- after the hold's last write
 
-sized-run : (es : List Event) (s : Chip) → length (s .image) ≡ 256 → length (run es s .image) ≡ 256
+pub sized-run : (es : List Event) (s : Chip) → length (s .image) ≡ 256 → length (run es s .image) ≡ 256
 sized-run [] s z = z
 sized-run (e ∷ es) s z = sized-run es (happens e s .chip) (sized-happens e s z)
 
@@ -251,7 +251,7 @@ module _ (mid : (ℕ → ℕ) → List ℕ → List Step)
             let a : inUse packets g (cut es s k) ≡ inUse packets g (cutOf P want s (writesBy es k)) = alike-use g (cut es s k) _ (alike k) in
             ⊎-map (λ x. a ∙ x) (λ x. a ∙ x ∙ q ∙ ap (registersOf g) image-end) (o (writesBy es k))
 
-        careful : Careful (standing end) es s
+        careful : Careful (λ fs. old fs s) (standing end) es s
         careful = record {
           fair = all-fair;
           taken = all-taken;

@@ -42,7 +42,7 @@ turn m (write w) = cond (eqb (w .address) (converter .register)) (cond (up matri
 turn m vsync = cond (eqb m 2) 0 m
 
 -- a write is to no register of the converter
-abbrev away : Write → Bool
+abbrev pub away : Write → Bool
 away w = ltb (w .address) (matrix .first) || leb (matrix .first + matrix .count) (w .address)
 
 abbrev still : ℕ → Event → Bool
@@ -140,6 +140,10 @@ lasts vsync s z = z
 
 pub turns : Faithful act turning Whole phase shown
 turns = record { lasts = lasts; tracks = tracks; keeps = keeps }
+
+-- a write after which the hold is up or a change waits, or that is to no register of the converter
+pub write-keeps : (w : Write) (s : Chip) → Whole s → (not (eqb (phase (store w s)) 0) || away w) ≡ true → shown (store w s) ≡ shown s
+write-keeps w s z h = keeps (write w) s z (subst (λ (n : ℕ). (not (eqb n 0) || away w) ≡ true) (tracks (write w) s z) h)
 
 -- a test over the writes that covers every way to put Vsync events between them
 abbrev branch : (Bool → ℕ → Bool) → Bool → ℕ → Write → Bool

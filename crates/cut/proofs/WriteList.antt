@@ -49,6 +49,7 @@ lowers-at b = record {
   back = cond b (audioSteps ++ aviSteps) (aviSteps ++ audioSteps) ++ each others;
   split = refl;
   raised = refl;
+  risen = refl;
   lowered = go b;
 }
   where

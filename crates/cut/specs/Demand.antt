@@ -2,7 +2,7 @@
 -- is the byte whose named bits are wanted in register a.
 use mathlib.Core.Path.{_≡_}
 use mathlib.Core.Logic.{_⊎_}
-use mathlib.Core.Bool.{Bool, true, not, _||_}
+use mathlib.Core.Bool.{Bool, true, false, not, _||_}
 use mathlib.Core.List.{List, [], _∷_, _++_, map}
 use Prim.Native.Nat.{ℕ, _<_}
 use lib.Dec.{eqb}
@@ -44,8 +44,8 @@ pub record Finished (ws : List Write) (es : List Event) : Type 0 where
   pub lowered : leavesHold (writesOf after) ≡ true
   pub unopened : 0 < length (writesOf after)
 
--- there is room for it: the last write to 0x1A lowers the hold, and those before it have it up; the last write of all is to 0x4B. So just
--- before the last write is such a place, and the host finds it without looking at a pair.
+-- there is room for it: the last write to 0x1A lowers the hold, those before it have it up, and there is one of them; the last write of all
+-- is to 0x4B. So just before the last write is such a place, and the host finds it without looking at a pair.
 pub record Room (ws : List Write) : Type 0 where
   pub front : List Write
   pub lowering : Write
@@ -53,6 +53,7 @@ pub record Room (ws : List Write) : Type 0 where
   pub opening : Write
   pub split : ws ≡ front ++ lowering ∷ back ++ opening ∷ []
   pub raised : every (λ w. not (eqb (w .address) 0x1A) || eqb (bit 5 (w .value)) 1) front ≡ true
+  pub risen : leavesHold front ≡ false
   pub hold : lowering .address ≡ 0x1A
   pub down : bit 5 (lowering .value) ≡ 0
   pub lowered : leavesHold back ≡ true
@@ -102,7 +103,7 @@ pub record Clauses (end : List ℕ) (ws : List Write) (es : List Event) (s : Chi
   -- "Before the first write nothing has moved", but by Vsync
   pub before : (k : ℕ) → writesBy es k ≡ 0 → (cut es s k ≡ s) ⊎ (cut es s k ≡ vsyncOf s)
   -- "From the first write until the last the picture is muted, and .. each all old or all new." No write is refused.
-  pub careful : Careful (standing end) es s
+  pub careful : Careful (λ fs. old fs s) (standing end) es s
   pub covered : Covered es s
   pub untouched : Untouched es s
   -- the registers after the last write

@@ -107,13 +107,13 @@ abbrev pub IsFair : Event → Chip → Type 0
 IsFair (write w) s = Fair (s .image) w
 IsFair vsync s = Unit {0}
 
--- `new` is what is in use after the last write and its Vsync
-pub record Careful (new : InUse) (es : List Event) (s : Chip) : Type 0 where
+-- `was` is what is old after some events, `new` what is in use after the last write and its Vsync
+pub record Careful (was : List Event → InUse) (new : InUse) (es : List Event) (s : Chip) : Type 0 where
   -- every event is fair where it happens, and none is refused (13): "two packet holds are up, or the write would leave two up"
   pub fair : (k : ℕ) → k < length es → IsFair (event es k) (cut es s k)
   pub taken : (k : ℕ) → k < length es → happens (event es k) (cut es s k) .refusal ≡ 0
   -- "From the first write until the last the picture is muted, and .. each all old or all new."
-  pub between : (k : ℕ) → 0 < writesBy es k → writesBy es k < length (writesOf es) → Between (old (take k es) s) new (cut es s k)
+  pub between : (k : ℕ) → 0 < writesBy es k → writesBy es k < length (writesOf es) → Between (was (take k es)) new (cut es s k)
 
 -- ---- what such a run leaves alone, and when a register may move
 

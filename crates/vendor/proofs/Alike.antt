@@ -1,5 +1,5 @@
--- Two states with the same registers and the same bytes in use give the same verdict: what else the buffers hold does not matter. Assumes
--- nothing.
+-- Two states with the same registers, the same mark and the same bytes in use give the same verdict: what else the buffers hold does not
+-- matter. Assumes nothing.
 use mathlib.Core.Path.{_≡_, refl, sym, ap, ap₂, subst, _∙_}
 use mathlib.Core.Bool.{Bool, true, false, cond, not, _&&_, _||_}
 use mathlib.Core.List.{List, [], _∷_}
@@ -11,17 +11,18 @@ use Rattle.matrix.specs.Matrix.{fields}
 use Rattle.refusals.specs.Rows.{imageLength, holdsUp, listLength, badPair, badEnd, Test, _if_, lowest}
 use Rattle.chip.specs.declared.Chip.{Chip}
 use Rattle.chip.specs.declared.Wrote.{Wrote}
-use Rattle.chip.specs.Machine.{Write, Group, Buffer, avi, audio, gc, matrix, packets, converter, holdsOf, registersOf, inUse, coefficients, gcInUse, mute}
-use Rattle.chip.specs.Write.{lentAs, imageAfter, stored, refuses, writeOf}
-use Rattle.chip.proofs.Writes.{written-as, stepped}
+use Rattle.chip.specs.Machine.{Write, Group, avi, audio, gc, matrix, packets, converter, up, holdsOf, registersOf, held, inUse, coefficients, gcInUse, mute}
+use Rattle.chip.specs.Write.{lentAs, imageAfter, stored, refuses, writeOf, vsyncOf}
+use Rattle.chip.proofs.Writes.{written-as, stepped, turned}
 use Rattle.views.specs.Entry.{isSized}
-use Rattle.writes.specs.List.{pairsOf, ready}
+use Rattle.writes.specs.List.{pairsOf, covers, ready}
 use Rattle.decode.specs.Decode.{someEnds}
 use Rattle.cut.specs.Run.{InUse, allInUse}
 use Rattle.vendor.specs.declared.Verdict.{Verdict}
 use Rattle.vendor.specs.Vendor.{endOf, shortened, mostPairs}
-use Rattle.vendor.specs.Found.{mayMove, fairTest, isLast, isBetween, isNext, firstFault, placeOf, vetRefusal, vetOf}
-use Rattle.vendor.proofs.Moved.{avi-stays, avi-moves, audio-stays, audio-moves, gc-stays, gc-moves, matrix-stays, matrix-moves}
+use Rattle.vendor.specs.Found.{mayMove, fairTest, isIdle, isLast, isEvent, isBetween, isNext, firstFault, placeOf, vetRefusal, vetOf}
+use Rattle.vendor.proofs.Moved.{avi-stays, avi-moves, audio-stays, audio-moves, gc-stays, gc-moves, matrix-stays, matrix-moves, vsync-use}
+use Rattle.cut.proofs.Erased.{alike-self, alike-vsync, alike-write}
 use Rattle.vendor.proofs.Faults.{Takes, shortened-takes, not-taken-first, is-taken-first, is-taken}
 
 pub record Alike (s t : Chip) : Type 0 where
@@ -30,6 +31,7 @@ pub record Alike (s t : Chip) : Type 0 where
   pub audio : inUse packets audio t ≡ inUse packets audio s
   pub gc : inUse packets gc t ≡ inUse packets gc s
   pub matrix : inUse converter matrix t ≡ inUse converter matrix s
+  pub waiting : t .waiting ≡ s .waiting
 
 abbrev Whole : Chip → Type 0
 Whole s = length (s .image) ≡ 256
@@ -62,38 +64,82 @@ module _ (s t : Chip) (r : Alike s t) (a v : ℕ) where
     next-image : writeOf t a v .chip .image ≡ writeOf s a v .chip .image
     next-image = stepped t a v y .after f ∙ same-after ∙ sym (stepped s a v z .after e)
 
-    -- a group, by what it has in use after each of the two writes
-    group : (b : Buffer) (g : Group) → inUse b g t ≡ inUse b g s
-        → (mayMove g a (holdsOf b (s .image)) (holdsOf b (writeOf s a v .chip .image)) ≡ false → inUse b g (writeOf s a v .chip) ≡ inUse b g s)
-        → (mayMove g a (holdsOf b (s .image)) (holdsOf b (writeOf s a v .chip .image)) ≡ true
-        → inUse b g (writeOf s a v .chip) ≡ registersOf g (writeOf s a v .chip .image))
-        → (mayMove g a (holdsOf b (t .image)) (holdsOf b (writeOf t a v .chip .image)) ≡ false → inUse b g (writeOf t a v .chip) ≡ inUse b g t)
-        → (mayMove g a (holdsOf b (t .image)) (holdsOf b (writeOf t a v .chip .image)) ≡ true
-        → inUse b g (writeOf t a v .chip) ≡ registersOf g (writeOf t a v .chip .image))
-        → inUse b g (writeOf t a v .chip) ≡ inUse b g (writeOf s a v .chip)
-    group b g same s0 s1 t0 t1 = go (mayMove g a (holdsOf b (s .image)) (holdsOf b (writeOf s a v .chip .image))) refl
+    -- what is in use after each of the two writes, by one test of what may have moved
+    group : (x y : Bool) → y ≡ x → {before after : List ℕ} {s₁ t₁ : List ℕ} {u₁ : List ℕ} → before ≡ after
+        → (x ≡ false → s₁ ≡ after) → (x ≡ true → s₁ ≡ u₁) → (y ≡ false → t₁ ≡ before) → (y ≡ true → t₁ ≡ u₁) → t₁ ≡ s₁
+    group true y e same s0 s1 t0 t1 = t1 e ∙ sym (s1 refl)
+    group false y e same s0 s1 t0 t1 = t0 e ∙ same ∙ sym (s0 refl)
+
+    abbrev s′ : Chip
+    s′ = writeOf s a v .chip
+
+    abbrev t′ : Chip
+    t′ = writeOf t a v .chip
+
+    held-same : held t ≡ held s
+    held-same = ap (λ (l : List ℕ). up matrix (holdsOf converter l)) (r .image)
+
+    held-next : held t′ ≡ held s′
+    held-next = ap (λ (l : List ℕ). up matrix (holdsOf converter l)) next-image
+
+    next-waiting : t′ .waiting ≡ s′ .waiting
+    next-waiting = go (held s) (held s′) refl refl
       where
-        move : mayMove g a (holdsOf b (t .image)) (holdsOf b (writeOf t a v .chip .image))
-            ≡ mayMove g a (holdsOf b (s .image)) (holdsOf b (writeOf s a v .chip .image))
-        move = ap₂ (λ (x y : List ℕ). mayMove g a (holdsOf b x) (holdsOf b y)) (r .image) next-image
+        stay : held s′ ≡ held s → t′ .waiting ≡ s′ .waiting
+        stay q = stepped t a v y .waits (held-next ∙ q ∙ sym held-same) ∙ r .waiting ∙ sym (stepped s a v z .waits q)
 
-        go : (m : Bool) → mayMove g a (holdsOf b (s .image)) (holdsOf b (writeOf s a v .chip .image)) ≡ m
-            → inUse b g (writeOf t a v .chip) ≡ inUse b g (writeOf s a v .chip)
-        go true m = t1 (move ∙ m) ∙ ap (registersOf g) next-image ∙ sym (s1 m)
-        go false m = t0 (move ∙ m) ∙ same ∙ sym (s0 m)
+        go : (b n : Bool) → held s ≡ b → held s′ ≡ n → t′ .waiting ≡ s′ .waiting
+        go true true h k = stay (k ∙ sym h)
+        go true false h k = stepped t a v y .falls f (held-same ∙ h) (held-next ∙ k) ∙ sym (stepped s a v z .falls e h k)
+        go false true h k = stepped t a v y .rises f (held-same ∙ h) (held-next ∙ k) ∙ sym (stepped s a v z .rises e h k)
+        go false false h k = stay (k ∙ sym h)
 
-    next : Alike (writeOf s a v .chip) (writeOf t a v .chip)
+    moved : (g : Group) → mayMove g a (holdsOf packets (t .image)) (holdsOf packets (t′ .image))
+        ≡ mayMove g a (holdsOf packets (s .image)) (holdsOf packets (s′ .image))
+    moved g = ap₂ (λ (x y : List ℕ). mayMove g a (holdsOf packets x) (holdsOf packets y)) (r .image) next-image
+
+    idle : (isIdle (t′ .image) (t′ .waiting) && covers matrix a) ≡ (isIdle (s′ .image) (s′ .waiting) && covers matrix a)
+    idle = ap₂ (λ (x : List ℕ) (b : Bool). isIdle x b && covers matrix a) next-image next-waiting
+
+    next : Alike s′ t′
     next = record {
       image = next-image;
-      avi = group packets avi (r .avi) (avi-stays s a v z e) (avi-moves s a v z e) (avi-stays t a v y f) (avi-moves t a v y f);
-      audio = group packets audio (r .audio) (audio-stays s a v z e) (audio-moves s a v z e) (audio-stays t a v y f) (audio-moves t a v y f);
-      gc = group packets gc (r .gc) (gc-stays s a v z e) (gc-moves s a v z e) (gc-stays t a v y f) (gc-moves t a v y f);
-      matrix = group converter matrix (r .matrix) (matrix-stays s a v z e) (matrix-moves s a v z e) (matrix-stays t a v y f)
-          (matrix-moves t a v y f);
+      avi = group _ _ (moved avi) (r .avi) (avi-stays s a v z e) (λ m. avi-moves s a v z e m ∙ ap (registersOf avi) (sym next-image))
+          (avi-stays t a v y f) (avi-moves t a v y f);
+      audio = group _ _ (moved audio) (r .audio) (audio-stays s a v z e) (λ m. audio-moves s a v z e m ∙ ap (registersOf audio) (sym next-image))
+          (audio-stays t a v y f) (audio-moves t a v y f);
+      gc = group _ _ (moved gc) (r .gc) (gc-stays s a v z e) (λ m. gc-moves s a v z e m ∙ ap (registersOf gc) (sym next-image))
+          (gc-stays t a v y f) (gc-moves t a v y f);
+      matrix = group _ _ idle (r .matrix) (matrix-stays s a v z e) (λ m. matrix-moves s a v z e m ∙ ap (registersOf matrix) (sym next-image))
+          (matrix-stays t a v y f) (matrix-moves t a v y f);
+      waiting = next-waiting;
     }
 
     next-whole : Whole (writeOf s a v .chip)
     next-whole = stepped s a v z .sized ∙ z
+
+-- a Vsync
+vsync-alike : (s t : Chip) → Alike s t → Alike (vsyncOf s) (vsyncOf t)
+vsync-alike s t r = record {
+  image = turned t .image ∙ r .image ∙ sym (turned s .image);
+  avi = vsync-use avi t ∙ r .avi ∙ sym (vsync-use avi s);
+  audio = vsync-use audio t ∙ r .audio ∙ sym (vsync-use audio s);
+  gc = vsync-use gc t ∙ r .gc ∙ sym (vsync-use gc s);
+  matrix = go (held s) refl;
+  waiting = mark (held s) refl;
+}
+  where
+    same : held t ≡ held s
+    same = ap (λ (l : List ℕ). up matrix (holdsOf converter l)) (r .image)
+
+    go : (h : Bool) → held s ≡ h → inUse converter matrix (vsyncOf t) ≡ inUse converter matrix (vsyncOf s)
+    go true e = ap (inUse converter matrix) (turned t .beside (same ∙ e)) ∙ r .matrix ∙ sym (ap (inUse converter matrix) (turned s .beside e))
+    go false e = turned t .takes (same ∙ e) ∙ ap (registersOf matrix) (r .image) ∙ sym (turned s .takes e)
+
+    mark : (h : Bool) → held s ≡ h → vsyncOf t .waiting ≡ vsyncOf s .waiting
+    mark true e =
+        ap (λ (c : Chip). c .waiting) (turned t .beside (same ∙ e)) ∙ r .waiting ∙ sym (ap (λ (c : Chip). c .waiting) (turned s .beside e))
+    mark false e = turned t .ends (same ∙ e) ∙ sym (turned s .ends e)
 
 -- ---- a list
 
@@ -114,8 +160,11 @@ same-shortened (w ∷ ws) s t r z =
 
 same-end : (ws : List Write) (s t : Chip) → Alike s t → Whole s → Takes ws s → Alike (endOf ws s) (endOf ws t)
 same-end [] s t r z k = r
-same-end (w ∷ ws) s t r z k =
-    same-end ws (writeOf s (w .address) (w .value) .chip) (writeOf t (w .address) (w .value) .chip) (next s t r (w .address) (w .value) z (k .0))
+same-end (w ∷ []) s t r z k =
+    next (vsyncOf s) (vsyncOf t) (vsync-alike s t r) (w .address) (w .value) (ap length (turned s .image) ∙ z)
+    (alike-write (w .address) (w .value) (vsyncOf s) s (alike-vsync s s (alike-self s)) .refusal ∙ k .0)
+same-end (w ∷ x ∷ ws) s t r z k =
+    same-end (x ∷ ws) (writeOf s (w .address) (w .value) .chip) (writeOf t (w .address) (w .value) .chip) (next s t r (w .address) (w .value) z (k .0))
     (next-whole s t r (w .address) (w .value) z (k .0)) (k .1)
 
 -- all that is in use
@@ -123,13 +172,14 @@ same-use : (s t : Chip) → Alike s t → allInUse t ≡ allInUse s
 unfolding coefficients
 same-use s t r = λ j. record { avi = r .avi j; audio = r .audio j; matrix = fields (r .matrix j) }
 
-same-mute : (s t : Chip) → Alike s t → mute (lentAs (t .image) (t .packet) []) ≡ mute (lentAs (s .image) (s .packet) [])
+same-mute : (s t : Chip) → Alike s t → mute (lentAs (t .image) (t .packet) [] false) ≡ mute (lentAs (s .image) (s .packet) [] false)
 unfolding gcInUse inUse
 same-mute s t r = ap (λ (l : List ℕ). bit 6 (getD l 0 0) + 2 * bit 7 (getD l 0 0)) (r .gc)
 
-same-next : (old new : InUse) (a : ℕ) (s t s′ t′ : Chip) → Alike s t → Alike s′ t′ → isNext old new a t t′ ≡ isNext old new a s s′
+same-next : (old new : InUse) (event : Bool) (a : ℕ) (s t s′ t′ : Chip) → Alike s t → Alike s′ t′
+    → isNext old new event a t t′ ≡ isNext old new event a s s′
 unfolding isBetween
-same-next old new a s t s′ t′ r q = rw (same-mute s′ t′ q, q .image, r .image) refl
+same-next old new event a s t s′ t′ r q = rw (same-mute s′ t′ q, q .image, r .image, q .waiting) refl
 
 same-fault : (old new : InUse) (ws : List Write) (s t : Chip) → Alike s t → Whole s → Takes ws s → firstFault old new ws t ≡ firstFault old new ws s
 same-fault old new [] s t r z k = refl
@@ -140,7 +190,8 @@ same-fault old new (w ∷ ws) s t r z k =
     let rest : firstFault old new ws t′ ≡ firstFault old new ws s′ =
     same-fault old new ws s′ t′ q (next-whole s t r (w .address) (w .value) z (k .0)) (k .1) in
     let fair : fairTest (t .image) w ≡ fairTest (s .image) w = ap (λ (i : List ℕ). fairTest i w) (r .image) in
-    let cutting : isNext old new (w .address) t t′ ≡ isNext old new (w .address) s s′ = same-next old new (w .address) s t s′ t′ r q in
+    let cutting : isNext old new (isEvent ws) (w .address) t t′ ≡ isNext old new (isEvent ws) (w .address) s s′ =
+    same-next old new (isEvent ws) (w .address) s t s′ t′ r q in
     λ j. cond (fair j && (isLast ws || cutting j)) (suc (rest j)) 0
 
 module _ (ws : List Write) (s t : Chip) (r : Alike s t) (z : Whole s) where

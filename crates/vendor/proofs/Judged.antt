@@ -7,15 +7,14 @@ use Prim.Native.Nat.{ℕ, zero, suc, _%_, _<_, _≤_}
 use native.Mathlib.Nat.{not-suc-le-zero, le-of-suc-le-suc}
 use native.Mathlib.Omega.{arith}
 use lib.Dec.{eqb, ltb}
-use lib.ListN.{length, length-map}
-use lib.Seq.{take-all}
+use lib.ListN.{length}
 use borrow.Author.Tests.{ne-eqb, lt-ltb, ltb-true, ltb-false, not-false}
 use Rattle.lists.proofs.Both.{neither-right}
 use Rattle.lists.proofs.Decides.{Decides, equal, less, either, restated, refuted}
 use Rattle.refusals.specs.Rows.{lowest}
 use Rattle.refusals.proofs.Tests.{Decided, lowest-given, none-at}
 use Rattle.chip.specs.declared.Chip.{Chip}
-use Rattle.chip.specs.Machine.{Write, avi, audio, packets, holdsOf, inUse, coefficients}
+use Rattle.chip.specs.Machine.{Write, packets, holdsOf}
 use Rattle.chip.specs.Write.{imageAfter, two, refuses, writeOf}
 use Rattle.chip.proofs.Writes.{two-up, allowed}
 use Rattle.views.specs.Entry.{isSized}
@@ -27,11 +26,10 @@ use Rattle.plan.proofs.Ordered.{holds-up}
 use Rattle.decode.specs.Decode.{someEnds}
 use Rattle.decode.specs.Extract.{extract}
 use Rattle.decode.proofs.Answers.{none-ends, found-ends}
-use Rattle.cut.specs.Run.{Event, write, run, allInUse, Either, Between, Fair}
-use Rattle.cut.specs.Demand.{sent}
+use Rattle.cut.specs.Run.{allInUse, Between, Fair}
 use Rattle.cut.proofs.Taken.{neat-two}
 use Rattle.vendor.specs.declared.Verdict.{Verdict}
-use Rattle.vendor.specs.Vendor.{pairAt, cutAt, endOf, LeavesTwo, Decodable, Passes, shortened, Fails, Bad, FirstBad, SomeBad, mostPairs, WrongLength, vetRules}
+use Rattle.vendor.specs.Vendor.{pairAt, cutAt, endOf, pairsBy, Inside, LeavesTwo, Decodable, Passes, shortened, Fails, Bad, FirstBad, SomeBad, mostPairs, WrongLength, vetRules}
 use Rattle.vendor.specs.Found.{placeOf, vetTests, vetRefusal, vetOf}
 use Rattle.vendor.specs.Theorems.{Readable, Vetted}
 use Rattle.vendor.proofs.Loops.{shortened-short}
@@ -46,22 +44,10 @@ not-two s a v e = neither-right (two (holdsOf packets (s .image))) _ (allowed s 
 
 never-two : (ws : List Write) (s : Chip) (k : ℕ) → Takes ws s → k < length ws → LeavesTwo ws s k → ⊥
 never-two [] s k t h = absurd (not-suc-le-zero h)
-never-two (w ∷ ws) s zero t h = two-up (imageAfter s (w .address) (w .value)) .fails (not-two s (w .address) (w .value) (t .0))
-never-two (w ∷ ws) s (suc k) t h = never-two ws (writeOf s (w .address) (w .value) .chip) k (t .1) (le-of-suc-le-suc h)
-
--- a cut past the end is the end
-past : (ws : List Write) (s : Chip) (k : ℕ) → length ws ≤ k → cutAt ws s k ≡ endOf ws s
-past ws s k h = ap (λ (es : List Event). run es s) (take-all k (sent ws) (rw (length-map ws write) h))
-
--- what holds at the start, at every cut between and at the end holds at every cut
-pub everywhere : (ws : List Write) (s : Chip) (P : Chip → Type 0) → P s → ((k : ℕ) → 0 < k → k < length ws → P (cutAt ws s k)) → P (endOf ws s)
-    → (k : ℕ) → P (cutAt ws s k)
-everywhere ws s P a b c zero = a
-everywhere ws s P a b c (suc k) = go (ltb (suc k) (length ws)) refl
-  where
-    go : (t : Bool) → ltb (suc k) (length ws) ≡ t → P (cutAt ws s (suc k))
-    go true e = b (suc k) (omega arith) (ltb-true _ _ e)
-    go false e = subst P (sym (past ws s (suc k) (ltb-false _ _ e))) c
+never-two (w ∷ []) s zero t h = two-up (imageAfter s (w .address) (w .value)) .fails (not-two s (w .address) (w .value) (t .0))
+never-two (w ∷ []) s (suc k) t h = absurd (not-suc-le-zero (le-of-suc-le-suc h))
+never-two (w ∷ x ∷ ws) s zero t h = two-up (imageAfter s (w .address) (w .value)) .fails (not-two s (w .address) (w .value) (t .0))
+never-two (w ∷ x ∷ ws) s (suc k) t h = never-two (x ∷ ws) (writeOf s (w .address) (w .value) .chip) k (t .1) (le-of-suc-le-suc h)
 
 -- a test of what holds is true
 not-not : {b : Bool} {P : Type 0} → Decides b P → P → b ≡ true
@@ -112,12 +98,12 @@ module _ (s : Chip) (list : List ℕ) where
 
     earlier : (i : ℕ) → i < p → Bad ws s i → ⊥
     earlier i h (inl (inl q)) = q .1 (f .fine i h .0)
-    earlier i h (inl (inr q)) = q .1 (f .fine i h .1 (q .0))
+    earlier i h (inl (inr q)) = q .torn (f .fine i h .1 (q .follows) (q .cut) (q .after))
     earlier i h (inr q) = omega (arith, h, f .within, q .0)
 
     bad-within : (k : ℕ) → Bad ws s k → k < length ws
     bad-within k (inl (inl q)) = omega (arith, q .0, shortened-short ws s)
-    bad-within k (inl (inr q)) = omega (arith, q .0, shortened-short ws s)
+    bad-within k (inl (inr q)) = omega (arith, q .follows, shortened-short ws s)
     bad-within k (inr q) = q .1
 
     first : p < length ws → FirstBad ws s p
@@ -142,9 +128,12 @@ module _ (s : Chip) (list : List ℕ) where
           (restated (λ h d. h (d .request) (d .ends)) (λ h q e. h (record { request = q; ends = e }))
           (none-ends (endOf hs s .image) [] (ends-whole hs s (z .image))))
 
-      between : (k : ℕ) → 0 < k → k < length ws → Between (allInUse s) (allInUse (endOf ws s)) (cutAt ws s k)
-      between zero lo hi = absurd (not-suc-le-zero lo)
-      between (suc k) lo hi = full .fine k (omega (arith, hi, ltb-false p (length ws) n)) .1 hi
+      between : (k : ℕ) → Inside ws k → Between (allInUse s) (allInUse (endOf ws s)) (cutAt ws s k)
+      between k i = go (pairsBy ws k) refl (i .0) (i .1)
+        where
+          go : (j : ℕ) → pairsBy ws k ≡ j → 0 < j → j < length ws → Between (allInUse s) (allInUse (endOf ws s)) (cutAt ws s k)
+          go zero e lo hi = absurd (not-suc-le-zero lo)
+          go (suc j) e lo hi = full .fine j (omega (arith, hi, ltb-false p (length ws) n)) .1 hi k e
 
       fairly : (k : ℕ) → k < length ws → Fair (cutAt ws s k .image) (pairAt ws k)
       fairly k h = full .fine k (omega (arith, h, ltb-false p (length ws) n)) .0
@@ -155,13 +144,10 @@ module _ (s : Chip) (list : List ℕ) where
         carries = λ k h. fairly k h .itsMandated;
         keeps = λ k h. fairly k h .itsFree;
         holds = λ k h. never-two ws s k (subst (λ (l : List Write). Takes l s) all-taken (shortened-takes ws s)) h;
-        muted = λ k lo hi. between k lo hi .muted;
-        avi = everywhere ws s (λ t. Either (inUse packets avi s) (inUse packets avi (endOf ws s)) (inUse packets avi t)) (inl refl)
-            (λ k lo hi. between k lo hi .avi) (inr refl);
-        audio = everywhere ws s (λ t. Either (inUse packets audio s) (inUse packets audio (endOf ws s)) (inUse packets audio t)) (inl refl)
-            (λ k lo hi. between k lo hi .audio) (inr refl);
-        matrix = everywhere ws s (λ t. Either (coefficients s) (coefficients (endOf ws s)) (coefficients t)) (inl refl)
-            (λ k lo hi. between k lo hi .matrix) (inr refl);
+        muted = λ k i. between k i .muted;
+        avi = λ k i. between k i .avi;
+        audio = λ k i. between k i .audio;
+        matrix = λ k i. between k i .matrix;
         decodes = d;
       }
 
@@ -179,12 +165,9 @@ module _ (s : Chip) (list : List ℕ) where
         where
           go : Fails ws s k → ⊥
           go (inl b) = b .1 (is-fair ws s q k (b .0))
-          go (inr b) = b .1 (record {
-            muted = q .muted (suc k) (omega arith) (b .0);
-            avi = q .avi (suc k);
-            audio = q .audio (suc k);
-            matrix = q .matrix (suc k);
-          })
+          go (inr b) =
+              let i : Inside ws (b .cut) = (omega (arith, b .after), omega (arith, b .after, b .follows)) in
+              b .torn (record { muted = q .muted (b .cut) i; avi = q .avi (b .cut) i; audio = q .audio (b .cut) i; matrix = q .matrix (b .cut) i })
       not-bad k (inr b) = let e : length hs ≡ length ws = ap length hears in omega (arith, b .0, b .1, e)
 
       none-bad : ltb p (length ws) ≡ false

@@ -4,5 +4,6 @@ pub mod Verdicts
 pub mod Moved
 pub mod Faults
 pub mod Judged
+pub mod Ended
 pub mod Careful
 pub mod Alike

@@ -1,37 +1,39 @@
--- The two passes over a list, turn by turn: what is done and what is left make up the whole.
+-- The passes over a list, turn by turn: what is done and what is left make up the whole.
 --     written        a turn's write, by what `store` answers
+--     Counts         how many are taken, at a place; counts-start, counts-away, counts-next, counts-stop, counts-end
 --     Rest           the first pass at a place; rest-start, rest-next, rest-stop, rest-end
 --     Left           the second; left-start, left-next, left-stop, left-end
 -- Assumes nothing.
-use mathlib.Core.Path.{_≡_, refl, sym, ap, subst, _∙_}
+use mathlib.Core.Path.{_≡_, refl, sym, ap, ap₂, subst, _∙_}
 use mathlib.Core.Bool.{Bool, true, false, cond, not, _&&_, _||_}
 use mathlib.Core.List.{List, [], _∷_}
 use Prim.Native.Nat.{ℕ, suc, _+_, _*_, _<_, _≤_, suc-le-suc}
 use native.Mathlib.Numerals.{add-one}
 use native.Mathlib.Omega.{arith}
-use lib.Dec.{eqb}
+use lib.Dec.{eqb, ltb}
 use lib.ListN.{length, getD, drop, length-set, length-drop, drop-of-length-le}
 use lib.Seq.{drop-cons, drop-length}
-use borrow.Author.Tests.{eqb-true, eqb-false}
+use borrow.Author.Tests.{eqb-true, eqb-false, ne-eqb, ltb-true, ltb-false}
 use Rattle.bits.specs.Merge.{merge, under}
 use Rattle.bits.proofs.Below.{at-below}
 use Rattle.registers.specs.declared.Class.{Class}
 use Rattle.registers.specs.declared.ByColumn.{ByColumn}
-use Rattle.registers.specs.Classes.{classAt, mandated, free, bits}
+use Rattle.registers.specs.Classes.{classAt, readOnly, mandated, free, bits}
 use Rattle.registers.specs.ByColumns.{columnOf, HasColumns}
 use Rattle.registers.proofs.Columns.{at-address}
 use Rattle.chip.specs.declared.Chip.{Chip}
 use Rattle.chip.specs.declared.Wrote.{Wrote}
-use Rattle.chip.specs.Machine.{Write}
-use Rattle.chip.specs.Write.{put, stored, refuses, writeOf, Stores}
+use Rattle.chip.specs.Machine.{Write, packets}
+use Rattle.chip.specs.Write.{put, stored, two, refuses, writeOf, Stores}
 use Rattle.chip.proofs.Writes.{written-as, refused-write, taken-write, stepped}
 use Rattle.writes.specs.List.{pairsOf, isWritten, column}
 use Rattle.writes.specs.Columns.{keptBits}
 use Rattle.writes.proofs.Image.{column-at}
 use Rattle.writes.proofs.Pairs.{pair-at}
-use Rattle.cut.specs.Run.{InUse}
-use Rattle.vendor.specs.Vendor.{pairAt, endOf, shortened}
-use Rattle.vendor.specs.Found.{fairTest, isLast, isNext, firstFault}
+use Rattle.cut.specs.Run.{InUse, run}
+use Rattle.cut.specs.Demand.{sent}
+use Rattle.vendor.specs.Vendor.{pairAt, shortened}
+use Rattle.vendor.specs.Found.{takenBy, fairTest, isLast, isEvent, isNext, firstFault}
 
 -- pair i of a list, written to a state
 abbrev pub wrote : List Write → ℕ → Chip → Wrote
@@ -106,35 +108,80 @@ pub packet-sized : (ws : List Write) (i : ℕ) (t u : Chip) → length (t .image
 packet-sized ws i t u z p e =
     sym (ap (λ (w : Wrote). length (w .chip .packet)) e) ∙ stepped t (pairAt ws i .address) (pairAt ws i .value) z .packetSized p
 
+-- ---- how many pairs are taken
+
+-- at place i the byte of the holds is `held`
+pub record Counts (start : ℕ) (ws : List Write) (i held : ℕ) : Type 0 where
+  pub count : takenBy start ws ≡ i + takenBy held (drop i ws)
+
+pub counts-start : (start : ℕ) (ws : List Write) → Counts start ws 0 start
+counts-start start ws = record { count = omega arith }
+
+module _ (start : ℕ) (ws : List Write) (i held : ℕ) (c : Counts start ws i held) where
+  pub counts-end : i ≡ length ws → i ≡ takenBy start ws
+  counts-end e = let n : drop i ws ≡ [] = rw (e, drop-length ws) in sym (c .count ∙ rw n (omega arith))
+
+  module _ (h : i < length ws) where
+    abbrev byte : ℕ
+    byte = merge 8 (readOnly (pairAt ws i .address)) held (pairAt ws i .value)
+
+    on-pair : takenBy held (drop i ws) ≡ takenBy held (pairAt ws i ∷ drop (suc i) ws)
+    on-pair = ap (takenBy held) (drop-cons ws i _ h)
+
+    by-pair : (r t : Bool) → eqb (pairAt ws i .address) (packets .register) ≡ r → two byte ≡ t → takenBy held (drop i ws)
+        ≡ cond r (cond t 0 (suc (takenBy byte (drop (suc i) ws)))) (suc (takenBy held (drop (suc i) ws)))
+    by-pair r t e f =
+        on-pair
+        ∙ ap₂ (λ (x y : Bool). elim x as (λ z. ℕ) [
+          | true ↦ elim y as (λ z. ℕ) [ true ↦ 0 | false ↦ suc (takenBy byte (drop (suc i) ws)) ]
+          | false ↦ suc (takenBy held (drop (suc i) ws))
+        ]) e f
+        ∙ shape r t
+      where
+        shape : (r t : Bool) → elim r as (λ z. ℕ) [
+          | true ↦ elim t as (λ z. ℕ) [ true ↦ 0 | false ↦ suc (takenBy byte (drop (suc i) ws)) ]
+          | false ↦ suc (takenBy held (drop (suc i) ws))
+        ] ≡ cond r (cond t 0 (suc (takenBy byte (drop (suc i) ws)))) (suc (takenBy held (drop (suc i) ws)))
+        shape true true = refl
+        shape true false = refl
+        shape false t = refl
+
+    pub counts-away : eqb (pairAt ws i .address) (packets .register) ≡ false → Counts start ws (i + 1) held
+    counts-away e = let q = by-pair false (two byte) e refl in record { count = c .count ∙ rw (q, add-one) (omega arith) }
+
+    pub counts-next : eqb (pairAt ws i .address) (packets .register) ≡ true → two byte ≡ false → Counts start ws (i + 1) byte
+    counts-next e f = let q = by-pair true false e f in record { count = c .count ∙ rw (q, add-one) (omega arith) }
+
+    pub counts-stop : eqb (pairAt ws i .address) (packets .register) ≡ true → two byte ≡ true → i ≡ takenBy start ws
+    counts-stop e f = let q = by-pair true true e f in sym (c .count ∙ rw q (omega arith))
+
 -- ---- the first pass
+
+-- where the writes that are taken lead, with no event
+abbrev pub runOf : List Write → Chip → Chip
+runOf ws s = run (sent (shortened ws s)) s
 
 -- at place i the state is t
 pub record Rest (ws : List Write) (s : Chip) (i : ℕ) (t : Chip) : Type 0 where
-  pub count : length (shortened ws s) ≡ i + length (shortened (drop i ws) t)
-  pub ends : endOf (shortened ws s) s ≡ endOf (shortened (drop i ws) t) t
+  pub ends : runOf ws s ≡ runOf (drop i ws) t
 
 pub rest-start : (ws : List Write) (s : Chip) → Rest ws s 0 s
-rest-start ws s = record { count = omega arith; ends = refl }
+rest-start ws s = record { ends = refl }
 
 module _ (ws : List Write) (s : Chip) (i : ℕ) (t : Chip) (rest : Rest ws s i t) where
   pub rest-next : (u : Chip) → i < length ws → wrote ws i t ≡ record { refusal = 0; chip = u } → Rest ws s (i + 1) u
   rest-next u h e =
       let on : shortened (drop i ws) t ≡ pairAt ws i ∷ shortened (drop (suc i) ws) u = shortened-on ws i t h ∙ rw e in
       record {
-        count = rest .count ∙ rw (on, add-one) (omega arith);
-        ends = rest .ends ∙ rw (on, add-one) (ap (λ (w : Wrote). endOf (shortened (drop (suc i) ws) u) (w .chip)) e);
+        ends = rest .ends ∙ ap (λ (l : List Write). run (sent l) t) on
+            ∙ rw add-one (ap (λ (w : Wrote). run (sent (shortened (drop (suc i) ws) u)) (w .chip)) e);
       }
 
-  pub rest-stop : i < length ws → wrote ws i t ≡ record { refusal = 13; chip = t }
-      → (i ≡ length (shortened ws s)) × (t ≡ endOf (shortened ws s) s)
-  rest-stop h e =
-      let on : shortened (drop i ws) t ≡ [] = shortened-on ws i t h ∙ rw e in
-      (sym (rest .count ∙ rw on (omega arith)), sym (rest .ends ∙ rw on))
+  pub rest-stop : i < length ws → wrote ws i t ≡ record { refusal = 13; chip = t } → t ≡ runOf ws s
+  rest-stop h e = let on : shortened (drop i ws) t ≡ [] = shortened-on ws i t h ∙ rw e in sym (rest .ends ∙ rw on)
 
-  pub rest-end : i ≡ length ws → (i ≡ length (shortened ws s)) × (t ≡ endOf (shortened ws s) s)
-  rest-end h =
-      let on : shortened (drop i ws) t ≡ [] = rw (h, drop-length ws) in
-      (sym (rest .count ∙ rw on (omega arith)), sym (rest .ends ∙ rw on))
+  pub rest-end : i ≡ length ws → t ≡ runOf ws s
+  rest-end h = let on : shortened (drop i ws) t ≡ [] = rw (h, drop-length ws) in sym (rest .ends ∙ rw on)
 
 -- ---- the second pass
 
@@ -153,6 +200,19 @@ last-at ws i h = go (eqb (i + 1) (length ws)) refl
     go : (t : Bool) → eqb (i + 1) (length ws) ≡ t → isLast (drop (suc i) ws) ≡ t
     go true e = let q : i + 1 ≡ length ws = eqb-true (i + 1) (length ws) e in let k : length ws ≤ suc i = omega (arith, q) in ap isLast (drop-of-length-le ws k)
     go false e = let q : (i + 1 ≡ length ws) → ⊥ = eqb-false (i + 1) (length ws) e in ap isLast (drop-cons ws (suc i) (pairAt ws (suc i)) (omega (arith, q)))
+
+-- the pair before which the event comes, by the place of the one before it
+event-at : (ws : List Write) (i : ℕ) → i < length ws → isEvent (drop (suc i) ws) ≡ eqb (i + 2) (length ws)
+event-at ws i h = go (ltb (suc i) (length ws)) refl
+  where
+    go : (t : Bool) → ltb (suc i) (length ws) ≡ t → isEvent (drop (suc i) ws) ≡ eqb (i + 2) (length ws)
+    go true e =
+        let l : suc i < length ws = ltb-true (suc i) (length ws) e in
+        let m : suc i + 1 ≡ i + 2 = omega arith in
+        ap isEvent (drop-cons ws (suc i) (pairAt ws (suc i)) l) ∙ last-at ws (suc i) l ∙ ap (λ (n : ℕ). eqb n (length ws)) m
+    go false e =
+        let l : length ws ≤ suc i = ltb-false (suc i) (length ws) e in
+        ap isEvent (drop-of-length-le ws l) ∙ sym (ne-eqb (i + 2) (length ws) (λ q. omega (arith, q, l)))
 
 -- a register that a list keeps whole is one that it does not write
 abbrev alike : Bool → Bool → Bool
@@ -218,20 +278,22 @@ module _ (old new : InUse) (ws : List Write) (s : Chip) where
         further = ap (λ (r : List Write). tail r) (sym (drop-cons (shortened ws s) i (pairAt ws i) h) ∙ on)
 
         turn : firstFault old new (drop i (shortened ws s)) t
-            ≡ cond (fairTest (t .image) (pairAt ws i) && (isLast (drop (suc i) (shortened ws s)) || isNext old new (pairAt ws i .address) t u))
+            ≡ cond (fairTest (t .image) (pairAt ws i) && (isLast (drop (suc i) (shortened ws s)) ||
+            isNext old new (isEvent (drop (suc i) (shortened ws s))) (pairAt ws i .address) t u))
             (suc (firstFault old new (drop (suc i) (shortened ws s)) u)) 0
         turn = rw (on, further) (ap (λ (w : Wrote). cond (fairTest (t .image) (pairAt ws i) &&
-            (isLast (shortened (drop (suc i) ws) u) || isNext old new (pairAt ws i .address) t (w .chip)))
+            (isLast (shortened (drop (suc i) ws) u) || isNext old new (isEvent (shortened (drop (suc i) ws) u)) (pairAt ws i .address) t (w .chip)))
             (suc (firstFault old new (shortened (drop (suc i) ws) u) (w .chip))) 0) e)
 
         -- whether the cut after the pair is as it must be
         abbrev pub goes : Bool
-        goes = eqb (i + 1) (length (shortened ws s)) || isNext old new (pairAt ws i .address) t u
+        goes =
+            eqb (i + 1) (length (shortened ws s)) || isNext old new (eqb (i + 2) (length (shortened ws s))) (pairAt ws i .address) t u
 
         by-goes : (b : Bool) → fairTest (t .image) (pairAt ws i) ≡ true → goes ≡ b
             → firstFault old new (drop i (shortened ws s)) t ≡ cond b (suc (firstFault old new (drop (suc i) (shortened ws s)) u)) 0
         by-goes b f e =
-            turn ∙ rw (f, last-at (shortened ws s) i h)
+            turn ∙ rw (f, last-at (shortened ws s) i h, event-at (shortened ws s) i h)
             (ap (λ (c : Bool). cond c (suc (firstFault old new (drop (suc i) (shortened ws s)) u)) 0) e)
 
         pub left-next : fairTest (t .image) (pairAt ws i) ≡ true → goes ≡ true → Left (i + 1) u

@@ -8,22 +8,23 @@ use Prim.Native.Nat.{ℕ, _+_, _^_, _<_}
 use native.Mathlib.Omega.{arith}
 use lib.Dec.{eqb, leb, ltb}
 use lib.ListN.{length}
-use borrow.Author.Tests.{eqb-true, eqb-false, eq-eqb, lt-ltb, le-leb, leb-false, ltb-false}
-use Rattle.lists.proofs.Both.{neither-left, neither-right}
+use borrow.Author.Tests.{eqb-true, eqb-false, eq-eqb, lt-ltb, le-leb, leb-false, ltb-false, not-true}
+use Rattle.lists.proofs.Both.{both-right, neither-left, neither-right}
 use Rattle.lists.proofs.Decides.{Decides, either, together, restated}
 use Rattle.lists.proofs.Compared.{same-decides}
 use Rattle.bits.specs.Merge.{bit}
 use Rattle.matrix.specs.Matrix.{fields}
 use Rattle.chip.specs.declared.Chip.{Chip}
 use Rattle.chip.specs.declared.Wrote.{Wrote}
-use Rattle.chip.specs.Machine.{Write, _gets_, Group, Buffer, avi, audio, gc, matrix, packets, converter, up, holdsOf, registersOf, inUse, coefficients, gcInUse, mute, Muted}
-use Rattle.chip.specs.Write.{lentAs, stored, two, writeOf}
-use Rattle.chip.proofs.Writes.{written-as, allowed}
+use Rattle.chip.specs.Machine.{Write, _gets_, Group, Buffer, avi, audio, gc, matrix, packets, converter, up, holdsOf, registersOf, held, inUse, coefficients, gcInUse, mute, Muted}
+use Rattle.chip.specs.Write.{lentAs, stored, two, writeOf, vsyncOf}
+use Rattle.chip.proofs.Writes.{written-as, allowed, turned}
 use Rattle.writes.specs.List.{covers}
 use Rattle.cut.specs.Run.{InUse, Either, Between}
 use Rattle.cut.proofs.Mended.{lone}
-use Rattle.cut.proofs.Bank.{store, only, status, quiet, Shown, avi-shown, audio-shown, gc-shown, matrix-shown, avi-same, audio-same, gc-same, matrix-same, down-part}
-use Rattle.vendor.specs.Found.{mayMove, oneOf, isBetween, isNext}
+use Rattle.cut.proofs.Bank.{store, only, status, quiet, Shown, avi-shown, audio-shown, gc-shown, avi-same, audio-same, gc-same, down-part}
+use Rattle.cut.proofs.Turning.{away, mark, phase, write-keeps}
+use Rattle.vendor.specs.Found.{mayMove, oneOf, isIdle, isBetween, isTurned}
 
 -- no two packet holds are up, and one is: the byte of the holds alone has this one
 hold-alone : (n : ℕ) (p q r : ℕ) → p ≡ bit 6 n → q ≡ bit 5 n → r ≡ bit 4 n
@@ -64,9 +65,6 @@ gc-alone n t u =
     let p : bit 4 n ≡ 1 = eqb-true (bit 4 n) 1 u in
     rw (p, o .0, o .1) refl
 
-matrix-alone : (n : ℕ) → up matrix n ≡ true → only (converter .groups) n ≡ 2 ^ matrix .hold
-matrix-alone n u = let p : bit 5 n ≡ 1 = eqb-true (bit 5 n) 1 u in rw p refl
-
 -- a register that a group does not cover lies outside
 outside : (g : Group) (a : ℕ) → covers g a ≡ false → (ltb a (g .first) || leb (g .first + g .count) a) ≡ true
 outside g a e = go (leb (g .first) a) refl e
@@ -79,6 +77,15 @@ outside g a e = go (leb (g .first) a) refl e
         → (ltb a (g .first) || leb (g .first + g .count) a) ≡ true
     go true p q = rw (le-leb (g .first + g .count) a (ltb-false a (g .first + g .count) q)) (right (ltb a (g .first)))
     go false p q = rw (lt-ltb a (g .first) (leb-false (g .first) a p))
+
+-- what was one of two, by a test of what may have moved
+decided : (m : Bool) (x y regs o n : List ℕ) → (m ≡ false → y ≡ x) → (m ≡ true → y ≡ regs) → Either o n x
+    → Decides (oneOf m o n regs) (Either o n y)
+decided true x y regs o n p q e =
+    restated (⊎-map (λ h. q refl ∙ h) (λ h. q refl ∙ h)) (⊎-map (λ h. sym (q refl) ∙ h) (λ h. sym (q refl) ∙ h))
+    (either (same-decides regs o) (same-decides regs n))
+decided false x y regs o n p q e =
+    record { passes = λ _. ⊎-map (λ h. p refl ∙ h) (λ h. p refl ∙ h) e; fails = λ f. absurd (false≢true (sym f)) }
 
 module _ (s : Chip) (a v : ℕ) (whole : length (s .image) ≡ 256) (taken : writeOf s a v .refusal ≡ 0) where
   abbrev t : Chip
@@ -93,9 +100,12 @@ module _ (s : Chip) (a v : ℕ) (whole : length (s .image) ≡ 256) (taken : wri
   single : two (holdsOf packets (t .image)) ≡ false
   single = lone s a v taken
 
-  -- a group: its buffer, its view, and that its hold up is alone in the byte of the holds
-  module _ (b : Buffer) (g : Group) (F : Shown b g) (same : (n : ℕ) → up g (only (b .groups) n) ≡ up g n)
-      (alone : up g (holdsOf b (t .image)) ≡ true → only (b .groups) (holdsOf b (t .image)) ≡ 2 ^ g .hold) where
+  -- a packet: its view, and that its hold up is alone in the byte of the holds
+  module _ (g : Group) (F : Shown packets g) (same : (n : ℕ) → up g (only (packets .groups) n) ≡ up g n)
+      (alone : up g (holdsOf packets (t .image)) ≡ true → only (packets .groups) (holdsOf packets (t .image)) ≡ 2 ^ g .hold) where
+    abbrev b : Buffer
+    b = packets
+
     abbrev old : ℕ
     old = holdsOf b (s .image)
 
@@ -117,7 +127,7 @@ module _ (s : Chip) (a v : ℕ) (whole : length (s .image) ≡ 256) (taken : wri
         (ap (λ (u : Chip). status b (u .image)) is-put ∙ F .tracks w s whole) (still m))
 
     moves : mayMove g a old new ≡ true → inUse b g t ≡ registersOf g (t .image)
-    moves m = down-part b g t (go (up g new) m)
+    moves m = down-part b g t refl (go (up g new) m)
       where
         go : (u : Bool) → (not u && (up g old || covers g a)) ≡ true → u ≡ false
         go true q = absurd (false≢true q)
@@ -125,48 +135,52 @@ module _ (s : Chip) (a v : ℕ) (whole : length (s .image) ≡ 256) (taken : wri
 
   -- of each group: what it has in use stays, or is what stands in its registers
   pub avi-stays : mayMove avi a (holdsOf packets (s .image)) (holdsOf packets (t .image)) ≡ false → inUse packets avi t ≡ inUse packets avi s
-  avi-stays = stays packets avi avi-shown avi-same (avi-alone _ single)
+  avi-stays = stays avi avi-shown avi-same (avi-alone _ single)
 
   pub avi-moves : mayMove avi a (holdsOf packets (s .image)) (holdsOf packets (t .image)) ≡ true → inUse packets avi t ≡ registersOf avi (t .image)
-  avi-moves = moves packets avi avi-shown avi-same (avi-alone _ single)
+  avi-moves = moves avi avi-shown avi-same (avi-alone _ single)
 
   pub audio-stays : mayMove audio a (holdsOf packets (s .image)) (holdsOf packets (t .image)) ≡ false
       → inUse packets audio t ≡ inUse packets audio s
-  audio-stays = stays packets audio audio-shown audio-same (audio-alone _ single)
+  audio-stays = stays audio audio-shown audio-same (audio-alone _ single)
 
   pub audio-moves : mayMove audio a (holdsOf packets (s .image)) (holdsOf packets (t .image)) ≡ true
       → inUse packets audio t ≡ registersOf audio (t .image)
-  audio-moves = moves packets audio audio-shown audio-same (audio-alone _ single)
+  audio-moves = moves audio audio-shown audio-same (audio-alone _ single)
 
   pub gc-stays : mayMove gc a (holdsOf packets (s .image)) (holdsOf packets (t .image)) ≡ false → inUse packets gc t ≡ inUse packets gc s
-  gc-stays = stays packets gc gc-shown gc-same (gc-alone _ single)
+  gc-stays = stays gc gc-shown gc-same (gc-alone _ single)
 
   pub gc-moves : mayMove gc a (holdsOf packets (s .image)) (holdsOf packets (t .image)) ≡ true → inUse packets gc t ≡ registersOf gc (t .image)
-  gc-moves = moves packets gc gc-shown gc-same (gc-alone _ single)
+  gc-moves = moves gc gc-shown gc-same (gc-alone _ single)
 
-  pub matrix-stays : mayMove matrix a (holdsOf converter (s .image)) (holdsOf converter (t .image)) ≡ false
-      → inUse converter matrix t ≡ inUse converter matrix s
-  matrix-stays = stays converter matrix matrix-shown matrix-same (matrix-alone _)
+  -- the coefficients: with the hold up or a change waiting nothing moves them; else a write to one of their registers may
+  pub matrix-stays : (isIdle (t .image) (t .waiting) && covers matrix a) ≡ false → inUse converter matrix t ≡ inUse converter matrix s
+  matrix-stays m =
+      ap (inUse converter matrix) is-put
+      ∙ write-keeps w s whole (subst (λ (u : Chip). (not (eqb (phase u) 0) || away w) ≡ true) is-put (go (t .waiting) (held t) m))
+    where
+      go : (q u : Bool) → (not (q || u) && covers matrix a) ≡ false → (not (eqb (mark u q) 0) || away w) ≡ true
+      go true true h = refl
+      go true false h = refl
+      go false true h = refl
+      go false false h = outside matrix a h
 
-  pub matrix-moves : mayMove matrix a (holdsOf converter (s .image)) (holdsOf converter (t .image)) ≡ true
-      → inUse converter matrix t ≡ registersOf matrix (t .image)
-  matrix-moves = moves converter matrix matrix-shown matrix-same (matrix-alone _)
-
-  -- what was one of two, by a test of what may have moved
-  decided : (m : Bool) (x y regs o n : List ℕ) → (m ≡ false → y ≡ x) → (m ≡ true → y ≡ regs) → Either o n x
-      → Decides (oneOf m o n regs) (Either o n y)
-  decided true x y regs o n p q e =
-      restated (⊎-map (λ h. q refl ∙ h) (λ h. q refl ∙ h)) (⊎-map (λ h. sym (q refl) ∙ h) (λ h. sym (q refl) ∙ h))
-      (either (same-decides regs o) (same-decides regs n))
-  decided false x y regs o n p q e =
-      record { passes = λ _. ⊎-map (λ h. p refl ∙ h) (λ h. p refl ∙ h) e; fails = λ f. absurd (false≢true (sym f)) }
+  pub matrix-moves : (isIdle (t .image) (t .waiting) && covers matrix a) ≡ true → inUse converter matrix t ≡ registersOf matrix (t .image)
+  matrix-moves m = go (t .waiting) (held t) refl refl m
+    where
+      go : (q u : Bool) → t .waiting ≡ q → held t ≡ u → (not (q || u) && covers matrix a) ≡ true
+          → inUse converter matrix t ≡ registersOf matrix (t .image)
+      go true u e f h = absurd (false≢true h)
+      go false true e f h = absurd (false≢true h)
+      go false false e f h = down-part converter matrix t e f
 
   -- the mute
-  shows : mute (lentAs (t .image) (t .packet) []) ≡ mute t
+  shows : mute (lentAs (t .image) (t .packet) [] false) ≡ mute t
   unfolding gcInUse inUse
   shows = refl
 
-  muted : Decides (eqb (mute (lentAs (t .image) (t .packet) [])) 1) (Muted t)
+  muted : Decides (eqb (mute (lentAs (t .image) (t .packet) [] false)) 1) (Muted t)
   muted = rw shows (record { passes = λ e. is (eqb-true _ _ e); fails = λ f m. eqb-false _ _ f (one m) })
     where
       is : mute t ≡ 1 → Muted t
@@ -178,10 +192,47 @@ module _ (s : Chip) (a v : ℕ) (whole : length (s .image) ≡ 256) (taken : wri
   -- the cut after it
   module _ (o n : InUse) (av : Either (o .avi) (n .avi) (inUse packets avi s)) (au : Either (o .audio) (n .audio) (inUse packets audio s))
       (ma : Either (o .matrix) (n .matrix) (coefficients s)) where
-    pub next-decides : Decides (isNext o n a s t) (Between o n t)
+    pub between-decides : Decides (isBetween o n a (holdsOf packets (s .image)) (t .image) (t .packet) (t .waiting)) (Between o n t)
     unfolding isBetween coefficients
-    next-decides =
+    between-decides =
         restated (λ h. record { muted = h .0; avi = h .1 .0; audio = h .1 .1 .0; matrix = h .1 .1 .1 })
         (λ b. (b .muted, (b .avi, (b .audio, b .matrix))))
         (together muted (together (decided _ _ _ _ _ _ avi-stays avi-moves av) (together (decided _ _ _ _ _ _ audio-stays audio-moves au)
         (decided _ _ _ _ _ _ (λ m. ap fields (matrix-stays m)) (λ m. ap fields (matrix-moves m)) ma))))
+
+-- ---- the event
+
+-- a Vsync leaves all but the coefficients
+pub vsync-use : (g : Group) (t : Chip) → inUse packets g (vsyncOf t) ≡ inUse packets g t
+unfolding inUse vsyncOf
+vsync-use g t = refl
+
+pub vsync-muted : (t : Chip) → Muted t → Muted (vsyncOf t)
+unfolding gcInUse inUse vsyncOf
+vsync-muted t m = m
+
+module _ (t : Chip) where
+  abbrev ends : Bool
+  ends = t .waiting && not (up matrix (holdsOf converter (t .image)))
+
+  turned-stays : ends ≡ false → inUse converter matrix (vsyncOf t) ≡ inUse converter matrix t
+  turned-stays = go (t .waiting) (held t) refl refl
+    where
+      go : (q u : Bool) → t .waiting ≡ q → held t ≡ u → (q && not u) ≡ false → inUse converter matrix (vsyncOf t) ≡ inUse converter matrix t
+      go true true e f h = ap (inUse converter matrix) (turned t .beside f)
+      go true false e f h = absurd (false≢true (sym h))
+      go false u e f h = ap (inUse converter matrix) (turned t .idle e .0)
+
+  turned-moves : ends ≡ true → inUse converter matrix (vsyncOf t) ≡ registersOf matrix (t .image)
+  turned-moves h = turned t .takes (not-true (held t) (both-right (t .waiting) _ h))
+
+  pub turned-decides : (o n : InUse) → Between o n t → Decides (isTurned o n (t .image) (t .waiting)) (Between o n (vsyncOf t))
+  unfolding isTurned coefficients
+  turned-decides o n b =
+      restated (λ h. record {
+        muted = vsync-muted t (b .muted);
+        avi = subst (Either (o .avi) (n .avi)) (sym (vsync-use avi t)) (b .avi);
+        audio = subst (Either (o .audio) (n .audio)) (sym (vsync-use audio t)) (b .audio);
+        matrix = h;
+      }) (λ c. c .matrix)
+      (decided ends _ _ _ _ _ (λ m. ap fields (turned-stays m)) (λ m. ap fields (turned-moves m)) (b .matrix))

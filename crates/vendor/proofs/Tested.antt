@@ -11,7 +11,7 @@ use Rattle.bits.proofs.Laws.{bit-code}
 use Rattle.matrix.specs.Matrix.{fields}
 use Rattle.matrix.specs.Read.{twelveOf}
 use Rattle.chip.specs.declared.Chip.{Chip}
-use Rattle.chip.specs.Machine.{Group, Buffer, matrix, converter, holdsOf, registersOf, inUse, coefficients}
+use Rattle.chip.specs.Machine.{Group, matrix, packets, converter, holdsOf, registersOf, held, inUse, coefficients}
 use Rattle.writes.specs.List.{covers}
 use Rattle.vendor.specs.Found.{mayMove, oneOf}
 
@@ -32,10 +32,16 @@ pub one-moved : (g : Group) (a before after : ℕ) (old new x : List ℕ) {m r :
     → r ≡ oneOf m old new x → r ≡ oneOf (mayMove g a before after) old new x
 one-moved g a before after old new x e f = rw (f, e, bit-code (g .hold) before, bit-code (g .hold) after)
 
-pub used : (b : Buffer) (g : Group) (s : Chip) {bytes : List ℕ}
-    → bytes ≡ cond (eqb (holdsOf b (s .image) / 2 ^ (g .hold) % 2) 1) (take (g .count) (b .bytes s)) (registersOf g (s .image)) → bytes ≡ inUse b g s
+pub used : (g : Group) (s : Chip) {bytes : List ℕ}
+    → bytes ≡ cond (eqb (holdsOf packets (s .image) / 2 ^ (g .hold) % 2) 1) (take (g .count) (s .packet)) (registersOf g (s .image))
+    → bytes ≡ inUse packets g s
 unfolding inUse
-used b g s e = rw (e, bit-code (g .hold) (holdsOf b (s .image)))
+used g s e = rw (e, bit-code (g .hold) (holdsOf packets (s .image)))
+
+pub matrix-used : (s : Chip) (h : Bool) {bytes : List ℕ} → h ≡ held s
+    → bytes ≡ cond (s .waiting || h) (take (matrix .count) (s .coefficients)) (registersOf matrix (s .image)) → bytes ≡ inUse converter matrix s
+unfolding inUse
+matrix-used s h q e = e ∙ ap (λ (b : Bool). cond (s .waiting || b) (take (matrix .count) (s .coefficients)) (registersOf matrix (s .image))) q
 
 pub twelve-used : (s : Chip) {bytes twelve : List ℕ} → bytes ≡ inUse converter matrix s → length bytes ≡ 24 → twelve ≡ twelveOf bytes → twelve ≡ coefficients s
 unfolding coefficients

@@ -9,13 +9,13 @@ use lib.ListN.{length}
 use Rattle.request.specs.Sections.{longest}
 use Rattle.chip.specs.declared.Chip.{Chip}
 use Rattle.chip.specs.Machine.{Write}
-use Rattle.chip.specs.Write.{writeOf}
-use Rattle.chip.proofs.Writes.{stepped}
 use Rattle.views.specs.Entry.{isSized}
 use Rattle.writes.specs.List.{pairsOf, ready}
 use Rattle.decode.specs.Decode.{someEnds, decodeOf}
 use Rattle.decode.proofs.Answers.{number-given, accepted, none}
 use Rattle.cut.specs.Run.{InUse, allInUse}
+use Rattle.cut.specs.Demand.{waited}
+use Rattle.cut.proofs.Runs.{sized-run}
 use Rattle.vendor.specs.Vendor.{shortened, endOf, mostPairs}
 use Rattle.vendor.specs.Found.{firstFault, placeOf, vetRefusal, vetOf}
 
@@ -69,9 +69,7 @@ placed ws start s end old new place e o n f p =
 
 -- a run keeps the length of the image
 pub ends-whole : (ws : List Write) (s : Chip) → length (s .image) ≡ 256 → length (endOf ws s .image) ≡ 256
-ends-whole [] s z = z
-ends-whole (w ∷ ws) s z =
-    ends-whole ws (writeOf s (w .address) (w .value) .chip) (stepped s (w .address) (w .value) z .sized ∙ z)
+ends-whole ws s z = sized-run (waited ws) s z
 
 -- whether a request ends in an image, by decoding it
 module _ (image buffer : List ℕ) (whole : length image ≡ 256) (room : longest ≤ length buffer) where

@@ -6,13 +6,13 @@ use Prim.Native.Nat.{ℕ, suc, _%_}
 use lib.Dec.{eqb, ltb}
 use lib.ListN.{length, getD}
 use Rattle.lists.specs.Same.{sameList}
-use Rattle.bits.specs.Merge.{under}
-use Rattle.registers.specs.Classes.{mandated, free, bits}
+use Rattle.bits.specs.Merge.{merge, under}
+use Rattle.registers.specs.Classes.{readOnly, mandated, free, bits}
 use Rattle.refusals.specs.Rows.{imageLength, holdsUp, listLength, badPair, badEnd, Test, _if_, lowest}
 use Rattle.matrix.specs.Matrix.{fields}
 use Rattle.chip.specs.declared.Chip.{Chip}
 use Rattle.chip.specs.Machine.{Write, Group, avi, audio, matrix, packets, converter, up, holdsOf, registersOf, mute}
-use Rattle.chip.specs.Write.{lentAs, writeOf}
+use Rattle.chip.specs.Write.{lentAs, two, writeOf}
 use Rattle.views.specs.Entry.{isSized}
 use Rattle.writes.specs.List.{pairsOf, covers, isWritten, ready}
 use Rattle.decode.specs.Decode.{someEnds}
@@ -41,29 +41,56 @@ mayMove g a before after = not (up g after) && (up g before || covers g a)
 abbrev pub oneOf : Bool → List ℕ → List ℕ → List ℕ → Bool
 oneOf moved old new x = not moved || (sameList x old || sameList x new)
 
--- the cut after a write: muted, and each group that may have moved is one of the two; the others are what they were. `held` and `kept` are
--- the bytes of the packet holds and of the coefficient hold before the write, `image` and `packet` are the state after it.
-unfoldable pub isBetween : InUse → InUse → ℕ → ℕ → ℕ → List ℕ → List ℕ → Bool
-isBetween old new a held kept image packet =
-    eqb (mute (lentAs image packet [])) 1 &&
+-- no coefficient hold is up, and none waits: the coefficients in use are those of the registers. A write alone never brings that about.
+abbrev pub isIdle : List ℕ → Bool → Bool
+isIdle image waiting = not (waiting || up matrix (holdsOf converter image))
+
+-- the cut after a write: muted, and each group that may have moved is one of the two; the others are what they were. `held` is the byte of
+-- the packet holds before the write; `image`, `packet` and `waiting` are the state after it.
+unfoldable pub isBetween : InUse → InUse → ℕ → ℕ → List ℕ → List ℕ → Bool → Bool
+isBetween old new a held image packet waiting =
+    eqb (mute (lentAs image packet [] false)) 1 &&
     (oneOf (mayMove avi a held (holdsOf packets image)) (old .avi) (new .avi) (registersOf avi image) &&
     (oneOf (mayMove audio a held (holdsOf packets image)) (old .audio) (new .audio) (registersOf audio image) &&
-    oneOf (mayMove matrix a kept (holdsOf converter image)) (old .matrix) (new .matrix) (fields (registersOf matrix image))))
+    oneOf (isIdle image waiting && covers matrix a) (old .matrix) (new .matrix) (fields (registersOf matrix image))))
 
--- the same, from one state to the next
-abbrev pub isNext : InUse → InUse → ℕ → Chip → Chip → Bool
-isNext old new a s t = isBetween old new a (holdsOf packets (s .image)) (holdsOf converter (s .image)) (t .image) (t .packet)
+-- the cut after the event that may follow: where a change waits, the registers come into use
+unfoldable pub isTurned : InUse → InUse → List ℕ → Bool → Bool
+isTurned old new image waiting =
+    oneOf (waiting && not (up matrix (holdsOf converter image))) (old .matrix) (new .matrix) (fields (registersOf matrix image))
 
--- whether no other pair follows
+-- both, from one state to the next
+abbrev pub isNext : InUse → InUse → Bool → ℕ → Chip → Chip → Bool
+isNext old new event a s t =
+    isBetween old new a (holdsOf packets (s .image)) (t .image) (t .packet) (t .waiting) &&
+    (not event || isTurned old new (t .image) (t .waiting))
+
+-- whether no other pair follows, and whether just one does, before which the event comes
 abbrev pub isLast : List Write → Bool
 isLast [] = true
 isLast (w ∷ ws) = false
+
+abbrev pub isEvent : List Write → Bool
+isEvent [] = false
+isEvent (w ∷ ws) = isLast ws
+
+-- how many pairs the machine takes, by the byte of the packet holds: those before the first that would leave two up
+abbrev pub takenBy : ℕ → List Write → ℕ
+takenBy held [] = 0
+takenBy held (w ∷ ws) =
+    elim (eqb (w .address) (packets .register)) [
+      | true ↦ elim (two (merge 8 (readOnly (w .address)) held (w .value))) [
+        | true ↦ 0
+        | false ↦ suc (takenBy (merge 8 (readOnly (w .address)) held (w .value)) ws)
+      ]
+      | false ↦ suc (takenBy held ws)
+    ]
 
 -- the first pair that fails, of a list that the machine takes; its length where none does
 abbrev pub firstFault : InUse → InUse → List Write → Chip → ℕ
 firstFault old new [] s = 0
 firstFault old new (w ∷ ws) s =
-    cond (fairTest (s .image) w && (isLast ws || isNext old new (w .address) s (writeOf s (w .address) (w .value) .chip)))
+    cond (fairTest (s .image) w && (isLast ws || isNext old new (isEvent ws) (w .address) s (writeOf s (w .address) (w .value) .chip)))
     (suc (firstFault old new ws (writeOf s (w .address) (w .value) .chip))) 0
 
 -- the first bad pair; the list's length where none is

@@ -1,5 +1,5 @@
 -- Document 02, request 03: a list that a vendor brings, ws, "a list of address and value pairs", run "on the chip machine from the present
--- state" s: when it is accepted, and which pair is bad.
+-- state" s: when it is accepted, and which pair is bad. Request 04: "A vendor's list gets its event just before its last pair."
 use mathlib.Core.Path.{_≡_}
 use mathlib.Core.Logic.{_⊎_}
 use mathlib.Core.Bool.{true, cond}
@@ -19,18 +19,26 @@ use Rattle.views.specs.Theorems.{WrongLengths}
 use Rattle.writes.specs.List.{isWritten, pairsOf}
 use Rattle.plan.specs.Rules.{HoldsUp}
 use Rattle.decode.specs.Ends.{Ends}
-use Rattle.cut.specs.Run.{run, cut, allInUse, Either, Between, Fair}
-use Rattle.cut.specs.Demand.{sent}
+use Rattle.cut.specs.Run.{run, cut, writesBy, InUse, allInUse, Either, Between, Fair}
+use Rattle.cut.specs.Demand.{waited}
 
 abbrev pub pairAt : List Write → ℕ → Write
 pairAt ws k = getD ws k (0 gets 0)
 
--- the state at the cut after k pairs, and at the end
+-- the state after k events of the list with its Vsync, and at the end. Up to the last pair these are pairs: pair k finds the registers of
+-- `cutAt ws s k`, for a Vsync changes none.
 abbrev pub cutAt : List Write → Chip → ℕ → Chip
-cutAt ws s k = cut (sent ws) s k
+cutAt ws s k = cut (waited ws) s k
 
 abbrev pub endOf : List Write → Chip → Chip
-endOf ws s = run (sent ws) s
+endOf ws s = run (waited ws) s
+
+-- how many pairs these events have; "after the first write and before the last"
+abbrev pub pairsBy : List Write → ℕ → ℕ
+pairsBy ws k = writesBy (waited ws) k
+
+abbrev pub Inside : List Write → ℕ → Type 0
+Inside ws k = (0 < pairsBy ws k) × (pairsBy ws k < length ws)
 
 -- pair k "would leave two packet holds up"
 abbrev pub LeavesTwo : List Write → Chip → ℕ → Type 0
@@ -55,11 +63,11 @@ pub record Passes (ws : List Write) (s : Chip) : Type 0 where
   -- "never leaves two packet holds up"
   pub holds : (k : ℕ) → k < length ws → LeavesTwo ws s k → ⊥
   -- "is muted at every cut after the first write and before the last"
-  pub muted : (k : ℕ) → 0 < k → k < length ws → Muted (cutAt ws s k)
+  pub muted : (k : ℕ) → Inside ws k → Muted (cutAt ws s k)
   -- "keeps each group at each cut as it began or as the list ends"
-  pub avi : (k : ℕ) → Either (inUse packets avi s) (inUse packets avi (endOf ws s)) (inUse packets avi (cutAt ws s k))
-  pub audio : (k : ℕ) → Either (inUse packets audio s) (inUse packets audio (endOf ws s)) (inUse packets audio (cutAt ws s k))
-  pub matrix : (k : ℕ) → Either (coefficients s) (coefficients (endOf ws s)) (coefficients (cutAt ws s k))
+  pub avi : (k : ℕ) → Inside ws k → Either (inUse packets avi s) (inUse packets avi (endOf ws s)) (inUse packets avi (cutAt ws s k))
+  pub audio : (k : ℕ) → Inside ws k → Either (inUse packets audio s) (inUse packets audio (endOf ws s)) (inUse packets audio (cutAt ws s k))
+  pub matrix : (k : ℕ) → Inside ws k → Either (coefficients s) (coefficients (endOf ws s)) (coefficients (cutAt ws s k))
   -- "and ends in an image that decodes"
   pub decodes : Decodable (endOf ws s .image)
 
@@ -72,12 +80,18 @@ shortened [] s = []
 shortened (w ∷ ws) s =
     cond (eqb (writeOf s (w .address) (w .value) .refusal) 0) (w ∷ shortened ws (writeOf s (w .address) (w .value) .chip)) []
 
--- pair k of a list that the machine takes breaks a rule by itself, one of the three lines of `Fair`; or the cut after it, where another pair
--- follows, is not muted or has a group that is neither as it began nor as the list ends
+-- a cut after pair k, and before the next, is not muted or has a group that is neither as it began nor as the list ends. (Before the last
+-- pair there are two such cuts, before the event and after it.)
+pub record Torn (old new : InUse) (ws : List Write) (s : Chip) (k : ℕ) : Type 0 where
+  pub follows : suc k < length ws
+  pub cut : ℕ
+  pub after : pairsBy ws cut ≡ suc k
+  pub torn : Between old new (cutAt ws s cut) → ⊥
+
+-- pair k of a list that the machine takes breaks a rule by itself, one of the three lines of `Fair`; or a cut after it is torn
 abbrev pub Fails : List Write → Chip → ℕ → Type 0
 Fails ws s k =
-    ((k < length ws) × (Fair (cutAt ws s k .image) (pairAt ws k) → ⊥))
-    ⊎ ((suc k < length ws) × (Between (allInUse s) (allInUse (endOf ws s)) (cutAt ws s (suc k)) → ⊥))
+    ((k < length ws) × (Fair (cutAt ws s k .image) (pairAt ws k) → ⊥)) ⊎ Torn (allInUse s) (allInUse (endOf ws s)) ws s k
 
 -- a bad pair: it fails so, or it is the first that would leave two packet holds up. (Pairs after that one are not looked at.)
 abbrev pub Bad : List Write → Chip → ℕ → Type 0

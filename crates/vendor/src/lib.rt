@@ -1,6 +1,6 @@
-// Reading a write list that a vendor brings: document 02, request 03.
+// Reading a write list that a vendor brings: document 02, requests 03 and 04.
 ghost use mathlib.Core.Path.{_≡_};
-ghost use mathlib.Core.Bool.{cond, not, _&&_, _||_};
+ghost use mathlib.Core.Bool.{false, cond, not, _&&_, _||_};
 ghost use mathlib.Core.List.{List, []};
 ghost use Prim.Native.Nat.{ℕ, _+_, _≤_};
 ghost use lib.Dec.{eqb};
@@ -12,9 +12,11 @@ ghost use Rattle.chip.specs.declared.Chip.{Chip};
 ghost use Rattle.chip.specs.Machine.{avi, audio, matrix, mute};
 ghost use Rattle.chip.specs.Write.{lentAs};
 ghost use Rattle.writes.specs.List.{pairsOf, covers};
-ghost use Rattle.cut.specs.Run.{allInUse};
+ghost use Rattle.views.specs.Entry.{marked};
+ghost use Rattle.cut.specs.Run.{allInUse, run};
+ghost use Rattle.cut.specs.Demand.{sent};
 ghost use Rattle.vendor.specs.Vendor.{shortened, endOf};
-ghost use Rattle.vendor.specs.Found.{shown, oneOf, isBetween, firstFault, Vets};
+ghost use Rattle.vendor.specs.Found.{shown, oneOf, isBetween, isTurned, takenBy, firstFault, Vets};
 ghost use Rattle.vendor.specs.Theorems.{Vetted};
 use chip::Chip;
 use map::Map;
@@ -35,12 +37,6 @@ struct Used {
     avi: [u8; Map::AVI_INFOFRAME_COUNT as usize],
     audio: [u8; Map::AUDIO_INFOFRAME_COUNT as usize],
     matrix: [u16; 12],
-}
-
-// The state as a list ends, and how many of its pairs stand before the first that the machine refuses.
-struct Ended {
-    count: usize,
-    chip: Chip,
 }
 
 // A group's bytes in use: the front of its buffer where its hold is up, else its registers.
@@ -87,7 +83,7 @@ fn in_use(s: Chip) -> Used
     part(
         &image,
         &coefficients,
-        hold / Map::COEFFICIENT_UPDATE_MASK % 2 == 1,
+        s.waiting | chip::is_held(hold),
         Map::CSC as usize,
         Map::CSC_COUNT as usize,
         &mut bytes,
@@ -125,10 +121,9 @@ fn may_move(before: bool, after: bool, first: u8, count: u8, address: u8) -> boo
     !after & (before | in_run(first, count, address))
 }
 
-// Whether a write left every group alone: it is to none of their registers, and no hold changed.
-fn is_still(address: u8, held: u8, holds: u8, kept: u8, hold: u8) -> bool
-    ensures { λ r. ⌜ r ≡ (not (covers avi address || (covers audio address || covers matrix address)) &&
-        (eqb held holds && eqb kept hold)) ⌝ }
+// Whether a write left every group alone: it is to none of their registers, and no packet hold changed.
+fn is_still(address: u8, held: u8, holds: u8) -> bool
+    ensures { λ r. ⌜ r ≡ (not (covers avi address || (covers audio address || covers matrix address)) && eqb held holds) ⌝ }
 {
     let avi = in_run(
         Map::AVI_INFOFRAME_VERSION,
@@ -141,7 +136,7 @@ fn is_still(address: u8, held: u8, holds: u8, kept: u8, hold: u8) -> bool
         address,
     );
     let matrix = in_run(Map::CSC, Map::CSC_COUNT, address);
-    !(avi | (audio | matrix)) & ((held == holds) & (kept == hold))
+    !(avi | (audio | matrix)) & (held == holds)
 }
 
 // What may have moved is now one of the two; the same of the coefficients.
@@ -167,23 +162,23 @@ fn one_matrix(moved: bool, bytes: &[u8], old: [u16; 12], new: [u16; 12]) -> bool
 
 // "Muted: set bit 1, clear bit 0.", of the GC byte in use.
 fn is_muted(image: &[u8], packet: &[u8]) -> bool
-    ensures { λ r. ⌜ r ≡ eqb (mute (lentAs (now (image .entry)) (now (packet .entry)) [])) 1 ⌝ }
+    ensures { λ r. ⌜ r ≡ eqb (mute (lentAs (now (image .entry)) (now (packet .entry)) [] false)) 1 ⌝ }
 {
     views::mute_bits(image, packet) == 1
 }
 
-// The cut after a write, by the holds before it: muted, and each group that may have moved old or new.
+// The cut after a write, by the packet holds before it: muted, and each group that may have moved old or new.
 fn is_whole(
     image: &[u8],
     packet: &[u8],
+    waiting: bool,
     address: u8,
     held: u8,
-    kept: u8,
     old: Used,
     new: Used,
 ) -> bool
     requires { ⌜ (length (now image) ≡ 256) × (length (now packet) ≡ 32) ⌝ }
-    ensures { λ r. ⌜ r ≡ isBetween (shown old) (shown new) address held kept (now (image .entry)) (now (packet .entry)) ⌝ }
+    ensures { λ r. ⌜ r ≡ isBetween (shown old) (shown new) address held (now (image .entry)) (now (packet .entry)) waiting ⌝ }
 {
     if !is_muted(image, packet) {
         return false;
@@ -223,13 +218,8 @@ fn is_whole(
         return false;
     }
     let hold = image[Map::COEFFICIENT_UPDATE as usize];
-    let matrix_moved = may_move(
-        kept / Map::COEFFICIENT_UPDATE_MASK % 2 == 1,
-        hold / Map::COEFFICIENT_UPDATE_MASK % 2 == 1,
-        Map::CSC,
-        Map::CSC_COUNT,
-        address,
-    );
+    let idle = !(waiting | chip::is_held(hold));
+    let matrix_moved = idle & in_run(Map::CSC, Map::CSC_COUNT, address);
     let start = Map::CSC as usize;
     let end = start + Map::CSC_COUNT as usize;
     let old_matrix = old.matrix;
@@ -241,58 +231,137 @@ fn is_whole(
 fn is_between(
     image: &[u8],
     packet: &[u8],
+    waiting: bool,
     address: u8,
     held: u8,
-    kept: u8,
     old: Used,
     new: Used,
 ) -> bool
     requires { ⌜ (length (now image) ≡ 256) × (length (now packet) ≡ 32) ⌝ }
-    ensures { λ r. ⌜ r ≡ isBetween (shown old) (shown new) address held kept (now (image .entry)) (now (packet .entry)) ⌝ }
+    ensures { λ r. ⌜ r ≡ isBetween (shown old) (shown new) address held (now (image .entry)) (now (packet .entry)) waiting ⌝ }
 {
     let holds = image[Map::INFOFRAME_UPDATE as usize];
-    let hold = image[Map::COEFFICIENT_UPDATE as usize];
-    if is_still(address, held, holds, kept, hold) {
+    if is_still(address, held, holds) {
         return is_muted(image, packet);
     }
-    is_whole(image, packet, address, held, kept, old, new)
+    is_whole(image, packet, waiting, address, held, old, new)
 }
 
-// The first pass: a list as far as the machine takes it.
-fn ending(start: Chip, list: &[u8]) -> Ended
-    ensures { λ r. ⌜ (r .count ≡ length (shortened (pairsOf (now (list .entry))) start))
-        × (r .chip ≡ endOf (shortened (pairsOf (now (list .entry))) start) start) ⌝ }
+// The cut after the event, where a change may have been waiting: the coefficients of the registers are old or new.
+fn is_turned(image: &[u8], waiting: bool, old: Used, new: Used) -> bool
+    requires { ⌜ length (now image) ≡ 256 ⌝ }
+    ensures { λ r. ⌜ r ≡ isTurned (shown old) (shown new) (now (image .entry)) waiting ⌝ }
+{
+    let hold = image[Map::COEFFICIENT_UPDATE as usize];
+    let moved = waiting & !chip::is_held(hold);
+    let start = Map::CSC as usize;
+    let end = start + Map::CSC_COUNT as usize;
+    let old_matrix = old.matrix;
+    let new_matrix = new.matrix;
+    one_matrix(moved, &image[start..end], old_matrix, new_matrix)
+}
+
+// Both, where the event follows.
+fn is_careful(
+    image: &[u8],
+    packet: &[u8],
+    waiting: bool,
+    event: bool,
+    address: u8,
+    held: u8,
+    old: Used,
+    new: Used,
+) -> bool
+    requires { ⌜ (length (now image) ≡ 256) × (length (now packet) ≡ 32) ⌝ }
+    ensures { λ r. ⌜ r ≡ (isBetween (shown old) (shown new) address held (now (image .entry)) (now (packet .entry)) waiting &&
+        (not event || isTurned (shown old) (shown new) (now (image .entry)) waiting)) ⌝ }
+{
+    if !is_between(image, packet, waiting, address, held, old, new) {
+        return false;
+    }
+    if !event {
+        return true;
+    }
+    is_turned(image, waiting, old, new)
+}
+
+// How many pairs the machine takes, by the byte of the packet holds.
+fn taken(start: u8, list: &[u8]) -> usize
+    ensures { λ r. ⌜ r ≡ takenBy start (pairsOf (now (list .entry))) ⌝ }
+{
+    let keep = registers::read_only(Map::INFOFRAME_UPDATE);
+    let n = list.len() / 2;
+    let mut held = start;
+    let mut i: usize = 0;
+    while i < n {
+        if list[2 * i] == Map::INFOFRAME_UPDATE {
+            held = bits::merge(keep, held, list[2 * i + 1]);
+            if chip::two_up(held) {
+                return i;
+            }
+        }
+        i = i + 1;
+    }
+    n
+}
+
+// A list as far as the machine takes it, with no event.
+fn running(start: Chip, list: &[u8]) -> Chip
+    ensures { λ r. ⌜ r ≡ run (sent (shortened (pairsOf (now (list .entry))) start)) start ⌝ }
 {
     let columns = registers::table_columns();
     let mut image = start.image;
     let mut packet = start.packet;
     let mut coefficients = start.coefficients;
+    let mut waiting = start.waiting;
     let n = list.len() / 2;
     let mut i: usize = 0;
     while i < n {
         let address = list[2 * i];
         let at = address as usize;
         let byte = bits::merge(columns.read_only[at], image[at], list[2 * i + 1]);
-        if !chip::store(&mut image, &mut packet, &mut coefficients, address, byte) {
-            return Ended {
-                count: i,
-                chip: Chip {
-                    image: image,
-                    packet: packet,
-                    coefficients: coefficients,
-                },
+        let stored = chip::store(
+            &mut image,
+            &mut packet,
+            &mut coefficients,
+            waiting,
+            address,
+            byte,
+        );
+        waiting = stored.waiting;
+        if !stored.done {
+            return Chip {
+                image: image,
+                packet: packet,
+                coefficients: coefficients,
+                waiting: waiting,
             };
         }
         i = i + 1;
     }
-    Ended {
-        count: n,
-        chip: Chip {
-            image: image,
-            packet: packet,
-            coefficients: coefficients,
-        },
+    Chip {
+        image: image,
+        packet: packet,
+        coefficients: coefficients,
+        waiting: waiting,
     }
+}
+
+// The first pass: the state at the end of what the machine takes, with the event just before the last pair.
+fn ending(start: Chip, list: &[u8], count: usize) -> Chip
+    requires { ⌜ count ≡ length (shortened (pairsOf (now list)) start) ⌝ }
+    ensures { λ r. ⌜ r ≡ endOf (shortened (pairsOf (now (list .entry))) start) start ⌝ }
+{
+    if count == 0 {
+        return start;
+    }
+    let last = 2 * (count - 1);
+    let before = running(start, &list[..last]);
+    let turned = before.vsync();
+    let address = list[last];
+    let value = list[last + 1];
+    let wrote = turned.write(address, value);
+    wrote.chip
 }
 
 // The second pass: the first pair that fails, of those that the machine takes.
@@ -305,6 +374,7 @@ fn first_fault(start: Chip, old: Used, new: Used, list: &[u8], count: usize) -> 
     let mut image = start.image;
     let mut packet = start.packet;
     let mut coefficients = start.coefficients;
+    let mut waiting = start.waiting;
     let mut i: usize = 0;
     while i < count {
         let address = list[2 * i];
@@ -322,11 +392,19 @@ fn first_fault(start: Chip, old: Used, new: Used, list: &[u8], count: usize) -> 
             return i;
         }
         let held = image[Map::INFOFRAME_UPDATE as usize];
-        let kept = image[Map::COEFFICIENT_UPDATE as usize];
         let byte = bits::merge(columns.read_only[at], before, value);
-        chip::store(&mut image, &mut packet, &mut coefficients, address, byte);
+        let stored = chip::store(
+            &mut image,
+            &mut packet,
+            &mut coefficients,
+            waiting,
+            address,
+            byte,
+        );
+        waiting = stored.waiting;
         let last = i + 1 == count;
-        if !(last | is_between(&image, &packet, address, held, kept, old, new)) {
+        let event = i + 2 == count;
+        if !(last | is_careful(&image, &packet, waiting, event, address, held, old, new)) {
             return i;
         }
         i = i + 1;
@@ -345,8 +423,8 @@ fn refused(number: u8) -> Verdict
 }
 
 // Whether a list may be run on the chip from a state: refusals 7, 8, 14, 15 and 16.
-pub fn vet(image: &[u8], packet: &[u8], coefficients: &[u8], list: &[u8]) -> Verdict
-    ensures { λ r. ⌜ Vets (lentAs (now (image .entry)) (now (packet .entry)) (now (coefficients .entry))) (now (list .entry)) r ⌝ }
+pub fn vet(image: &[u8], packet: &[u8], coefficients: &[u8], mark: u8, list: &[u8]) -> Verdict
+    ensures { λ r. ⌜ Vets (lentAs (now (image .entry)) (now (packet .entry)) (now (coefficients .entry)) (marked mark)) (now (list .entry)) r ⌝ }
 {
     if !((image.len() == 256) & ((packet.len() == 32) & (coefficients.len() == 24))) {
         return refused(Refusal::IMAGE_LENGTH);
@@ -358,12 +436,12 @@ pub fn vet(image: &[u8], packet: &[u8], coefficients: &[u8], list: &[u8]) -> Ver
     if (list.len() % 2 == 1) | (MOST_PAIRS < n) {
         return refused(Refusal::LIST_LENGTH);
     }
-    let start = views::gathered(image, packet, coefficients);
-    let ended = ending(start, list);
-    let end = ended.chip;
+    let start = views::gathered(image, packet, coefficients, mark);
+    let count = taken(image[Map::INFOFRAME_UPDATE as usize], list);
+    let end = ending(start, list, count);
     let old = in_use(start);
     let new = in_use(end);
-    let place = first_fault(start, old, new, list, ended.count);
+    let place = first_fault(start, old, new, list, count);
     if place < n {
         return Verdict {
             refusal: Refusal::BAD_PAIR,

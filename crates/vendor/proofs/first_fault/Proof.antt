@@ -19,12 +19,12 @@ use Rattle.vendor.proofs.first_fault.Statement.{statement}
 use Rattle.vendor.proofs.first_fault.Tie as tie
 
 abbrev Inv-loop : tie.InvT-loop
-Inv-loop old new list count columns keep image₀ packet₀ coefficients₀ i₀ image packet coefficients i =
+Inv-loop old new list count columns keep image₀ packet₀ coefficients₀ waiting₀ i₀ image packet coefficients waiting i =
     (i ≤ count) × (length image ≡ 256) × (length packet ≡ 32)
-    × Left (shown old) (shown new) (pairsOf list) (lentAs image₀ packet₀ coefficients₀) i (lentAs image packet coefficients)
+    × Left (shown old) (shown new) (pairsOf list) (lentAs image₀ packet₀ coefficients₀ waiting₀) i (lentAs image packet coefficients waiting)
 
 abbrev μ-loop : tie.MeasureT-loop
-μ-loop old new list count columns keep image₀ packet₀ coefficients₀ i₀ image packet coefficients i = count - i
+μ-loop old new list count columns keep image₀ packet₀ coefficients₀ waiting₀ i₀ image packet coefficients waiting i = count - i
 
 -- where a turn begins, and what it begins with
 whole : (z : tie.Start Inv-loop μ-loop) → (length (z .args .start .image) ≡ 256) × (length (z .args .start .packet) ≡ 32)
@@ -34,7 +34,7 @@ abbrev begin : (c : tie.In-loop Inv-loop μ-loop) → tie.Start Inv-loop μ-loop
 begin c = c .before .before .before .before .before .before .before .before
 
 abbrev state : tie.In-loop Inv-loop μ-loop → Chip
-state c = let l = c .before .loop in lentAs (l .image) (l .packet) (l .coefficients)
+state c = let l = c .before .loop in lentAs (l .image) (l .packet) (l .coefficients) (l .waiting)
 
 -- a pair of what is taken is a pair of the list, and its two bytes lie in it
 shortened-at : (c : tie.In-loop Inv-loop μ-loop) → c .before .loop .i < length (shortened (pairsOf (begin c .args .list .now)) (begin c .args .start))
@@ -64,7 +64,7 @@ tested c =
 
 -- the write
 abbrev after : tie.After-store Inv-loop μ-loop → Chip
-after c = lentAs (c .store .last .0) (c .store .last .1 .0) (c .store .last .1 .1 .0)
+after c = lentAs (c .store .last .0) (c .store .last .1 .0) (c .store .last .1 .1 .0) (c .store .result .waiting)
 
 stored : (c : tie.After-store Inv-loop μ-loop) → let l = c .before .before .before .before .before .before .before .before .before .before .before .before .before in
     (wrote (pairsOf (begin l .args .list .now)) (l .before .loop .i) (state l) ≡ record { refusal = 0; chip = after c })
@@ -74,7 +74,7 @@ stored c =
     let l = c .before .before .before .before .before .before .before .before .before .before .before .before .before in
     let ws = pairsOf (begin l .args .list .now) in
     let k = l .before .before .before .before .before .before .table-columns in
-    by-done (begin l .args .list .now) (l .before .loop .i) (state l) (after c) (k .result .«read_only») (m .merge .result) (c .store .result) (listed l)
+    by-done (begin l .args .list .now) (l .before .loop .i) (state l) (after c) (k .result .«read_only») (m .merge .result) (c .store .result .done) (listed l)
     (l .before .loop .inv .1) (k .ensures .readOnly) (m .merge .ensures) (c .store .ensures)
     (λ e. is-taken (shown (begin l .args .old)) (shown (begin l .args .new)) ws (begin l .args .start) (l .before .loop .i) (state l)
     (l .before .loop .inv .3) (shortened-at l) (listed l) e)
@@ -86,8 +86,8 @@ packet-long c =
     (stored c .0)
 
 -- the cut after it
-gone : (c : tie.After-is-between Inv-loop μ-loop) → let x = c .before .before .before in let l = x .before .before .before .before .before .before .before .before .before .before .before .before .before in
-    (eqb (l .before .loop .i + 1) (begin l .args .count) || c .is-between .result)
+gone : (c : tie.After-is-careful Inv-loop μ-loop) → let x = c .before .before .before in let l = x .before .before .before .before .before .before .before .before .before .before .before .before .before in
+    (eqb (l .before .loop .i + 1) (begin l .args .count) || c .is-careful .result)
     ≡ goes (shown (begin l .args .old)) (shown (begin l .args .new)) (pairsOf (begin l .args .list .now)) (begin l .args .start) (l .before .loop .i)
     (state l) (l .before .loop .inv .3) (shortened-at l) (listed l) (after x) (stored x .0)
 gone c =
@@ -95,8 +95,9 @@ gone c =
     let l = x .before .before .before .before .before .before .before .before .before .before .before .before .before in
     let p = pair-at (begin l .args .list .now) (l .before .loop .i) (listed l) in
     ap₂ (λ (a b : Bool). a || b) (ap (λ (n : ℕ). eqb (l .before .loop .i + 1) n) (begin l .pre))
-    (c .is-between .ensures
-    ∙ ap (λ (w : Write). isNext (shown (begin l .args .old)) (shown (begin l .args .new)) (w .address) (state l) (after x)) (sym p))
+    (c .is-careful .ensures
+    ∙ ap₂ (λ (w : Write) (n : ℕ). isNext (shown (begin l .args .old)) (shown (begin l .args .new)) (eqb (l .before .loop .i + 2) n) (w .address) (state l) (after x))
+    (sym p) (begin l .pre))
 
 table-columns-requires : tie.Need-table-columns-requires Inv-loop μ-loop
 table-columns-requires c κs = tt
@@ -162,12 +163,6 @@ cast-held c = search needs
 array-read-held : tie.Need-array-read-held Inv-loop μ-loop
 array-read-held c = search needs
 
-cast-kept : tie.Need-cast-kept Inv-loop μ-loop
-cast-kept c = search needs
-
-array-read-kept : tie.Need-array-read-kept Inv-loop μ-loop
-array-read-kept c = search needs
-
 element-copy-out-merge : tie.Need-element-copy-out-merge Inv-loop μ-loop
 element-copy-out-merge c = small (c .before .before .before .before .before .before)
 
@@ -180,14 +175,17 @@ store-requires c κs = tt
 add-last : tie.Need-add-last Inv-loop μ-loop
 add-last c = record { fits = omega (arith, bound (c .before .before .before .before .before .before .before .before .before .before .before .before .before)) }
 
-slice-aggregate-is-between : tie.Need-slice-aggregate-is-between Inv-loop μ-loop
-slice-aggregate-is-between c = sym (stored (c .before) .1)
+add-event : tie.Need-add-event Inv-loop μ-loop
+add-event c = record { fits = omega (arith, bound (c .before .before .before .before .before .before .before .before .before .before .before .before .before)) }
 
-slice-aggregate-is-between-2 : tie.Need-slice-aggregate-is-between-2 Inv-loop μ-loop
-slice-aggregate-is-between-2 c = sym (packet-long (c .before .before))
+slice-aggregate-is-careful : tie.Need-slice-aggregate-is-careful Inv-loop μ-loop
+slice-aggregate-is-careful c = sym (stored (c .before) .1)
 
-is-between-requires : tie.Need-is-between-requires Inv-loop μ-loop
-is-between-requires c κs = (stored (c .before .before) .1, packet-long (c .before .before))
+slice-aggregate-is-careful-2 : tie.Need-slice-aggregate-is-careful-2 Inv-loop μ-loop
+slice-aggregate-is-careful-2 c = sym (packet-long (c .before .before))
+
+is-careful-requires : tie.Need-is-careful-requires Inv-loop μ-loop
+is-careful-requires c κs = (stored (c .before .before) .1, packet-long (c .before .before))
 
 returns-2 : tie.Need-returns-2 Inv-loop μ-loop
 returns-2 c =
@@ -223,7 +221,7 @@ returns-3 c =
     let z = l .before .before .before .before .before .before .before in
     let e : l .loop .i ≡ z .args .count = omega (arith, l .loop .inv .0, c .loop-test .left) in
     sym e ∙ left-end (shown (z .args .old)) (shown (z .args .new)) (pairsOf (z .args .list .now)) (z .args .start) (l .loop .i)
-    (lentAs (l .loop .image) (l .loop .packet) (l .loop .coefficients)) (l .loop .inv .3) (e ∙ z .pre)
+    (lentAs (l .loop .image) (l .loop .packet) (l .loop .coefficients) (l .loop .waiting)) (l .loop .inv .3) (e ∙ z .pre)
 
 pub first-fault-spec : {M : Type 1} → statement M
 first-fault-spec =
@@ -249,15 +247,14 @@ first-fault-spec =
     returns
     cast-held
     array-read-held
-    cast-kept
-    array-read-kept
     element-copy-out-merge
     merge-requires
     store-requires
     add-last
-    slice-aggregate-is-between
-    slice-aggregate-is-between-2
-    is-between-requires
+    add-event
+    slice-aggregate-is-careful
+    slice-aggregate-is-careful-2
+    is-careful-requires
     returns-2
     add-i
     loop-less

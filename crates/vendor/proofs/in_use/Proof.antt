@@ -3,7 +3,7 @@ use mathlib.Core.Path.{_≡_}
 use native.Mathlib.Omega.{arith}
 use lib.ListN.{length}
 use Rattle.chip.specs.Machine.{packets, converter, avi, audio, matrix}
-use Rattle.vendor.proofs.Tested.{used, twelve-used}
+use Rattle.vendor.proofs.Tested.{used, matrix-used, twelve-used}
 use borrow.Author.Needs.{needs}
 use Rattle.vendor.proofs.in_use.Statement.{statement}
 use Rattle.vendor.proofs.in_use.Tie as tie
@@ -66,6 +66,9 @@ slice-aggregate-part-7 c = search needs
 slice-aggregate-part-8 : tie.Need-slice-aggregate-part-8
 slice-aggregate-part-8 c = search needs
 
+is-held-requires : tie.Need-is-held-requires
+is-held-requires c κs = search needs
+
 cast-part-5 : tie.Need-cast-part-5
 cast-part-5 c = search needs
 
@@ -77,7 +80,7 @@ slice-aggregate-part-9 c = search needs
 
 part-requires-3 : tie.Need-part-requires-3
 part-requires-3 c κs =
-    let l = long (c .before .before .before .before .before .before .before .before .before .before .before .before .before .before .before .before) in
+    let l = long (c .before .before .before .before .before .before .before .before .before .before .before .before .before .before .before .before .before .before) in
     omega arith
 
 slice-aggregate-twelve : tie.Need-slice-aggregate-twelve
@@ -89,13 +92,14 @@ twelve-requires c κs = search needs
 returns : tie.Need-returns
 returns c =
     let m = c .before .before .before in
-    let p = m .before .before .before .before .before in
+    let h = m .before .before .before in
+    let p = h .before .before .before .before in
     let q = p .before .before .before .before .before in
     let s = q .before .before .before .before .before .before .before .args .s in
     λ i. record {
-      avi = used packets avi s (q .part .ensures) i;
-      audio = used packets audio s (p .part2 .ensures) i;
-      matrix = twelve-used s (used converter matrix s (m .part3 .ensures)) (m .part3 .kept .1 .1 .1 .1 .1 .0) (c .twelve .ensures) i;
+      avi = used avi s (q .part .ensures) i;
+      audio = used audio s (p .part2 .ensures) i;
+      matrix = twelve-used s (matrix-used s (h .is-held .result) (h .is-held .ensures) (m .part3 .ensures)) (m .part3 .kept .1 .1 .1 .1 .1 .0) (c .twelve .ensures) i;
     }
 
 pub in-use-spec : {M : Type 1} → statement M
@@ -120,6 +124,7 @@ in-use-spec =
     part-requires-2
     slice-aggregate-part-7
     slice-aggregate-part-8
+    is-held-requires
     cast-part-5
     cast-part-6
     slice-aggregate-part-9

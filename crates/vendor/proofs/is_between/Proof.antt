@@ -1,15 +1,15 @@
 -- `vendor::is_between` meets its contract. Assumes nothing.
 use mathlib.Core.Path.{_≡_, refl, sym, _∙_}
-use mathlib.Core.Bool.{Bool, true, false, not, _&&_, _||_}
+use mathlib.Core.Bool.{Bool, true, false, false≢true, not, _&&_, _||_}
 use mathlib.Core.List.{List}
 use Prim.Native.Nat.{ℕ}
 use lib.Dec.{eqb}
 use borrow.Author.Tests.{eqb-true, not-true}
 use Rattle.lists.proofs.Both.{both-left, both-right, neither-left, neither-right}
 use Rattle.matrix.specs.Matrix.{fields}
-use Rattle.chip.specs.Machine.{Group, avi, audio, matrix, packets, converter, up, holdsOf, registersOf}
+use Rattle.chip.specs.Machine.{Group, avi, audio, matrix, packets, up, holdsOf, registersOf}
 use Rattle.writes.specs.List.{covers}
-use Rattle.vendor.specs.Found.{oneOf, mayMove, isBetween}
+use Rattle.vendor.specs.Found.{oneOf, mayMove, isIdle, isBetween}
 use borrow.Author.Needs.{needs}
 use Rattle.vendor.proofs.is_between.Statement.{statement}
 use Rattle.vendor.proofs.is_between.Tie as tie
@@ -23,13 +23,18 @@ still g a before after old new x e n = rw (e, n) (quiet (up g after) _)
     quiet true x = refl
     quiet false x = refl
 
--- what a write that is to no group and changes no hold says
-apart : (x y z p q : Bool) → (not (x || (y || z)) && (p && q)) ≡ true → (x ≡ false) × (y ≡ false) × (z ≡ false) × (p ≡ true) × (q ≡ true)
-apart x y z p q e =
-    let n = not-true (x || (y || z)) (both-left (not (x || (y || z))) (p && q) e) in
-    let h = both-right (not (x || (y || z))) (p && q) e in
+-- nor have the coefficients, where no register of theirs is written
+away : (idle covered : Bool) (old new x : List ℕ) → covered ≡ false → oneOf (idle && covered) old new x ≡ true
+away true true old new x e = absurd (false≢true (sym e))
+away true false old new x e = refl
+away false covered old new x e = refl
+
+-- what a write that is to no group and changes no packet hold says
+apart : (x y z p : Bool) → (not (x || (y || z)) && p) ≡ true → (x ≡ false) × (y ≡ false) × (z ≡ false) × (p ≡ true)
+apart x y z p e =
+    let n = not-true (x || (y || z)) (both-left (not (x || (y || z))) p e) in
     let m = neither-right x (y || z) n in
-    (neither-left x (y || z) n, neither-left y z m, neither-right y z m, both-left p q h, both-right p q h)
+    (neither-left x (y || z) n, neither-left y z m, neither-right y z m, both-right (not (x || (y || z))) p e)
 
 -- so the mute is all that is left
 muted : {r m a b c : Bool} → r ≡ m → a ≡ true → b ≡ true → c ≡ true → r ≡ (m && (a && (b && c)))
@@ -45,12 +50,6 @@ cast-holds c = search needs
 shared-slice-read-holds : tie.Need-shared-slice-read-holds
 shared-slice-read-holds c = search needs
 
-cast-hold : tie.Need-cast-hold
-cast-hold c = search needs
-
-shared-slice-read-hold : tie.Need-shared-slice-read-hold
-shared-slice-read-hold c = search needs
-
 is-still-requires : tie.Need-is-still-requires
 is-still-requires c κs = search needs
 
@@ -61,17 +60,16 @@ returns : tie.Need-returns
 unfolding isBetween
 returns c =
     let i = c .before .before in
-    let a = i .before .before .before .before .before .args in
+    let a = i .before .before .before .before .args in
     let image = a .image .now in
     let u =
     apart (covers avi (a .address)) (covers audio (a .address)) (covers matrix (a .address)) (eqb (a .held) (holdsOf packets image))
-    (eqb (a .kept) (holdsOf converter image)) (sym (i .is-still .ensures) ∙ c .before .if1 .taken) in
+    (sym (i .is-still .ensures) ∙ c .before .if1 .taken) in
     let p = eqb-true (a .held) (holdsOf packets image) (u .3) in
-    let q = eqb-true (a .kept) (holdsOf converter image) (u .4) in
     muted (c .is-muted .ensures)
     (still avi (a .address) (a .held) (holdsOf packets image) (a .old .avi) (a .new .avi) (registersOf avi image) p (u .0))
     (still audio (a .address) (a .held) (holdsOf packets image) (a .old .audio) (a .new .audio) (registersOf audio image) p (u .1))
-    (still matrix (a .address) (a .kept) (holdsOf converter image) (a .old .matrix) (a .new .matrix) (fields (registersOf matrix image)) q (u .2))
+    (away (isIdle image (a .waiting)) (covers matrix (a .address)) (a .old .matrix) (a .new .matrix) (fields (registersOf matrix image)) (u .2))
 
 is-whole-requires : tie.Need-is-whole-requires
 is-whole-requires c κs = search needs
@@ -85,8 +83,6 @@ is-between-spec =
     (tie.spec
     cast-holds
     shared-slice-read-holds
-    cast-hold
-    shared-slice-read-hold
     is-still-requires
     is-muted-requires
     returns

@@ -1,9 +1,11 @@
 -- `vendor::is_whole` meets its contract. Assumes nothing.
-use mathlib.Core.Path.{_≡_, sym, _∙_}
+use mathlib.Core.Path.{_≡_, sym, ap₂, _∙_}
+use mathlib.Core.Bool.{Bool, not, _&&_, _||_}
 use lib.ListN.{length}
 use Rattle.chip.specs.Machine.{avi, audio, matrix, packets, converter, holdsOf, registersOf}
 use Rattle.matrix.specs.Matrix.{fields}
-use Rattle.vendor.specs.Found.{oneOf, mayMove, isBetween}
+use Rattle.writes.specs.List.{covers}
+use Rattle.vendor.specs.Found.{oneOf, mayMove, isIdle, isBetween}
 use Rattle.vendor.proofs.Tested.{failed, passed, one-moved}
 use borrow.Author.Needs.{needs}
 use Rattle.vendor.proofs.is_whole.Statement.{statement}
@@ -24,7 +26,7 @@ abbrev third : tie.After-one-of2 → tie.Else2
 third c = c .before .before .before .before .before .before .before
 
 abbrev fourth : tie.After-one-matrix → tie.Else3
-fourth c = c .before .before .before .before .before .before
+fourth c = c .before .before .before .before .before .before .before
 
 -- what each test of a group says
 one-avi : (c : tie.After-one-of)
@@ -51,12 +53,13 @@ one-matrix : (c : tie.After-one-matrix)
     → let a = first (second (third (fourth c .before) .before)) .args in
     let image = a .image .now in
     c .one-matrix .result
-    ≡ oneOf (mayMove matrix (a .address) (a .kept) (holdsOf converter image)) (a .old .matrix) (a .new .matrix) (fields (registersOf matrix image))
+    ≡ oneOf (isIdle image (a .waiting) && covers matrix (a .address)) (a .old .matrix) (a .new .matrix) (fields (registersOf matrix image))
 one-matrix c =
     let a = first (second (third (fourth c .before) .before)) .args in
-    let image = a .image .now in
-    one-moved matrix (a .address) (a .kept) (holdsOf converter image) (a .old .matrix) (a .new .matrix) (fields (registersOf matrix image))
-    (c .before .before .before .before .may-move3 .ensures) (c .one-matrix .ensures)
+    let r = c .before .before .before .before in
+    c .one-matrix .ensures
+    ∙ ap₂ (λ (h i : Bool). oneOf (not (a .waiting || h) && i) (a .old .matrix) (a .new .matrix) (fields (registersOf matrix (a .image .now))))
+    (r .before .is-held .ensures) (r .in-run .ensures)
 
 is-muted-requires : tie.Need-is-muted-requires
 is-muted-requires c κs = search needs
@@ -155,8 +158,11 @@ cast-hold c = search needs
 shared-slice-read-hold : tie.Need-shared-slice-read-hold
 shared-slice-read-hold c = search needs
 
-may-move-requires-3 : tie.Need-may-move-requires-3
-may-move-requires-3 c κs = search needs
+is-held-requires : tie.Need-is-held-requires
+is-held-requires c κs = search needs
+
+in-run-requires : tie.Need-in-run-requires
+in-run-requires c κs = search needs
 
 cast-start : tie.Need-cast-start
 cast-start c = search needs
@@ -220,7 +226,8 @@ is-whole-spec =
     returns-3
     cast-hold
     shared-slice-read-hold
-    may-move-requires-3
+    is-held-requires
+    in-run-requires
     cast-start
     cast-end
     add-end

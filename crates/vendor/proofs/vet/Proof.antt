@@ -6,10 +6,12 @@ use native.Mathlib.Omega.{arith}
 use lib.Dec.{eqb, ltb, lit<, lit≤}
 use lib.ListN.{length}
 use borrow.Author.Needs.{needs}
-use borrow.Author.Tests.{lt-ltb, le-ltb, ltb-false}
+use borrow.Author.Tests.{lt-ltb, le-ltb, ltb-false, not-false}
 use Rattle.lists.proofs.Both.{neither-right}
 use Rattle.chip.specs.declared.Chip.{Chip}
 use Rattle.chip.specs.Write.{lentAs}
+use Rattle.chip.specs.Machine.{packets, holdsOf}
+use Rattle.views.specs.Entry.{marked}
 use Rattle.views.specs.Theorems.{Sized}
 use Rattle.views.proofs.Lent.{sized, gathered-whole}
 use Rattle.writes.specs.List.{pairsOf, ready}
@@ -18,13 +20,15 @@ use Rattle.decode.specs.declared.Decoded.{Decoded}
 use Rattle.decode.specs.Decode.{someEnds}
 use Rattle.vendor.specs.Vendor.{shortened, endOf}
 use Rattle.vendor.specs.Found.{placeOf}
+use Rattle.cut.proofs.Taken.{neat-two}
+use Rattle.vendor.proofs.Faults.{taken-by}
 use Rattle.vendor.proofs.Verdicts.{wrong-size, holds-up, wrong-length, bad-pair, bad-end, passed, placed, ends-whole, decoded, not-decoded}
 use Rattle.vendor.proofs.vet.Statement.{statement}
 use Rattle.vendor.proofs.vet.Tie as tie
 
 -- the slices as they are lent
 abbrev at : tie.Start → Chip
-at z = lentAs (z .args .image .now) (z .args .packet .now) (z .args .coefficients .now)
+at z = lentAs (z .args .image .now) (z .args .packet .now) (z .args .coefficients .now) (marked (z .args .mark))
 
 abbrev first : tie.Else1 → tie.Start
 first c = c .before .before .before .before .before
@@ -53,31 +57,46 @@ few c = ltb-false 512 (length (third c .args .list .now) / 2) (neither-right (eq
 
 -- the state, and the place
 abbrev fourth : tie.After-first-fault → tie.Start
-fourth c = third (c .before .before .before .before .before .before)
+fourth c = third (c .before .before .before .before .before .before .before)
 
 begun : (c : tie.After-gathered) → c .gathered .result ≡ at (third (c .before))
 begun c = gathered-whole (at (third (c .before))) (c .gathered .result) (fine (c .before .before .before .before .before)) (c .gathered .ensures)
+
+-- how many pairs the machine takes
+counted : (c : tie.After-taken) → let g = c .before .before in
+    c .taken .result ≡ length (shortened (pairsOf (third (g .before) .args .list .now)) (g .gathered .result))
+counted c =
+    let g = c .before .before in
+    let d = g .before .before in
+    let z = third (g .before) in
+    let list = pairsOf (z .args .list .now) in
+    c .taken .ensures
+    ∙ taken-by list (at z) (record {
+      whole = fine (d .before .before .before) .image;
+      single = neat-two (holdsOf packets (z .args .image .now)) (not-false _ (is-fit d));
+    })
+    ∙ ap (λ (s : Chip). length (shortened list s)) (sym (begun g))
 
 its-place : (c : tie.After-first-fault) → c .first-fault .result ≡ placeOf (pairsOf (fourth c .args .list .now)) (at (fourth c))
 its-place c =
     let n = c .before in
     let o = n .before in
-    let e = o .before .before in
-    let g = e .before in
-    placed (pairsOf (fourth c .args .list .now)) (g .gathered .result) (at (fourth c)) (e .ending .result .chip) _ _ (c .first-fault .result) (begun g)
-    (o .in-use .ensures) (n .in-use2 .ensures) (e .ending .ensures .1) (c .first-fault .ensures)
+    let e = o .before in
+    let g = e .before .before .before in
+    placed (pairsOf (fourth c .args .list .now)) (g .gathered .result) (at (fourth c)) (e .ending .result) _ _ (c .first-fault .result) (begun g)
+    (o .in-use .ensures) (n .in-use2 .ensures) (e .ending .ensures) (c .first-fault .ensures)
 
 -- the end
-its-end : (c : tie.After-first-fault) → let e = c .before .before .before .before in
-    e .ending .result .chip ≡ endOf (shortened (pairsOf (fourth c .args .list .now)) (at (fourth c))) (at (fourth c))
+its-end : (c : tie.After-first-fault) → let e = c .before .before .before in
+    e .ending .result ≡ endOf (shortened (pairsOf (fourth c .args .list .now)) (at (fourth c))) (at (fourth c))
 its-end c =
-    let e = c .before .before .before .before in
-    e .ending .ensures .1 ∙ ap (λ (s : Chip). endOf (shortened (pairsOf (fourth c .args .list .now)) s) s) (begun (e .before))
+    let e = c .before .before .before in
+    e .ending .ensures ∙ ap (λ (s : Chip). endOf (shortened (pairsOf (fourth c .args .list .now)) s) s) (begun (e .before .before .before))
 
-end-whole : (c : tie.After-first-fault) → length (c .before .before .before .before .ending .result .chip .image) ≡ 256
+end-whole : (c : tie.After-first-fault) → length (c .before .before .before .ending .result .image) ≡ 256
 end-whole c =
     let z = fourth c in
-    ap (λ (s : Chip). length (s .image)) (its-end c) ∙ ends-whole (shortened (pairsOf (z .args .list .now)) (at z)) (at z) (fine (c .before .before .before .before .before .before .before .before .before .before) .image)
+    ap (λ (s : Chip). length (s .image)) (its-end c) ∙ ends-whole (shortened (pairsOf (z .args .list .now)) (at z)) (at z) (fine (c .before .before .before .before .before .before .before .before .before .before .before) .image)
 
 none-bad : (c : tie.Else4) → let z = fourth (c .before) in
     ltb (placeOf (pairsOf (z .args .list .now)) (at z)) (length (pairsOf (z .args .list .now))) ≡ false
@@ -127,8 +146,17 @@ returns-3 c =
 gathered-requires : tie.Need-gathered-requires
 gathered-requires c κs = search needs
 
+cast-taken : tie.Need-cast-taken
+cast-taken c = search needs
+
+shared-slice-read-taken : tie.Need-shared-slice-read-taken
+shared-slice-read-taken c = rw (fine (c .before .before .before .before .before .before) .image) (lit< tt)
+
+taken-requires : tie.Need-taken-requires
+taken-requires c κs = tt
+
 ending-requires : tie.Need-ending-requires
-ending-requires c κs = search needs
+ending-requires c κs = counted c
 
 in-use-requires : tie.Need-in-use-requires
 in-use-requires c κs = search needs
@@ -137,15 +165,15 @@ in-use-requires-2 : tie.Need-in-use-requires-2
 in-use-requires-2 c κs = search needs
 
 first-fault-requires : tie.Need-first-fault-requires
-first-fault-requires c κs = search needs
+first-fault-requires c κs = counted (c .before .before .before)
 
-cast-t26 : tie.Need-cast-t26
-cast-t26 c = record { fits = omega (arith, c .if4 .taken, few (c .before .before .before .before .before .before .before)) }
+cast-t28 : tie.Need-cast-t28
+cast-t28 c = record { fits = omega (arith, c .if4 .taken, few (c .before .before .before .before .before .before .before .before)) }
 
 returns-4 : tie.Need-returns-4
 returns-4 c =
     let t = c in
-    let e = t .before .before .before .before .before .before .before in
+    let e = t .before .before .before .before .before .before .before .before in
     let d = e .before in
     let z = third e in
     let h : placeOf (pairsOf (z .args .list .now)) (at z) < length (pairsOf (z .args .list .now)) =
@@ -167,7 +195,7 @@ returns-5 c =
     let w = c .before in
     let a = w .before .before .before in
     let t = a .before .before .before .before .before in
-    let e = t .before .before .before .before .before .before .before in
+    let e = t .before .before .before .before .before .before .before .before in
     let d = e .before in
     let z = third e in
     c .refused4 .ensures
@@ -183,7 +211,7 @@ returns-6 c =
     let w = c .before in
     let a = w .before .before .before in
     let t = a .before .before .before .before .before in
-    let e = t .before .before .before .before .before .before .before in
+    let e = t .before .before .before .before .before .before .before .before in
     let d = e .before in
     let z = third e in
     c .refused5 .ensures
@@ -205,11 +233,14 @@ vet-spec =
     refused-requires-3
     returns-3
     gathered-requires
+    cast-taken
+    shared-slice-read-taken
+    taken-requires
     ending-requires
     in-use-requires
     in-use-requires-2
     first-fault-requires
-    cast-t26
+    cast-t28
     returns-4
     slice-aggregate-decode
     decode-requires
