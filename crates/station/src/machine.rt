@@ -1,6 +1,6 @@
 // The C face of the chip machine, of a vendor's list on it and of the class table: each call is a call of the library, taken apart.
 ghost use Rattle.chip.specs.Write.{lentAs};
-ghost use Rattle.views.specs.Entry.{lent};
+ghost use Rattle.views.specs.Entry.{lent, marked};
 ghost use Rattle.station.specs.Machine.{StationWrite, StationVsync, StationSent, StationMute, StationMatrix, StationVet, StationClass};
 use crate::CountOut;
 
@@ -116,11 +116,12 @@ pub extern "C" fn station_vet(
     image: &[u8],
     packet: &[u8],
     coefficients: &[u8],
+    mark: u8,
     list: &[u8],
 ) -> VerdictOut
-    ensures { λ r. ⌜ StationVet (lentAs (now (image .entry)) (now (packet .entry)) (now (coefficients .entry))) (now (list .entry)) r ⌝ }
+    ensures { λ r. ⌜ StationVet (lentAs (now (image .entry)) (now (packet .entry)) (now (coefficients .entry)) (marked mark)) (now (list .entry)) r ⌝ }
 {
-    let verdict = vendor::vet(image, packet, coefficients, list);
+    let verdict = vendor::vet(image, packet, coefficients, mark, list);
     VerdictOut {
         refusal: verdict.refusal as u32,
         place: verdict.place,

@@ -8,11 +8,11 @@ use Rattle.station.proofs.machine.station_vet.Tie as tie
 vet-requires : tie.Need-vet-requires
 vet-requires c κs = search needs
 
-cast-t6 : tie.Need-cast-t6
-cast-t6 c = search needs
+cast-t7 : tie.Need-cast-t7
+cast-t7 c = search needs
 
 returns : tie.Need-returns
 returns c = ap verdictOut (c .before .vet .ensures)
 
 pub station-vet-spec : {M : Type 1} → statement M
-station-vet-spec = tie.close (tie.spec vet-requires cast-t6 returns)
+station-vet-spec = tie.close (tie.spec vet-requires cast-t7 returns)
