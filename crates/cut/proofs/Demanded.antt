@@ -17,7 +17,7 @@ use Rattle.chip.specs.Machine.{Write, _gets_, matrix, up}
 use Rattle.writes.specs.Steps.{Step, _raising_, steps}
 use Rattle.writes.specs.List.{written, listWith, finishedImage, ready}
 use Rattle.cut.specs.Run.{Event, write, vsync, run, cut, writesOf, writesBy, Fair}
-use Rattle.cut.specs.Demand.{sent, waited, leavesHold, Finished, Room, Cut, cuts, Planned, Same, Clauses, Demand3}
+use Rattle.cut.specs.Demand.{sent, waited, leavesHold, Finished, Room, Cut, cuts, PlannedAgain, Same, Clauses, Demand3}
 use Rattle.cut.proofs.Planned.{Planner, cutOf, endOf}
 use Rattle.cut.proofs.Bytes.{clean, Agree}
 use Rattle.cut.proofs.Turning.{hold-seen}
@@ -136,7 +136,7 @@ module _ (mid : (ℕ → ℕ) → List ℕ → List Step)
   near-run s u es k e n =
       near-alike s (cut es u k) _ (alike mid good want u (n .ready) es e k) (cut.near-cut mid good want s u (writesBy es k) n)
 
-  pub near-cuts : (s u : Chip) (cs : List Cut) → Planned P cs u → Near s u → Near s (cuts cs u)
+  pub near-cuts : (s u : Chip) (cs : List Cut) → PlannedAgain P cs u → Near s u → Near s (cuts cs u)
   near-cuts s u [] p n = n
   near-cuts s u (c ∷ cs) p n = near-cuts s (cut (c .events) u (c .place)) cs (p .1) (near-run s u (c .events) (c .place) (p .0) n)
 

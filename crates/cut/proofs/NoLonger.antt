@@ -23,7 +23,7 @@ use Rattle.writes.proofs.Image.{image-at}
 use Rattle.writes.proofs.Counted.{no-more-of}
 use Rattle.writes.proofs.Fewer.{plain, raises-none, every-plain, leftSteps, steps-left, by-steps, nine-of-three, fewer}
 use Rattle.cut.specs.Run.{Event, cut, writesOf, writesBy}
-use Rattle.cut.specs.Demand.{Cut, cuts, Planned}
+use Rattle.cut.specs.Demand.{Cut, cuts, PlannedAgain}
 use Rattle.cut.specs.Within.{NoLonger}
 use Rattle.cut.proofs.Cut.{Ready, Near, near-self, finished-near, take-map, cut-acts, stand}
 use Rattle.cut.proofs.Runs.{alike}
@@ -95,7 +95,7 @@ module _ (want : ℕ → ℕ) where
         ⊎-elim (λ e. ⊎-elim (λ q. inl (e ∙ q)) (λ q. inr (e ∙ q)) (t a h n)) (λ e. inr (e ∙ finished-near want s u near a h))
         (as-was-or-will u (near .ready) es runs k a h n)
 
-    after : (cs : List Cut) (u : Chip) → Planned planned cs u → Near s u → Settled u → Near s (cuts cs u) × Settled (cuts cs u)
+    after : (cs : List Cut) (u : Chip) → PlannedAgain planned cs u → Near s u → Settled u → Near s (cuts cs u) × Settled (cuts cs u)
     after [] u p near t = (near, t)
     after (c ∷ cs) u p near t =
         after cs (cut (c .events) u (c .place)) (p .1) (near-next u (c .events) (c .place) (p .0) near)

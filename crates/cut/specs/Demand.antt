@@ -78,9 +78,9 @@ cuts [] s = s
 cuts (c ∷ cs) s = cuts cs (cut (c .events) s (c .place))
 
 -- each a run of the list that is planned where the one before left off
-abbrev pub Planned : (List ℕ → List Write) → List Cut → Chip → Type 0
-Planned planned [] s = Unit {0}
-Planned planned (c ∷ cs) s = (writesOf (c .events) ≡ planned (s .image)) × Planned planned cs (cut (c .events) s (c .place))
+abbrev pub PlannedAgain : (List ℕ → List Write) → List Cut → Chip → Type 0
+PlannedAgain planned [] s = Unit {0}
+PlannedAgain planned (c ∷ cs) s = (writesOf (c .events) ≡ planned (s .image)) × PlannedAgain planned cs (cut (c .events) s (c .place))
 
 -- ---- the demand
 
@@ -125,9 +125,9 @@ pub record Demand3 (planned : List ℕ → List Write) (want : ℕ → ℕ) (s :
   -- the list leaves room for its Vsync
   pub room : Room (planned (s .image))
   -- after one cut, two, or any number of them the registers can be planned on: not refused by (7) or (8)
-  pub whole : (cs : List Cut) → Planned planned cs s → length (cuts cs s .image) ≡ 256
-  pub ready : (cs : List Cut) → Planned planned cs s → ready (cuts cs s .image) ≡ true
+  pub whole : (cs : List Cut) → PlannedAgain planned cs s → length (cuts cs s .image) ≡ 256
+  pub ready : (cs : List Cut) → PlannedAgain planned cs s → ready (cuts cs s .image) ≡ true
   -- "If the same request is planned again on the registers as the cut left them, and run to its end, the registers and all three groups in
   -- use are those of the run without a cut": of finished runs
-  pub again : (cs : List Cut) → Planned planned cs s → (es fs : List Event) → Finished (planned (s .image)) es
+  pub again : (cs : List Cut) → PlannedAgain planned cs s → (es fs : List Event) → Finished (planned (s .image)) es
       → Finished (planned (cuts cs s .image)) fs → Same (run es s) (run fs (cuts cs s))

@@ -6,7 +6,7 @@ use lib.ListN.{length}
 use Rattle.chip.specs.declared.Chip.{Chip}
 use Rattle.chip.specs.Machine.{Write}
 use Rattle.cut.specs.Run.{Event, run, cut, writesOf}
-use Rattle.cut.specs.Demand.{Cut, cuts, Planned}
+use Rattle.cut.specs.Demand.{Cut, cuts, PlannedAgain}
 
 -- each state of the shorter run, at every cut, is a state of the longer one, in the same order; and both end in the same state, the two
 -- buffers and the mark too
@@ -24,4 +24,4 @@ pub record MadeRight (full : List Write) (es : List Event) (s : Chip) : Type 0 w
 
 -- planned again where the last of some cuts left off
 abbrev pub NoLonger : (List ℕ → List Write) → Chip → Type 0
-NoLonger planned s = (cs : List Cut) → Planned planned cs s → length (planned (cuts cs s .image)) ≤ length (planned (s .image))
+NoLonger planned s = (cs : List Cut) → PlannedAgain planned cs s → length (planned (cuts cs s .image)) ≤ length (planned (s .image))

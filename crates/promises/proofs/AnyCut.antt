@@ -8,8 +8,9 @@ use lib.Seq.{take-length}
 use borrow.Author.Tests.{eqb-true, eq-eqb, le-ltb}
 use Rattle.matrix.specs.Matrix.{Bytes}
 use Rattle.chip.specs.declared.Chip.{Chip}
-use Rattle.chip.specs.Machine.{Write, avi, audio, packets, inUse}
-use Rattle.views.specs.Theorems.{Sized}
+use Rattle.chip.specs.Machine.{Write, avi, audio, packets, inUse, coefficients, modeInUse}
+use Rattle.views.specs.Entry.{Lent, stateOf}
+use Rattle.views.specs.Theorems.{LentSized}
 use Rattle.request.specs.declared.Request.{Request}
 use Rattle.request.specs.declared.Checked.{Checked}
 use Rattle.request.specs.Read.{readOf, pairFor}
@@ -19,13 +20,14 @@ use Rattle.request.specs.Fits.{Fits}
 use Rattle.request.proofs.Fits as request
 use Rattle.plan.specs.Wanted.{wanted}
 use Rattle.plan.specs.declared.Planned.{Planned}
-use Rattle.writes.specs.List.{finishedImage, writeList, ready}
+use Rattle.writes.specs.List.{finishedImage, ready}
 use Rattle.writes.proofs.Image.{image-length, image-at}
 use Rattle.plan.specs.Plan.{planOf}
 use Rattle.plan.proofs.Fine.{Fine, fine, accepts, leaves}
 use Rattle.plan.proofs.Ordered.{refusals}
-use Rattle.cut.specs.Run.{Event, run, cut}
-use Rattle.cut.specs.Demand.{sent, toItsEnd, cuts, Same, Demand3}
+use Rattle.cut.specs.Run.{Event, run, cut, writesOf}
+use Rattle.cut.specs.Demand.{waited, Finished, toItsEnd, Cut, cuts, PlannedAgain, After, Same, Demand3}
+use Rattle.cut.proofs.Demanded.{waited-writes}
 use Rattle.cut.proofs.Fewer.{holds}
 use Rattle.cut.proofs.Within.{made-right}
 use Rattle.writes.specs.Fewer.{differing}
@@ -40,8 +42,8 @@ use Rattle.promises.specs.Rules.{asked, Listed, Demand2, Accepted, OnSom
 use Rattle.promises.proofs.Ended.{avi-head, audio-head, enable-in, mode-in}
 use Rattle.promises.proofs.Filled.{filled, paired, never-three}
 use Rattle.promises.proofs.Places.{audio-frame}
-use Rattle.promises.specs.LentBytes.{pairsLeft, entered, enteredCuts, Headed, Followed}
-use Rattle.promises.proofs.LentBytes.{left, sized-entered, sized-cuts, entered-cut, entered-run, followed}
+use Rattle.promises.specs.LentBytes.{pairsLeft, entered, enteredCuts, PlannedBytes, Headed, Followed}
+use Rattle.promises.proofs.LentBytes.{left, sized-entered, entered-run, followed}
 use Rattle.promises.specs.AnyCut.{listOf, Again, AnyCut}
 
 pub listed : (input image buffer : List ℕ) → Fine input image buffer → Listed input image buffer
@@ -67,44 +69,86 @@ again-fine input image buffer f after room whole clear long =
     record { read = f .read; whole = whole; clear = clear; paired = f .paired; long = le-ltb (length room) 256 long }
 
 -- the bytes written up to each of some cuts are the lists cut there
-cut-bytes : (input image buffer : List ℕ) → Fine input image buffer → (ks : List ℕ) (buffers : ℕ → List ℕ)
-    → ((i : ℕ) → 256 ≤ length (buffers i)) → (s : Chip) → Sized s → ready (s .image) ≡ true → enteredCuts input ks buffers s ≡ cuts (listOf input) ks s
-cut-bytes input image buffer f [] buffers long s z c = refl
-cut-bytes input image buffer f (k ∷ ks) buffers long s z c =
-    let l = listed input (s .image) (buffers 0) (again-fine input image buffer f (s .image) (buffers 0) (z .image) c (long 0)) in
-    let ws : List Write = writeList (asked input) (s .image) in
-    let d : Demand3 (listOf input) (asked input) s = holds (asked input) s (z .image) c in
-    let e = entered-cut ws s k z in
-    ap (λ (ps : List Write). enteredCuts input ks (λ i. buffers (suc i)) (entered (take k ps) s)) (l .pairs)
-    ∙ ap (enteredCuts input ks (λ i. buffers (suc i))) e
-    ∙ cut-bytes input image buffer f ks (λ i. buffers (suc i)) (λ i. long (suc i)) (cut (sent ws) s k)
-    (subst Sized e (sized-entered (take k ws) s z)) (d .ready (k ∷ []))
+record CutBytes (input : List ℕ) (cs : List Cut) (l : Lent) : Type 0 where
+  planned : PlannedAgain (listOf input) cs (stateOf l)
+  there : stateOf (enteredCuts cs l) ≡ cuts cs (stateOf l)
+  sized : LentSized (enteredCuts cs l)
+
+cut-bytes : (input image buffer : List ℕ) → Fine input image buffer → (cs : List Cut) (buffers : ℕ → List ℕ)
+    → ((i : ℕ) → 256 ≤ length (buffers i)) → (l : Lent) → LentSized l → ready (l .image) ≡ true → PlannedBytes input cs buffers l → CutBytes input cs l
+cut-bytes input image buffer f [] buffers long l z c p = record { planned = tt; there = refl; sized = z }
+cut-bytes input image buffer f (x ∷ cs) buffers long l z c p =
+    let y = listed input (l .image) (buffers 0) (again-fine input image buffer f (l .image) (buffers 0) (z .image) c (long 0)) in
+    let d : Demand3 (listOf input) (asked input) (stateOf l) = holds (asked input) (stateOf l) (z .image) c in
+    let e : writesOf (x .events) ≡ listOf input (l .image) = p .0 ∙ y .pairs in
+    let m : Lent = entered (take (x .place) (x .events)) l in
+    let q : stateOf m ≡ cut (x .events) (stateOf l) (x .place) = entered-run (take (x .place) (x .events)) l z in
+    let clear : ready (m .image) ≡ true = ap (λ (t : Chip). ready (t .image)) q ∙ d .ready (x ∷ []) (e, tt) in
+    let rest = cut-bytes input image buffer f cs (λ i. buffers (suc i)) (λ i. long (suc i)) m (sized-entered (take (x .place) (x .events)) l z) clear (p .1) in
+    record {
+      planned = (e, subst (PlannedAgain (listOf input) cs) q (rest .planned));
+      there = rest .there ∙ ap (cuts cs) q;
+      sized = rest .sized;
+    }
+
+-- over slices that hold the state
+module _ (input buffer : List ℕ) (l : Lent) (z : LentSized l) (f : Fine input (l .image) buffer) where
+  its-demand : Demand3 (listOf input) (asked input) (stateOf l)
+  its-demand = holds (asked input) (stateOf l) (f .whole) (f .clear)
+
+  bytes-again : (cs : List Cut) (buffers : ℕ → List ℕ) (room : List ℕ) → ((i : ℕ) → 256 ≤ length (buffers i)) → 256 ≤ length room
+      → PlannedBytes input cs buffers l
+      → let t : Lent = enteredCuts cs l in
+      Again input (t .image) room
+      × ((es fs : List Event) → Finished (pairsLeft input (l .image) buffer) es → Finished (pairsLeft input (t .image) room) fs
+      → Same (stateOf (entered es l)) (stateOf (entered fs t)))
+  bytes-again cs buffers room many long p =
+      let b : CutBytes input cs l = cut-bytes input (l .image) buffer f cs buffers many l z (f .clear) p in
+      let t : Lent = enteredCuts cs l in
+      let u : Chip = cuts cs (stateOf l) in
+      let image : t .image ≡ u .image = ap (λ (c : Chip). c .image) (b .there) in
+      let y : Fine input (t .image) room =
+      again-fine input (l .image) buffer f (t .image) room (ap length image ∙ its-demand .whole cs (b .planned))
+      (ap ready image ∙ its-demand .ready cs (b .planned)) long in
+      let m : Listed input (t .image) room = listed input (t .image) room y in
+      let k : Listed input (l .image) buffer = listed input (l .image) buffer f in (
+        record { accepted = accepted input (t .image) room y; listed = m },
+        λ es fs e g.
+            subst (λ (x : Chip). Same x (stateOf (entered fs t))) (sym (entered-run es l z))
+            (subst (λ (x : Chip). Same (run es (stateOf l)) x) (sym (entered-run fs t (b .sized) ∙ ap (run fs) (b .there)))
+            (its-demand .again cs (b .planned) es fs (subst (λ (ws : List Write). Finished ws es) (k .pairs) e)
+            (subst (λ (ws : List Write). Finished ws fs) (m .pairs ∙ ap (listOf input) image) g))),
+      )
 
 pub any-cut : (input buffer : List ℕ) (s : Chip) → planOf input (s .image) buffer .refusal ≡ 0 → AnyCut input buffer s
 any-cut input buffer s z =
     let f = fine input (s .image) buffer z in
     let d : Demand3 (listOf input) (asked input) s = holds (asked input) s (f .whole) (f .clear) in
     let q : Request = readOf input .request in
+    let ws : List Write = listOf input (s .image) in
     let e : Chip = toItsEnd (listOf input) s in
-    let sized : length (e .image) ≡ 256 = ap length (d .registers) ∙ image-length (wanted q) (s .image) in
+    let run-end = d .runs (waited ws) (waited-writes ws) in
+    let ended : After e = run-end .ended (d .room .waits) in
+    let sized : length (e .image) ≡ 256 = ap length (run-end .registers) ∙ image-length (wanted q) (s .image) in
     let stands : Stands q (e .image) =
-    λ a h. finished-again (wanted q) (s .image) (e .image) a (ap (λ (l : List ℕ). getD l a 0) (d .registers) ∙ image-at (wanted q) (s .image) a h) in
+    λ a h. finished-again (wanted q) (s .image) (e .image) a (ap (λ (l : List ℕ). getD l a 0) (run-end .registers) ∙ image-at (wanted q) (s .image) a h) in
     let g : Fits q = request.fits input (f .read) in
     let l : Listed input (s .image) buffer = listed input (s .image) buffer f in
-    let newAvi = ap (drop 2) (d .ended .avi) ∙ avi-in q (e .image) sized g stands in
-    let newAudio = ap (drop 2) (d .ended .audio) ∙ audio-in q (e .image) sized g stands ∙ ap (drop 3) (audio-frame (q .sound)) in
-    let headAvi : Headed 0x02 0x0D (inUse packets avi e) = rw (d .ended .avi) (avi-head q (e .image) g stands) in
-    let headAudio : Headed 0x01 0x0A (inUse packets audio e) = rw (d .ended .audio) (audio-head q (e .image) g stands) in
-    let newMatrix = d .ended .matrix ∙ matrix-in q (e .image) sized g stands in
+    let newAvi = ap (drop 2) (ended .avi) ∙ avi-in q (e .image) sized g stands in
+    let newAudio = ap (drop 2) (ended .audio) ∙ audio-in q (e .image) sized g stands ∙ ap (drop 3) (audio-frame (q .sound)) in
+    let headAvi : Headed 0x02 0x0D (inUse packets avi e) = rw (ended .avi) (avi-head q (e .image) g stands) in
+    let headAudio : Headed 0x01 0x0A (inUse packets audio e) = rw (ended .audio) (audio-head q (e .image) g stands) in
+    let newMatrix = ended .matrix ∙ matrix-in q (e .image) sized g stands in
     let newMode = mode-in q (e .image) g stands in
     record {
       listed = l;
       demand = d;
       madeRight = made-right (asked input) s (f .whole) (f .clear);
       unchanged = λ room long.
-          let es : List Event = listOf input (s .image) in
+          let es : List Event = waited ws in
           let last : cut es s (length es) ≡ e = ap (λ (l : List Event). run l s) (take-length es) in
-          let clear : ready (e .image) ≡ true = subst (λ (t : Chip). ready (t .image) ≡ true) last (d .ready (length es ∷ [])) in
+          let clear : ready (e .image) ≡ true =
+          subst (λ (t : Chip). ready (t .image) ≡ true) last (d .ready (record { events = es; place = length es } ∷ []) (waited-writes ws, tt)) in
           let y : Fine input (e .image) room = again-fine input (s .image) buffer f (e .image) room sized clear long in
           reported input (e .image) room y ∙ ap (λ (n : ℕ). n + 9) (none-differ (asked input) (e .image) stands);
       newAvi = newAvi;
@@ -114,22 +158,24 @@ any-cut input buffer s z =
       headAudio = headAudio;
       newEnable = enable-in q (e .image) g stands;
       newMode = newMode;
-      bytes = λ z. subst (λ (ws : List Write). Followed q ws s) (sym (l .pairs))
-          (followed input s z d newAvi newAudio headAvi headAudio newMatrix newMode);
-      bytesAgain = λ z ks buffers room many long.
-          let u : Chip = cuts (listOf input) ks s in
-          let there : enteredCuts input ks buffers s ≡ u = cut-bytes input (s .image) buffer f ks buffers many s z (f .clear) in
-          let zu : Sized u = subst Sized there (sized-cuts input ks buffers s z) in
-          let y : Fine input (u .image) room = again-fine input (s .image) buffer f (u .image) room (d .whole ks) (d .ready ks) long in
-          let m : Listed input (u .image) room = listed input (u .image) room y in
-          let first = ap (λ (ps : List Write). entered ps s) (l .pairs) ∙ entered-run (writeList (asked input) (s .image)) s z in
-          let second = ap (λ (ps : List Write). entered ps u) (m .pairs) ∙ entered-run (writeList (asked input) (u .image)) u zu in
-          let end : Chip = entered (pairsLeft input (s .image) buffer) s in
-          subst (λ (t : Chip). Again input (t .image) room × Same end (entered (pairsLeft input (t .image) room) t)) (sym there)
-          (record { accepted = accepted input (u .image) room y; listed = m }, rw (first, second) (d .again ks));
-      again = λ ks room long.
-          let image : List ℕ = cuts (listOf input) ks s .image in
-          let y : Fine input image room = again-fine input (s .image) buffer f image room (d .whole ks) (d .ready ks) long in
+      bytes = λ m z at.
+          let h : (t : Chip) → t ≡ s → toItsEnd (listOf input) t ≡ e = λ t p. ap (toItsEnd (listOf input)) p in
+          let x : toItsEnd (listOf input) (stateOf m) ≡ e = h (stateOf m) at in
+          let i : m .image ≡ s .image = ap (λ (c : Chip). c .image) at in
+          subst (λ (ps : List Write). Followed q ps m) (ap (listOf input) i ∙ sym (l .pairs))
+          (followed input m z (subst (Demand3 (listOf input) (asked input)) (sym at) d) (ap (λ (c : Chip). drop 2 (inUse packets avi c)) x ∙ newAvi)
+          (ap (λ (c : Chip). drop 2 (inUse packets audio c)) x ∙ newAudio) (subst (λ (c : Chip). Headed 0x02 0x0D (inUse packets avi c)) (sym x) headAvi)
+          (subst (λ (c : Chip). Headed 0x01 0x0A (inUse packets audio c)) (sym x) headAudio) (ap coefficients x ∙ newMatrix) (ap modeInUse x ∙ newMode));
+      bytesAgain = λ m z at.
+          let i : m .image ≡ s .image = ap (λ (c : Chip). c .image) at in
+          subst (λ (image : List ℕ). (cs : List Cut) (buffers : ℕ → List ℕ) (room : List ℕ) → ((i : ℕ) → 256 ≤ length (buffers i)) → 256 ≤ length room
+          → PlannedBytes input cs buffers m → Again input (enteredCuts cs m .image) room
+          × ((es fs : List Event) → Finished (pairsLeft input image buffer) es → Finished (pairsLeft input (enteredCuts cs m .image) room) fs
+          → Same (stateOf (entered es m)) (stateOf (entered fs (enteredCuts cs m))))) i
+          (bytes-again input buffer m z (subst (λ (image : List ℕ). Fine input image buffer) (sym i) f));
+      again = λ cs room p long.
+          let image : List ℕ = cuts cs s .image in
+          let y : Fine input image room = again-fine input (s .image) buffer f image room (d .whole cs p) (d .ready cs p) long in
           record { accepted = accepted input image room y; listed = listed input image room y };
     }
 
@@ -141,7 +187,7 @@ rules input buffer s = record {
   entries = entries (asked input) (s .image);
   fewer = fewer (asked input) (s .image);
   reported = λ z. reported input (s .image) buffer (fits z);
-  finished = λ z. any-cut input buffer s z .demand .registers;
+  finished = λ z es e. any-cut input buffer s z .demand .runs es e .registers;
   fields = λ z. let f = fits z in
       filled input (s .image) (f .read) (eqb-true _ _ (f .paired)) _ (image-length (asked input) (s .image))
       (image-at (asked input) (s .image));

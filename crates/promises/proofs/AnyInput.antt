@@ -63,6 +63,7 @@ any-input = record {
   frames = frames.refusals;
   preview = preview.refusals;
   write = entry.refusals;
+  vsync = entry.turn-refusals;
   view = view.refusals;
   matrix = converter.refusals;
   vet = λ s list. vetted s list .given;
@@ -79,7 +80,8 @@ any-input = record {
   stationPreview = λ matrix a b c out d p h.
       let u = preview.refusals matrix d a b c .zeros (λ z. h (ap (λ (o : PixelOut). o .refusal) p ∙ z)) in
       (ap (λ (o : PixelOut). o .a) p ∙ u .0, ap (λ (o : PixelOut). o .b) p ∙ u .1, ap (λ (o : PixelOut). o .c) p ∙ u .2);
-  stationWrite = λ s left address value out p h. p .1 ∙ entry.refusals s address value .kept (λ z. h (p .0 ∙ z));
+  stationWrite = λ l left address value out p h. p .1 ∙ entry.refusals l address value .kept (λ z. h (p .0 ∙ z));
+  stationVsync = λ l left out p h. p .1 ∙ entry.turn-refusals l .kept (λ z. h (p .0 ∙ z));
   stationSent = λ image packet which out p h.
       let r = view.refusals image packet in
       let e : sentPart image packet which ≡ noPart (viewRefusal image packet which) =
@@ -90,8 +92,8 @@ any-input = record {
       );
   stationMute = λ image packet out p h.
       ap (λ (o : StateOut). o .mute) p ∙ view.refusals image packet .zero (λ z. h (ap (λ (o : StateOut). o .refusal) p ∙ z));
-  stationMatrix = λ image coefficients matrix left out p h.
-      let u = converter.refusals image coefficients matrix .kept (λ z. h (ap (λ (o : CountOut). o .refusal) (p .0) ∙ z)) in
+  stationMatrix = λ image coefficients matrix left mark out p h.
+      let u = converter.refusals image coefficients mark matrix .kept (λ z. h (ap (λ (o : CountOut). o .refusal) (p .0) ∙ z)) in
       (ap (λ (o : CountOut). o .count) (p .0) ∙ u .0, p .1 ∙ u .1);
   stationVet = λ s list out p h.
       ap (λ (o : VerdictOut). o .place) p ∙ vetted s list .zero (λ z. h (ap (λ (o : VerdictOut). o .refusal) p ∙ z));

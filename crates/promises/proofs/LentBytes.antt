@@ -1,34 +1,41 @@
--- The bytes that planning leaves, written into the lent slices: the run of the list, and what the calls answer along it. Assumes nothing.
+-- The bytes that planning leaves, written into the lent slices with Vsyncs anywhere among them: the run of the list, and what the calls
+-- answer along it. Assumes nothing.
 use mathlib.Core.Path.{_≡_, refl, sym, ap, subst, _∙_}
 use mathlib.Core.Logic.{⊎-map}
-use mathlib.Core.Bool.{false}
+use mathlib.Core.Bool.{Bool, true, false, false≢true, cond, not, _&&_}
 use mathlib.Core.List.{List, [], _∷_, _++_}
-use Prim.Native.Nat.{ℕ, zero, suc, _*_, _≤_}
+use Prim.Native.Nat.{ℕ, zero, suc, _*_, _<_, _≤_}
 use native.Mathlib.Omega.{arith}
-use lib.ListN.{length, getD, take, drop, length-map, List·getD-map}
+use lib.ListN.{length, getD, take, drop}
 use lib.Seq.{take-at, take-length}
+use borrow.Author.Tests.{not-true}
+use Rattle.lists.proofs.Both.{both-left}
 use Rattle.bits.specs.Merge.{bit}
+use Rattle.matrix.specs.Matrix.{fields}
 use Rattle.matrix.specs.Coefficient.{coefficientBytes}
 use Rattle.frames.specs.Frames.{aviFrame}
 use Rattle.request.specs.declared.Request.{Request}
 use Rattle.request.specs.Read.{readOf}
 use Rattle.chip.specs.declared.Chip.{Chip}
-use Rattle.chip.specs.declared.Wrote.{Wrote}
-use Rattle.chip.specs.Machine.{Write, _gets_, avi, audio, packets, holdsOf, inUse, coefficients, modeInUse, gcInUse, Muted, Open, mute}
-use Rattle.chip.specs.Write.{two}
-use Rattle.views.specs.Entry.{enterOf}
-use Rattle.views.specs.Theorems.{Sized, Faces, Entered}
+use Rattle.chip.specs.Machine.{Write, _gets_, avi, audio, matrix, packets, holdsOf, registersOf, held, inUse, coefficients, modeInUse, gcInUse, Muted, Open, mute}
+use Rattle.chip.specs.Write.{two, vsyncOf}
+use Rattle.chip.proofs.Writes.{turned}
+use Rattle.views.specs.Entry.{Lent, stateOf, enterOf, turnOf}
+use Rattle.views.specs.Theorems.{LentSized, Faces}
 use Rattle.views.proofs.Shown as views
-use Rattle.writes.specs.List.{flat, pairsOf, writeList}
+use Rattle.views.proofs.Lent.{state-sized}
+use Rattle.writes.specs.List.{flat, pairsOf, writeList, finishedImage}
 use Rattle.plan.specs.Plan.{planOf, planBuffer}
 use Rattle.writes.proofs.Pairs.{length-flat, pairs-flat}
-use Rattle.cut.specs.Run.{Event, write, run, cut, event, happens, Careful}
-use Rattle.cut.specs.Demand.{sent, toItsEnd, Demand3}
+use Rattle.cut.specs.Run.{Event, write, vsync, run, cut, event, happens, writesOf, writesBy, InUse, allInUse, standing, waits, turnedOver, old, Between, Careful}
+use Rattle.cut.specs.Demand.{waited, Finished, Cut, toItsEnd, After, Same, Clauses, Demand3}
 use Rattle.cut.proofs.Taken.{neat-two}
+use Rattle.cut.proofs.Demanded.{waited-writes}
+use Rattle.vendor.proofs.Moved.{vsync-use}
 use Rattle.promises.specs.Finished.{audioPacket}
 use Rattle.promises.specs.Rules.{asked}
 use Rattle.promises.specs.AnyCut.{listOf}
-use Rattle.promises.specs.LentBytes.{pairsLeft, entered, enteredCuts, muteSaid, matrixSaid, Headed, Entering, Followed}
+use Rattle.promises.specs.LentBytes.{pairsLeft, enters, entered, oldSlices, aviSent, audioSent, muteSaid, matrixSaid, Headed, SaidBetween, SaidAfter, Entering, Followed}
 
 pub left : (input image buffer : List ℕ) → let ws : List Write = writeList (asked input) image in
     planOf input image buffer .count ≡ length ws → planBuffer input image buffer ≡ flat ws ++ drop (length (flat ws)) buffer
@@ -44,110 +51,180 @@ one t m = let set : bit 6 (gcInUse t) ≡ 1 = m .0 in let clear : bit 7 (gcInUse
 two-of : (t : Chip) → Open t → mute t ≡ 2
 two-of t m = let set : bit 6 (gcInUse t) ≡ 0 = m .0 in let clear : bit 7 (gcInUse t) ≡ 1 = m .1 in omega arith
 
--- over slices of the machine's lengths the entry is the machine's own write
-pub sized-entered : (ws : List Write) (s : Chip) → Sized s → Sized (entered ws s)
-sized-entered [] s z = z
-sized-entered (w ∷ ws) s z = sized-entered ws (enterOf s (w .address) (w .value) .chip) (views.entered s z (w .address) (w .value) .sized)
+-- ---- over slices of the machine's lengths an event is the machine's own
 
-pub sized-cuts : (input ks : List ℕ) (buffers : ℕ → List ℕ) (s : Chip) → Sized s → Sized (enteredCuts input ks buffers s)
-sized-cuts input [] buffers s z = z
-sized-cuts input (k ∷ ks) buffers s z =
-    let ws : List Write = take k (pairsLeft input (s .image) (buffers 0)) in
-    sized-cuts input ks (λ i. buffers (suc i)) (entered ws s) (sized-entered ws s z)
+sized-next : (e : Event) (l : Lent) → LentSized l → LentSized (enters e l .slices)
+sized-next (write w) l z = views.entered l z (w .address) (w .value) .sized
+sized-next vsync l z = views.entered-vsync l z .sized
 
-pub entered-cut : (ws : List Write) (s : Chip) (k : ℕ) → Sized s → entered (take k ws) s ≡ cut (sent ws) s k
-entered-cut ws s zero z = refl
-entered-cut [] s (suc k) z = refl
-entered-cut (w ∷ ws) s (suc k) z =
-    let e : Entered s (w .address) (w .value) = views.entered s z (w .address) (w .value) in
-    entered-cut ws (enterOf s (w .address) (w .value) .chip) k (e .sized) ∙ ap (λ (x : Wrote). cut (sent ws) (x .chip) k) (e .same)
+state-next : (e : Event) (l : Lent) → LentSized l → stateOf (enters e l .slices) ≡ happens e (stateOf l) .chip
+state-next (write w) l z = views.entered l z (w .address) (w .value) .state
+state-next vsync l z = views.entered-vsync l z .state
 
-pub entered-run : (ws : List Write) (s : Chip) → Sized s → entered ws s ≡ run (sent ws) s
-entered-run [] s z = refl
-entered-run (w ∷ ws) s z =
-    let e : Entered s (w .address) (w .value) = views.entered s z (w .address) (w .value) in
-    entered-run ws (enterOf s (w .address) (w .value) .chip) (e .sized) ∙ ap (λ (x : Wrote). run (sent ws) (x .chip)) (e .same)
+number-next : (e : Event) (l : Lent) → LentSized l → enters e l .refusal ≡ happens e (stateOf l) .refusal
+number-next (write w) l z = views.entered l z (w .address) (w .value) .number
+number-next vsync l z = ap (λ (x : _). x .refusal) (views.entered-vsync l z .taken)
 
--- a careful list, whoever made it, in a state of which no cut has two packet holds up
-module _ (ws : List Write) (s : Chip) (z : Sized s) (c : Careful (sent ws) s)
-    (single : (k : ℕ) → two (holdsOf packets (cut (sent ws) s k .image)) ≡ false) where
-  abbrev end : Chip
-  end = run (sent ws) s
+pub sized-entered : (es : List Event) (l : Lent) → LentSized l → LentSized (entered es l)
+sized-entered [] l z = z
+sized-entered (e ∷ es) l z = sized-entered es (enters e l .slices) (sized-next e l z)
 
-  at-end : cut (sent ws) s (length (sent ws)) ≡ end
-  at-end = ap (λ (es : List Event). run es s) (take-length (sent ws))
+pub entered-run : (es : List Event) (l : Lent) → LentSized l → stateOf (entered es l) ≡ run es (stateOf l)
+entered-run [] l z = refl
+entered-run (e ∷ es) l z = entered-run es (enters e l .slices) (sized-next e l z) ∙ ap (run es) (state-next e l z)
 
-  -- what the calls answer at a cut, and at the end
-  pub sized-cut : (k : ℕ) → Sized (cut (sent ws) s k)
-  sized-cut k = subst Sized (entered-cut ws s k z) (sized-entered (take k ws) s z)
+-- ---- what the calls answer of slices is what the machine has in use
 
-  pub faces : (k : ℕ) → Faces (cut (sent ws) s k)
-  faces k = views.shown (cut (sent ws) s k) (sized-cut k) (single k)
+abbrev Single : Chip → Type 0
+Single s = two (holdsOf packets (s .image)) ≡ false
 
-  pub faces-end : Faces end
-  faces-end = subst Faces at-end (faces (length (sent ws)))
+pub faced : (l : Lent) → LentSized l → Single (stateOf l) → Faces (stateOf l)
+faced l z o = views.shown (stateOf l) (state-sized l z) o
 
-  -- the coefficients that the matrix call answers are those in use
-  twelve : (t : Chip) → Faces t → (out : List ℕ) → 25 ≤ length out
-      → drop 1 (matrixSaid out t) ≡ coefficientBytes (coefficients t) ++ drop 25 out
-  twelve t f out h = ap (drop 1) (f .matrix out h)
+twelve : (l : Lent) → Faces (stateOf l) → (out : List ℕ) → 25 ≤ length out
+    → drop 1 (matrixSaid out l) ≡ coefficientBytes (coefficients (stateOf l)) ++ drop 25 out
+twelve l f out h = ap (drop 1) (f .matrix (getD (l .mark) 0 0) refl out h)
 
-  pub entering : Entering ws s
-  entering = record {
-    taken = λ k h.
-        let w : Write = getD ws k (0 gets 0) in
-        let at : event (sent ws) k ≡ write w = List·getD-map write ws k (0 gets 0) in
-        let t : happens (event (sent ws) k) (cut (sent ws) s k) .refusal ≡ 0 = c .taken k (rw (length-map ws write) h) in
-        rw (entered-cut ws s k z)
-        (ap (λ (x : Wrote). x .refusal) (views.entered (cut (sent ws) s k) (sized-cut k) (w .address) (w .value) .same)
-        ∙ ap (λ (e : Event). happens e (cut (sent ws) s k) .refusal) (sym at) ∙ t);
-    sized = λ k. sized-entered (take k ws) s z;
-    start = refl;
-    between = λ k lo hi.
-        let b = c .between k lo (rw (length-map ws write) hi) in
-        let f : Faces (cut (sent ws) s k) = faces k in
-        rw (entered-cut ws s k z, entered-run ws s z) (record {
-          muted = f .mute ∙ ap (λ (m : ℕ). record { refusal = 0; mute = m }) (one (cut (sent ws) s k) (b .muted));
-          avi = rw (f .avi, faces 0 .avi, faces-end .avi) (b .avi);
-          audio = rw (f .audio, faces 0 .audio, faces-end .audio) (b .audio);
-          matrix = λ out h. rw (twelve (cut (sent ws) s k) f out h, twelve s (faces 0) out h, twelve end faces-end out h)
-              (let laid : List ℕ → List ℕ = λ c. coefficientBytes c ++ drop 25 out in ⊎-map (ap laid) (ap laid) (b .matrix));
-        });
-  }
+said-between : (was new t : Lent) → Faces (stateOf was) → Faces (stateOf new) → Faces (stateOf t)
+    → Between (allInUse (stateOf was)) (allInUse (stateOf new)) (stateOf t) → SaidBetween was new t
+said-between was new t f g h b = record {
+  muted = h .mute ∙ ap (λ (m : ℕ). record { refusal = 0; mute = m }) (one (stateOf t) (b .muted));
+  avi = rw (h .avi, f .avi, g .avi) (b .avi);
+  audio = rw (h .audio, f .audio, g .audio) (b .audio);
+  matrix = λ out long. rw (twelve t h out long, twelve was f out long, twelve new g out long)
+      (let laid : List ℕ → List ℕ = λ c. coefficientBytes c ++ drop 25 out in ⊎-map (ap laid) (ap laid) (b .matrix));
+}
 
-  -- open, by the call
-  pub said-open : Open end → muteSaid (entered ws s) ≡ record { refusal = 0; mute = 2 }
-  said-open o = ap muteSaid (entered-run ws s z) ∙ faces-end .mute ∙ ap (λ (m : ℕ). record { refusal = 0; mute = m }) (two-of end o)
+said-open : (l : Lent) → Faces (stateOf l) → Open (stateOf l) → muteSaid l ≡ record { refusal = 0; mute = 2 }
+said-open l f o = f .mute ∙ ap (λ (m : ℕ). record { refusal = 0; mute = m }) (two-of (stateOf l) o)
 
-module _ (input : List ℕ) (s : Chip) (z : Sized s) (d : Demand3 (listOf input) (asked input) s) where
+-- ---- a careful run, whoever made the list, of which no cut has two packet holds up
+
+module _ (l : Lent) (z : LentSized l) (es : List Event) (single : (k : ℕ) → Single (cut es (stateOf l) k)) where
+  cut-state : (k : ℕ) → stateOf (entered (take k es) l) ≡ cut es (stateOf l) k
+  cut-state k = entered-run (take k es) l z
+
+  cut-faces : (k : ℕ) → Faces (stateOf (entered (take k es) l))
+  cut-faces k = faced (entered (take k es) l) (sized-entered (take k es) l z) (subst Single (sym (cut-state k)) (single k))
+
+  pub end-faces : Faces (stateOf (entered es l))
+  end-faces = subst (λ (fs : List Event). Faces (stateOf (entered fs l))) (take-length es) (cut-faces (length es))
+
+  pub says-open : Open (run es (stateOf l)) → muteSaid (entered es l) ≡ record { refusal = 0; mute = 2 }
+  says-open o = said-open (entered es l) end-faces (subst Open (sym (entered-run es l z)) o)
+
+  module _ (was : List Event → InUse) (new : InUse) (c : Careful was new es (stateOf l)) (wasSlices : List Event → Lent)
+      (wasSaid : (fs : List Event) → Faces (stateOf (wasSlices fs)) × (allInUse (stateOf (wasSlices fs)) ≡ was fs))
+      (newFaces : Faces (stateOf (entered (waited (writesOf es)) l))) (newSaid : allInUse (stateOf (entered (waited (writesOf es)) l)) ≡ new) where
+    pub enters-so : Entering wasSlices es l
+    enters-so = record {
+      taken = λ k h.
+          number-next (event es k) (entered (take k es) l) (sized-entered (take k es) l z)
+          ∙ ap (λ (t : Chip). happens (event es k) t .refusal) (cut-state k) ∙ c .taken k h;
+      sized = λ k. sized-entered (take k es) l z;
+      start = refl;
+      between = λ k lo hi.
+          said-between (wasSlices (take k es)) (entered (waited (writesOf es)) l) (entered (take k es) l) (wasSaid (take k es) .0) newFaces
+          (cut-faces k)
+          (subst (λ (o : InUse). Between o (allInUse (stateOf (entered (waited (writesOf es)) l))) (stateOf (entered (take k es) l)))
+          (sym (wasSaid (take k es) .1))
+          (subst (λ (n : InUse). Between (was (take k es)) n (stateOf (entered (take k es) l))) (sym newSaid)
+          (subst (λ (t : Chip). Between (was (take k es)) new t) (sym (cut-state k)) (c .between k lo hi))));
+    }
+
+-- ---- request 04's old, in the slices
+
+module _ (l : Lent) (z : LentSized l) (single : Single (stateOf l)) where
+  abbrev s : Chip
+  s = stateOf l
+
+  turned-state : stateOf (turnOf l .slices) ≡ vsyncOf s
+  turned-state = views.entered-vsync l z .state
+
+  turned-use : held s ≡ false → allInUse (stateOf (turnOf l .slices)) ≡ record { avi = inUse packets avi s; audio = inUse packets audio s; matrix = fields (registersOf matrix (s .image)) }
+  unfolding coefficients
+  turned-use h =
+      ap allInUse turned-state ∙ (λ j. record { avi = vsync-use avi s j; audio = vsync-use audio s j; matrix = fields (turned s .takes h j) })
+
+  pub old-said : (fs : List Event) → Faces (stateOf (oldSlices fs l)) × (allInUse (stateOf (oldSlices fs l)) ≡ old fs s)
+  old-said fs = go (waits s && turnedOver fs) refl
+    where
+      go : (b : Bool) → (waits s && turnedOver fs) ≡ b
+          → Faces (stateOf (cond b (turnOf l .slices) l))
+          × (allInUse (stateOf (cond b (turnOf l .slices) l))
+          ≡ record { avi = inUse packets avi s; audio = inUse packets audio s; matrix = cond b (fields (registersOf matrix (s .image))) (coefficients s) })
+      go true e = (
+        views.entered-vsync l z .faces single,
+        turned-use (not-true (held s) (both-left (not (held s)) (s .waiting) (both-left (waits s) (turnedOver fs) e))),
+      )
+      go false e = (faced l z single, refl)
+
+same-mode : (s t : Chip) → t .image ≡ s .image → modeInUse t ≡ modeInUse s
+same-mode s t e = rw e
+
+-- ---- the run of a request's list
+
+module _ (input : List ℕ) (l : Lent) (z : LentSized l) (d : Demand3 (listOf input) (asked input) (stateOf l)) where
   abbrev r : Request
   r = readOf input .request
 
+  abbrev start : Chip
+  start = stateOf l
+
   abbrev own : List Write
-  own = writeList (asked input) (s .image)
+  own = listOf input (l .image)
 
   abbrev ending : Chip
-  ending = toItsEnd (listOf input) s
+  ending = toItsEnd (listOf input) start
 
-  single : (k : ℕ) → two (holdsOf packets (cut (sent own) s k .image)) ≡ false
-  single k = neat-two (holdsOf packets (cut (sent own) s k .image)) (d .ready (k ∷ []))
+  one-hold : (es : List Event) → writesOf es ≡ own → (k : ℕ) → Single (cut es start k)
+  one-hold es e k = neat-two (holdsOf packets (cut es start k .image)) (d .ready (record { events = es; place = k } ∷ []) (e, tt))
 
-  at-its-end : Faces ending
-  at-its-end = faces-end own s z (d .careful) single
+  -- the run with one Vsync just before the last write
+  with-vsync : Clauses (finishedImage (asked input) (l .image)) own (waited own) start
+  with-vsync = d .runs (waited own) (waited-writes own)
+
+  ended : After ending
+  ended = with-vsync .ended (d .room .waits)
+
+  ending-faces : Faces (stateOf (entered (waited own) l))
+  ending-faces = end-faces l z (waited own) (one-hold (waited own) (waited-writes own))
+
+  ending-use : allInUse (stateOf (entered (waited own) l)) ≡ standing (finishedImage (asked input) (l .image))
+  ending-use =
+      ap allInUse (entered-run (waited own) l z) ∙ (λ j. record { avi = ended .avi j; audio = ended .audio j; matrix = ended .matrix j })
+      ∙ ap standing (with-vsync .registers)
+
+  enters-own : (es : List Event) → writesOf es ≡ own → Entering (λ fs. oldSlices fs l) es l
+  enters-own es e =
+      enters-so l z es (one-hold es e) (λ fs. old fs start) (standing (finishedImage (asked input) (l .image))) (d .runs es e .careful)
+      (λ fs. oldSlices fs l) (old-said l z (one-hold es e 0))
+      (subst (λ (ws : List Write). Faces (stateOf (entered (waited ws) l))) (sym e) ending-faces)
+      (subst (λ (ws : List Write). allInUse (stateOf (entered (waited ws) l)) ≡ standing (finishedImage (asked input) (l .image))) (sym e) ending-use)
 
   module _ (newAvi : drop 2 (inUse packets avi ending) ≡ drop 3 (aviFrame (r .video)))
       (newAudio : drop 2 (inUse packets audio ending) ≡ drop 3 (audioPacket (r .sound)))
       (headAvi : Headed 0x02 0x0D (inUse packets avi ending)) (headAudio : Headed 0x01 0x0A (inUse packets audio ending))
       (newMatrix : coefficients ending ≡ r .matrix .coefficients) (newMode : modeInUse ending ≡ r .matrix .mode) where
-    pub followed : Followed r own s
-    followed = record {
-      entering = entering own s z (d .careful) single;
-      ended = rw (entered-run own s z) (record {
-        opened = at-its-end .mute ∙ ap (λ (m : ℕ). record { refusal = 0; mute = m }) (two-of ending (d .ended .opened));
-        headAvi = rw (at-its-end .avi) headAvi;
-        headAudio = rw (at-its-end .audio) headAudio;
-        avi = ap (drop 2) (at-its-end .avi) ∙ newAvi;
-        audio = ap (drop 2) (at-its-end .audio) ∙ newAudio;
-        matrix = λ out h. at-its-end .matrix out h ∙ rw (newMatrix, newMode);
-      });
-    }
+    -- every finished run ends as that one
+    said-after : (es : List Event) → Finished own es → SaidAfter r (entered es l)
+    said-after es f =
+        let t : Lent = entered es l in
+        let e : stateOf t ≡ run es start = entered-run es l z in
+        let w : Same ending (run es start) = d .again [] tt (waited own) es (d .room .waits) f in
+        let g : Faces (stateOf t) = end-faces l z es (one-hold es (f .runs)) in
+        let a : aviSent t ≡ inUse packets avi ending = g .avi ∙ ap (inUse packets avi) e ∙ w .avi in
+        let b : audioSent t ≡ inUse packets audio ending = g .audio ∙ ap (inUse packets audio) e ∙ w .audio in
+        let c : coefficients (stateOf t) ≡ r .matrix .coefficients = ap coefficients e ∙ w .matrix ∙ newMatrix in
+        let m : modeInUse (stateOf t) ≡ r .matrix .mode = ap modeInUse e ∙ same-mode ending (run es start) (w .registers) ∙ newMode in
+        record {
+          opened = said-open t g (subst Open (sym e) (d .runs es (f .runs) .opened));
+          headAvi = rw a headAvi;
+          headAudio = rw b headAudio;
+          avi = ap (drop 2) a ∙ newAvi;
+          audio = ap (drop 2) b ∙ newAudio;
+          matrix = λ out h. g .matrix (getD (t .mark) 0 0) refl out h ∙ rw (c, m);
+        }
+
+    pub followed : Followed r own l
+    followed = record { entering = enters-own; ended = said-after }

@@ -9,13 +9,13 @@ use Rattle.request.specs.Sections.{walk, walked}
 use Rattle.request.specs.Bytes.{asBytes}
 use Rattle.request.specs.Read.{outside, combined, judged, readOf}
 use Rattle.chip.specs.Machine.{inUse, coefficients, gcInUse}
-use Rattle.chip.specs.Write.{put, stored, refuses, writeOf}
+use Rattle.chip.specs.Write.{put, stored, refuses, writeOf, vsyncOf}
 use Rattle.writes.specs.List.{isWritten}
 use Rattle.decode.specs.Extract.{extract}
 use Rattle.decode.specs.Decode.{endsIn, someEnds}
-use Rattle.vendor.specs.Found.{isBetween, vetRefusal, vetOf}
+use Rattle.vendor.specs.Found.{isBetween, isTurned, vetRefusal, vetOf}
 use Rattle.promises.specs.VendorCases.{VendorCases}
 
 pub vendor-cases : VendorCases
-unfolding merge classAt fields modeOf videoOutside videoCombined walk walked asBytes outside combined judged readOf inUse coefficients gcInUse put stored refuses writeOf isWritten extract endsIn someEnds isBetween vetRefusal vetOf
+unfolding merge classAt fields modeOf videoOutside videoCombined walk walked asBytes outside combined judged readOf inUse coefficients gcInUse put stored refuses writeOf vsyncOf isWritten extract endsIn someEnds isBetween isTurned vetRefusal vetOf
 vendor-cases = refl

@@ -6,20 +6,21 @@ use lib.ListN.{length, drop}
 use Rattle.frames.specs.Frames.{aviFrame}
 use Rattle.request.specs.Read.{readOf}
 use Rattle.chip.specs.declared.Chip.{Chip}
-use Rattle.chip.specs.Machine.{avi, audio, packets, inUse, coefficients, enableInUse, modeInUse}
+use Rattle.chip.specs.Machine.{Write, avi, audio, packets, inUse, coefficients, enableInUse, modeInUse}
 use Rattle.writes.specs.List.{fullList, writeList}
 use Rattle.plan.specs.Plan.{planOf}
-use Rattle.cut.specs.Run.{Event}
-use Rattle.cut.specs.Demand.{sent, toItsEnd, cuts, Same, Demand3}
-use Rattle.cut.specs.Within.{Within}
-use Rattle.views.specs.Theorems.{Sized}
+use Rattle.cut.specs.Run.{Event, writesOf}
+use Rattle.cut.specs.Demand.{toItsEnd, Finished, Cut, cuts, PlannedAgain, Same, Demand3}
+use Rattle.cut.specs.Within.{MadeRight}
+use Rattle.views.specs.Entry.{Lent, stateOf}
+use Rattle.views.specs.Theorems.{LentSized}
 use Rattle.promises.specs.Finished.{audioPacket}
 use Rattle.promises.specs.Rules.{asked, Listed}
-use Rattle.promises.specs.LentBytes.{pairsLeft, entered, enteredCuts, Headed, Followed}
+use Rattle.promises.specs.LentBytes.{pairsLeft, entered, enteredCuts, PlannedBytes, Headed, Followed}
 
--- the list of a request on an image, sent write by write
-abbrev pub listOf : List ℕ → List ℕ → List Event
-listOf input image = sent (writeList (asked input) image)
+-- the list of a request on an image
+abbrev pub listOf : List ℕ → List ℕ → List Write
+listOf input = writeList (asked input)
 
 -- "planned again on the registers as the cut left them", with any buffer: the request is accepted, and its list on that image is planned
 pub record Again (input image buffer : List ℕ) : Type 0 where
@@ -29,12 +30,12 @@ pub record Again (input image buffer : List ℕ) : Type 0 where
 pub record AnyCut (input buffer : List ℕ) (s : Chip) : Type 0 where
   -- the list that planning leaves in the lent buffer, with its count, is the one that the demand is about
   pub listed : Listed input (s .image) buffer
-  -- every clause of the demand, at every cut
+  -- every clause of the demand, at every cut of every run
   pub demand : Demand3 (listOf input) (asked input) s
   -- after one cut, two, or any number of them
-  pub again : (ks room : List ℕ) → 256 ≤ length room → Again input (cuts (listOf input) ks s .image) room
-  -- request 09, "always made right": at every cut the state is one of the run with nothing left out, and so it is at the end
-  pub madeRight : Within (listOf input (s .image)) (sent (fullList (asked input) (s .image))) s
+  pub again : (cs : List Cut) (room : List ℕ) → PlannedAgain (listOf input) cs s → 256 ≤ length room → Again input (cuts cs s .image) room
+  -- request 09, "always made right": at every cut the state is one of a run with nothing left out, and so it is at the end
+  pub madeRight : (es : List Event) → writesOf es ≡ listOf input (s .image) → MadeRight (fullList (asked input) (s .image)) es s
   -- the same request once more, on what it left: the nine writes that always stay
   pub unchanged : (room : List ℕ) → 256 ≤ length room → planOf input (toItsEnd (listOf input) s .image) room .count ≡ 9
   -- "After the last, all are new": what is in use is the request's own. "AVI header 0x82, 0x02, 0x0D; audio header 0x84, 0x01, 0x0A"
@@ -46,11 +47,13 @@ pub record AnyCut (input buffer : List ℕ) (s : Chip) : Type 0 where
   -- "Enable and mode in 0x18[7:5] act at once." "With a matrix: converter on. No matrix: converter off, mode 1"
   pub newEnable : enableInUse (toItsEnd (listOf input) s) ≡ readOf input .request .matrix .on
   pub newMode : modeInUse (toItsEnd (listOf input) s) ≡ readOf input .request .matrix .mode
-  -- the bytes in the lent buffer, written over slices of the machine's lengths: the calls' answers at every cut
-  pub bytes : Sized s → Followed (readOf input .request) (pairsLeft input (s .image) buffer) s
-  -- after one cut of them, two, or any number, each time planned with any buffer: the request is accepted, and the bytes then planned end
-  -- as those of the run without a cut
-  pub bytesAgain : Sized s → (ks : List ℕ) (buffers : ℕ → List ℕ) (room : List ℕ)
-      → ((i : ℕ) → 256 ≤ length (buffers i)) → 256 ≤ length room
-      → let t : Chip = enteredCuts input ks buffers s in
-      Again input (t .image) room × Same (entered (pairsLeft input (s .image) buffer) s) (entered (pairsLeft input (t .image) room) t)
+  -- the bytes in the lent buffer, written over slices of the machine's lengths, which hold the state: the calls' answers at every cut
+  pub bytes : (l : Lent) → LentSized l → stateOf l ≡ s → Followed (readOf input .request) (pairsLeft input (s .image) buffer) l
+  -- after one cut of them, two, or any number, each time planned with any buffer: the request is accepted, and the bytes then planned end,
+  -- in a finished run, as those of a finished run without a cut
+  pub bytesAgain : (l : Lent) → LentSized l → stateOf l ≡ s → (cs : List Cut) (buffers : ℕ → List ℕ) (room : List ℕ)
+      → ((i : ℕ) → 256 ≤ length (buffers i)) → 256 ≤ length room → PlannedBytes input cs buffers l
+      → let t : Lent = enteredCuts cs l in
+      Again input (t .image) room
+      × ((es fs : List Event) → Finished (pairsLeft input (s .image) buffer) es → Finished (pairsLeft input (t .image) room) fs
+      → Same (stateOf (entered es l)) (stateOf (entered fs t)))

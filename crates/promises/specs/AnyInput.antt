@@ -15,7 +15,8 @@ use Rattle.request.specs.Read.{nctsOf}
 use Rattle.request.specs.Theorems.{Rows}
 use Rattle.line.specs.Line.{lineOf}
 use Rattle.chip.specs.declared.Chip.{Chip}
-use Rattle.views.specs.Theorems.{ViewRefusals, WriteRefusals, MatrixRefusals}
+use Rattle.views.specs.Entry.{Lent}
+use Rattle.views.specs.Theorems.{ViewRefusals, WriteRefusals, VsyncRefusals, MatrixRefusals}
 use Rattle.plan.specs.Rules.{PlanRefusals}
 use Rattle.decode.specs.Theorems.{Refusals}
 use Rattle.vendor.specs.Vendor.{vetRules}
@@ -27,7 +28,7 @@ use Rattle.station.specs.declared.machine.PartOut.{PartOut}
 use Rattle.station.specs.declared.machine.StateOut.{StateOut}
 use Rattle.station.specs.declared.machine.VerdictOut.{VerdictOut}
 use Rattle.station.specs.Face.{StationPlan, StationDecode, StationNcts, StationPreview}
-use Rattle.station.specs.Machine.{StationWrite, StationSent, StationMute, StationMatrix, StationVet}
+use Rattle.station.specs.Machine.{StationWrite, StationVsync, StationSent, StationMute, StationMatrix, StationVet}
 
 -- "A bad request gets a numbered refusal from the list in document 01, a count of zero, and every lent buffer unchanged." Each of these
 -- says that the number given is that of the first row that applies (`Given`), and what is left beside it. `Bytes` is true of every slice.
@@ -44,11 +45,12 @@ pub record Demand1 : Type 0 where
   pub frames : FrameRefusals
   -- the preview, 5 and 12
   pub preview : (matrix : List ℕ) → Bytes matrix → (a b c : ℕ) → PreviewRefusals matrix a b c
-  -- a machine write, 7 and 13: a refused one changes nothing
-  pub write : (s : Chip) (address value : ℕ) → WriteRefusals s address value
+  -- a machine write, 7 and 13, and a Vsync, 7: a refused one changes nothing
+  pub write : (l : Lent) (address value : ℕ) → WriteRefusals l address value
+  pub vsync : (l : Lent) → VsyncRefusals l
   -- a view, 5, 7 and 13; the matrix in use, 7 and 10
   pub view : (image packet : List ℕ) → ViewRefusals image packet
-  pub matrix : (image buffer out : List ℕ) → MatrixRefusals image buffer out
+  pub matrix : (image buffer : List ℕ) (mark : ℕ) (out : List ℕ) → MatrixRefusals image buffer mark out
   -- the verdict on a vendor's list, 7, 8, 14, 15 and 16
   pub vet : (s : Chip) (list : List ℕ) → Given (vetRules s list) (vetOf s list .refusal)
   -- the exported calls: beside a refusal that a promise allows stand zeros, and every lent buffer is as it was
@@ -59,11 +61,12 @@ pub record Demand1 : Type 0 where
   pub stationNcts : (request : List ℕ) (out : PairOut) → StationNcts request out → out .refusal ≢ 0 → (out .n ≡ 0) × (out .cts ≡ 0)
   pub stationPreview : (matrix : List ℕ) (a b c : ℕ) (out : PixelOut) → Bytes matrix → StationPreview matrix a b c out
       → out .refusal ≢ 0 → (out .a ≡ 0) × (out .b ≡ 0) × (out .c ≡ 0)
-  pub stationWrite : (s left : Chip) (address value out : ℕ) → StationWrite s address value out left → out ≢ 0 → left ≡ s
+  pub stationWrite : (l left : Lent) (address value out : ℕ) → StationWrite l address value out left → out ≢ 0 → left ≡ l
+  pub stationVsync : (l left : Lent) (out : ℕ) → StationVsync l out left → out ≢ 0 → left ≡ l
   pub stationSent : (image packet : List ℕ) (which : ℕ) (out : PartOut) → StationSent image packet which out
       → out .refusal ≢ 0 → (out .held ≡ 0) × (out .start ≡ 0) × (out .len ≡ 0)
   pub stationMute : (image packet : List ℕ) (out : StateOut) → StationMute image packet out → out .refusal ≢ 0 → out .mute ≡ 0
-  pub stationMatrix : (image coefficients matrix left : List ℕ) (out : CountOut) → StationMatrix image coefficients matrix out left
+  pub stationMatrix : (image coefficients matrix left : List ℕ) (mark : ℕ) (out : CountOut) → StationMatrix image coefficients mark matrix out left
       → out .refusal ≢ 0 → (out .count ≡ 0) × (left ≡ matrix)
   -- a vendor's list: beside a number other than 15 the place is 0; all four slices are lent to be read, and none can change
   pub stationVet : (s : Chip) (list : List ℕ) (out : VerdictOut) → StationVet s list out → out .refusal ≢ 15 → out .place ≡ 0

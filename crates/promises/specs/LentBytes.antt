@@ -1,22 +1,23 @@
 -- Demand 3 of the bytes themselves: the pairs that planning leaves in the lent buffer, written one after the other into the slices that the
--- host lends, and what the calls answer at each cut.
+-- host lends, with Vsyncs anywhere among them, and what the calls answer at each cut.
 use mathlib.Core.Path.{_≡_}
+use mathlib.Core.Bool.{cond, _&&_}
 use mathlib.Core.List.{List, [], _∷_, _++_}
 use Prim.Native.Nat.{ℕ, suc, _*_, _%_, _<_, _≤_}
 use lib.ListN.{length, getD, take, drop}
 use Rattle.matrix.specs.Coefficient.{coefficientBytes}
 use Rattle.frames.specs.Frames.{aviFrame}
 use Rattle.request.specs.declared.Request.{Request}
-use Rattle.chip.specs.declared.Chip.{Chip}
-use Rattle.chip.specs.Machine.{Write, _gets_}
+use Rattle.chip.specs.Machine.{Write}
 use Rattle.views.specs.declared.view.Mute.{Mute}
-use Rattle.views.specs.Entry.{enterOf}
+use Rattle.views.specs.Entry.{Lent, Entry, stateOf, enterOf, turnOf}
 use Rattle.views.specs.View.{sentOf, muteOf}
 use Rattle.views.specs.Converter.{matrixOut}
-use Rattle.views.specs.Theorems.{Sized}
+use Rattle.views.specs.Theorems.{LentSized}
 use Rattle.writes.specs.List.{pairsOf}
 use Rattle.plan.specs.Plan.{planOf, planBuffer}
-use Rattle.cut.specs.Run.{Either}
+use Rattle.cut.specs.Run.{Event, write, vsync, event, writesOf, writesBy, waits, turnedOver, Either}
+use Rattle.cut.specs.Demand.{waited, Finished, Cut}
 use Rattle.promises.specs.Finished.{audioPacket}
 
 -- what planning leaves in the lent buffer, by the count that it answers: the bytes, and the pairs that they are
@@ -26,33 +27,49 @@ bytesLeft input image buffer = take (2 * planOf input image buffer .count) (plan
 abbrev pub pairsLeft : List ℕ → List ℕ → List ℕ → List Write
 pairsLeft input image buffer = pairsOf (bytesLeft input image buffer)
 
--- the three slices after these writes over them; one that is refused changes nothing
-abbrev pub entered : List Write → Chip → Chip
-entered [] s = s
-entered (w ∷ ws) s = entered ws (enterOf s (w .address) (w .value) .chip)
+-- an event over the four slices that the host lends: the number that the call answers, and what it leaves
+abbrev pub enters : Event → Lent → Entry
+enters (write w) l = enterOf l (w .address) (w .value)
+enters vsync l = turnOf l
 
--- cut after so many pairs, planned again with another buffer "on the registers as the cut left them", cut again, and so on: the slices as
--- the last cut leaves them
-abbrev pub enteredCuts : List ℕ → List ℕ → (ℕ → List ℕ) → Chip → Chip
-enteredCuts input [] buffers s = s
-enteredCuts input (k ∷ ks) buffers s =
-    enteredCuts input ks (λ i. buffers (suc i)) (entered (take k (pairsLeft input (s .image) (buffers 0))) s)
+-- the slices after these events over them; one that is refused changes nothing
+abbrev pub entered : List Event → Lent → Lent
+entered [] l = l
+entered (e ∷ es) l = entered es (enters e l .slices)
+
+-- cut, planned again with another buffer "on the registers as the cut left them", cut again, and so on: the slices as the last cut leaves
+-- them
+abbrev pub enteredCuts : List Cut → Lent → Lent
+enteredCuts [] l = l
+enteredCuts (c ∷ cs) l = enteredCuts cs (entered (take (c .place) (c .events)) l)
+
+-- each a run of the pairs that planning leaves in its buffer
+abbrev pub PlannedBytes : List ℕ → List Cut → (ℕ → List ℕ) → Lent → Type 0
+PlannedBytes input [] buffers l = Unit {0}
+PlannedBytes input (c ∷ cs) buffers l =
+    (writesOf (c .events) ≡ pairsLeft input (l .image) (buffers 0))
+    × PlannedBytes input cs (λ i. buffers (suc i)) (entered (take (c .place) (c .events)) l)
+
+-- request 04, what is old after some events: the slices as they were lent; but where a change waited there and its Vsync has come, as that
+-- Vsync left them
+abbrev pub oldSlices : List Event → Lent → Lent
+oldSlices es l = cond (waits (stateOf l) && turnedOver es) (turnOf l .slices) l
 
 -- what the calls answer of the slices: the packets, the mute, and the matrix in any lent bytes that have room for mode and coefficients
-abbrev pub aviSent : Chip → List ℕ
-aviSent s = sentOf (s .image) (s .packet) 0
+abbrev pub aviSent : Lent → List ℕ
+aviSent l = sentOf (l .image) (l .packet) 0
 
-abbrev pub audioSent : Chip → List ℕ
-audioSent s = sentOf (s .image) (s .packet) 1
+abbrev pub audioSent : Lent → List ℕ
+audioSent l = sentOf (l .image) (l .packet) 1
 
-abbrev pub muteSaid : Chip → Mute
-muteSaid s = muteOf (s .image) (s .packet)
+abbrev pub muteSaid : Lent → Mute
+muteSaid l = muteOf (l .image) (l .packet)
 
-abbrev pub matrixSaid : List ℕ → Chip → List ℕ
-matrixSaid out s = matrixOut (s .image) (s .coefficients) out
+abbrev pub matrixSaid : List ℕ → Lent → List ℕ
+matrixSaid out l = matrixOut (l .image) (l .coefficients) (getD (l .mark) 0 0) out
 
 -- "the picture is muted, and .. each all old or all new", by the calls; the mode, which stands before the coefficients, acts at once
-pub record SaidBetween (old new t : Chip) : Type 0 where
+pub record SaidBetween (old new t : Lent) : Type 0 where
   pub muted : muteSaid t ≡ record { refusal = 0; mute = 1 }
   pub avi : Either (aviSent old) (aviSent new) (aviSent t)
   pub audio : Either (audioSent old) (audioSent new) (audioSent t)
@@ -64,7 +81,7 @@ abbrev pub Headed : ℕ → ℕ → List ℕ → Type 0
 Headed version count registers = (getD registers 0 0 % 8 ≡ version) × (getD registers 1 0 % 32 ≡ count)
 
 -- "all are new and the picture is open", by the calls. "AVI header 0x82, 0x02, 0x0D; audio header 0x84, 0x01, 0x0A"
-pub record SaidAfter (r : Request) (t : Chip) : Type 0 where
+pub record SaidAfter (r : Request) (t : Lent) : Type 0 where
   pub opened : muteSaid t ≡ record { refusal = 0; mute = 2 }
   pub headAvi : Headed 0x02 0x0D (aviSent t)
   pub headAudio : Headed 0x01 0x0A (audioSent t)
@@ -73,19 +90,20 @@ pub record SaidAfter (r : Request) (t : Chip) : Type 0 where
   pub matrix : (out : List ℕ) → 25 ≤ length out
       → matrixSaid out t ≡ (r .matrix .mode ∷ coefficientBytes (r .matrix .coefficients)) ++ drop 25 out
 
--- the pairs ws, from the slices as they are lent
-pub record Entering (ws : List Write) (s : Chip) : Type 0 where
-  -- no write is refused (7, 13), and the slices keep their lengths
-  pub taken : (k : ℕ) → k < length ws
-      → let w : Write = getD ws k (0 gets 0) in enterOf (entered (take k ws) s) (w .address) (w .value) .refusal ≡ 0
-  pub sized : (k : ℕ) → Sized (entered (take k ws) s)
+-- a run, from the slices as they are lent; `was` is what is old after some events, and new is what the pairs leave with one Vsync just
+-- before the last
+pub record Entering (was : List Event → Lent) (es : List Event) (l : Lent) : Type 0 where
+  -- no event is refused (7, 13), and the slices keep their lengths
+  pub taken : (k : ℕ) → k < length es → enters (event es k) (entered (take k es) l) .refusal ≡ 0
+  pub sized : (k : ℕ) → LentSized (entered (take k es) l)
   -- "Before the first write nothing has moved.": planning is lent the image by `&`, and the run starts from the slices as they are lent
-  pub start : entered (take 0 ws) s ≡ s
+  pub start : entered (take 0 es) l ≡ l
   -- "From the first write until the last the picture is muted, and .. each all old or all new."
-  pub between : (k : ℕ) → 0 < k → k < length ws → SaidBetween s (entered ws s) (entered (take k ws) s)
+  pub between : (k : ℕ) → 0 < writesBy es k → writesBy es k < length (writesOf es)
+      → SaidBetween (was (take k es)) (entered (waited (writesOf es)) l) (entered (take k es) l)
 
--- the pairs of a request
-pub record Followed (r : Request) (ws : List Write) (s : Chip) : Type 0 where
-  pub entering : Entering ws s
-  -- "After the last, all are new and the picture is open."
-  pub ended : SaidAfter r (entered ws s)
+-- the pairs of a request, with Vsyncs anywhere among them
+pub record Followed (r : Request) (ws : List Write) (l : Lent) : Type 0 where
+  pub entering : (es : List Event) → writesOf es ≡ ws → Entering (λ fs. oldSlices fs l) es l
+  -- "After the last, all are new and the picture is open.", of a finished run
+  pub ended : (es : List Event) → Finished ws es → SaidAfter r (entered es l)

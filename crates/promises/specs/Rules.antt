@@ -23,8 +23,7 @@ use Rattle.plan.specs.Rules.{planRules}
 use Rattle.decode.specs.Ends.{Acceptable, Ends}
 use Rattle.decode.specs.Decode.{decodeOf}
 use Rattle.decode.specs.Theorems.{Answered}
-use Rattle.cut.specs.Run.{run}
-use Rattle.cut.specs.Demand.{sent}
+use Rattle.cut.specs.Run.{Event, run, writesOf}
 use Rattle.writes.specs.Order.{Order}
 use Rattle.writes.specs.Carried.{Entries}
 use Rattle.promises.specs.Finished.{Finished, Paired, NeverThree}
@@ -59,9 +58,9 @@ pub record Demand2 (input buffer : List ℕ) (s : Chip) : Type 0 where
   -- those three", the nine of `Fewer`
   pub reported : planOf input (s .image) buffer .refusal ≡ 0
       → planOf input (s .image) buffer .count ≡ differing (s .image) (finishedImage (asked input) (s .image)) + 9
-  -- "the finished image" is what the list leaves on the chip
+  -- "the finished image" is what the list leaves on the chip, wherever Vsyncs come
   pub finished : planOf input (s .image) buffer .refusal ≡ 0
-      → run (sent (writeList (asked input) (s .image))) s .image ≡ finishedImage (asked input) (s .image)
+      → (es : List Event) → writesOf es ≡ writeList (asked input) (s .image) → run es s .image ≡ finishedImage (asked input) (s .image)
   -- it has these numbers in its named fields, with the N and CTS that are answered for the request
   pub fields : planOf input (s .image) buffer .refusal ≡ 0
       → Finished (readOf input .request) (nctsOf input) (finishedImage (asked input) (s .image))

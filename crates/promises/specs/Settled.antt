@@ -24,12 +24,12 @@ use Rattle.request.specs.declared.Request.{Request}
 use Rattle.request.specs.Read.{readOf, pairFor, nctsOf, Reads, Pairs, PairsInput}
 use Rattle.chip.specs.declared.Chip.{Chip}
 use Rattle.chip.specs.declared.Wrote.{Wrote}
-use Rattle.chip.specs.Write.{writeOf}
-use Rattle.chip.specs.Step.{Hands}
+use Rattle.chip.specs.Write.{writeOf, vsyncOf}
+use Rattle.chip.specs.Step.{Hands, Turned}
 use Rattle.views.specs.declared.view.Part.{Part}
 use Rattle.views.specs.declared.view.Mute.{Mute}
 use Rattle.views.specs.declared.converter.Count.{Count}
-use Rattle.views.specs.Entry.{enterOf, Writes}
+use Rattle.views.specs.Entry.{Lent, Entry, enterOf, turnOf, Writes, Turns}
 use Rattle.views.specs.View.{viewRefusal, sentOf, sentPart, muteOf, Sends, Places, Refuses, Mutes}
 use Rattle.views.specs.Converter.{matrixAnswer, matrixOut, ShowsMatrix}
 use Rattle.plan.specs.declared.Planned.{Planned}
@@ -46,7 +46,7 @@ use Rattle.station.specs.declared.machine.StateOut.{StateOut}
 use Rattle.station.specs.declared.machine.VerdictOut.{VerdictOut}
 use Rattle.station.specs.declared.machine.ClassOut.{ClassOut}
 use Rattle.station.specs.Face.{StationPlan, StationDecode, StationNcts, StationPreview}
-use Rattle.station.specs.Machine.{StationWrite, StationSent, StationMute, StationMatrix, StationVet, StationClass}
+use Rattle.station.specs.Machine.{StationWrite, StationVsync, StationSent, StationMute, StationMatrix, StationVet, StationClass}
 
 -- "the result and each lent byte are settled by the promise: any two outcomes it allows are proved equal"
 abbrev pub Settles : {A : Type 0} → (A → Type 0) → Type 0
@@ -82,10 +82,11 @@ pub record Settled : Type 0 where
   pub avi : (video : Video) → Only {A = Avi} (GivesAvi video) (aviOf video)
   pub audio : (channels : ℕ) → Only {A = Audio} (GivesAudio channels) (audioOf channels)
   pub write : (s : Chip) (address value : ℕ) → Only {A = Wrote} (Hands s address value) (writeOf s address value)
-  -- over slices: the number, and the three slices as a state
-  pub enter : (s : Chip) (address value : ℕ)
-      → let wrote : Wrote = enterOf s address value in
-      Only {A = ℕ × Chip} (λ o. Writes s address value (o .0) (o .1)) (wrote .refusal, wrote .chip)
+  pub turn : (s : Chip) → Only {A = Chip} (Turned s) (vsyncOf s)
+  -- over slices: the number, and the four slices
+  pub enter : (l : Lent) (address value : ℕ)
+      → let e : Entry = enterOf l address value in Only {A = ℕ × Lent} (λ o. Writes l address value (o .0) (o .1)) (e .refusal, e .slices)
+  pub vsync : (l : Lent) → let e : Entry = turnOf l in Only {A = ℕ × Lent} (λ o. Turns l (o .0) (o .1)) (e .refusal, e .slices)
   -- the part: its bytes, and where it starts, by where the two slices start, "whichever the chip reads"; and the same in numbers
   pub sent : (image packet : List ℕ) (which : ℕ) (i p : ℕ × ℕ)
       → let part : Part = sentPart image packet which in
@@ -95,13 +96,13 @@ pub record Settled : Type 0 where
   pub part : (image packet : List ℕ) (which : ℕ) → Only {A = Part} (Places image packet which) (sentPart image packet which)
   pub refusal : (image packet : List ℕ) (which : ℕ) → Only {A = ℕ} (Refuses image packet which) (viewRefusal image packet which)
   pub mute : (image packet : List ℕ) → Only {A = Mute} (Mutes image packet) (muteOf image packet)
-  pub matrix : (image buffer out : List ℕ)
-      → Only {A = Count × List ℕ} (λ o. ShowsMatrix image buffer out (o .0) (o .1))
-      (matrixAnswer image buffer out, matrixOut image buffer out)
+  pub matrix : (image buffer : List ℕ) (mark : ℕ) (out : List ℕ)
+      → Only {A = Count × List ℕ} (λ o. ShowsMatrix image buffer mark out (o .0) (o .1))
+      (matrixAnswer image buffer out, matrixOut image buffer mark out)
   -- a vendor's list on a state: document 02, request 03
   pub vet : (s : Chip) (list : List ℕ) → Only {A = Verdict} (Vets s list) (vetOf s list)
   pub class : (address : ℕ) → Only {A = Class} (Classifies address) (classAt address)
-  -- the ten exported calls: field by field what the library answers
+  -- the eleven exported calls: field by field what the library answers
   pub stationPlan : (request image writes : List ℕ)
       → let p : Planned = planOf request image writes in
       Only {A = CountOut × List ℕ} (λ o. StationPlan request image writes (o .0) (o .1))
@@ -116,9 +117,11 @@ pub record Settled : Type 0 where
   pub stationPreview : (matrix : List ℕ) (a b c : ℕ)
       → let p : Pixel = previewOf matrix a b c in
       Only {A = PixelOut} (StationPreview matrix a b c) (record { refusal = p .refusal; a = p .a; b = p .b; c = p .c })
-  pub stationWrite : (s : Chip) (address value : ℕ)
-      → let wrote : Wrote = enterOf s address value in
-      Only {A = ℕ × Chip} (λ o. StationWrite s address value (o .0) (o .1)) (wrote .refusal, wrote .chip)
+  pub stationWrite : (l : Lent) (address value : ℕ)
+      → let e : Entry = enterOf l address value in
+      Only {A = ℕ × Lent} (λ o. StationWrite l address value (o .0) (o .1)) (e .refusal, e .slices)
+  pub stationVsync : (l : Lent)
+      → let e : Entry = turnOf l in Only {A = ℕ × Lent} (λ o. StationVsync l (o .0) (o .1)) (e .refusal, e .slices)
   pub stationSent : (image packet : List ℕ) (which : ℕ)
       → let p : Part = sentPart image packet which in
       Only {A = PartOut} (StationSent image packet which)
@@ -126,10 +129,10 @@ pub record Settled : Type 0 where
   pub stationMute : (image packet : List ℕ)
       → let m : Mute = muteOf image packet in
       Only {A = StateOut} (StationMute image packet) (record { refusal = m .refusal; mute = m .mute })
-  pub stationMatrix : (image coefficients matrix : List ℕ)
+  pub stationMatrix : (image coefficients : List ℕ) (mark : ℕ) (matrix : List ℕ)
       → let c : Count = matrixAnswer image coefficients matrix in
-      Only {A = CountOut × List ℕ} (λ o. StationMatrix image coefficients matrix (o .0) (o .1))
-      (record { refusal = c .refusal; count = c .count }, matrixOut image coefficients matrix)
+      Only {A = CountOut × List ℕ} (λ o. StationMatrix image coefficients mark matrix (o .0) (o .1))
+      (record { refusal = c .refusal; count = c .count }, matrixOut image coefficients mark matrix)
   pub stationVet : (s : Chip) (list : List ℕ)
       → let v : Verdict = vetOf s list in
       Only {A = VerdictOut} (StationVet s list) (record { refusal = v .refusal; place = v .place })

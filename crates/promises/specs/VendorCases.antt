@@ -1,18 +1,21 @@
--- Document 02, request 03, in bare numbers: some lists that a vendor might bring, and what is answered for each.
+-- Document 02, requests 03 and 04, in bare numbers: some lists that a vendor might bring, and what is answered for each.
 use mathlib.Core.Path.{_≡_}
-use mathlib.Core.Bool.{Bool, true, _&&_}
+use mathlib.Core.Bool.{Bool, true, false, _&&_}
 use mathlib.Core.List.{List, [], _∷_}
 use Prim.Native.Nat.{ℕ}
 use lib.Dec.{eqb}
 use lib.ListN.{replicate, set}
 use Rattle.lists.specs.Find.{every}
+use Rattle.chip.specs.Write.{lentAs}
 use Rattle.vendor.specs.declared.Verdict.{Verdict}
 use Rattle.vendor.specs.Found.{vetOf}
 
--- the registers, the packet buffer and the list; what is answered
+-- the registers, the two buffers, whether a matrix change waits, and the list; what is answered
 pub record Case : Type 0 where
   pub image : List ℕ
   pub packet : List ℕ
+  pub coefficients : List ℕ
+  pub waiting : Bool
   pub list : List ℕ
   pub refusal : ℕ
   pub place : ℕ
@@ -20,15 +23,51 @@ pub record Case : Type 0 where
 abbrev pub zeros : List ℕ
 zeros = replicate 256 0
 
--- on registers and buffers of zeros, in which no request ends and the picture is neither muted nor open
+-- on registers and buffers of zeros, in which no request ends and the picture is neither muted nor open; no change waits
 abbrev pub answers : List ℕ → ℕ → ℕ → Case
-answers list refusal place = record { image = zeros; packet = replicate 32 0; list = list; refusal = refusal; place = place }
+answers list refusal place = record {
+  image = zeros;
+  packet = replicate 32 0;
+  coefficients = replicate 24 0;
+  waiting = false;
+  list = list;
+  refusal = refusal;
+  place = place;
+}
 
 abbrev pub onImage : List ℕ → Case → Case
-onImage image c = record { image = image; packet = c .packet; list = c .list; refusal = c .refusal; place = c .place }
+onImage image c = record {
+  image = image;
+  packet = c .packet;
+  coefficients = c .coefficients;
+  waiting = c .waiting;
+  list = c .list;
+  refusal = c .refusal;
+  place = c .place;
+}
 
 abbrev pub withPacket : List ℕ → Case → Case
-withPacket packet c = record { image = c .image; packet = packet; list = c .list; refusal = c .refusal; place = c .place }
+withPacket packet c = record {
+  image = c .image;
+  packet = packet;
+  coefficients = c .coefficients;
+  waiting = c .waiting;
+  list = c .list;
+  refusal = c .refusal;
+  place = c .place;
+}
+
+-- a change waits: in use is A1 of the buffer, 7, and all zeros stand in the registers
+abbrev pub waitingSeven : Case → Case
+waitingSeven c = record {
+  image = c .image;
+  packet = c .packet;
+  coefficients = 0x00 ∷ 0x07 ∷ replicate 22 0;
+  waiting = true;
+  list = c .list;
+  refusal = c .refusal;
+  place = c .place;
+}
 
 abbrev pub cases : List Case
 cases =
@@ -69,11 +108,24 @@ cases =
     answers (0x4B ∷ 0x40 ∷ 0x18 ∷ 0x20 ∷ 0x18 ∷ 0x40 ∷ 0x98 ∷ 0x00 ∷ 0x4B ∷ 0x80 ∷ []) 15 3 ∷
     -- "as it began": what is in use, from the buffer where the AVI hold is up; so lowering it before the registers are written tears AVI
     withPacket (0x07 ∷ replicate 31 0) (onImage (set zeros 0x4A 0x40)
-    (answers (0x4B ∷ 0x40 ∷ 0x4A ∷ 0x00 ∷ 0x55 ∷ 0x01 ∷ 0x4B ∷ 0x80 ∷ []) 15 1)) ∷ []
+    (answers (0x4B ∷ 0x40 ∷ 0x4A ∷ 0x00 ∷ 0x55 ∷ 0x01 ∷ 0x4B ∷ 0x80 ∷ []) 15 1)) ∷
+    -- request 04: the hold dropped at the third byte only waits, and the event comes later, just before the last pair
+    answers (0x4B ∷ 0x40 ∷ 0x1A ∷ 0x20 ∷ 0x19 ∷ 0x01 ∷ 0x1A ∷ 0x00 ∷ 0x1B ∷ 0x02 ∷ 0x4B ∷ 0x80 ∷ []) 16 0 ∷
+    -- the state between the event and the last pair is looked at: A1 new and A2 to come; and before the new last pair of a list that ends
+    -- early
+    answers (0x4B ∷ 0x40 ∷ 0x1A ∷ 0x20 ∷ 0x19 ∷ 0x01 ∷ 0x1A ∷ 0x00 ∷ 0x1B ∷ 0x02 ∷ []) 15 3 ∷
+    answers (0x4B ∷ 0x40 ∷ 0x1A ∷ 0x20 ∷ 0x19 ∷ 0x01 ∷ 0x1A ∷ 0x00 ∷ 0x1B ∷ 0x02 ∷ 0x4A ∷ 0x60 ∷ 0x4B ∷ 0x80 ∷ []) 15 3 ∷
+    -- a change that waits at the start: what is written acts at the event alone; of one pair no cut is looked at; a rise in the wait copies
+    -- nothing, and the hold then keeps what was in use
+    waitingSeven (answers (0x4B ∷ 0x40 ∷ 0x19 ∷ 0x01 ∷ 0x1B ∷ 0x02 ∷ 0x4B ∷ 0x80 ∷ []) 16 0) ∷
+    waitingSeven (answers (0x19 ∷ 0x01 ∷ []) 16 0) ∷
+    waitingSeven (answers (0x4B ∷ 0x40 ∷ 0x1A ∷ 0x20 ∷ 0x19 ∷ 0x01 ∷ 0x1B ∷ 0x02 ∷ 0x1A ∷ 0x00 ∷ 0x4B ∷ 0x80 ∷ []) 16 0) ∷
+    -- a mark beside a raised hold counts for nothing: the event leaves it
+    onImage (set zeros 0x1A 0x20) (waitingSeven (answers (0x4B ∷ 0x40 ∷ 0x19 ∷ 0x01 ∷ 0x1B ∷ 0x02 ∷ 0x4B ∷ 0x80 ∷ []) 16 0)) ∷ []
 
 abbrev pub right : Case → Bool
 right c =
-    let v : Verdict = vetOf (record { image = c .image; packet = c .packet; coefficients = replicate 24 0 }) (c .list) in
+    let v : Verdict = vetOf (lentAs (c .image) (c .packet) (c .coefficients) (c .waiting)) (c .list) in
     eqb (v .refusal) (c .refusal) && eqb (v .place) (c .place)
 
 abbrev pub VendorCases : Type 0

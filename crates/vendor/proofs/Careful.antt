@@ -4,7 +4,8 @@ use mathlib.Core.Logic.{⊎-elim}
 use mathlib.Core.Bool.{true}
 use mathlib.Core.List.{List, [], _∷_}
 use Prim.Native.Nat.{ℕ, zero, suc, _<_, suc-le-suc}
-use native.Mathlib.Nat.{not-suc-le-zero, le-of-suc-le-suc, zero-lt-suc}
+use native.Mathlib.Nat.{not-suc-le-zero, le-of-suc-le-suc, zero-lt-suc, suc-ne-zero}
+use native.Mathlib.Omega.{arith}
 use lib.ListN.{length, getD}
 use Rattle.chip.specs.declared.Chip.{Chip}
 use Rattle.chip.specs.Machine.{Write, _gets_}
@@ -44,6 +45,17 @@ pairs-first (w ∷ []) zero h = refl
 pairs-first (w ∷ []) (suc k) h = absurd (not-suc-le-zero (le-of-suc-le-suc h))
 pairs-first (w ∷ x ∷ ws) zero h = refl
 pairs-first (w ∷ x ∷ ws) (suc k) h = ap suc (pairs-first (x ∷ ws) k (le-of-suc-le-suc h))
+
+-- the last pair stands after the event
+pub last-event : (ws : List Write) (k : ℕ) → suc k ≡ length ws
+    → (event (waited ws) (suc k) ≡ write (pairAt ws k)) × (pairsBy ws (suc k) ≡ k) × (suc (suc k) ≡ length (waited ws))
+last-event [] k e = absurd (suc-ne-zero k e)
+last-event (w ∷ []) zero e = (refl, refl, refl)
+last-event (w ∷ []) (suc k) e = absurd (suc-ne-zero k (let q : suc k ≡ 0 = omega (arith, e) in q))
+last-event (w ∷ x ∷ ws) zero e = absurd (suc-ne-zero (length ws) (let q : suc (length ws) ≡ 0 = omega (arith, e) in q))
+last-event (w ∷ x ∷ ws) (suc k) e =
+    let r = last-event (x ∷ ws) k (let q : suc k ≡ length (x ∷ ws) = omega (arith, e) in q) in
+    (r .0, ap suc (r .1), ap suc (r .2))
 
 -- a cut, by the pairs alone
 pub cut-by-pairs : (ws : List Write) (s : Chip) (j : ℕ) → Alike (cutAt ws s j) (cut (sent ws) s (pairsBy ws j))

@@ -63,7 +63,7 @@ shortened-at (w ∷ ws) s k h = go (eqb (writeOf s (w .address) (w .value) .refu
     go false k h ih = absurd (not-suc-le-zero h)
 
 -- a list by its last
-last-of : (ws : List Write) (k : ℕ) → length ws ≡ suc k → ws ≡ take k ws ++ pairAt ws k ∷ []
+pub last-of : (ws : List Write) (k : ℕ) → length ws ≡ suc k → ws ≡ take k ws ++ pairAt ws k ∷ []
 last-of [] k e = absurd (suc-ne-zero k (sym e))
 last-of (w ∷ []) zero e = refl
 last-of (w ∷ []) (suc k) e = absurd (suc-ne-zero k (let q : suc k ≡ 0 = omega (arith, e) in q))
