@@ -100,8 +100,7 @@ module _ (want : ℕ → ℕ) (image : List ℕ) where
         lowering = f low;
         back = map f (l .back);
         opening = f last;
-        split = e ∙ ap (λ (x : List Write). f first ∷ x ++ f last ∷ []) m
-            ∙ ap (λ (x : List Write). f first ∷ x) (append-assoc (map f (l .front)) (f low ∷ map f (l .back)) (f last ∷ []));
+        split = e ∙ ap (λ (x : List Write). f first ∷ x ++ f last ∷ []) m;
         raised = raised-list (l .front) (l .raised);
         risen = some-list (l .front) (l .risen);
         hold = refl;
@@ -110,10 +109,6 @@ module _ (want : ℕ → ℕ) (image : List ℕ) where
         mute = refl;
         waits = subst (λ (ws : List Write). Finished ws (waited ws)) (sym e) (waited-finishes (f first ∷ map f ms) (f last) refl);
       }
-    where
-      append-assoc : (x y z : List Write) → (x ++ y) ++ z ≡ x ++ y ++ z
-      append-assoc [] y z = refl
-      append-assoc (v ∷ x) y z = ap (λ (l : List Write). v ∷ l) (append-assoc x y z)
 
 -- ---- planned again
 
