@@ -17,7 +17,7 @@ static inline const char *station_text(uint32_t refusal) {
         "VIC not listed, or family not offered by it",
         "any other field outside its range (matrix mode above 2, range above 1)",
         "encoding not 0 without a matrix or with range 1; DVI with audio or with encoding not 0",
-        "image not of 256 bytes; in the machine also packet buffer not of 32, coefficient buffer not of 24",
+        "image not of 256 bytes; in the machine also packet buffer not of 32, coefficient buffer not of 24, mark not of 1",
         "GC hold up, or AVI and audio holds both up",
         "coherent audio, and no exact pair exists",
         "write buffer shorter than 256 bytes; request buffer shorter than " STATION_TEXT(STATION_REQUEST) "; matrix buffer shorter than 25",

@@ -88,33 +88,6 @@ fn hold_packet(image: &[u8; 256], packet: &mut [u8; 32], address: u8, byte: u8)
     }
 }
 
-// The coefficient buffer likewise; where a lowered hold waits, a rise copies nothing.
-fn hold_coefficients(
-    image: &[u8; 256],
-    coefficients: &mut [u8; 24],
-    waiting: bool,
-    address: u8,
-    byte: u8,
-)
-    ensures { λ _. ⌜ now (coefficients .exit) ≡ cond (not waiting && eqb address coefficientUpdate)
-        (filled (converter .groups) (getD (now (image .entry)) coefficientUpdate 0) byte (now (image .entry)) (now (coefficients .entry)))
-        (now (coefficients .entry)) ⌝ }
-{
-    if !waiting & (address == Map::COEFFICIENT_UPDATE) {
-        let held = image[Map::COEFFICIENT_UPDATE as usize];
-        if (byte / Map::COEFFICIENT_UPDATE_MASK % 2 == 1)
-            & !(held / Map::COEFFICIENT_UPDATE_MASK % 2 == 1)
-        {
-            fill(
-                image,
-                Map::CSC as usize,
-                Map::CSC_COUNT as usize,
-                coefficients,
-            );
-        }
-    }
-}
-
 // Whether the coefficient hold is up in a byte of 0x1A.
 pub fn is_held(byte: u8) -> bool
     ensures { λ r. ⌜ r ≡ up matrix byte ⌝ }
@@ -122,23 +95,39 @@ pub fn is_held(byte: u8) -> bool
     byte / Map::COEFFICIENT_UPDATE_MASK % 2 == 1
 }
 
-// The mark as the coefficient hold goes from one state to another: a fall sets it, a rise drops it.
-fn mark_as(before: bool, after: bool, waiting: bool) -> bool
-    ensures { λ r. ⌜ r ≡ markAs before after waiting ⌝ }
-{
-    (before & !after) | (waiting & (before | !after))
-}
-
-// The mark after a byte is stored at an address.
-fn hold_mark(image: &[u8; 256], waiting: bool, address: u8, byte: u8) -> bool
-    ensures { λ r. ⌜ r ≡ cond (eqb address coefficientUpdate)
-        (markAs (up matrix (getD (now (image .entry)) coefficientUpdate 0)) (up matrix byte) waiting) waiting ⌝ }
+// The coefficient buffer and the mark after a byte is stored at an address: a rise copies, but in a wait, and drops the mark; a fall sets it.
+fn hold_coefficients(
+    image: &[u8; 256],
+    coefficients: &mut [u8; 24],
+    waiting: bool,
+    address: u8,
+    byte: u8,
+) -> bool
+    ensures { λ r. ⌜ (r ≡ cond (eqb address coefficientUpdate)
+        (markAs (up matrix (getD (now (image .entry)) coefficientUpdate 0)) (up matrix byte) waiting) waiting)
+        × (now (coefficients .exit) ≡ cond (not waiting && eqb address coefficientUpdate)
+        (filled (converter .groups) (getD (now (image .entry)) coefficientUpdate 0) byte (now (image .entry)) (now (coefficients .entry)))
+        (now (coefficients .entry))) ⌝ }
 {
     if address != Map::COEFFICIENT_UPDATE {
         return waiting;
     }
-    let before = image[Map::COEFFICIENT_UPDATE as usize];
-    mark_as(is_held(before), is_held(byte), waiting)
+    let held = image[Map::COEFFICIENT_UPDATE as usize];
+    let before = is_held(held);
+    let after = is_held(byte);
+    if !(after & !before) {
+        return waiting | (before & !after);
+    }
+    if waiting {
+        return false;
+    }
+    fill(
+        image,
+        Map::CSC as usize,
+        Map::CSC_COUNT as usize,
+        coefficients,
+    );
+    false
 }
 
 // Whether a mark still waits after a Vsync, by the byte of 0x1A: beside a raised hold it stays.
@@ -186,9 +175,8 @@ pub fn store(
             waiting: waiting,
         };
     }
-    let mark = hold_mark(image, waiting, address, byte);
     hold_packet(image, packet, address, byte);
-    hold_coefficients(image, coefficients, waiting, address, byte);
+    let mark = hold_coefficients(image, coefficients, waiting, address, byte);
     image[address as usize] = byte;
     Stored {
         done: true,

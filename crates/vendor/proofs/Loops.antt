@@ -1,13 +1,14 @@
 -- The passes over a list, turn by turn: what is done and what is left make up the whole.
 --     written        a turn's write, by what `store` answers
 --     Counts         how many are taken, at a place; counts-start, counts-away, counts-next, counts-stop, counts-end
---     Rest           the first pass at a place; rest-start, rest-next, rest-stop, rest-end
+--     Ends           the first pass at a place; ends-start, ends-next, ends-end
 --     Left           the second; left-start, left-next, left-stop, left-end
 -- Assumes nothing.
 use mathlib.Core.Path.{_≡_, refl, sym, ap, ap₂, subst, _∙_}
 use mathlib.Core.Bool.{Bool, true, false, cond, not, _&&_, _||_}
 use mathlib.Core.List.{List, [], _∷_}
 use Prim.Native.Nat.{ℕ, suc, _+_, _*_, _<_, _≤_, suc-le-suc}
+use native.Mathlib.Nat.{suc-ne-zero}
 use native.Mathlib.Numerals.{add-one}
 use native.Mathlib.Omega.{arith}
 use lib.Dec.{eqb, ltb}
@@ -23,16 +24,16 @@ use Rattle.registers.specs.ByColumns.{columnOf, HasColumns}
 use Rattle.registers.proofs.Columns.{at-address}
 use Rattle.chip.specs.declared.Chip.{Chip}
 use Rattle.chip.specs.declared.Wrote.{Wrote}
-use Rattle.chip.specs.Machine.{Write, packets}
-use Rattle.chip.specs.Write.{put, stored, two, refuses, writeOf, Stores}
+use Rattle.chip.specs.Machine.{Write, _gets_, packets, held}
+use Rattle.chip.specs.Write.{lentAs, put, stored, two, refuses, writeOf, vsyncOf, Stores}
 use Rattle.chip.proofs.Writes.{written-as, refused-write, taken-write, stepped}
 use Rattle.writes.specs.List.{pairsOf, isWritten, column}
 use Rattle.writes.specs.Columns.{keptBits}
 use Rattle.writes.proofs.Image.{column-at}
 use Rattle.writes.proofs.Pairs.{pair-at}
-use Rattle.cut.specs.Run.{InUse, run}
-use Rattle.cut.specs.Demand.{sent}
-use Rattle.vendor.specs.Vendor.{pairAt, shortened}
+use Rattle.cut.specs.Run.{InUse}
+use Rattle.cut.proofs.Erased.{alike-self, alike-vsync, alike-write}
+use Rattle.vendor.specs.Vendor.{pairAt, endOf, shortened}
 use Rattle.vendor.specs.Found.{takenBy, fairTest, isLast, isEvent, isNext, firstFault}
 
 -- pair i of a list, written to a state
@@ -157,34 +158,6 @@ module _ (start : ℕ) (ws : List Write) (i held : ℕ) (c : Counts start ws i h
 
 -- ---- the first pass
 
--- where the writes that are taken lead, with no event
-abbrev pub runOf : List Write → Chip → Chip
-runOf ws s = run (sent (shortened ws s)) s
-
--- at place i the state is t
-pub record Rest (ws : List Write) (s : Chip) (i : ℕ) (t : Chip) : Type 0 where
-  pub ends : runOf ws s ≡ runOf (drop i ws) t
-
-pub rest-start : (ws : List Write) (s : Chip) → Rest ws s 0 s
-rest-start ws s = record { ends = refl }
-
-module _ (ws : List Write) (s : Chip) (i : ℕ) (t : Chip) (rest : Rest ws s i t) where
-  pub rest-next : (u : Chip) → i < length ws → wrote ws i t ≡ record { refusal = 0; chip = u } → Rest ws s (i + 1) u
-  rest-next u h e =
-      let on : shortened (drop i ws) t ≡ pairAt ws i ∷ shortened (drop (suc i) ws) u = shortened-on ws i t h ∙ rw e in
-      record {
-        ends = rest .ends ∙ ap (λ (l : List Write). run (sent l) t) on
-            ∙ rw add-one (ap (λ (w : Wrote). run (sent (shortened (drop (suc i) ws) u)) (w .chip)) e);
-      }
-
-  pub rest-stop : i < length ws → wrote ws i t ≡ record { refusal = 13; chip = t } → t ≡ runOf ws s
-  rest-stop h e = let on : shortened (drop i ws) t ≡ [] = shortened-on ws i t h ∙ rw e in sym (rest .ends ∙ rw on)
-
-  pub rest-end : i ≡ length ws → t ≡ runOf ws s
-  rest-end h = let on : shortened (drop i ws) t ≡ [] = rw (h, drop-length ws) in sym (rest .ends ∙ rw on)
-
--- ---- the second pass
-
 -- where a list goes on
 abbrev tail : List Write → List Write
 tail [] = []
@@ -192,6 +165,81 @@ tail (w ∷ ws) = ws
 
 nothing-dropped : (ws : List Write) (i : ℕ) → i < length ws → drop i ws ≡ [] → ⊥
 nothing-dropped ws i h e = let n : length (drop i ws) ≡ 0 = ap length e in omega (arith, n, length-drop i ws)
+
+module _ (ws : List Write) (s : Chip) where
+  abbrev hs : List Write
+  hs = shortened ws s
+
+  -- at place i the state is t
+  pub record Ends (i : ℕ) (t : Chip) : Type 0 where
+    pub ends : endOf hs s ≡ endOf (drop i hs) t
+    pub rest : i < length hs → drop i hs ≡ shortened (drop i ws) t
+
+  pub ends-start : Ends 0 s
+  ends-start = record { ends = refl; rest = λ _. refl }
+
+  module _ (i : ℕ) (t : Chip) (l : Ends i t) where
+    pub ends-end : i ≡ length hs → t ≡ endOf hs s
+    ends-end e = let n : drop i hs ≡ [] = rw (e, drop-length hs) in sym (l .ends ∙ rw n)
+
+    module _ (h : i < length hs) (k : i < length ws) where
+      -- the machine takes the pair, before the event and after it
+      taken-here : wrote ws i t .refusal ≡ 13 → ⊥
+      taken-here e = nothing-dropped hs i h (l .rest h ∙ shortened-on ws i t k ∙ rw e)
+
+      pub taken-so : (event : Bool) → wrote ws i (cond event (vsyncOf t) t) .refusal ≡ 13 → ⊥
+      taken-so true e =
+          taken-here (sym (alike-write (pairAt ws i .address) (pairAt ws i .value) (vsyncOf t) t (alike-vsync t t (alike-self t)) .refusal) ∙ e)
+      taken-so false e = taken-here e
+
+      that-pair : pairAt hs i ≡ pairAt ws i
+      that-pair =
+          let c : drop i hs ≡ pairAt hs i ∷ drop (suc i) hs = drop-cons hs i _ h in
+          let d : drop i hs ≡ cond (eqb (wrote ws i t .refusal) 0) (pairAt ws i ∷ shortened (drop (suc i) ws) (wrote ws i t .chip)) [] =
+          l .rest h ∙ shortened-on ws i t k in
+          go (eqb (wrote ws i t .refusal) 0) (sym c ∙ d)
+        where
+          go : (b : Bool) → pairAt hs i ∷ drop (suc i) hs ≡ cond b (pairAt ws i ∷ shortened (drop (suc i) ws) (wrote ws i t .chip)) []
+              → pairAt hs i ≡ pairAt ws i
+          go true e = ap (λ (l : List Write). getD l 0 (0 gets 0)) e
+          go false e = absurd (suc-ne-zero _ (ap length e))
+
+      onward : drop i hs ≡ pairAt ws i ∷ drop (suc i) hs
+      onward = drop-cons hs i _ h ∙ ap (λ (w : Write). w ∷ drop (suc i) hs) that-pair
+
+      pub ends-next : (event : Bool) → eqb (i + 1) (length hs) ≡ event → (u : Chip)
+          → wrote ws i (cond event (vsyncOf t) t) ≡ record { refusal = 0; chip = u } → Ends (i + 1) u
+      ends-next true e u w =
+          let q : i + 1 ≡ length hs = eqb-true (i + 1) (length hs) e in
+          let le : length hs ≤ suc i = omega (arith, q) in
+          let n : drop (suc i) hs ≡ [] = drop-of-length-le hs le in
+          record {
+            ends = l .ends ∙ ap (λ (r : List Write). endOf r t) (onward ∙ ap (λ (r : List Write). pairAt ws i ∷ r) n)
+                ∙ ap (λ (x : Wrote). x .chip) w ∙ sym (ap (λ (r : List Write). endOf r u) (ap (λ (j : ℕ). drop j hs) (add-one i) ∙ n));
+            rest = λ g. absurd (omega (arith, g, q));
+          }
+      ends-next false e u w =
+          let q : (i + 1 ≡ length hs) → ⊥ = eqb-false (i + 1) (length hs) e in
+          let g : suc i < length hs = omega (arith, h, q) in
+          let d : drop (suc i) hs ≡ pairAt hs (suc i) ∷ drop (suc (suc i)) hs = drop-cons hs (suc i) _ g in
+          record {
+            ends = l .ends ∙ ap (λ (r : List Write). endOf r t) (onward ∙ ap (λ (r : List Write). pairAt ws i ∷ r) d)
+                ∙ ap (λ (x : Wrote). endOf (pairAt hs (suc i) ∷ drop (suc (suc i)) hs) (x .chip)) w
+                ∙ sym (ap (λ (r : List Write). endOf r u) (ap (λ (j : ℕ). drop j hs) (add-one i) ∙ d));
+            rest = λ _.
+                let z : shortened (drop i ws) t ≡ pairAt ws i ∷ shortened (drop (suc i) ws) u = shortened-on ws i t k ∙ rw w in
+                ap (λ (j : ℕ). drop j hs) (add-one i) ∙ ap (λ (r : List Write). tail r) (sym onward ∙ l .rest h ∙ z)
+                ∙ ap (λ (j : ℕ). shortened (drop j ws) u) (sym (add-one i));
+          }
+
+-- the state that a turn of the first pass writes to, by the mark that it has found
+pub before-pair : (t : Chip) (event mark : Bool) → mark ≡ cond event (held t && t .waiting) (t .waiting)
+    → lentAs (t .image) (t .packet) (t .coefficients) mark ≡ cond event (vsyncOf t) t
+unfolding vsyncOf
+before-pair t true mark e = ap (lentAs (t .image) (t .packet) (t .coefficients)) e
+before-pair t false mark e = ap (lentAs (t .image) (t .packet) (t .coefficients)) e
+
+-- ---- the second pass
 
 -- the last pair, by its place
 last-at : (ws : List Write) (i : ℕ) → i < length ws → isLast (drop (suc i) ws) ≡ eqb (i + 1) (length ws)

@@ -9,12 +9,11 @@ ghost use Rattle.bits.specs.Merge.{under};
 ghost use Rattle.registers.specs.Steps.{inRun};
 ghost use Rattle.matrix.specs.Matrix.{fields};
 ghost use Rattle.chip.specs.declared.Chip.{Chip};
-ghost use Rattle.chip.specs.Machine.{avi, audio, matrix, mute};
+ghost use Rattle.chip.specs.Machine.{avi, audio, matrix, up, mute};
 ghost use Rattle.chip.specs.Write.{lentAs};
 ghost use Rattle.writes.specs.List.{pairsOf, covers};
 ghost use Rattle.views.specs.Entry.{marked};
-ghost use Rattle.cut.specs.Run.{allInUse, run};
-ghost use Rattle.cut.specs.Demand.{sent};
+ghost use Rattle.cut.specs.Run.{allInUse};
 ghost use Rattle.vendor.specs.Vendor.{shortened, endOf};
 ghost use Rattle.vendor.specs.Found.{shown, oneOf, isBetween, isTurned, takenBy, firstFault, Vets};
 ghost use Rattle.vendor.specs.Theorems.{Vetted};
@@ -305,38 +304,42 @@ fn taken(start: u8, list: &[u8]) -> usize
     n
 }
 
-// A list as far as the machine takes it, with no event.
-fn running(start: Chip, list: &[u8]) -> Chip
-    ensures { λ r. ⌜ r ≡ run (sent (shortened (pairsOf (now (list .entry))) start)) start ⌝ }
+// The mark before a pair: where the event comes just before it, a Vsync's.
+fn turned(event: bool, byte: u8, waiting: bool) -> bool
+    ensures { λ r. ⌜ r ≡ cond event (up matrix byte && waiting) waiting ⌝ }
+{
+    waiting & (!event | chip::is_held(byte))
+}
+
+// The first pass: the state at the end of what the machine takes, with the event just before the last pair.
+fn ending(start: Chip, list: &[u8], count: usize) -> Chip
+    requires { ⌜ count ≡ length (shortened (pairsOf (now list)) start) ⌝ }
+    ensures { λ r. ⌜ r ≡ endOf (shortened (pairsOf (now (list .entry))) start) start ⌝ }
 {
     let columns = registers::table_columns();
     let mut image = start.image;
     let mut packet = start.packet;
     let mut coefficients = start.coefficients;
     let mut waiting = start.waiting;
-    let n = list.len() / 2;
     let mut i: usize = 0;
-    while i < n {
+    while i < count {
         let address = list[2 * i];
         let at = address as usize;
         let byte = bits::merge(columns.read_only[at], image[at], list[2 * i + 1]);
+        let mark = turned(
+            i + 1 == count,
+            image[Map::COEFFICIENT_UPDATE as usize],
+            waiting,
+        );
         let stored = chip::store(
             &mut image,
             &mut packet,
             &mut coefficients,
-            waiting,
+            mark,
             address,
             byte,
         );
         waiting = stored.waiting;
-        if !stored.done {
-            return Chip {
-                image: image,
-                packet: packet,
-                coefficients: coefficients,
-                waiting: waiting,
-            };
-        }
         i = i + 1;
     }
     Chip {
@@ -345,23 +348,6 @@ fn running(start: Chip, list: &[u8]) -> Chip
         coefficients: coefficients,
         waiting: waiting,
     }
-}
-
-// The first pass: the state at the end of what the machine takes, with the event just before the last pair.
-fn ending(start: Chip, list: &[u8], count: usize) -> Chip
-    requires { ⌜ count ≡ length (shortened (pairsOf (now list)) start) ⌝ }
-    ensures { λ r. ⌜ r ≡ endOf (shortened (pairsOf (now (list .entry))) start) start ⌝ }
-{
-    if count == 0 {
-        return start;
-    }
-    let last = 2 * (count - 1);
-    let before = running(start, &list[..last]);
-    let turned = before.vsync();
-    let address = list[last];
-    let value = list[last + 1];
-    let wrote = turned.write(address, value);
-    wrote.chip
 }
 
 // The second pass: the first pair that fails, of those that the machine takes.

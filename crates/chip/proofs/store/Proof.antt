@@ -19,9 +19,6 @@ leaves-two-requires c κs = search needs
 returns : tie.Need-returns
 returns c = (sym (ap not (c .if1 .taken)) ∙ ap not (c .before .leaves-two .ensures), refl)
 
-hold-mark-requires : tie.Need-hold-mark-requires
-hold-mark-requires c κs = search needs
-
 hold-packet-requires : tie.Need-hold-packet-requires
 hold-packet-requires c κs = search needs
 
@@ -35,13 +32,12 @@ returns-2 : tie.Need-returns-2
 unfolding put
 returns-2 c =
     let p = c .before .before .before in
-    let m = p .before .before .before in
-    let i = m .before .before in
+    let i = p .before .before .before in
     let t = i .before in
     let a = t .before .before .args in
     let packet = p .hold-packet .ensures in
-    let coefficients = c .hold-coefficients .ensures in
-    let mark = m .hold-mark .ensures in (
+    let mark = c .hold-coefficients .ensures .0 in
+    let coefficients = c .hold-coefficients .ensures .1 in (
       sym (ap not (i .if1 .left)) ∙ ap not (t .leaves-two .ensures),
       λ j. lentAs (set (a .image .now) (a .address) (a .byte)) (packet j) (coefficients j) (mark j),
     )
@@ -54,7 +50,6 @@ store-spec =
     element-copy-out-held
     leaves-two-requires
     returns
-    hold-mark-requires
     hold-packet-requires
     hold-coefficients-requires
     element-write-image
