@@ -1,41 +1,37 @@
-// Reading a vendor's list: the registers, the two buffers and the list on standard input, one line on standard output (document 02,
-// request 03).
+// Reading a vendor's list: the registers, the two buffers, the mark and the list on standard input, one line on standard output (document
+// 02, requests 03 and 04).
 ghost use mathlib.Core.Path.{_≡_};
 ghost use mathlib.Core.List.{List};
 ghost use Prim.Native.Nat.{ℕ};
-ghost use lib.ListN.{take, drop};
 ghost use Rattle.vet.specs.Input.{verdictOf, Inputs};
 use libc::STDIN_FILENO;
 use libc::STDOUT_FILENO;
+use refusals::Refusal;
 use vendor::MOST_PAIRS;
 use vendor::Verdict;
 
-// The bytes before the list, and one pair more than the longest list has.
-const ENOUGH: usize = 312 + 2 * (MOST_PAIRS + 1);
+// The bytes before the list, and with them one pair more than the longest list has.
+const AHEAD: usize = 256 + 32 + 24 + 1;
 
-// Some bytes of a slice from a place on; fewer, or none, where it ends before.
-fn part(s: &[u8], at: usize, count: usize) -> &[u8]
-    ensures { λ r. ⌜ now r ≡ take count (drop at (now (s .entry))) ⌝ }
-{
-    if s.len() <= at {
-        return &s[..0];
-    }
-    if s.len() - at <= count {
-        return &s[at..];
-    }
-    let end = at + count;
-    &s[at..end]
-}
+const ENOUGH: usize = AHEAD + 2 * (MOST_PAIRS + 1);
 
-// The verdict on an input.
+// The verdict on an input; one that ends before its list is refused.
 fn judged(input: &[u8]) -> Verdict
     ensures { λ r. ⌜ r ≡ verdictOf (now (input .entry)) ⌝ }
 {
-    let image = part(input, 0, 256);
-    let packet = part(input, 256, 32);
-    let coefficients = part(input, 288, 24);
-    let list = part(input, 312, input.len());
-    vendor::vet(image, packet, coefficients, list)
+    if input.len() < AHEAD {
+        return Verdict {
+            refusal: Refusal::IMAGE_LENGTH,
+            place: 0,
+        };
+    }
+    vendor::vet(
+        &input[..256],
+        &input[256..288],
+        &input[288..312],
+        input[312],
+        &input[AHEAD..],
+    )
 }
 
 // What follows the first bytes of an input, one more than the longest has, changes nothing (`Inputs.enough`).

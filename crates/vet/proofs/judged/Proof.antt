@@ -1,37 +1,75 @@
--- `vet::judged` meets its contract: the four parts of the input. Assumes nothing.
+-- `vet::judged` meets its contract: the parts of the input, where it has them. Assumes nothing.
+use mathlib.Core.Path.{sym}
+use Prim.Native.Nat.{_-_}
 use native.Mathlib.Omega.{arith}
 use lib.ListN.{length, drop, length-drop}
-use lib.Seq.{take-all}
+use lib.Seq.{take-all, length-take-le}
 use borrow.Author.Needs.{needs}
+use borrow.Author.Tests.{lt-ltb, le-ltb}
 use Rattle.vet.proofs.judged.Statement.{statement}
 use Rattle.vet.proofs.judged.Tie as tie
 
-part-requires : tie.Need-part-requires
-part-requires c κs = search needs
+returns : tie.Need-returns
+returns c = rw (lt-ltb _ _ (c .if1 .taken))
 
-part-requires-2 : tie.Need-part-requires-2
-part-requires-2 c κs = search needs
+slice-aggregate-vet : tie.Need-slice-aggregate-vet
+slice-aggregate-vet c = sym (length-take-le 256 (c .before .before .before .args .input .now) (omega arith))
 
-part-requires-3 : tie.Need-part-requires-3
-part-requires-3 c κs = search needs
+sub-vet : tie.Need-sub-vet
+sub-vet c = search needs
 
-part-requires-4 : tie.Need-part-requires-4
-part-requires-4 c κs = search needs
+part-vet-start : tie.Need-part-vet-start
+part-vet-start c = search needs
+
+part-vet-end : tie.Need-part-vet-end
+part-vet-end c = search needs
+
+sub-vet-2 : tie.Need-sub-vet-2
+sub-vet-2 c = search needs
+
+part-vet-start-2 : tie.Need-part-vet-start-2
+part-vet-start-2 c = search needs
+
+part-vet-end-2 : tie.Need-part-vet-end-2
+part-vet-end-2 c = search needs
+
+shared-slice-read-vet : tie.Need-shared-slice-read-vet
+shared-slice-read-vet c = search needs
+
+sub-vet-3 : tie.Need-sub-vet-3
+sub-vet-3 c = search needs
+
+part-vet-start-3 : tie.Need-part-vet-start-3
+part-vet-start-3 c = search needs
+
+part-vet-end-3 : tie.Need-part-vet-end-3
+part-vet-end-3 c = search needs
 
 vet-requires : tie.Need-vet-requires
 vet-requires c κs = search needs
 
-returns : tie.Need-returns
-returns c =
-    let list = c .before in
-    let coefficients = list .before in
-    let packet = coefficients .before in
-    let image = packet .before in
-    let input = image .before .before .args .input .now in
-    let all = take-all (length input) (drop 312 input) (omega (arith, length-drop 312 input)) in
-    rw (list .part4 .ensures, coefficients .part3 .ensures, packet .part2 .ensures, image .part .ensures, all) at (c .vet .ensures)
+returns-2 : tie.Need-returns-2
+returns-2 c =
+    let if1 = c .before .before .before .before .before .before in
+    let input = if1 .before .before .args .input .now in
+    let all = take-all (length input - 313) (drop 313 input) (omega (arith, length-drop 313 input)) in
+    rw (le-ltb _ _ (if1 .if1 .left)) (rw (all) at (c .vet .ensures))
 
 pub judged-spec : {M : Type 1} → statement M
 judged-spec =
     tie.close
-    (tie.spec part-requires part-requires-2 part-requires-3 part-requires-4 vet-requires returns)
+    (tie.spec
+    returns
+    slice-aggregate-vet
+    sub-vet
+    part-vet-start
+    part-vet-end
+    sub-vet-2
+    part-vet-start-2
+    part-vet-end-2
+    shared-slice-read-vet
+    sub-vet-3
+    part-vet-start-3
+    part-vet-end-3
+    vet-requires
+    returns-2)
