@@ -21,7 +21,8 @@ use Rattle.chip.specs.declared.Chip.{Chip}
 use Rattle.chip.specs.declared.Wrote.{Wrote}
 use Rattle.chip.specs.Machine.{Group, Buffer, avi, audio, gc, matrix, packets, converter, up, registersOf, holdsOf, held, inUse}
 use Rattle.chip.specs.Write.{filled, bufferAfter, markAs, put, vsyncOf, lentAs, stored, imageAfter, two, refuses, writeTests, refusedWrite, writeOf, holdsAfter, Stores}
-use Rattle.chip.specs.Step.{TwoUp, writeRules, Keeps, Step, Turn}
+use Rattle.chip.specs.Step.{TwoUp, writeRules, Keeps, Step}
+use Rattle.chip.specs.Turn.{Turn}
 
 -- a test for two packet holds decides that two are up
 pub two-up : (image : List ℕ) → Decides (two (holdsOf packets image)) (TwoUp image)

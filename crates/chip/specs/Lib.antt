@@ -1,3 +1,4 @@
 pub mod Machine
 pub mod Write
 pub mod Step
+pub mod Turn

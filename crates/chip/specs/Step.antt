@@ -1,20 +1,20 @@
--- What one write does, and what a Vsync does, as a reader of document 01 and of request 04 would check it: `step` and `turn` prove it of
--- `writeOf` and `vsyncOf`, which is what `Chip::write` and `Chip::vsync` promise.
+-- What one write does, as a reader of document 01 and of request 04 would check it: `step` proves it of `writeOf`, which is what
+-- `Chip::write` promises.
 use mathlib.Core.Path.{_≡_}
 use mathlib.Core.Logic.{_≢_, _⊎_}
 use mathlib.Core.Bool.{true, false, cond, not, _&&_}
 use mathlib.Core.List.{List, [], _∷_, _++_}
 use Prim.Native.Nat.{ℕ, _<_}
 use lib.Dec.{eqb}
-use lib.ListN.{length, getD, take, drop}
+use lib.ListN.{length, getD, drop}
 use Rattle.lists.specs.Find.{every}
 use Rattle.bits.specs.Merge.{bit}
 use Rattle.refusals.specs.Rows.{twoHolds, Condition, _when_, Given}
 use Rattle.registers.specs.Classes.{readOnly}
 use Rattle.chip.specs.declared.Chip.{Chip}
 use Rattle.chip.specs.declared.Wrote.{Wrote}
-use Rattle.chip.specs.Machine.{Group, Buffer, avi, audio, gc, matrix, packets, converter, up, registersOf, holdsOf, held, inUse}
-use Rattle.chip.specs.Write.{imageAfter, writeOf, vsyncOf}
+use Rattle.chip.specs.Machine.{Group, Buffer, avi, audio, gc, matrix, packets, converter, up, registersOf, holdsOf, held}
+use Rattle.chip.specs.Write.{imageAfter, writeOf}
 
 -- "(machine) two packet holds are up, or the write would leave two up"
 abbrev pub TwoUp : List ℕ → Type 0
@@ -79,22 +79,3 @@ pub record Step (s : Chip) (address value : ℕ) : Type 0 where
   pub dropped : s .waiting ≡ true → writeOf s address value .chip .coefficients ≡ s .coefficients
   -- a write that leaves the hold leaves the mark
   pub waits : held (writeOf s address value .chip) ≡ held s → writeOf s address value .chip .waiting ≡ s .waiting
-
--- what a Vsync promises
-abbrev pub Turned : Chip → Chip → Type 0
-Turned s left = left ≡ vsyncOf s
-
--- request 04: a Vsync changes nothing but the mark
-pub record Turn (s : Chip) : Type 0 where
-  pub image : vsyncOf s .image ≡ s .image
-  pub packet : vsyncOf s .packet ≡ s .packet
-  pub coefficients : vsyncOf s .coefficients ≡ s .coefficients
-  -- "A Vsync that ends a wait takes the registers as they then stand": with the hold down they are in use from then on
-  pub ends : held s ≡ false → vsyncOf s .waiting ≡ false
-  pub takes : held s ≡ false → inUse converter matrix (vsyncOf s) ≡ registersOf matrix (s .image)
-  -- "a mark beside a raised hold counts for nothing": the buffer is in use, waiting or not, and a Vsync leaves both
-  pub beside : held s ≡ true → vsyncOf s ≡ s
-  pub raised : held s ≡ true → inUse converter matrix s ≡ take (matrix .count) (s .coefficients)
-  -- until its Vsync a lowered hold leaves the buffer in use, whatever stands in the registers; where none waits, the registers are in use
-  pub waiting : s .waiting ≡ true → inUse converter matrix s ≡ take (matrix .count) (s .coefficients)
-  pub idle : s .waiting ≡ false → (vsyncOf s ≡ s) × (held s ≡ false → inUse converter matrix s ≡ registersOf matrix (s .image))

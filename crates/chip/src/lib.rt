@@ -9,7 +9,8 @@ ghost use Rattle.map.specs.Map.{infoframeUpdate, coefficientUpdate};
 ghost use Rattle.chip.specs.declared.Chip.{Chip};
 ghost use Rattle.chip.specs.Machine.{matrix, packets, converter, up};
 ghost use Rattle.chip.specs.Write.{lentAs, filled, two, markAs, Stores};
-ghost use Rattle.chip.specs.Step.{Hands, Step, Turned, Turn};
+ghost use Rattle.chip.specs.Step.{Hands, Step};
+ghost use Rattle.chip.specs.Turn.{Turned, Turn};
 use map::Map;
 use refusals::Refusal;
 

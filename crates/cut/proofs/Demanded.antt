@@ -1,8 +1,8 @@
 -- Demand 3 for any list that is `Good`: its runs, the room for its Vsync, and planning again after cuts. Assumes nothing.
 use mathlib.Core.Path.{_≡_, refl, sym, ap, subst, _∙_}
 use mathlib.Core.Bool.{false≢true, Bool, true, false, not, _&&_, _||_}
-use mathlib.Core.List.{List, [], _∷_, _++_, map, map-append}
-use Prim.Native.Nat.{ℕ, _<_}
+use mathlib.Core.List.{List, [], _∷_, _++_, map, append-assoc, map-append}
+use Prim.Native.Nat.{ℕ, _+_, _*_, _<_}
 use native.Mathlib.Nat.{zero-lt-suc}
 use native.Mathlib.Omega.{arith}
 use lib.Dec.{eqb}
@@ -15,13 +15,15 @@ use Rattle.bits.specs.Merge.{bit}
 use Rattle.chip.specs.declared.Chip.{Chip}
 use Rattle.chip.specs.Machine.{Write, _gets_, matrix, up}
 use Rattle.writes.specs.Steps.{Step, _raising_, steps}
-use Rattle.writes.specs.List.{written, listWith, finishedImage, ready}
+use Rattle.writes.specs.List.{decided, written, listWith, finishedImage, ready}
 use Rattle.cut.specs.Run.{Event, write, vsync, run, cut, writesOf, writesBy, Fair}
-use Rattle.cut.specs.Demand.{sent, waited, leavesHold, Finished, Room, Cut, cuts, PlannedAgain, Same, Clauses, Demand3}
+use Rattle.cut.specs.Vsync.{sent, waited, leavesHold, Finished, Room}
+use Rattle.cut.specs.Demand.{Cut, cuts, PlannedAgain, Same, Clauses, Demand3}
 use Rattle.cut.proofs.Planned.{Planner, cutOf, endOf}
-use Rattle.cut.proofs.Bytes.{clean, Agree}
+use Rattle.cut.proofs.Bytes.{clean, mute-byte, Agree}
 use Rattle.cut.proofs.Turning.{hold-seen}
 use Rattle.cut.proofs.Erased.{Alike}
+use Rattle.cut.proofs.Place.{between}
 use Rattle.cut.proofs.Cut as cut
 use Rattle.cut.proofs.Cut.{Ready, Near, near-self, Good, Lowers, elsewhere-or-up, not-hold}
 use Rattle.cut.proofs.Runs.{alike, image-end, clauses, after-same}
@@ -49,6 +51,12 @@ waited-finishes ws w n = record {
 }
 
 -- ---- room for it
+
+-- one more write that leaves the hold
+away-last : (ws : List Write) (w : Write) → not (eqb (w .address) 0x1A) ≡ true → leavesHold ws ≡ true → leavesHold (ws ++ w ∷ []) ≡ true
+away-last [] w n t = rw n
+away-last (v ∷ ws) w n t =
+    rw (both-left (not (eqb (v .address) 0x1A)) _ t, away-last ws w n (both-right (not (eqb (v .address) 0x1A)) _ t))
 
 module _ (want : ℕ → ℕ) (image : List ℕ) where
   abbrev f : Step → Write
@@ -87,6 +95,13 @@ module _ (want : ℕ → ℕ) (image : List ℕ) where
       let n : (bit 5 (f (reg.coefficientUpdate raising 0) .value) ≡ 1) → ⊥ = eqb-false _ 1 d in
       omega arith
 
+  opening-bits : (bit 6 (f (reg.avMute raising reg.clearAvMuteMask) .value) ≡ 0) × (bit 7 (f (reg.avMute raising reg.clearAvMuteMask) .value) ≡ 1)
+  unfolding written decided
+  opening-bits =
+      let v : ℕ = f (reg.avMute raising reg.clearAvMuteMask) .value in
+      let b : bit 6 v + 2 * bit 7 v ≡ 2 = mute-byte (getD image reg.avMute 0) reg.clearAvMuteMask (want reg.avMute) in
+      (omega (arith, b), omega (arith, b))
+
   pub room-for : (ms : List Step) → Lowers ms → Room (map f (steps ms))
   unfolding written
   room-for ms l =
@@ -107,6 +122,11 @@ module _ (want : ℕ → ℕ) (image : List ℕ) where
         down = down-bit;
         lowered = away-list (l .back) (l .lowered);
         mute = refl;
+        opens = opening-bits;
+        exactly = between (f first ∷ map f (l .front)) (f low) (map f (l .back) ++ f last ∷ []) (map f (steps ms))
+            (e ∙ ap (λ (x : List Write). f first ∷ x ++ f last ∷ []) m
+            ∙ ap (λ (x : List Write). f first ∷ x) (append-assoc (map f (l .front)) (f low ∷ map f (l .back)) (f last ∷ []))) refl
+            (away-last (map f (l .back)) (f last) refl (away-list (l .back) (l .lowered)));
         waits = subst (λ (ws : List Write). Finished ws (waited ws)) (sym e) (waited-finishes (f first ∷ map f ms) (f last) refl);
       }
 

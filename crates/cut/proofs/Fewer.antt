@@ -20,7 +20,8 @@ use Rattle.writes.specs.List.{written, theThree, stays, listWith, middleOf, wri
 use Rattle.writes.proofs.Last.{last, last-zero, read}
 use Rattle.writes.proofs.Fewer.{plain, raises-none, every-plain, there-bytes, leftSteps, steps-left, by-steps}
 use Rattle.cut.specs.Run.{Event, run, Fair}
-use Rattle.cut.specs.Demand.{Finished, Same, Demand3}
+use Rattle.cut.specs.Vsync.{Finished}
+use Rattle.cut.specs.Demand.{Same, Demand3}
 use Rattle.cut.proofs.Latch.{View, nexts, walk}
 use Rattle.cut.proofs.Skipped.{nexts-those, walk-those}
 use Rattle.cut.proofs.Bank.{next, view}

@@ -6,6 +6,7 @@ pub mod Turning
 pub mod FairRun
 pub mod Taken
 pub mod Erased
+pub mod Place
 pub mod Last
 pub mod Planned
 pub mod Cut

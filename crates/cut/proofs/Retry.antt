@@ -17,7 +17,8 @@ use Rattle.chip.specs.declared.Wrote.{Wrote}
 use Rattle.chip.specs.Machine.{Group, matrix, packets, converter, up, holdsOf, held}
 use Rattle.chip.specs.Write.{lentAs, put, stored, imageAfter, two, refuses, writeOf, vsyncOf}
 use Rattle.chip.proofs.Writes.{written-as, allowed, stepped}
-use Rattle.cut.specs.Run.{Event, write, vsync, happens, run, cut, event, retried, begun, Retried}
+use Rattle.cut.specs.Run.{Event, write, vsync, happens, run, cut, event}
+use Rattle.cut.specs.Retried.{retried, begun, Retried}
 
 -- a byte that was stored is stored again as it is
 merge-set : (l : List ℕ) (a m v : ℕ) → merge 8 m (getD (set l a (merge 8 m (getD l a 0) v)) a 0) v ≡ merge 8 m (getD l a 0) v

@@ -4,7 +4,7 @@ use mathlib.Core.Logic.{_⊎_, inl, inr, ⊎-map, ⊎-elim, _≢_}
 use mathlib.Core.Bool.{false≢true, Bool, true, false, cond, not, _&&_, _||_}
 use mathlib.Core.List.{List, [], _∷_, _++_, map, map-append}
 use Prim.Native.Nat.{ℕ, zero, suc, _<_, _≤_}
-use native.Mathlib.Nat.{not-suc-le-zero, zero-lt-suc, suc-ne-zero}
+use native.Mathlib.Nat.{not-suc-le-zero, zero-lt-suc, suc-ne-zero, le-refl}
 use native.Mathlib.Omega.{arith}
 use lib.Dec.{eqb, lit<}
 use lib.ListN.{length, getD, take, drop, length-map, List·getD-map}
@@ -24,9 +24,11 @@ use Rattle.chip.proofs.Writes.{stepped, turned}
 use Rattle.writes.specs.Steps.{Step, _raising_, steps}
 use Rattle.writes.specs.List.{written, listWith, finishedImage, ready}
 use Rattle.writes.proofs.Image.{is-image}
-use Rattle.cut.specs.Run.{Event, write, vsync, happens, run, cut, event, writesOf, writesBy, standing, waits, turnedOver, old, Either}
-use Rattle.cut.specs.Run.{Between, Fair, IsFair, Careful, Covered, begun, Retried}
-use Rattle.cut.specs.Demand.{sent, waited, leavesHold, Finished, Room, After, Same, Clauses}
+use Rattle.cut.specs.Run.{Event, write, vsync, happens, run, cut, event, writesOf, writesBy, standing, Either, Between, Fair, IsFair, Careful}
+use Rattle.cut.specs.Run.{Covered}
+use Rattle.cut.specs.Vsync.{waits, turnedOver, old, sent, waited, leavesHold, Finished, Room}
+use Rattle.cut.specs.Retried.{begun, Retried}
+use Rattle.cut.specs.Demand.{After, Same, Clauses}
 use Rattle.cut.proofs.Planned.{Planner, cutOf, endOf}
 use Rattle.cut.proofs.Latch.{acts}
 use Rattle.cut.proofs.Bank.{store, down-part}
@@ -297,6 +299,8 @@ module _ (mid : (ℕ → ℕ) → List ℕ → List Step)
           registers = image-run;
           ended = ended;
           opened = alike-open (run es s) (endOf P want s) alike-end (cut.ended mid good want s r .opened);
+          whole = subst (λ (l : List Event). Either (old l s .matrix) (standing end .matrix) (coefficients (run l s))) (take-length es)
+              (matrix-cut (length es) (le-refl (length es)));
           late = late;
           retries = again;
           retriesBetween = λ n k lo hi. rw (again n .cuts k) (careful .between (begun n es k) lo hi);

@@ -16,7 +16,8 @@ use Rattle.chip.specs.Machine.{Write, matrix, converter, up, registersOf, holds
 use Rattle.chip.specs.Write.{markAs, put, vsyncOf}
 use Rattle.writes.specs.Steps.{Step}
 use Rattle.writes.specs.List.{written}
-use Rattle.cut.specs.Run.{Event, write, vsync, writesOf, waits, turnedOver}
+use Rattle.cut.specs.Run.{Event, write, vsync, writesOf}
+use Rattle.cut.specs.Vsync.{waits, turnedOver}
 use Rattle.cut.proofs.Latch.{View, walk, nexts, acts, Faithful, once}
 use Rattle.cut.proofs.Bank.{store, only, matrix-same, Whole, image-store, size-store, outside-part, part-fills}
 use Rattle.cut.proofs.Bytes.{clean, Seen, converter-seen}

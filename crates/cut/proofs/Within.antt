@@ -27,7 +27,7 @@ use Rattle.writes.specs.Steps.{Step, _raising_, steps}
 use Rattle.writes.specs.List.{written, middleOf, fullList, alreadyThere, theThree, stays, writeList, ready}
 use Rattle.writes.proofs.Fewer.{plain, raises-none, every-plain, there-bytes}
 use Rattle.cut.specs.Run.{Event, write, vsync, happens, run, cut, event, writesOf, writesBy}
-use Rattle.cut.specs.Demand.{sent}
+use Rattle.cut.specs.Vsync.{sent}
 use Rattle.cut.specs.Within.{Within, MadeRight}
 use Rattle.cut.proofs.Erased.{alike-write, which}
 use Rattle.cut.proofs.Runs.{alike}

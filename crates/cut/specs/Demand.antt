@@ -2,63 +2,18 @@
 -- is the byte whose named bits are wanted in register a.
 use mathlib.Core.Path.{_≡_}
 use mathlib.Core.Logic.{_⊎_}
-use mathlib.Core.Bool.{Bool, true, false, not, _||_}
-use mathlib.Core.List.{List, [], _∷_, _++_, map}
+use mathlib.Core.Bool.{true}
+use mathlib.Core.List.{List, [], _∷_}
 use Prim.Native.Nat.{ℕ, _<_}
-use lib.Dec.{eqb}
 use lib.ListN.{length, take}
-use Rattle.lists.specs.Find.{every}
-use Rattle.bits.specs.Merge.{bit}
 use Rattle.matrix.specs.Matrix.{fields}
 use Rattle.chip.specs.declared.Chip.{Chip}
 use Rattle.chip.specs.Machine.{Write, avi, audio, matrix, packets, registersOf, inUse, coefficients, Open}
 use Rattle.chip.specs.Write.{vsyncOf}
 use Rattle.writes.specs.List.{finishedImage, ready}
-use Rattle.cut.specs.Run.{Event, write, vsync, run, cut, writesOf, writesBy, standing, old, Between, Careful, Covered, Untouched}
-use Rattle.cut.specs.Run.{retried, begun, Retried}
-
--- ---- a finished run
-
--- a list of writes, sent one after the other with no Vsync
-abbrev pub sent : List Write → List Event
-sent = map write
-
--- the same with one Vsync just before the last write, as a host sends it
-abbrev pub waited : List Write → List Event
-waited [] = []
-waited (w ∷ []) = vsync ∷ write w ∷ []
-waited (w ∷ v ∷ ws) = write w ∷ waited (v ∷ ws)
-
--- no write of these is to the register of the coefficient hold
-abbrev pub leavesHold : List Write → Bool
-leavesHold = every (λ w. not (eqb (w .address) 0x1A))
-
--- "The host waits for one Vsync between the lowered coefficient hold and the opening write; a run without that event is not a finished one":
--- a Vsync after which 0x1A is not written, and the last write is. (That the last write to 0x1A lowers the hold, and the last of all opens:
--- `Room`.)
-pub record Finished (ws : List Write) (es : List Event) : Type 0 where
-  pub runs : writesOf es ≡ ws
-  pub before : List Event
-  pub after : List Event
-  pub waits : es ≡ before ++ vsync ∷ after
-  pub lowered : leavesHold (writesOf after) ≡ true
-  pub unopened : 0 < length (writesOf after)
-
--- there is room for it: the last write to 0x1A lowers the hold, those before it have it up, and there is one of them; the last write of all
--- is to 0x4B. So just before the last write is such a place, and the host finds it without looking at a pair.
-pub record Room (ws : List Write) : Type 0 where
-  pub front : List Write
-  pub lowering : Write
-  pub back : List Write
-  pub opening : Write
-  pub split : ws ≡ front ++ lowering ∷ back ++ opening ∷ []
-  pub raised : every (λ w. not (eqb (w .address) 0x1A) || eqb (bit 5 (w .value)) 1) front ≡ true
-  pub risen : leavesHold front ≡ false
-  pub hold : lowering .address ≡ 0x1A
-  pub down : bit 5 (lowering .value) ≡ 0
-  pub lowered : leavesHold back ≡ true
-  pub mute : opening .address ≡ 0x4B
-  pub waits : Finished ws (waited ws)
+use Rattle.cut.specs.Run.{Event, run, cut, writesOf, writesBy, standing, Either, Between, Careful, Covered, Untouched}
+use Rattle.cut.specs.Vsync.{old, waited, Finished, Room}
+use Rattle.cut.specs.Retried.{retried, begun, Retried}
 
 -- planned on the registers as they stand, "and run to its end", with its Vsync
 abbrev pub toItsEnd : (List ℕ → List Write) → Chip → Chip
@@ -110,8 +65,9 @@ pub record Clauses (end : List ℕ) (ws : List Write) (es : List Event) (s : Chi
   pub registers : run es s .image ≡ end
   -- "After the last, all are new and the picture is open.", of a finished run
   pub ended : Finished ws es → After (run es s)
-  -- a run that is not finished has opened the picture all the same, and all are new after one Vsync more
+  -- a run that is not finished has opened the picture all the same, its coefficients old or new; and all are new after one Vsync more
   pub opened : Open (run es s)
+  pub whole : Either (old es s .matrix) (standing end .matrix) (coefficients (run es s))
   pub late : After (vsyncOf (run es s))
   -- each event again any number of times, as a bus that retries does: the same states in the same order; and so muted, each group old or
   -- new, until the last write of the list is sent

@@ -1,4 +1,6 @@
 pub mod Run
+pub mod Vsync
+pub mod Retried
 pub mod Demand
 pub mod Mended
 pub mod Within

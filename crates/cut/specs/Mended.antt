@@ -8,7 +8,8 @@ use Rattle.chip.specs.declared.Chip.{Chip}
 use Rattle.chip.specs.Machine.{Write}
 use Rattle.writes.specs.List.{ready}
 use Rattle.cut.specs.Run.{Event, run, cut}
-use Rattle.cut.specs.Demand.{Finished, Same}
+use Rattle.cut.specs.Vsync.{Finished}
+use Rattle.cut.specs.Demand.{Same}
 
 -- cut anywhere: planning there is refused by neither (7) nor (8), and a finished run from there ends as one from its start does
 pub record Mended (planned : List ℕ → List Write) (es : List Event) (s : Chip) : Type 0 where

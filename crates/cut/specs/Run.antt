@@ -2,18 +2,17 @@
 -- events anywhere between the writes" (document 02, request 04): a run of some writes is any list of events that has these writes in order.
 use mathlib.Core.Path.{_≡_}
 use mathlib.Core.Logic.{_⊎_, _≢_}
-use mathlib.Core.Bool.{Bool, true, false, cond, not, _&&_}
-use mathlib.Core.List.{List, [], _∷_, _++_}
-use Prim.Native.Nat.{ℕ, zero, suc, _-_, _<_, _≤_}
-use lib.Dec.{eqb}
-use lib.ListN.{length, getD, take, replicate}
+use mathlib.Core.Bool.{true, false}
+use mathlib.Core.List.{List, [], _∷_}
+use Prim.Native.Nat.{ℕ, suc, _<_, _≤_}
+use lib.ListN.{length, getD, take}
 use Rattle.bits.specs.Merge.{under, bit}
 use Rattle.map.specs.Map as reg
 use Rattle.registers.specs.Classes.{readOnly, mandated, free, bits}
 use Rattle.matrix.specs.Matrix.{fields}
 use Rattle.chip.specs.declared.Chip.{Chip}
 use Rattle.chip.specs.declared.Wrote.{Wrote}
-use Rattle.chip.specs.Machine.{Write, _gets_, avi, audio, matrix, packets, up, registersOf, held, inUse, coefficients, Muted}
+use Rattle.chip.specs.Machine.{Write, _gets_, avi, audio, matrix, packets, registersOf, inUse, coefficients, Muted}
 use Rattle.chip.specs.Write.{writeOf, vsyncOf}
 use Rattle.writes.specs.List.{isWritten}
 
@@ -63,26 +62,6 @@ allInUse s = record { avi = inUse packets avi s; audio = inUse packets audio s; 
 -- what is in use where every hold is down and none waits: the registers of an image
 abbrev pub standing : List ℕ → InUse
 standing image = record { avi = registersOf avi image; audio = registersOf audio image; matrix = fields (registersOf matrix image) }
-
--- a change waits: a lowered coefficient hold whose Vsync has not come
-abbrev pub waits : Chip → Bool
-waits s = not (held s) && s .waiting
-
--- a Vsync comes among these events before a write that raises the coefficient hold, 0x1A[5]
-abbrev pub turnedOver : List Event → Bool
-turnedOver [] = false
-turnedOver (vsync ∷ es) = true
-turnedOver (write w ∷ es) = not (eqb (w .address) 0x1A && up matrix (w .value)) && turnedOver es
-
--- "If a change waits at the start, old means the coefficients in use until its Vsync and the waiting ones after it; if the hold is raised
--- before that Vsync, the change is dropped and old stays the coefficients in use." The events so far, from s. The waiting ones are those in
--- the registers of the start. Of the packets old is what is in use at the start.
-abbrev pub old : List Event → Chip → InUse
-old es s = record {
-  avi = inUse packets avi s;
-  audio = inUse packets audio s;
-  matrix = cond (waits s && turnedOver es) (fields (registersOf matrix (s .image))) (coefficients s);
-}
 
 -- "each all old or all new"
 abbrev pub Either : List ℕ → List ℕ → List ℕ → Type 0
@@ -134,22 +113,3 @@ pub record Untouched (es : List Event) (s : Chip) : Type 0 where
   pub protection : (k : ℕ) → Stays reg.hdcpHdmiCfg 7 s (cut es s k) × Stays reg.hdcpHdmiCfg 4 s (cut es s k)
   pub bits : (a j k : ℕ) → j < 8 → (bit j (free a) ≡ 1) ⊎ (bit j (readOnly a) ≡ 1) → Stays a j s (cut es s k)
   pub unwritten : (a k : ℕ) → isWritten a ≡ false → getD (cut es s k .image) a 0 ≡ getD (s .image) a 0
-
--- ---- a bus that retries
-
--- each event happens, and so often again: n k times the one at place k
-abbrev pub retried : (ℕ → ℕ) → List Event → List Event
-retried n [] = []
-retried n (e ∷ es) = e ∷ replicate (n 0) e ++ retried (λ k. n (suc k)) es
-
--- the number of events of the list that the first k of these are made of
-abbrev pub begun : (ℕ → ℕ) → List Event → ℕ → ℕ
-begun n [] k = 0
-begun n (e ∷ es) zero = 0
-begun n (e ∷ es) (suc k) = suc (begun (λ i. n (suc i)) es (k - n 0))
-
--- the same states, one after the other, and the same end
-pub record Retried (n : ℕ → ℕ) (es : List Event) (s : Chip) : Type 0 where
-  pub cuts : (k : ℕ) → cut (retried n es) s k ≡ cut es s (begun n es k)
-  pub taken : (k : ℕ) → k < length (retried n es) → happens (event (retried n es) k) (cut (retried n es) s k) .refusal ≡ 0
-  pub ends : run (retried n es) s ≡ run es s

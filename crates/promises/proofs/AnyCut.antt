@@ -26,7 +26,8 @@ use Rattle.plan.specs.Plan.{planOf}
 use Rattle.plan.proofs.Fine.{Fine, fine, accepts, leaves}
 use Rattle.plan.proofs.Ordered.{refusals}
 use Rattle.cut.specs.Run.{Event, run, cut, writesOf}
-use Rattle.cut.specs.Demand.{waited, Finished, toItsEnd, Cut, cuts, PlannedAgain, After, Same, Demand3}
+use Rattle.cut.specs.Vsync.{waited, Finished}
+use Rattle.cut.specs.Demand.{toItsEnd, Cut, cuts, PlannedAgain, After, Same, Demand3}
 use Rattle.cut.proofs.Demanded.{waited-writes}
 use Rattle.cut.proofs.Fewer.{holds}
 use Rattle.cut.proofs.Within.{made-right}

@@ -27,8 +27,9 @@ use Rattle.views.proofs.Lent.{state-sized}
 use Rattle.writes.specs.List.{flat, pairsOf, writeList, finishedImage}
 use Rattle.plan.specs.Plan.{planOf, planBuffer}
 use Rattle.writes.proofs.Pairs.{length-flat, pairs-flat}
-use Rattle.cut.specs.Run.{Event, write, vsync, run, cut, event, happens, writesOf, writesBy, InUse, allInUse, standing, waits, turnedOver, old, Between, Careful}
-use Rattle.cut.specs.Demand.{waited, Finished, Cut, toItsEnd, After, Same, Clauses, Demand3}
+use Rattle.cut.specs.Run.{Event, write, vsync, run, cut, event, happens, writesOf, writesBy, InUse, allInUse, standing, Between, Careful}
+use Rattle.cut.specs.Vsync.{waits, turnedOver, old, waited, Finished}
+use Rattle.cut.specs.Demand.{Cut, toItsEnd, After, Same, Clauses, Demand3}
 use Rattle.cut.proofs.Taken.{neat-two}
 use Rattle.cut.proofs.Demanded.{waited-writes}
 use Rattle.vendor.proofs.Moved.{vsync-use}

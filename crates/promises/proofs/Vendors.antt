@@ -2,7 +2,7 @@
 use mathlib.Core.Path.{_≡_, refl, sym, ap, subst, _∙_}
 use mathlib.Core.Logic.{_↔_, _≢_, inl, inr}
 use mathlib.Core.Bool.{Bool, true, false, false≢true, cond, not, _&&_, _||_}
-use mathlib.Core.List.{List, [], _∷_, _++_}
+use mathlib.Core.List.{List, [], _∷_, _++_, append-assoc}
 use Prim.Native.Nat.{ℕ, zero, suc, _*_, _-_, _<_, _≤_}
 use native.Mathlib.Nat.{not-suc-le-zero}
 use native.Mathlib.Omega.{arith}
@@ -36,8 +36,9 @@ use Rattle.lists.specs.Find.{every}
 use Rattle.lists.proofs.Both.{both-left, both-right}
 use Rattle.lists.proofs.Decides.{refuted}
 use Rattle.decode.proofs.Answers.{read-back}
-use Rattle.cut.specs.Run.{Event, run, cut, writesOf, writesBy, InUse, allInUse, standing, waits, turnedOver, old, Either, Between}
-use Rattle.cut.specs.Demand.{sent, waited, leavesHold, Finished, Room, toItsEnd, After, Same, Clauses, Demand3}
+use Rattle.cut.specs.Run.{Event, run, cut, writesOf, writesBy, InUse, allInUse, standing, Either, Between}
+use Rattle.cut.specs.Vsync.{waits, turnedOver, old, sent, waited, leavesHold, Finished, Room}
+use Rattle.cut.specs.Demand.{toItsEnd, After, Same, Clauses, Demand3}
 use Rattle.cut.specs.Mended.{Mended}
 use Rattle.cut.proofs.Bank.{down-part}
 use Rattle.cut.proofs.FairRun.{untouched}
@@ -97,10 +98,6 @@ not-turned (w ∷ v ∷ xs) ys y (suc k) n r = go (eqb (w .address) 0x1A) n r (n
         → (not (a && eqb (bit 5 (w .value)) 1) && turnedOver (take k (waited (v ∷ xs ++ y ∷ ys)))) ≡ false
     go true n r ih = rw (both-left (eqb (bit 5 (w .value)) 1) _ r)
     go false n r ih = ih n (both-right true _ r)
-
-append-assoc : (x y z : List Write) → (x ++ y) ++ z ≡ x ++ (y ++ z)
-append-assoc [] y z = refl
-append-assoc (v ∷ x) y z = ap (λ (l : List Write). v ∷ l) (append-assoc x y z)
 
 module _ (want : ℕ → ℕ) (s : Chip) (d : Demand3 (writeList want) want s) where
   abbrev list : List Write

@@ -10,7 +10,8 @@ use Rattle.chip.specs.Machine.{Write, avi, audio, packets, inUse, coefficients,
 use Rattle.writes.specs.List.{fullList, writeList}
 use Rattle.plan.specs.Plan.{planOf}
 use Rattle.cut.specs.Run.{Event, writesOf}
-use Rattle.cut.specs.Demand.{toItsEnd, Finished, Cut, cuts, PlannedAgain, Same, Demand3}
+use Rattle.cut.specs.Vsync.{Finished}
+use Rattle.cut.specs.Demand.{toItsEnd, Cut, cuts, PlannedAgain, Same, Demand3}
 use Rattle.cut.specs.Within.{MadeRight}
 use Rattle.views.specs.Entry.{Lent, stateOf}
 use Rattle.views.specs.Theorems.{LentSized}

@@ -16,8 +16,9 @@ use Rattle.views.specs.Converter.{matrixOut}
 use Rattle.views.specs.Theorems.{LentSized}
 use Rattle.writes.specs.List.{pairsOf}
 use Rattle.plan.specs.Plan.{planOf, planBuffer}
-use Rattle.cut.specs.Run.{Event, write, vsync, event, writesOf, writesBy, waits, turnedOver, Either}
-use Rattle.cut.specs.Demand.{waited, Finished, Cut}
+use Rattle.cut.specs.Run.{Event, write, vsync, event, writesOf, writesBy, Either}
+use Rattle.cut.specs.Vsync.{waits, turnedOver, waited, Finished}
+use Rattle.cut.specs.Demand.{Cut}
 use Rattle.promises.specs.Finished.{audioPacket}
 
 -- what planning leaves in the lent buffer, by the count that it answers: the bytes, and the pairs that they are

@@ -25,7 +25,8 @@ use Rattle.request.specs.Read.{readOf, pairFor, nctsOf, Reads, Pairs, PairsInpu
 use Rattle.chip.specs.declared.Chip.{Chip}
 use Rattle.chip.specs.declared.Wrote.{Wrote}
 use Rattle.chip.specs.Write.{writeOf, vsyncOf}
-use Rattle.chip.specs.Step.{Hands, Turned}
+use Rattle.chip.specs.Step.{Hands}
+use Rattle.chip.specs.Turn.{Turned}
 use Rattle.views.specs.declared.view.Part.{Part}
 use Rattle.views.specs.declared.view.Mute.{Mute}
 use Rattle.views.specs.declared.converter.Count.{Count}

@@ -16,8 +16,10 @@ use Rattle.views.specs.Theorems.{Sized, LentSized}
 use Rattle.writes.specs.List.{pairsOf}
 use Rattle.plan.specs.Plan.{planOf}
 use Rattle.plan.specs.Rules.{HoldsUp}
-use Rattle.cut.specs.Run.{Event, run, cut, writesOf, writesBy, allInUse, Either, Careful, Covered, Untouched, Retried}
-use Rattle.cut.specs.Demand.{waited, Finished, toItsEnd, After, Same}
+use Rattle.cut.specs.Run.{Event, run, cut, writesOf, writesBy, allInUse, Either, Careful, Covered, Untouched}
+use Rattle.cut.specs.Vsync.{waited, Finished}
+use Rattle.cut.specs.Retried.{Retried}
+use Rattle.cut.specs.Demand.{toItsEnd, After, Same}
 use Rattle.vendor.specs.Vendor.{pairAt, cutAt, endOf, Decodable}
 use Rattle.vendor.specs.Found.{vetOf}
 use Rattle.promises.specs.LentBytes.{bytesLeft, entered, muteSaid, Entering}

@@ -14,7 +14,7 @@ use Rattle.chip.proofs.Writes.{two-up}
 use Rattle.views.specs.Theorems.{Sized}
 use Rattle.writes.specs.List.{pairsOf, ready}
 use Rattle.cut.specs.Run.{Event, write, vsync, event, happens, cut, writesOf, writesBy, allInUse, Between, Careful, Fair, IsFair}
-use Rattle.cut.specs.Demand.{sent, waited}
+use Rattle.cut.specs.Vsync.{sent, waited}
 use Rattle.cut.proofs.Erased.{Alike, alike-write, cut-alike, which}
 use Rattle.cut.proofs.Demanded.{waited-writes}
 use Rattle.vendor.specs.Vendor.{pairAt, cutAt, endOf, pairsBy, Inside, Decodable, Passes}

@@ -14,7 +14,7 @@ use Rattle.writes.specs.List.{pairsOf, ready}
 use Rattle.decode.specs.Decode.{someEnds, decodeOf}
 use Rattle.decode.proofs.Answers.{number-given, accepted, none}
 use Rattle.cut.specs.Run.{InUse, allInUse}
-use Rattle.cut.specs.Demand.{waited}
+use Rattle.cut.specs.Vsync.{waited}
 use Rattle.cut.proofs.Runs.{sized-run}
 use Rattle.vendor.specs.Vendor.{shortened, endOf, mostPairs}
 use Rattle.vendor.specs.Found.{firstFault, placeOf, vetRefusal, vetOf}

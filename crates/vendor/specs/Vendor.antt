@@ -20,7 +20,7 @@ use Rattle.writes.specs.List.{isWritten, pairsOf}
 use Rattle.plan.specs.Rules.{HoldsUp}
 use Rattle.decode.specs.Ends.{Ends}
 use Rattle.cut.specs.Run.{run, cut, writesBy, InUse, allInUse, Either, Between, Fair}
-use Rattle.cut.specs.Demand.{waited}
+use Rattle.cut.specs.Vsync.{waited}
 
 abbrev pub pairAt : List Write → ℕ → Write
 pairAt ws k = getD ws k (0 gets 0)
