@@ -353,18 +353,18 @@ module _ (s : Chip) (address value : ℕ) where
           sized = rw (written-as (refuses s address value) refl) (image-sized (refuses s address value));
           packetSized = packet-long;
           coefficientsSized = coefficients-long;
-          avi = λ z q d u. let e = allowed z in packet-after e ∙ rw (risen packets avi e u, d);
-          audio = λ z q d u.
+          avi = λ z d u. let e = allowed z in packet-after e ∙ rw (risen packets avi e u, d);
+          audio = λ z d u.
               let e = allowed z in
               let v = risen packets audio e u in
               packet-after e ∙ rw (alone (up avi n) (up audio n) (up gc n) (lone e) .0 v, v, d);
-          gc = λ z q d u.
+          gc = λ z d u.
               let e = allowed z in
               let v = risen packets gc e u in
               let o = alone (up avi n) (up audio n) (up gc n) (lone e) .1 v in
               packet-after e ∙ rw (o .0, o .1, v, d);
           packet = packet-stays;
-          matrix = λ z q d u. let e = allowed z in coefficients-after e ∙ rw (q, risen converter matrix e u, d);
+          matrix = λ q z d u. let e = allowed z in coefficients-after e ∙ rw (q, risen converter matrix e u, d);
           coefficients = coefficients-stay;
           falls = λ z b a. mark-after (allowed z) ∙ rw (b, a);
           rises = λ z b a. mark-after (allowed z) ∙ rw (b, a);

@@ -25,11 +25,10 @@ TwoUp image =
 abbrev pub writeRules : Chip → ℕ → ℕ → List Condition
 writeRules s address value = twoHolds when (TwoUp (s .image) ⊎ TwoUp (imageAfter s address value)) ∷ []
 
--- "A hold going 0 to 1 copies that packet's registers, as they stood before the write, to the .. buffer": its front, "the rest stays". (Of
--- the coefficient hold: where no lowered one waits.)
+-- "A hold going 0 to 1 copies that packet's registers, as they stood before the write, to the .. buffer": its front, "the rest stays"
 abbrev pub Copies : Buffer → Group → Chip → ℕ → ℕ → Type 0
 Copies b g s address value =
-    writeOf s address value .refusal ≡ 0 → b .waits s ≡ false
+    writeOf s address value .refusal ≡ 0
     → up g (holdsOf b (s .image)) ≡ false → up g (holdsOf b (writeOf s address value .chip .image)) ≡ true
     → b .bytes (writeOf s address value .chip) ≡ registersOf g (s .image) ++ drop (g .count) (b .bytes s)
 
@@ -68,7 +67,7 @@ pub record Step (s : Chip) (address value : ℕ) : Type 0 where
   pub audio : Copies packets audio s address value
   pub gc : Copies packets gc s address value
   pub packet : Keeps packets s address value
-  pub matrix : Copies converter matrix s address value
+  pub matrix : s .waiting ≡ false → Copies converter matrix s address value
   pub coefficients : Keeps converter s address value
   -- request 04, of a write that is taken. "lowering the coefficient hold acts at the next Vsync": a fall sets the mark
   pub falls : writeOf s address value .refusal ≡ 0 → held s ≡ true → held (writeOf s address value .chip) ≡ false
