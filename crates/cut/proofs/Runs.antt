@@ -4,10 +4,10 @@ use mathlib.Core.Logic.{_⊎_, inl, inr, ⊎-map, ⊎-elim, _≢_}
 use mathlib.Core.Bool.{false≢true, Bool, true, false, cond, not, _&&_, _||_}
 use mathlib.Core.List.{List, [], _∷_, _++_, map, map-append}
 use Prim.Native.Nat.{ℕ, zero, suc, _<_, _≤_}
-use native.Mathlib.Nat.{not-suc-le-zero, zero-lt-suc, suc-ne-zero, le-refl}
+use native.Mathlib.Nat.{not-suc-le-zero, le-of-suc-le-suc, zero-lt-suc, suc-ne-zero, le-refl}
 use native.Mathlib.Omega.{arith}
 use lib.Dec.{eqb, lit<}
-use lib.ListN.{length, getD, take, drop, length-map, List·getD-map}
+use lib.ListN.{length, getD, take, drop, length-map, length-append, List·getD-map}
 use lib.Seq.{take-append-le, take-length}
 use borrow.Author.Tests.{eqb-true, eqb-false, not-true}
 use Rattle.lists.specs.Find.{every}
@@ -110,6 +110,50 @@ nothing-waits ws es s z f h =
     ap (λ (c : Chip). c .waiting) e
     ∙ left-idle (f .after) (vsyncOf t) (sized-happens vsync t y) (f .lowered) d (turned t .ends (sym (held-vsync t) ∙ d))
 
+-- a finished run is finished from its last write on
+all-writes : (es : List Event) (k : ℕ) → length (writesOf es) ≤ writesBy es k → writesOf (take k es) ≡ writesOf es
+all-writes [] zero h = refl
+all-writes [] (suc k) h = refl
+all-writes (write w ∷ es) zero h = absurd (not-suc-le-zero h)
+all-writes (vsync ∷ es) zero h = go (writesOf es) h
+  where
+    go : (l : List Write) → length l ≤ 0 → [] ≡ l
+    go [] h = refl
+    go (w ∷ l) h = absurd (not-suc-le-zero h)
+all-writes (write w ∷ es) (suc k) h = ap (λ (l : List Write). w ∷ l) (all-writes es k (le-of-suc-le-suc h))
+all-writes (vsync ∷ es) (suc k) h = all-writes es k h
+
+record Front (before after : List Event) (k : ℕ) : Type 0 where
+  rest : List Event
+  is : take k (before ++ vsync ∷ after) ≡ before ++ vsync ∷ rest
+  same : writesOf rest ≡ writesOf after
+
+front : (b a : List Event) (k : ℕ) → 0 < length (writesOf a) → length (writesOf (b ++ vsync ∷ a)) ≤ writesBy (b ++ vsync ∷ a) k → Front b a k
+front [] a zero u h = absurd (omega (arith, u, h))
+front [] a (suc k) u h = record { rest = take k a; is = refl; same = all-writes a k h }
+front (write w ∷ b) a zero u h = absurd (not-suc-le-zero h)
+front (vsync ∷ b) a zero u h =
+    absurd (omega (arith, u, h, ap length (writes-append b (vsync ∷ a)), length-append (writesOf b) (writesOf a)))
+front (write w ∷ b) a (suc k) u h =
+    let p = front b a k u (le-of-suc-le-suc h) in
+    record { rest = p .rest; is = ap (λ (l : List Event). write w ∷ l) (p .is); same = p .same }
+front (vsync ∷ b) a (suc k) u h =
+    let p = front b a k u h in
+    record { rest = p .rest; is = ap (λ (l : List Event). vsync ∷ l) (p .is); same = p .same }
+
+finished-by : (ws : List Write) (es : List Event) (k : ℕ) → Finished ws es → writesBy es k ≡ length ws → Finished ws (take k es)
+finished-by ws es k f c =
+    let h : length (writesOf es) ≤ writesBy es k = omega (arith, c, ap length (f .runs)) in
+    let p = front (f .before) (f .after) k (f .unopened) (subst (λ (l : List Event). length (writesOf l) ≤ writesBy l k) (f .waits) h) in
+    record {
+      runs = all-writes es k h ∙ f .runs;
+      before = f .before;
+      after = p .rest;
+      waits = ap (λ (l : List Event). take k l) (f .waits) ∙ p .is;
+      lowered = ap leavesHold (p .same) ∙ f .lowered;
+      unopened = subst (λ (l : List Write). 0 < length l) (sym (p .same)) (f .unopened);
+    }
+
 -- what ends so has the registers in use
 pub after-same : (a b : Chip) → After a → After b → b .image ≡ a .image → Same a b
 after-same a b x y e = record {
@@ -176,6 +220,19 @@ module _ (mid : (ℕ → ℕ) → List ℕ → List Step)
       unfolding coefficients
       ended f = packets-after (run es s) alike-end
           (ap fields (down-part converter matrix (run es s) (nothing-waits ws es s (r .whole) f held-run) held-run))
+
+      since : Finished ws es → (k : ℕ) → writesBy es k ≡ length ws → After (cut es s k)
+      unfolding coefficients
+      since f k c =
+          let a : Alike (cut es s k) (endOf P want s) =
+          subst (λ (t : Chip). Alike (cut es s k) t) (ap (cutOf P want s) c ∙ all-sent) (alike k) in
+          let d : held (cut es s k) ≡ false =
+          ap (λ (l : List ℕ). up matrix (holdsOf converter l)) (a .image) ∙ cut.held-end mid good want s r in
+          packets-after (cut es s k) a
+          (ap fields (down-part converter matrix (cut es s k) (nothing-waits ws (take k es) s (r .whole) (finished-by ws es k f c) d) d))
+        where
+          all-sent : cutOf P want s (length ws) ≡ endOf P want s
+          all-sent = ap (λ (l : List Event). run l s) (ap (λ (n : ℕ). take n (sent ws)) (sym (length-map ws write)) ∙ take-length (sent ws))
 
       -- the coefficients: the run with one Vsync more at its end is tested, and this one is a beginning of it
       abbrev longer : List Event
@@ -298,6 +355,7 @@ module _ (mid : (ℕ → ℕ) → List ℕ → List Step)
           untouched = untouched es s all-fair;
           registers = image-run;
           ended = ended;
+          since = since;
           opened = alike-open (run es s) (endOf P want s) alike-end (cut.ended mid good want s r .opened);
           whole = subst (λ (l : List Event). Either (old l s .matrix) (standing end .matrix) (coefficients (run l s))) (take-length es)
               (matrix-cut (length es) (le-refl (length es)));

@@ -65,6 +65,8 @@ pub record Clauses (end : List ℕ) (ws : List Write) (es : List Event) (s : Chi
   pub registers : run es s .image ≡ end
   -- "After the last, all are new and the picture is open.", of a finished run
   pub ended : Finished ws es → After (run es s)
+  -- and so from the last write on: the picture does not open on what is old
+  pub since : Finished ws es → (k : ℕ) → writesBy es k ≡ length ws → After (cut es s k)
   -- a run that is not finished has opened the picture all the same, its coefficients old or new; and all are new after one Vsync more
   pub opened : Open (run es s)
   pub whole : Either (old es s .matrix) (standing end .matrix) (coefficients (run es s))
