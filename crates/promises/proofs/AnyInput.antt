@@ -15,6 +15,8 @@ use Rattle.request.specs.declared.Sound.the-variants.{Off, On}
 use Rattle.request.specs.Read.{readOf, nctsOf, pairIn, pairFor}
 use Rattle.request.proofs.Coherent.{rows}
 use Rattle.line.proofs.Given.{lines}
+use Rattle.chip.specs.Write.{lentAs}
+use Rattle.views.specs.Entry.{marked}
 use Rattle.views.specs.View.{viewRefusal, sentPart, noPart}
 use Rattle.views.specs.declared.view.Part.{Part}
 use Rattle.views.proofs.Lent as entry
@@ -95,6 +97,6 @@ any-input = record {
   stationMatrix = λ image coefficients matrix left mark out p h.
       let u = converter.refusals image coefficients mark matrix .kept (λ z. h (ap (λ (o : CountOut). o .refusal) (p .0) ∙ z)) in
       (ap (λ (o : CountOut). o .count) (p .0) ∙ u .0, p .1 ∙ u .1);
-  stationVet = λ s list out p h.
-      ap (λ (o : VerdictOut). o .place) p ∙ vetted s list .zero (λ z. h (ap (λ (o : VerdictOut). o .refusal) p ∙ z));
+  stationVet = λ image packet coefficients mark list out p h.
+      ap (λ (o : VerdictOut). o .place) p ∙ vetted (lentAs image packet coefficients (marked mark)) list .zero (λ z. h (ap (λ (o : VerdictOut). o .refusal) p ∙ z));
 }

@@ -1,10 +1,11 @@
 -- The bytes that planning leaves, written into the lent slices with Vsyncs anywhere among them: the run of the list, and what the calls
 -- answer along it. Assumes nothing.
 use mathlib.Core.Path.{_≡_, refl, sym, ap, subst, _∙_}
-use mathlib.Core.Logic.{⊎-map}
+use mathlib.Core.Logic.{_⊎_, inl, inr, ⊎-map, ⊎-elim}
 use mathlib.Core.Bool.{Bool, true, false, false≢true, cond, not, _&&_}
 use mathlib.Core.List.{List, [], _∷_, _++_}
 use Prim.Native.Nat.{ℕ, zero, suc, _*_, _<_, _≤_}
+use native.Mathlib.Nat.{suc-ne-zero}
 use native.Mathlib.Omega.{arith}
 use lib.ListN.{length, getD, take, drop}
 use lib.Seq.{take-at, take-length}
@@ -20,7 +21,7 @@ use Rattle.chip.specs.declared.Chip.{Chip}
 use Rattle.chip.specs.Machine.{Write, _gets_, avi, audio, matrix, packets, holdsOf, registersOf, held, inUse, coefficients, modeInUse, gcInUse, Muted, Open, mute}
 use Rattle.chip.specs.Write.{two, vsyncOf}
 use Rattle.chip.proofs.Writes.{turned}
-use Rattle.views.specs.Entry.{Lent, stateOf, enterOf, turnOf}
+use Rattle.views.specs.Entry.{Lent, Entry, stateOf, slicesOf, enterOf, turnOf}
 use Rattle.views.specs.Theorems.{LentSized, Faces}
 use Rattle.views.proofs.Shown as views
 use Rattle.views.proofs.Lent.{state-sized}
@@ -31,6 +32,8 @@ use Rattle.cut.specs.Run.{Event, write, vsync, run, cut, event, happens, writes
 use Rattle.cut.specs.Vsync.{waits, turnedOver, old, waited, Finished}
 use Rattle.cut.specs.Demand.{Cut, toItsEnd, After, Same, Clauses, Demand3}
 use Rattle.cut.proofs.Taken.{neat-two}
+use Rattle.cut.proofs.Retry.{turned-again}
+use Rattle.cut.proofs.Runs.{after-same}
 use Rattle.cut.proofs.Demanded.{waited-writes}
 use Rattle.vendor.proofs.Moved.{vsync-use}
 use Rattle.promises.specs.Finished.{audioPacket}
@@ -73,6 +76,21 @@ sized-entered (e ∷ es) l z = sized-entered es (enters e l .slices) (sized-next
 pub entered-run : (es : List Event) (l : Lent) → LentSized l → stateOf (entered es l) ≡ run es (stateOf l)
 entered-run [] l z = refl
 entered-run (e ∷ es) l z = entered-run es (enters e l .slices) (sized-next e l z) ∙ ap (run es) (state-next e l z)
+
+-- before the first write there is nothing but Vsyncs, and they do what the first does
+turned-twice : (l : Lent) → LentSized l → turnOf (turnOf l .slices) .slices ≡ turnOf l .slices
+turned-twice l z =
+    let q = views.entered-vsync l z in
+    ap (λ (e : Entry). e .slices) (views.entered-vsync (turnOf l .slices) (q .sized) .taken) ∙ ap (λ (t : Chip). slicesOf (vsyncOf t)) (q .state)
+    ∙ ap slicesOf (turned-again (stateOf l)) ∙ sym (ap (λ (e : Entry). e .slices) (q .taken))
+
+only-turned : (es : List Event) (l : Lent) (k : ℕ) → LentSized l → writesBy es k ≡ 0
+    → (entered (take k es) l ≡ l) ⊎ (entered (take k es) l ≡ turnOf l .slices)
+only-turned es l zero z h = inl refl
+only-turned [] l (suc k) z h = inl refl
+only-turned (write w ∷ es) l (suc k) z h = absurd (suc-ne-zero _ h)
+only-turned (vsync ∷ es) l (suc k) z h =
+    ⊎-elim (λ e. inr e) (λ e. inr (e ∙ turned-twice l z)) (only-turned es (turnOf l .slices) k (views.entered-vsync l z .sized) h)
 
 -- ---- what the calls answer of slices is what the machine has in use
 
@@ -123,7 +141,7 @@ module _ (l : Lent) (z : LentSized l) (es : List Event) (single : (k : ℕ) → 
           number-next (event es k) (entered (take k es) l) (sized-entered (take k es) l z)
           ∙ ap (λ (t : Chip). happens (event es k) t .refusal) (cut-state k) ∙ c .taken k h;
       sized = λ k. sized-entered (take k es) l z;
-      start = refl;
+      before = λ k h. only-turned es l k z h;
       between = λ k lo hi.
           said-between (wasSlices (take k es)) (entered (waited (writesOf es)) l) (entered (take k es) l) (wasSaid (take k es) .0) newFaces
           (cut-faces k)
@@ -207,19 +225,15 @@ module _ (input : List ℕ) (l : Lent) (z : LentSized l) (d : Demand3 (listOf in
       (newAudio : drop 2 (inUse packets audio ending) ≡ drop 3 (audioPacket (r .sound)))
       (headAvi : Headed 0x02 0x0D (inUse packets avi ending)) (headAudio : Headed 0x01 0x0A (inUse packets audio ending))
       (newMatrix : coefficients ending ≡ r .matrix .coefficients) (newMode : modeInUse ending ≡ r .matrix .mode) where
-    -- every finished run ends as that one
-    said-after : (es : List Event) → Finished own es → SaidAfter r (entered es l)
-    said-after es f =
-        let t : Lent = entered es l in
-        let e : stateOf t ≡ run es start = entered-run es l z in
-        let w : Same ending (run es start) = d .again [] tt (waited own) es (d .room .waits) f in
-        let g : Faces (stateOf t) = end-faces l z es (one-hold es (f .runs)) in
+    -- slices that hold what that run ends in
+    said : (t : Lent) (u : Chip) → stateOf t ≡ u → Faces (stateOf t) → Same ending u → Open u → SaidAfter r t
+    said t u e g w o =
         let a : aviSent t ≡ inUse packets avi ending = g .avi ∙ ap (inUse packets avi) e ∙ w .avi in
         let b : audioSent t ≡ inUse packets audio ending = g .audio ∙ ap (inUse packets audio) e ∙ w .audio in
         let c : coefficients (stateOf t) ≡ r .matrix .coefficients = ap coefficients e ∙ w .matrix ∙ newMatrix in
-        let m : modeInUse (stateOf t) ≡ r .matrix .mode = ap modeInUse e ∙ same-mode ending (run es start) (w .registers) ∙ newMode in
+        let m : modeInUse (stateOf t) ≡ r .matrix .mode = ap modeInUse e ∙ same-mode ending u (w .registers) ∙ newMode in
         record {
-          opened = said-open t g (subst Open (sym e) (d .runs es (f .runs) .opened));
+          opened = said-open t g (subst Open (sym e) o);
           headAvi = rw a headAvi;
           headAudio = rw b headAudio;
           avi = ap (drop 2) a ∙ newAvi;
@@ -227,5 +241,25 @@ module _ (input : List ℕ) (l : Lent) (z : LentSized l) (d : Demand3 (listOf in
           matrix = λ out h. g .matrix (getD (t .mark) 0 0) refl out h ∙ rw (c, m);
         }
 
+    -- every finished run ends as that one
+    said-after : (es : List Event) → Finished own es → SaidAfter r (entered es l)
+    said-after es f =
+        said (entered es l) (run es start) (entered-run es l z) (end-faces l z es (one-hold es (f .runs)))
+        (d .again [] tt (waited own) es (d .room .waits) f) (d .runs es (f .runs) .opened)
+
+    -- and so does every run with one Vsync more
+    said-late : (es : List Event) → writesOf es ≡ own → SaidAfter r (turnOf (entered es l) .slices)
+    said-late es e =
+        let q = views.entered-vsync (entered es l) (sized-entered es l z) in
+        let s : stateOf (entered es l) ≡ run es start = entered-run es l z in
+        let o : Single (run es start) = subst (λ (fs : List Event). Single (run fs start)) (take-length es) (one-hold es e (length es)) in
+        let a : After (vsyncOf (run es start)) = d .runs es e .late in
+        said (turnOf (entered es l) .slices) (vsyncOf (run es start)) (q .state ∙ ap vsyncOf s) (q .faces (subst Single (sym s) o))
+        (after-same ending (vsyncOf (run es start)) ended a (turned (run es start) .image ∙ d .runs es e .registers ∙ sym (with-vsync .registers)))
+        (a .opened)
+
+    said-opened : (es : List Event) → writesOf es ≡ own → muteSaid (entered es l) ≡ record { refusal = 0; mute = 2 }
+    said-opened es e = says-open l z es (one-hold es e) (d .runs es e .opened)
+
     pub followed : Followed r own l
-    followed = record { entering = enters-own; ended = said-after }
+    followed = record { entering = enters-own; ended = said-after; opened = said-opened; late = said-late }

@@ -43,6 +43,6 @@ settled = record {
   stationSent = λ image packet which. one _;
   stationMute = λ image packet. one _;
   stationMatrix = λ image coefficients mark matrix. two _ _;
-  stationVet = λ s list. one _;
+  stationVet = λ image packet coefficients mark list. one _;
   stationClass = λ address. one _;
 }

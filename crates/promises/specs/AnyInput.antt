@@ -69,4 +69,5 @@ pub record Demand1 : Type 0 where
   pub stationMatrix : (image coefficients matrix left : List ℕ) (mark : ℕ) (out : CountOut) → StationMatrix image coefficients mark matrix out left
       → out .refusal ≢ 0 → (out .count ≡ 0) × (left ≡ matrix)
   -- a vendor's list: beside a number other than 15 the place is 0; all four slices are lent to be read, and none can change
-  pub stationVet : (s : Chip) (list : List ℕ) (out : VerdictOut) → StationVet s list out → out .refusal ≢ 15 → out .place ≡ 0
+  pub stationVet : (image packet coefficients : List ℕ) (mark : ℕ) (list : List ℕ) (out : VerdictOut)
+      → StationVet image packet coefficients mark list out → out .refusal ≢ 15 → out .place ≡ 0

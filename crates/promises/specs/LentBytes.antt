@@ -1,6 +1,7 @@
 -- Demand 3 of the bytes themselves: the pairs that planning leaves in the lent buffer, written one after the other into the slices that the
 -- host lends, with Vsyncs anywhere among them, and what the calls answer at each cut.
 use mathlib.Core.Path.{_≡_}
+use mathlib.Core.Logic.{_⊎_}
 use mathlib.Core.Bool.{cond, _&&_}
 use mathlib.Core.List.{List, [], _∷_, _++_}
 use Prim.Native.Nat.{ℕ, suc, _*_, _%_, _<_, _≤_}
@@ -51,8 +52,8 @@ PlannedBytes input (c ∷ cs) buffers l =
     (writesOf (c .events) ≡ pairsLeft input (l .image) (buffers 0))
     × PlannedBytes input cs (λ i. buffers (suc i)) (entered (take (c .place) (c .events)) l)
 
--- request 04, what is old after some events: the slices as they were lent; but where a change waited there and its Vsync has come, as that
--- Vsync left them
+-- request 04, what is old after some events: the slices as they were lent; but where a change waited there and its Vsync has come before
+-- the hold is raised, as that Vsync left them
 abbrev pub oldSlices : List Event → Lent → Lent
 oldSlices es l = cond (waits (stateOf l) && turnedOver es) (turnOf l .slices) l
 
@@ -97,8 +98,8 @@ pub record Entering (was : List Event → Lent) (es : List Event) (l : Lent) : T
   -- no event is refused (7, 13), and the slices keep their lengths
   pub taken : (k : ℕ) → k < length es → enters (event es k) (entered (take k es) l) .refusal ≡ 0
   pub sized : (k : ℕ) → LentSized (entered (take k es) l)
-  -- "Before the first write nothing has moved.": planning is lent the image by `&`, and the run starts from the slices as they are lent
-  pub start : entered (take 0 es) l ≡ l
+  -- "Before the first write nothing has moved.", but by Vsync; and planning is lent the image by `&`
+  pub before : (k : ℕ) → writesBy es k ≡ 0 → (entered (take k es) l ≡ l) ⊎ (entered (take k es) l ≡ turnOf l .slices)
   -- "From the first write until the last the picture is muted, and .. each all old or all new."
   pub between : (k : ℕ) → 0 < writesBy es k → writesBy es k < length (writesOf es)
       → SaidBetween (was (take k es)) (entered (waited (writesOf es)) l) (entered (take k es) l)
@@ -108,3 +109,6 @@ pub record Followed (r : Request) (ws : List Write) (l : Lent) : Type 0 where
   pub entering : (es : List Event) → writesOf es ≡ ws → Entering (λ fs. oldSlices fs l) es l
   -- "After the last, all are new and the picture is open.", of a finished run
   pub ended : (es : List Event) → Finished ws es → SaidAfter r (entered es l)
+  -- a run that is not finished has opened the picture all the same, and all are new after one Vsync more
+  pub opened : (es : List Event) → writesOf es ≡ ws → muteSaid (entered es l) ≡ record { refusal = 0; mute = 2 }
+  pub late : (es : List Event) → writesOf es ≡ ws → SaidAfter r (turnOf (entered es l) .slices)

@@ -24,13 +24,13 @@ use Rattle.request.specs.declared.Request.{Request}
 use Rattle.request.specs.Read.{readOf, pairFor, nctsOf, Reads, Pairs, PairsInput}
 use Rattle.chip.specs.declared.Chip.{Chip}
 use Rattle.chip.specs.declared.Wrote.{Wrote}
-use Rattle.chip.specs.Write.{writeOf, vsyncOf}
+use Rattle.chip.specs.Write.{lentAs, writeOf, vsyncOf}
 use Rattle.chip.specs.Step.{Hands}
 use Rattle.chip.specs.Turn.{Turned}
 use Rattle.views.specs.declared.view.Part.{Part}
 use Rattle.views.specs.declared.view.Mute.{Mute}
 use Rattle.views.specs.declared.converter.Count.{Count}
-use Rattle.views.specs.Entry.{Lent, Entry, enterOf, turnOf, Writes, Turns}
+use Rattle.views.specs.Entry.{marked, Lent, Entry, enterOf, turnOf, Writes, Turns}
 use Rattle.views.specs.View.{viewRefusal, sentOf, sentPart, muteOf, Sends, Places, Refuses, Mutes}
 use Rattle.views.specs.Converter.{matrixAnswer, matrixOut, ShowsMatrix}
 use Rattle.plan.specs.declared.Planned.{Planned}
@@ -134,9 +134,9 @@ pub record Settled : Type 0 where
       → let c : Count = matrixAnswer image coefficients matrix in
       Only {A = CountOut × List ℕ} (λ o. StationMatrix image coefficients mark matrix (o .0) (o .1))
       (record { refusal = c .refusal; count = c .count }, matrixOut image coefficients mark matrix)
-  pub stationVet : (s : Chip) (list : List ℕ)
-      → let v : Verdict = vetOf s list in
-      Only {A = VerdictOut} (StationVet s list) (record { refusal = v .refusal; place = v .place })
+  pub stationVet : (image packet coefficients : List ℕ) (mark : ℕ) (list : List ℕ)
+      → let v : Verdict = vetOf (lentAs image packet coefficients (marked mark)) list in
+      Only {A = VerdictOut} (StationVet image packet coefficients mark list) (record { refusal = v .refusal; place = v .place })
   pub stationClass : (address : ℕ)
       → let c : Class = classAt address in
       Only {A = ClassOut} (StationClass address)

@@ -119,6 +119,8 @@ cases =
     -- nothing, and the hold then keeps what was in use
     waitingSeven (answers (0x4B ∷ 0x40 ∷ 0x19 ∷ 0x01 ∷ 0x1B ∷ 0x02 ∷ 0x4B ∷ 0x80 ∷ []) 16 0) ∷
     waitingSeven (answers (0x19 ∷ 0x01 ∷ []) 16 0) ∷
+    -- the Vsync before the last pair takes the registers as they then stand, which is neither as the list began nor as it ends
+    waitingSeven (answers (0x4B ∷ 0x40 ∷ 0x19 ∷ 0x01 ∷ []) 15 0) ∷
     waitingSeven (answers (0x4B ∷ 0x40 ∷ 0x1A ∷ 0x20 ∷ 0x19 ∷ 0x01 ∷ 0x1B ∷ 0x02 ∷ 0x1A ∷ 0x00 ∷ 0x4B ∷ 0x80 ∷ []) 16 0) ∷
     -- a mark beside a raised hold counts for nothing: the event leaves it
     onImage (set zeros 0x1A 0x20) (waitingSeven (answers (0x4B ∷ 0x40 ∷ 0x19 ∷ 0x01 ∷ 0x1B ∷ 0x02 ∷ 0x4B ∷ 0x80 ∷ []) 16 0)) ∷ []

@@ -5,11 +5,11 @@ use mathlib.Core.List.{List}
 use Prim.Native.Nat.{ℕ}
 use Rattle.registers.specs.declared.Class.{Class}
 use Rattle.registers.specs.Classes.{classAt}
-use Rattle.chip.specs.declared.Chip.{Chip}
+use Rattle.chip.specs.Write.{lentAs}
 use Rattle.views.specs.declared.view.Part.{Part}
 use Rattle.views.specs.declared.view.Mute.{Mute}
 use Rattle.views.specs.declared.converter.Count.{Count}
-use Rattle.views.specs.Entry.{Lent, enterOf, turnOf}
+use Rattle.views.specs.Entry.{marked, Lent, enterOf, turnOf}
 use Rattle.views.specs.View.{sentPart, muteOf}
 use Rattle.views.specs.Converter.{matrixAnswer, matrixOut}
 use Rattle.vendor.specs.declared.Verdict.{Verdict}
@@ -51,8 +51,8 @@ abbrev pub StationMatrix : List ℕ → List ℕ → ℕ → List ℕ → CountO
 StationMatrix image coefficients mark matrix out left =
     (out ≡ bytesOut (matrixAnswer image coefficients matrix)) × (left ≡ matrixOut image coefficients mark matrix)
 
-abbrev pub StationVet : Chip → List ℕ → VerdictOut → Type 0
-StationVet s list out = out ≡ verdictOut (vetOf s list)
+abbrev pub StationVet : List ℕ → List ℕ → List ℕ → ℕ → List ℕ → VerdictOut → Type 0
+StationVet image packet coefficients mark list out = out ≡ verdictOut (vetOf (lentAs image packet coefficients (marked mark)) list)
 
 abbrev pub StationClass : ℕ → ClassOut → Type 0
 StationClass address out = out ≡ classOut (classAt address)
