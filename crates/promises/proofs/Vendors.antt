@@ -434,15 +434,20 @@ module _ (s t : Chip) (e : t .image ≡ s .image) (h : bitsIn 6 4 (getD (s .imag
     audio = lowered packets audio refl refl (zero-bit 5 _ (bit-code 5 (getD (s .image) 0x4A 0) ∙ omega (arith, h)));
     gc = lowered packets gc refl refl (zero-bit 4 _ (bit-code 4 (getD (s .image) 0x4A 0) ∙ omega (arith, h)));
     matrix = lowered converter matrix i j (zero-bit 5 _ (bit-code 5 (getD (s .image) 0x1A 0) ∙ omega (arith, k)));
-    waiting = j ∙ sym i;
+    waiting = λ h. j ∙ sym i;
   }
+
+sized-alike : (s t : Chip) → Sized s → Sized t → isSized t ≡ isSized s
+sized-alike s t z y = rw (z .image, z .packet, z .coefficients, y .image, y .packet, y .coefficients) refl
 
 buffers : (s t : Chip) (list : List ℕ) → Sized s → Sized t → t .image ≡ s .image → bitsIn 6 4 (getD (s .image) 0x4A 0) ≡ 0
     → bitsIn 5 5 (getD (s .image) 0x1A 0) ≡ 0 → s .waiting ≡ false → t .waiting ≡ false → vetOf t list ≡ vetOf s list
-buffers s t list z y e h k i j = same-verdict s t list (alike s t e h k i j) (z .image) (sized-alike z y)
-  where
-    sized-alike : Sized s → Sized t → isSized t ≡ isSized s
-    sized-alike z y = rw (z .image, z .packet, z .coefficients, y .image, y .packet, y .coefficients) refl
+buffers s t list z y e h k i j = same-verdict s t list (alike s t e h k i j) (z .image) (sized-alike s t z y)
+
+asks : (s t : Chip) (list : List ℕ) → Sized s → Sized t → t .image ≡ s .image → ((g : Group) → inUse packets g t ≡ inUse packets g s)
+    → inUse converter matrix t ≡ inUse converter matrix s → (held s ≡ false → t .waiting ≡ s .waiting) → vetOf t list ≡ vetOf s list
+asks s t list z y e g m w =
+    same-verdict s t list (record { image = e; avi = g avi; audio = g audio; gc = g gc; matrix = m; waiting = w }) (z .image) (sized-alike s t z y)
 
 pub vendors : Vendors
-vendors = record { own = own; sizes = sizes; empty = empty; buffers = buffers; passing = passing }
+vendors = record { own = own; sizes = sizes; empty = empty; buffers = buffers; asks = asks; passing = passing }

@@ -1,5 +1,5 @@
--- Two states with the same registers, the same mark and the same bytes in use give the same verdict: what else the buffers hold does not
--- matter. Assumes nothing.
+-- Two states with the same registers, the same bytes in use and, where the coefficient hold is down, the same mark give the same verdict:
+-- what else the buffers hold does not matter. Assumes nothing.
 use mathlib.Core.Path.{_≡_, refl, sym, ap, ap₂, subst, _∙_}
 use mathlib.Core.Bool.{Bool, true, false, cond, not, _&&_, _||_}
 use mathlib.Core.List.{List, [], _∷_}
@@ -20,7 +20,7 @@ use Rattle.decode.specs.Decode.{someEnds}
 use Rattle.cut.specs.Run.{InUse, allInUse}
 use Rattle.vendor.specs.declared.Verdict.{Verdict}
 use Rattle.vendor.specs.Vendor.{endOf, shortened, mostPairs}
-use Rattle.vendor.specs.Found.{mayMove, fairTest, isIdle, isLast, isEvent, isBetween, isNext, firstFault, placeOf, vetRefusal, vetOf}
+use Rattle.vendor.specs.Found.{mayMove, fairTest, isIdle, isTurned, isLast, isEvent, isBetween, isNext, firstFault, placeOf, vetRefusal, vetOf}
 use Rattle.vendor.proofs.Moved.{avi-stays, avi-moves, audio-stays, audio-moves, gc-stays, gc-moves, matrix-stays, matrix-moves, vsync-use}
 use Rattle.cut.proofs.Erased.{alike-self, alike-vsync, alike-write}
 use Rattle.vendor.proofs.Faults.{Takes, shortened-takes, not-taken-first, is-taken-first, is-taken}
@@ -31,7 +31,22 @@ pub record Alike (s t : Chip) : Type 0 where
   pub audio : inUse packets audio t ≡ inUse packets audio s
   pub gc : inUse packets gc t ≡ inUse packets gc s
   pub matrix : inUse converter matrix t ≡ inUse converter matrix s
-  pub waiting : t .waiting ≡ s .waiting
+  pub waiting : held s ≡ false → t .waiting ≡ s .waiting
+
+-- beside a raised hold the mark counts for nothing
+idle-by : (u w x : Bool) → (u ≡ false → w ≡ x) → not (w || u) ≡ not (x || u)
+idle-by true true true h = refl
+idle-by true true false h = refl
+idle-by true false true h = refl
+idle-by true false false h = refl
+idle-by false w x h = ap (λ (b : Bool). not (b || false)) (h refl)
+
+turn-by : (u w x : Bool) → (u ≡ false → w ≡ x) → (w && not u) ≡ (x && not u)
+turn-by true true true h = refl
+turn-by true true false h = refl
+turn-by true false true h = refl
+turn-by true false false h = refl
+turn-by false w x h = ap (λ (b : Bool). b && true) (h refl)
 
 abbrev Whole : Chip → Type 0
 Whole s = length (s .image) ≡ 256
@@ -82,24 +97,23 @@ module _ (s t : Chip) (r : Alike s t) (a v : ℕ) where
     held-next : held t′ ≡ held s′
     held-next = ap (λ (l : List ℕ). up matrix (holdsOf converter l)) next-image
 
-    next-waiting : t′ .waiting ≡ s′ .waiting
-    next-waiting = go (held s) (held s′) refl refl
+    next-waiting : held s′ ≡ false → t′ .waiting ≡ s′ .waiting
+    next-waiting k = go (held s) refl
       where
-        stay : held s′ ≡ held s → t′ .waiting ≡ s′ .waiting
-        stay q = stepped t a v y .waits (held-next ∙ q ∙ sym held-same) ∙ r .waiting ∙ sym (stepped s a v z .waits q)
-
-        go : (b n : Bool) → held s ≡ b → held s′ ≡ n → t′ .waiting ≡ s′ .waiting
-        go true true h k = stay (k ∙ sym h)
-        go true false h k = stepped t a v y .falls f (held-same ∙ h) (held-next ∙ k) ∙ sym (stepped s a v z .falls e h k)
-        go false true h k = stepped t a v y .rises f (held-same ∙ h) (held-next ∙ k) ∙ sym (stepped s a v z .rises e h k)
-        go false false h k = stay (k ∙ sym h)
+        go : (b : Bool) → held s ≡ b → t′ .waiting ≡ s′ .waiting
+        go true h = stepped t a v y .falls f (held-same ∙ h) (held-next ∙ k) ∙ sym (stepped s a v z .falls e h k)
+        go false h =
+            let q : held s′ ≡ held s = k ∙ sym h in
+            stepped t a v y .waits (held-next ∙ q ∙ sym held-same) ∙ r .waiting h ∙ sym (stepped s a v z .waits q)
 
     moved : (g : Group) → mayMove g a (holdsOf packets (t .image)) (holdsOf packets (t′ .image))
         ≡ mayMove g a (holdsOf packets (s .image)) (holdsOf packets (s′ .image))
     moved g = ap₂ (λ (x y : List ℕ). mayMove g a (holdsOf packets x) (holdsOf packets y)) (r .image) next-image
 
     idle : (isIdle (t′ .image) (t′ .waiting) && covers matrix a) ≡ (isIdle (s′ .image) (s′ .waiting) && covers matrix a)
-    idle = ap₂ (λ (x : List ℕ) (b : Bool). isIdle x b && covers matrix a) next-image next-waiting
+    idle =
+        ap (λ (x : List ℕ). isIdle x (t′ .waiting) && covers matrix a) next-image
+        ∙ ap (λ (b : Bool). b && covers matrix a) (idle-by (held s′) (t′ .waiting) (s′ .waiting) next-waiting)
 
     next : Alike s′ t′
     next = record {
@@ -126,7 +140,7 @@ vsync-alike s t r = record {
   audio = vsync-use audio t ∙ r .audio ∙ sym (vsync-use audio s);
   gc = vsync-use gc t ∙ r .gc ∙ sym (vsync-use gc s);
   matrix = go (held s) refl;
-  waiting = mark (held s) refl;
+  waiting = λ h. mark (ap (λ (l : List ℕ). up matrix (holdsOf converter l)) (sym (turned s .image)) ∙ h);
 }
   where
     same : held t ≡ held s
@@ -136,10 +150,8 @@ vsync-alike s t r = record {
     go true e = ap (inUse converter matrix) (turned t .beside (same ∙ e)) ∙ r .matrix ∙ sym (ap (inUse converter matrix) (turned s .beside e))
     go false e = turned t .takes (same ∙ e) ∙ ap (registersOf matrix) (r .image) ∙ sym (turned s .takes e)
 
-    mark : (h : Bool) → held s ≡ h → vsyncOf t .waiting ≡ vsyncOf s .waiting
-    mark true e =
-        ap (λ (c : Chip). c .waiting) (turned t .beside (same ∙ e)) ∙ r .waiting ∙ sym (ap (λ (c : Chip). c .waiting) (turned s .beside e))
-    mark false e = turned t .ends (same ∙ e) ∙ sym (turned s .ends e)
+    mark : held s ≡ false → vsyncOf t .waiting ≡ vsyncOf s .waiting
+    mark e = turned t .ends (same ∙ e) ∙ sym (turned s .ends e)
 
 -- ---- a list
 
@@ -178,8 +190,15 @@ same-mute s t r = ap (λ (l : List ℕ). bit 6 (getD l 0 0) + 2 * bit 7 (getD l 
 
 same-next : (old new : InUse) (event : Bool) (a : ℕ) (s t s′ t′ : Chip) → Alike s t → Alike s′ t′
     → isNext old new event a t t′ ≡ isNext old new event a s s′
-unfolding isBetween
-same-next old new event a s t s′ t′ r q = rw (same-mute s′ t′ q, q .image, r .image, q .waiting) refl
+unfolding isBetween isTurned
+same-next old new event a s t s′ t′ r q =
+    rw (
+      same-mute s′ t′ q,
+      q .image,
+      r .image,
+      idle-by (held s′) (t′ .waiting) (s′ .waiting) (q .waiting),
+      turn-by (held s′) (t′ .waiting) (s′ .waiting) (q .waiting),
+    ) refl
 
 same-fault : (old new : InUse) (ws : List Write) (s t : Chip) → Alike s t → Whole s → Takes ws s → firstFault old new ws t ≡ firstFault old new ws s
 same-fault old new [] s t r z k = refl
