@@ -19,8 +19,8 @@ pub record Group : Type 0 where
   pub first : ℕ
   pub count : ℕ
 
--- a buffer: the register with the holds that fill it, the groups that these hold, its bytes in a state, and whether a lowered hold of it
--- waits there
+-- a buffer: the register with the holds that fill it, the groups that these hold, its bytes in a state, and whether a mark says that a
+-- lowered hold of it waits there (beside a raised hold that "counts for nothing": the buffer is in use anyway)
 pub record Buffer : Type 0 where
   pub register : ℕ
   pub groups : List Group

@@ -50,7 +50,8 @@ pub fn field_by_field()
     ensures { λ _. ⌜ ((image : List ℕ) → FieldByField image) ⌝ }
 {}
 
-// Demand 3: whatever request is accepted, whatever the chip's two buffers hold, wherever the run is cut.
+// Demand 3: whatever request is accepted, whatever the chip's two buffers hold, whether a matrix change waits or not, wherever Vsyncs come,
+// and wherever the run is cut.
 pub fn demand_3()
     ensures { λ _. ⌜ ((input buffer : List ℕ) (s : Chip) → planOf input (s .image) buffer .refusal ≡ 0 → AnyCut input buffer s) ⌝ }
 {}

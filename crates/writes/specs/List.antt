@@ -1,6 +1,6 @@
 -- Document 01, "The write list", and request 09 of document 02: the list and the finished image, as the code makes them; `want a` is the
 -- byte whose named bits are wanted in register a. `Order` and `Entries` tie the full list to the document's words, `Fewer` what is left out
--- of it, `Demand3.registers` (cut) and `BitByBit` (decode) the image.
+-- of it, `Clauses.registers` (cut) and `BitByBit` (decode) the image.
 use mathlib.Core.Path.{_≡_}
 use mathlib.Core.Bool.{Bool, true, cond, not, _&&_, _||_}
 use mathlib.Core.List.{List, [], _∷_, _++_, map}
