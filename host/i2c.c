@@ -64,7 +64,7 @@ static int bus_write(int bus, uint8_t address, uint8_t value) {
 }
 
 /* ---- Vsync. 0x96[5] is up once the chip has seen a leading edge; writing a 1 to it takes it down, and the other flags, written 0, stay
- * (000, 4.11 and 4.11.4). It needs no enable, for the mask 0x94[5] is for the interrupt pin alone. */
+ * (000, 4.11 and 4.11.4). We read the mask 0x94[5] as the interrupt pin's alone, and set nothing. */
 
 enum seen { SEEN, NOT_SEEN, NOT_READ };
 
