@@ -27,13 +27,13 @@ use Rattle.decode.proofs.Standing.{reads}
 use Rattle.promises.specs.LentBytes.{Headed}
 
 module _ (r : Request) where
-  abbrev sounding : Sound → Request
+  abbrev pub sounding : Sound → Request
   sounding s = record { video = r .video; sound = s; matrix = r .matrix }
 
-  abbrev Heads : Request → Type 0
+  abbrev pub Heads : Request → Type 0
   Heads q = (wanted q 0x52 ≡ 2) × (wanted q 0x53 ≡ 13) × (wanted q 0x70 ≡ 1) × (wanted q 0x71 ≡ 10)
 
-  heads : (s : Sound) → Heads (sounding s)
+  pub heads : (s : Sound) → Heads (sounding s)
   unfolding aviFrame audioFrame audioOffFrame
   heads Off = let q : Request = sounding Off in
       (stored q 0x52 (lit< tt), stored q 0x53 (lit< tt), stored q 0x70 (lit< tt), stored q 0x71 (lit< tt))
@@ -41,7 +41,7 @@ module _ (r : Request) where
       (stored q 0x52 (lit< tt), stored q 0x53 (lit< tt), stored q 0x70 (lit< tt), stored q 0x71 (lit< tt))
 
 -- a register of a group, by its place
-at-place : (g : Group) (image : List ℕ) (i : ℕ) → i < g .count → getD (registersOf g image) i 0 ≡ getD image (g .first + i) 0
+pub at-place : (g : Group) (image : List ℕ) (i : ℕ) → i < g .count → getD (registersOf g image) i 0 ≡ getD image (g .first + i) 0
 at-place g image i h = getD-take {A = ℕ} (g .count) (drop (g .first) image) i 0 h ∙ getD-drop (g .first) image i 0
 
 module _ (r : Request) (image : List ℕ) (g : Fits r) (st : Stands r image) where

@@ -3,7 +3,7 @@
 --     lowest-given    the law
 --     answer-given    of the number that a call's answer carries; answer-beside: what stands beside a refusal
 --     in-stages       of a call in two stages, each with conditions of its own; none-in-stages: where it gives none, neither stage does
---     later, sole, reworded    past a condition that fails; one condition alone, and in other words
+--     without, later, sole, reworded    past a condition that fails, anywhere and at the front; one condition alone, and in other words
 --     none-at         each test is false where none is given
 --     numbered, answer-none, answer-some    the number that an answer carries, and the answer by its number
 -- Assumes nothing.
@@ -52,13 +52,19 @@ none-at [] i z = refl
 none-at (t ∷ ts) zero z = past t ts z .0
 none-at (t ∷ ts) (suc i) z = none-at ts i (past t ts z .1)
 
--- where the first condition fails, the others are left
-pub later : (c : Condition) (cs : List Condition) (n : ℕ) → Given (c ∷ cs) n → inOrder cs order ≡ true → (c .When → ⊥) → Given cs n
-later c cs n g o x = tried cs n o (go (again n (c ∷ cs) g))
+-- where a condition fails, the others are left; and so past the first
+pub without : (bs : List Condition) (c : Condition) (cs : List Condition) (n : ℕ) → Given (bs ++ c ∷ cs) n → inOrder (bs ++ cs) order ≡ true
+    → (c .When → ⊥) → Given (bs ++ cs) n
+without bs c cs n g o x = tried (bs ++ cs) n o (go bs (again n (bs ++ c ∷ cs) g))
   where
-    go : Tried (c ∷ cs) n → Tried cs n
-    go (inl h) = absurd (x (h .0))
-    go (inr h) = h .1
+    go : (bs : List Condition) → Tried (bs ++ c ∷ cs) n → Tried (bs ++ cs) n
+    go [] (inl h) = absurd (x (h .0))
+    go [] (inr h) = h .1
+    go (b ∷ bs) (inl h) = inl h
+    go (b ∷ bs) (inr h) = inr (h .0, go bs (h .1))
+
+pub later : (c : Condition) (cs : List Condition) (n : ℕ) → Given (c ∷ cs) n → inOrder cs order ≡ true → (c .When → ⊥) → Given cs n
+later = without []
 
 -- of one condition: what is given says whether it applies, and another condition that says the same may stand for it
 pub sole : (c : Condition) (n : ℕ) → Given (c ∷ []) n → Decides (not (eqb n 0)) (c .When)

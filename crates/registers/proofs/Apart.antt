@@ -28,7 +28,7 @@ nothing (suc k) m a b h =
     let low : cond (eqb (m % 2) 1) (a % 2) (b % 2) ≡ 0 = h 0 (omega arith) in
     rw (low, nothing k (m / 2) (a / 2) (b / 2) (λ j l. h (suc j) (suc-le-suc l)))
 
-bit-zero : (j : ℕ) → bit j 0 ≡ 0
+pub bit-zero : (j : ℕ) → bit j 0 ≡ 0
 bit-zero zero = refl
 bit-zero (suc j) = bit-zero j
 

@@ -68,7 +68,7 @@ module _ (want : ℕ → ℕ) (image : List ℕ) (a : ℕ) where
     pub ordered : under (mandated a) (finished want image a) ≡ under (mandated a) (bits a)
     ordered = carries .itsMandated
 
-    named-bit : (j : ℕ) → j < 8 → bit j (named a) ≡ 1 → bit j (finished want image a) ≡ bit j last
+    pub named-bit : (j : ℕ) → j < 8 → bit j (named a) ≡ 1 → bit j (finished want image a) ≡ bit j last
     named-bit j l n = sym (masked (named a) j _ l n) ∙ ap (λ (x : ℕ). bit j x) (carries .itsNamed) ∙ masked (named a) j _ l n
 
   -- bit j of the merge, by whether steps decide it

@@ -1,0 +1,5 @@
+pub mod Whole
+pub mod Links
+pub mod Vetted
+pub mod Points
+pub mod Ended

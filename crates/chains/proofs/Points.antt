@@ -1,0 +1,313 @@
+-- Where a chain ends, at any of its points, by induction over its links. Assumes nothing.
+use mathlib.Core.Path.{_≡_, refl, sym, ap, subst, _∙_}
+use mathlib.Core.Logic.{_⊎_, inl, inr, ⊎-elim, _≢_}
+use mathlib.Core.Bool.{Bool, true, false, false≢true, cond, not, _&&_}
+use mathlib.Core.List.{List, [], _∷_, _++_, map}
+use Prim.Native.Nat.{ℕ, zero, suc, _+_, _<_}
+use native.Mathlib.Nat.{not-suc-le-zero}
+use native.Mathlib.Omega.{arith}
+use lib.Dec.{eqb}
+use lib.ListN.{length, getD, take}
+use borrow.Author.Tests.{eqb-true, ltb-true}
+use Rattle.lists.specs.Find.{every}
+use Rattle.lists.proofs.Both.{both-left, both-right}
+use Rattle.bits.specs.Merge.{bit}
+use Rattle.refusals.specs.Rows.{imageLength, holdsUp, noExactPair, bufferShort, Condition, _when_, Given}
+use Rattle.refusals.proofs.Tests.{without}
+use Rattle.registers.specs.Classes.{readOnly, free}
+use Rattle.matrix.specs.Matrix.{Bytes}
+use Rattle.request.specs.Sections.{walked}
+use Rattle.request.specs.Request.{readRules, NoPair}
+use Rattle.chip.specs.declared.Chip.{Chip}
+use Rattle.chip.specs.Machine.{avi, audio, packets, held, inUse, coefficients, Muted, mute}
+use Rattle.chip.specs.Write.{vsyncOf}
+use Rattle.chip.proofs.Writes.{turned}
+use Rattle.views.specs.Entry.{Lent, stateOf}
+use Rattle.views.specs.Theorems.{LentSized}
+use Rattle.writes.proofs.Carries.{masked}
+use Rattle.plan.specs.Plan.{planOf}
+use Rattle.plan.specs.Rules.{HoldsUp}
+use Rattle.plan.proofs.Ordered.{holds-up, refusals}
+use Rattle.cut.specs.Run.{Event, run, cut, writesOf, writesBy, InUse, Stays}
+use Rattle.cut.specs.Vsync.{waits}
+use Rattle.cut.proofs.Erased.{run-append}
+use Rattle.cut.proofs.Bytes.{Agree}
+use Rattle.cut.proofs.Cut.{Ready, Near, near-self}
+use Rattle.promises.specs.LentBytes.{entered, enteredCuts}
+use Rattle.promises.proofs.LentBytes.{sized-entered, entered-run}
+use Rattle.chains.specs.Chain.{Hand, plugin, vendor, isPlugin, asks, Accepted, pairsFor, Link, after, left, Chain, happened, wholeAs, OneOf, allAsked}
+use Rattle.chains.specs.Chain.{muteAfter, muteBy, begun, unopened}
+use Rattle.chains.specs.Theorems.{ownRules, Kept, Point, Reached}
+use Rattle.chains.proofs.Whole.{whole-agree}
+use Rattle.chains.proofs.Links.{near-trans, OfThree, vsync-use, plugin-matrix}
+use Rattle.chains.proofs.Vetted.{link-ready, moved}
+
+-- the registers: near those of the beginning
+pub near-chain : (s : Chip) (ls : List Link) (u : Chip) → Chain ls u → Near s u → Near s (left ls u)
+near-chain s [] u c n = n
+near-chain s (l ∷ ls) u c n = near-chain s ls (after l u) (c .2) (near-trans s u (after l u) n (moved l u (c .0) (c .1) .near))
+
+-- planning takes the beginning of a chain, and so a chain ends near it
+pub start-ready : (ls : List Link) (s : Chip) → Chain ls s → Ready (left ls s .image) → Ready (s .image)
+start-ready [] s c r = r
+start-ready (l ∷ ls) s c r = link-ready (l .hand) s (c .0)
+
+pub near-left : (ls : List Link) (s : Chip) → Chain ls s → Ready (left ls s .image) → Near s (left ls s)
+near-left ls s c r = near-chain s ls s c (near-self s (start-ready ls s c r))
+
+-- ---- one of the groups in use
+
+abbrev All : (List ℕ → Type 0) → List (List ℕ) → Type 0
+All Q [] = Unit {0}
+All Q (y ∷ ys) = Q y × All Q ys
+
+all-map : (P Q : List ℕ → Type 0) → ((x : List ℕ) → P x → Q x) → (ys : List (List ℕ)) → All P ys → All Q ys
+all-map P Q f [] a = tt
+all-map P Q f (y ∷ ys) a = (f y (a .0), all-map P Q f ys (a .1))
+
+-- each that was asked for is one of them, and so is what was
+all-of : (was : List ℕ) (ys : List (List ℕ)) → All (OneOf was ys) ys
+all-of was [] = tt
+all-of was (y ∷ ys) = (inl refl, all-map (OneOf was ys) (OneOf was (y ∷ ys)) (λ x o. inr o) ys (all-of was ys))
+
+was-of : (was : List ℕ) (ys : List (List ℕ)) → OneOf was ys was
+was-of was [] = refl
+was-of was (y ∷ ys) = inr (was-of was ys)
+
+-- what a link leaves of a group, and what it would be after one Vsync more
+pub record Latches (shown : Chip → List ℕ) (pick : InUse → List ℕ) (l : Link) (u : Chip) : Type 0 where
+  pub now : OfThree shown u (pick (wholeAs (u .image) (asks (l .hand)))) (shown (after l u))
+  pub later : OfThree shown u (pick (wholeAs (u .image) (asks (l .hand)))) (shown (vsyncOf (after l u)))
+
+module _ (shown : Chip → List ℕ) (pick : InUse → List ℕ) (ok : Link → Bool)
+    (latch : (l : Link) (u : Chip) → Accepted (l .hand) u → writesOf (l .run .events) ≡ pairsFor (l .hand) u → ok l ≡ true → Latches shown pick l u)
+    (s : Chip) where
+  -- what is true of it at the beginning, after a Vsync too, and of what each link asks, is true of it
+  always : (Q : List ℕ → Type 0) (ls : List Link) (u : Chip) → Chain ls u → every ok ls ≡ true → Near s u
+      → All Q (map pick (allAsked (s .image) ls)) → Q (shown u) → Q (shown (vsyncOf u)) → Q (shown (left ls u))
+  always Q [] u c t n a q v = q
+  always Q (l ∷ ls) u c t n a q v =
+      let r = latch l u (c .0) (c .1) (both-left (ok l) (every ok ls) t) in
+      let new : Q (pick (wholeAs (u .image) (asks (l .hand)))) =
+      subst (λ (g : InUse). Q (pick g)) (sym (whole-agree (asks (l .hand)) (u .image) (s .image) (n .kept))) (a .0) in
+      let of : (x : List ℕ) → OfThree shown u (pick (wholeAs (u .image) (asks (l .hand)))) x → Q x =
+      λ x o. ⊎-elim (λ e. subst Q (sym e) q) (λ o. ⊎-elim (λ e. subst Q (sym e) v) (λ e. subst Q (sym e) new) o) o in
+      always Q ls (after l u) (c .2) (both-right (ok l) (every ok ls) t) (near-trans s u (after l u) n (moved l u (c .0) (c .1) .near)) (a .1)
+      (of _ (r .now)) (of _ (r .later))
+
+  one-of : (ls : List Link) → Chain ls s → every ok ls ≡ true → Ready (s .image) → shown (vsyncOf s) ≡ shown s
+      → OneOf (shown s) (map pick (allAsked (s .image) ls)) (shown (left ls s))
+  one-of ls c t r e =
+      let ys : List (List ℕ) = map pick (allAsked (s .image) ls) in
+      let was : OneOf (shown s) ys (shown s) = was-of (shown s) ys in
+      always (OneOf (shown s) ys) ls s c t (near-self s r) (all-of (shown s) ys) was (subst (OneOf (shown s) ys) (sym e) was)
+
+-- where no change waits a Vsync changes nothing
+idle : (s : Chip) → waits s ≡ false → vsyncOf s ≡ s
+idle s w = go (held s) refl w
+  where
+    go : (h : Bool) → held s ≡ h → (not h && s .waiting) ≡ false → vsyncOf s ≡ s
+    go true e w = turned s .beside e
+    go false e w = turned s .idle w .0
+
+-- ---- the mute
+
+pub mute-chain : (ls : List Link) (u : Chip) → Chain ls u → mute (left ls u) ≡ muteBy ls (mute u)
+mute-chain [] u c = refl
+mute-chain (l ∷ ls) u c = mute-chain ls (after l u) (c .2) ∙ ap (muteBy ls) (moved l u (c .0) (c .1) .mutes)
+
+-- muted, it stays so until a link has made its last write
+module _ (l : Link) (o : unopened l ≡ true) where
+  abbrev n : ℕ
+  n = writesBy (l .run .events) (l .run .place)
+
+  stays-muted : muteAfter (l .run) 1 ≡ 1
+  stays-muted = rw o (go (eqb n 0))
+    where
+      go : (b : Bool) → _≡_ {A = ℕ} (cond b 1 1) 1
+      go true = refl
+      go false = refl
+
+  becomes-muted : (was : ℕ) → begun l ≡ true → muteAfter (l .run) was ≡ 1
+  becomes-muted was b = rw o (go (eqb n 0) refl)
+    where
+      go : (x : Bool) → eqb n 0 ≡ x → cond x was 1 ≡ 1
+      go true e = let z : n ≡ 0 = eqb-true n 0 e in let h : 0 < n = ltb-true 0 n b in absurd (not-suc-le-zero (rw z at h))
+      go false e = refl
+
+muted-on : (ls : List Link) → every unopened ls ≡ true → muteBy ls 1 ≡ 1
+muted-on [] t = refl
+muted-on (l ∷ ls) t = rw (stays-muted l (both-left (unopened l) (every unopened ls) t)) (muted-on ls (both-right (unopened l) (every unopened ls) t))
+
+muted-since : (ls : List Link) (was : ℕ) → every (λ l. not (begun l)) ls ≡ false → every unopened ls ≡ true → muteBy ls was ≡ 1
+muted-since [] was b t = absurd (false≢true (sym b))
+muted-since (l ∷ ls) was b t = go (begun l) refl b (λ b. muted-since ls (muteAfter (l .run) was) b more)
+  where
+    one : unopened l ≡ true
+    one = both-left (unopened l) (every unopened ls) t
+
+    more : every unopened ls ≡ true
+    more = both-right (unopened l) (every unopened ls) t
+
+    go : (x : Bool) → begun l ≡ x → (not x && every (λ l. not (begun l)) ls) ≡ false
+        → (every (λ l. not (begun l)) ls ≡ false → muteBy ls (muteAfter (l .run) was) ≡ 1) → muteBy ls (muteAfter (l .run) was) ≡ 1
+    go true e b ih = rw (becomes-muted l one was e) (muted-on ls more)
+    go false e b ih = ih b
+
+is-muted : (t : Chip) → mute t ≡ 1 → Muted t
+is-muted t e = (omega (arith, e), omega (arith, e))
+
+-- ---- whoever comes next
+
+next-given : (t : Chip) → Ready (t .image) → (input room : List ℕ) → Bytes input → Given (ownRules input room) (planOf input (t .image) room .refusal)
+next-given t r input room b =
+    let rest : List Condition = noExactPair when NoPair (walked input) ∷ bufferShort when (length room < 256) ∷ [] in
+    let n : ℕ = planOf input (t .image) room .refusal in
+    without (readRules (walked input)) (holdsUp when HoldsUp (t .image)) rest n
+    (without (readRules (walked input)) (imageLength when (length (t .image) ≢ 256)) (holdsUp when HoldsUp (t .image) ∷ rest) n
+    (refusals input b (t .image) room .given) refl (λ x. x (r .whole))) refl
+    (holds-up (t .image) .fails (ap not (r .holds)))
+
+-- ---- over slices
+
+pub over-slices : (ls : List Link) (u : Chip) (l : Lent) → LentSized l → stateOf l ≡ u
+    → LentSized (enteredCuts (map (λ l. l .run) ls) l) × (stateOf (enteredCuts (map (λ l. l .run) ls) l) ≡ left ls u)
+over-slices [] u l z e = (z, e)
+over-slices (x ∷ ls) u l z e =
+    over-slices ls (after x u) (entered (take (x .run .place) (x .run .events)) l) (sized-entered (take (x .run .place) (x .run .events)) l z)
+    (entered-run (take (x .run .place) (x .run .events)) l z ∙ ap (λ (t : Chip). cut (x .run .events) t (x .run .place)) e)
+
+-- ---- a point
+
+all-true : (ls : List Link) → every (λ _. true) ls ≡ true
+all-true [] = refl
+all-true (l ∷ ls) = all-true ls
+
+-- of each group what a link leaves
+latch-matrix : (l : Link) (u : Chip) → Accepted (l .hand) u → writesOf (l .run .events) ≡ pairsFor (l .hand) u → isPlugin (l .hand) ≡ true
+    → Latches coefficients (λ g. g .matrix) l u
+latch-matrix l u a e t = record { now = go (l .hand) a e t .0; later = go (l .hand) a e t .1 }
+  where
+    go : (h : Hand) → Accepted h u → writesOf (l .run .events) ≡ pairsFor h u → isPlugin h ≡ true
+        → let new : List ℕ = wholeAs (u .image) (asks h) .matrix in
+        OfThree coefficients u new (coefficients (after l u)) × OfThree coefficients u new (coefficients (vsyncOf (after l u)))
+    go (plugin input room) a e t = plugin-matrix input room u a (l .run) e
+    go (vendor list ending) a e t = absurd (false≢true t)
+
+latch-avi : (l : Link) (u : Chip) → Accepted (l .hand) u → writesOf (l .run .events) ≡ pairsFor (l .hand) u → true ≡ true
+    → Latches (inUse packets avi) (λ g. g .avi) l u
+latch-avi l u a e t =
+    let m = moved l u a e .three .avi in record { now = m; later = subst (OfThree (inUse packets avi) u _) (sym (vsync-use avi (after l u))) m }
+
+latch-audio : (l : Link) (u : Chip) → Accepted (l .hand) u → writesOf (l .run .events) ≡ pairsFor (l .hand) u → true ≡ true
+    → Latches (inUse packets audio) (λ g. g .audio) l u
+latch-audio l u a e t =
+    let m = moved l u a e .three .audio in record { now = m; later = subst (OfThree (inUse packets audio) u _) (sym (vsync-use audio (after l u))) m }
+
+-- the bits that no list moves
+kept-bit : (s t : Chip) → Near s t → (a j : ℕ) → j < 8 → (bit j (free a) ≡ 1) ⊎ (bit j (readOnly a) ≡ 1) → Stays a j s t
+unfolding Agree
+kept-bit s t near a j h (inl f) =
+    sym (masked (free a) j (getD (t .image) a 0) h f) ∙ ap (λ (x : ℕ). bit j x) (near .kept a .frees) ∙ masked (free a) j (getD (s .image) a 0) h f
+kept-bit s t near a j h (inr r) =
+    sym (masked (readOnly a) j (getD (t .image) a 0) h r) ∙ ap (λ (x : ℕ). bit j x) (near .kept a .reads) ∙ masked (readOnly a) j (getD (s .image) a 0) h r
+
+pub kept-near : (s t : Chip) → Near s t → Kept s t
+kept-near s t near = record { bits = kept-bit s t near; unwritten = near .rest }
+
+pub point : (ls : List Link) (s : Chip) → Chain ls s → Point ls s
+point [] s c = record {
+  kept = record { bits = λ a j h f. refl; unwritten = λ a h w. refl };
+  avi = refl;
+  audio = refl;
+  matrix = λ w t. refl;
+  mute = refl;
+  muted = λ b t. absurd (false≢true (sym b));
+  next = λ h. absurd (not-suc-le-zero h);
+  slices = over-slices [] s;
+}
+point (l ∷ ls) s c =
+    let ms : List Link = l ∷ ls in
+    let r : Ready (s .image) = link-ready (l .hand) s (c .0) in
+    let near : Near s (left ms s) = near-chain s ms s c (near-self s r) in
+    record {
+      kept = kept-near s (left ms s) near;
+      avi = one-of (inUse packets avi) (λ g. g .avi) (λ _. true) latch-avi s ms c (all-true ms) r (vsync-use avi s);
+      audio = one-of (inUse packets audio) (λ g. g .audio) (λ _. true) latch-audio s ms c (all-true ms) r (vsync-use audio s);
+      matrix = λ w t. one-of coefficients (λ g. g .matrix) (λ l. isPlugin (l .hand)) latch-matrix s ms c t r (ap coefficients (idle s w));
+      mute = mute-chain ms s c;
+      muted = λ b t. is-muted (left ms s) (mute-chain ms s c ∙ muted-since ms (mute s) b t);
+      next = λ h. next-given (left ms s) (near .ready);
+      slices = over-slices ms s;
+    }
+
+-- ---- every point
+
+-- the first k of some events and more: within them, or all of them and some of the rest
+record Within (k : ℕ) (xs ys : List Event) : Type 0 where
+  rest : ℕ
+  is : (take k (xs ++ ys) ≡ take k xs) ⊎ (take k (xs ++ ys) ≡ xs ++ take rest ys)
+
+within : (k : ℕ) (xs ys : List Event) → Within k xs ys
+within zero xs ys = record { rest = 0; is = inl refl }
+within (suc k) [] ys = record { rest = suc k; is = inr refl }
+within (suc k) (x ∷ xs) ys =
+    let w = within k xs ys in
+    record { rest = w .rest; is = ⊎-elim (λ e. inl (ap (λ (l : List Event). x ∷ l) e)) (λ e. inr (ap (λ (l : List Event). x ∷ l) e)) (w .is) }
+
+-- a part of a part, by its length
+front-of : (k p : ℕ) (es : List Event) → take (length (take k (take p es))) es ≡ take k (take p es)
+front-of zero p es = refl
+front-of (suc k) zero es = refl
+front-of (suc k) (suc p) [] = refl
+front-of (suc k) (suc p) (e ∷ es) = ap (λ (l : List Event). e ∷ l) (front-of k p es)
+
+append-nil : (l : List Event) → l ++ [] ≡ l
+append-nil [] = refl
+append-nil (e ∷ es) = ap (λ (l : List Event). e ∷ l) (append-nil es)
+
+-- a chain leaves what its events do
+left-run : (ls : List Link) (s : Chip) → left ls s ≡ run (happened ls) s
+left-run [] s = refl
+left-run (l ∷ ls) s = left-run ls (after l s) ∙ sym (run-append (take (l .run .place) (l .run .events)) (happened ls) s)
+
+-- a chain that reaches the point
+record Reaching (k : ℕ) (ls : List Link) (s : Chip) : Type 0 where
+  links : List Link
+  first : map (λ l. l .hand) links ≡ map (λ l. l .hand) (take (length links) ls)
+  events : happened links ≡ take k (happened ls)
+  chain : Chain links s
+
+reaching : (ls : List Link) (s : Chip) → Chain ls s → (k : ℕ) → Reaching k ls s
+reaching [] s c zero = record { links = []; first = refl; events = refl; chain = tt }
+reaching [] s c (suc k) = record { links = []; first = refl; events = refl; chain = tt }
+reaching (l ∷ ls) s c k =
+    let es : List Event = l .run .events in
+    let p : ℕ = l .run .place in
+    let w = within k (take p es) (happened ls) in
+    let more = reaching ls (after l s) (c .2) (w .rest) in
+    ⊎-elim
+    (λ e. record {
+      links = record { hand = l .hand; run = record { events = es; place = length (take k (take p es)) } } ∷ [];
+      first = refl;
+      events = append-nil (take (length (take k (take p es))) es) ∙ front-of k p es ∙ sym e;
+      chain = (c .0, c .1, tt);
+    })
+    (λ e. record {
+      links = l ∷ more .links;
+      first = ap (λ (h : List Hand). l .hand ∷ h) (more .first);
+      events = ap (λ (f : List Event). take p es ++ f) (more .events) ∙ sym e;
+      chain = (c .0, c .1, more .chain);
+    }) (w .is)
+
+pub reached : (ls : List Link) (s : Chip) → Chain ls s → (k : ℕ) → Reached k ls s
+reached ls s c k =
+    let r = reaching ls s c k in
+    record {
+      links = r .links;
+      first = r .first;
+      events = r .events;
+      chain = r .chain;
+      there = left-run (r .links) s ∙ ap (λ (f : List Event). run f s) (r .events);
+      point = point (r .links) s (r .chain);
+    }

@@ -1,0 +1,10 @@
+-- `chains::last_list` meets its contract, a theorem of request 14. Assumes nothing.
+use Rattle.chains.proofs.Ended.{list-ended}
+use Rattle.chains.proofs.last_list.Statement.{statement}
+use Rattle.chains.proofs.last_list.Tie as tie
+
+returns : tie.Need-returns
+returns c = list-ended
+
+pub last-list-spec : {M : Type 1} → statement M
+last-list-spec = tie.close (tie.spec returns)
