@@ -1,7 +1,7 @@
 # The C programs beside the library, and its package. tools/setup finds the compiler and, on Arm, the emulator, and installs what is missing.
 #   make           the library's archive and everything below that is built of it
 #   make programs  what tools/{listing,request,modes,image,picture,review} run, and accident, agree and vectors, over the library
-#   make host      the example host: then host/run --cut 25 --brief
+#   make host      the example host: then host/run --cut 25 --brief, or host/run --chain 7 --brief
 #   make bench     planning, decoding and the vet of a list, the library against plain C: times, instructions, and whether the bars are met;
 #                  writes and bus time of typical changes
 #   make tests     tests/run
@@ -12,7 +12,7 @@
 LIB      = target/staticlib/libstation.a
 EXAMPLE  = $(shell sed -n 's/^ . So \([0-9a-f ]*\) is .*/\1/p' include/station.h)
 FLAGS    = -std=c99 -D_GNU_SOURCE -Wall -Wextra -O2 -Iinclude '-DEXAMPLE="$(EXAMPLE)"'
-HEADERS  = $(wildcard include/*.h programs/*.h tests/*.h tests/*/*.h bench/*.h)
+HEADERS  = $(wildcard include/*.h programs/*.h host/*.h tests/*.h tests/*/*.h bench/*.h)
 PROVED   = crates.txt $(wildcard crates/*/src/*.rt crates/*/specs/*.antt crates/*/proofs/*.antt)
 PROGRAMS = $(addprefix target/c/,accident agree image listing modes picture request review vectors)
 BINARIES = $(PROGRAMS) $(addprefix target/c/,example host i2c i2c_fake bench tests)
@@ -24,7 +24,7 @@ VERSION  = $(shell sed -n 's/^.define STATION_VERSION "\(.*\)"/\1/p' include/sta
 all: $(BINARIES)
 programs: $(PROGRAMS)
 host: target/c/host
-	@echo "target/c/host is built; run it by host/run [--chip FILE] [--cut K] [--vsync AT,..] [--brief] [BYTES..]"
+	@echo "target/c/host is built; run it by host/run [--chip FILE] [--cut K] [--vsync AT,..] [--brief] [BYTES..], or host/run --chain SEED"
 bench:
 	@bench/run
 peers:
@@ -47,14 +47,14 @@ target/c/agree: programs/agree.c programs/judge.c programs/fields.c programs/chi
 target/c/image: programs/image.c programs/words.c
 target/c/listing: programs/listing.c programs/table.c programs/registers.c programs/chip.c programs/words.c
 target/c/modes: programs/modes.c programs/fields.c programs/words.c
-target/c/picture: programs/picture.c programs/events.c programs/list.c programs/judge.c programs/registers.c programs/fields.c \
-  programs/chip.c programs/words.c
+target/c/picture: programs/picture.c programs/chain.c programs/events.c programs/list.c programs/judge.c programs/registers.c \
+  programs/fields.c programs/chip.c programs/words.c
 target/c/request: programs/request.c programs/fields.c programs/words.c
 target/c/review: programs/review.c programs/list.c programs/judge.c programs/table.c programs/registers.c programs/fields.c \
   programs/chip.c programs/words.c
 target/c/vectors: programs/vectors.c programs/fields.c programs/words.c
 target/c/example: host/example.c
-target/c/host: host/host.c programs/events.c programs/fields.c programs/chip.c programs/words.c
+target/c/host: host/host.c host/chain.c programs/chain.c programs/events.c programs/fields.c programs/chip.c programs/words.c
 target/c/i2c: host/i2c.c programs/words.c
 target/c/i2c_fake: tests/i2c/fake.c programs/fields.c programs/chip.c programs/words.c | host/i2c.c
 target/c/bench: bench/bench.c bench/plain.c programs/fields.c programs/words.c

@@ -1,11 +1,12 @@
 /* An example host. It reads the chip's registers back, plans a request on them and sends the list, write by write, with one Vsync awaited
  * just before the last. The chip is simulated, in a file: its registers, buffers and waiting mark outlive the host, as a chip's do. A host
  * that is killed after any event and started again reads back, plans again and finishes. After each event it shows whether the picture is
- * muted, and whether each group in use is as it was when this host started (old) or as the list ends (new). */
-#include "../programs/chip.h"
-#include "../programs/events.h"
+ * muted, and whether each group in use is as it was when this host started (old) or as the list ends (new). host/chain.c plays many hosts
+ * in a row. */
+#include "../programs/chain.h"
 #include "../programs/fields.h"
 #include "../programs/words.h"
+#include "host.h"
 #include "station_text.h"
 #include <fcntl.h>
 #include <signal.h>
@@ -18,6 +19,8 @@ const char *program = "host/run";
 
 static const char help[] =
     "host/run [--chip FILE] [--cut K] [--vsync AT,..] [--brief] [BYTES..]\n"
+    "host/run --chain SEED [--chip FILE] [--brief]\n"
+    "host/run --chain SEED --chains COUNT\n"
     "\n"
     "Sends a request to a simulated chip, write by write, and waits for one Vsync just before the last. BYTES is the request: a byte is\n"
     "exactly two hex digits, with or without blanks between. Without BYTES it is 1080p, YCbCr 4:2:2, eight channels at 48 kHz, with a\n"
@@ -28,43 +31,70 @@ static const char help[] =
     "  --vsync AT,..   one Vsync more after each of these numbers of writes; 0 is before the first, and a number may stand twice\n"
     "  --cut K         the host is killed (SIGKILL) after event K of the run, writes and Vsyncs counted in their order, 0 is before the\n"
     "                  first; and then started again without --cut and --vsync\n"
-    "  --brief         only the Vsyncs and the writes after which something differs\n"
+    "  --brief         only the Vsyncs and the writes after which something differs; of a chain only what makes a difference\n"
     "\n"
     "Of N writes the Vsync that the host waits for is event N and the last write event N + 1, with no more Vsyncs: so --cut N-1 is\n"
     "before that Vsync, --cut N at it, before the host opens the picture, and --cut N+1 after all.\n"
     "\n"
-    "The status is 0 for a request that is on show, 1 for one that is refused, 2 for a command that is not as above.\n"
+    "  --chain SEED    a chain of 2 to 6 requests, all drawn from this number, 0 to 999999999: the chip at the beginning, the requests, the\n"
+    "                  Vsyncs, where each host is killed. A host for each, a process of its own, reads back, plans and sends, and is killed\n"
+    "                  (SIGKILL) at its place or finishes; the last one finishes. At each point the chip's file is looked at. A group is\n"
+    "                  old, as at the beginning, or whole as a request asked, and then the number of that link is printed, the latest so\n"
+    "                  far; what is neither is MIXED, and fails. So does a free bit that moved, a picture that is open or muted where it\n"
+    "                  must not be, and an end that is not as the last request asked. A FILE that is named must not be there yet\n"
+    "  --chains COUNT  so many chains, of SEED, SEED + 1 and so on, at most 1000000, and one line: how often each situation was met. They\n"
+    "                  are played in one process, over no file, so a crash is only a cut: the rest of that list is not sent\n"
+    "\n"
+    "The status is 0 for a request that is on show, and for chains in which all holds; 1 for a request that is refused, and for a chain\n"
+    "with a point that fails; 2 for a command that is not as above.\n"
     "\n"
     "  host/run --cut 25 --brief\n"
-    "  host/run --vsync 0,22 --cut 30 --brief\n";
+    "  host/run --vsync 0,22 --cut 30 --brief\n"
+    "  host/run --chain 7 --brief\n"
+    "  host/run --chain 1 --chains 4000\n";
 
-/* ---- The chip. On a real one `read_back` is a read of 256 registers, a write goes over the bus, and Vsync comes by itself: host/i2c.c. */
+/* ---- The chip in its file. */
 
-static struct chip chip;
+struct chip chip;
 static int chip_file;
 
-static void open_chip(const char *name) {
-    struct request first = request_of_text("vic 4 rgb hdmi audio 48kHz 2 coherent");    /* a new chip shows 720p, stereo at 48 kHz */
-    uint8_t list[STATION_WRITES];
+off_t open_chip(const char *name) {
     chip_file = open(name, O_RDWR | O_CREAT, 0666);
     if (chip_file < 0) misuse("%s cannot be opened", name);
-    off_t length = lseek(chip_file, 0, SEEK_END);
-    if (length == 0) {
-        struct station_count n = station_plan(first.bytes, first.length, chip.image, STATION_IMAGE, list, sizeof list);
-        chip_run(&chip, list, n.count);
-    } else if (length != (off_t)sizeof chip || pread(chip_file, &chip, sizeof chip, 0) != (ssize_t)sizeof chip)
-        misuse("%s is no chip: that is a file of %u bytes", name, (unsigned)sizeof chip);
+    return lseek(chip_file, 0, SEEK_END);
 }
 
-static void read_back(uint8_t *image) { memcpy(image, chip.image, STATION_IMAGE); }
+void fetch_chip(void) {
+    if (pread(chip_file, &chip, sizeof chip, 0) == (ssize_t)sizeof chip) return;
+    perror(program);
+    exit(MISUSE);
+}
 
-/* An event; the number of the chip's refusal. What is not refused has reached the file, as a whole, when this returns. */
-static uint32_t happen(const struct event *e, const uint8_t *list) {
-    uint32_t refusal = e->kind == WRITE ? chip_write(&chip, list + 2 * e->write) : chip_vsync(&chip);
-    if (pwrite(chip_file, &chip, sizeof chip, 0) != (ssize_t)sizeof chip) {
-        perror(program);
-        exit(MISUSE);
+void keep_chip(void) {
+    if (pwrite(chip_file, &chip, sizeof chip, 0) == (ssize_t)sizeof chip) return;
+    perror(program);
+    exit(MISUSE);
+}
+
+/* A new chip shows 720p, stereo at 48 kHz. */
+static void find_chip(const char *name) {
+    struct request first = request_of_text("vic 4 rgb hdmi audio 48kHz 2 coherent");
+    uint8_t list[STATION_WRITES];
+    off_t length = open_chip(name);
+    if (length != 0 && length != (off_t)sizeof chip) misuse("%s is no chip: that is a file of %u bytes", name, (unsigned)sizeof chip);
+    if (length) fetch_chip();
+    else {
+        struct station_count n = station_plan(first.bytes, first.length, chip.image, STATION_IMAGE, list, sizeof list);
+        chip_run(&chip, list, n.count);
     }
+}
+
+void read_back(uint8_t *image) { memcpy(image, chip.image, STATION_IMAGE); }
+
+/* What is not refused has reached the file, as a whole, when this returns. */
+uint32_t happen(const struct event *e, const uint8_t *list) {
+    uint32_t refusal = chip_event(&chip, e, list);
+    keep_chip();
     return refusal;
 }
 
@@ -76,19 +106,29 @@ static void text_of_event(const struct event *e, const uint8_t *list, char text[
     else snprintf(text, 16, "%s", vsyncs[e->kind]);
 }
 
-/* A line: of an event, or of the beginning where there is none. */
-static void show(uint32_t number, const struct event *e, const uint8_t *list, const struct sent *old, const struct sent *new, int brief) {
+void text_of_state(char state[TEXT_OF_A_STATE], const struct sent *s, const char *avi, const char *audio, const char *matrix) {
     static const char *const mutes[4] = { "neither", "muted", "open", "neither" };
-    static const char *const ages[] = { [NEITHER] = "MIXED", [OLD] = "old", [NEW] = "new", [BOTH] = "same" };
-    static char last[64];
-    char state[64], what[16] = "";
-    struct sent s = chip_sent(&chip);
-    snprintf(state, sizeof state, "%-8s %-6s %-6s %s%s", mutes[s.mute & 3], ages[age(AVI, &s, old, new)], ages[age(AUDIO, &s, old, new)],
-             ages[age(MATRIX, &s, old, new)], s.waiting ? ", waiting" : "");
-    if (brief && e && e->kind == WRITE && !strcmp(state, last)) return;
+    snprintf(state, TEXT_OF_A_STATE, "%-8s %-6s %-6s %s%s", mutes[s->mute & 3], avi, audio, matrix, s->waiting ? ", waiting" : "");
+}
+
+void show_heading(void) { printf("    #  %-9s %-8s %-6s %-6s %s\n", "event", "picture", "AVI", "audio", "matrix"); }
+
+void show(uint32_t number, const struct event *e, const uint8_t *list, const char *state, int changes) {
+    static char last[TEXT_OF_A_STATE];
+    char what[16] = "";
+    if (changes && !strcmp(state, last)) return;
     strcpy(last, state);
     if (e) text_of_event(e, list, what);
     printf("%5u  %-9s %s\n", (unsigned)number, what, state);
+}
+
+/* The age of each group. */
+static void show_ages(uint32_t number, const struct event *e, const uint8_t *list, const struct sent *old, const struct sent *new, int brief) {
+    static const char *const ages[] = { [NEITHER] = "MIXED", [OLD] = "old", [NEW] = "new", [BOTH] = "same" };
+    char state[TEXT_OF_A_STATE];
+    struct sent s = chip_sent(&chip);
+    text_of_state(state, &s, ages[age(AVI, &s, old, new)], ages[age(AUDIO, &s, old, new)], ages[age(MATRIX, &s, old, new)]);
+    show(number, e, list, state, brief && e && e->kind == WRITE);
 }
 
 static void show_request(const char *what, const uint8_t *request, size_t length) {
@@ -102,6 +142,8 @@ static void show_request(const char *what, const uint8_t *request, size_t length
 
 /* ---- The host. */
 
+enum { MOST_CHAINS = 1000000 };
+
 static void take_name(const char *word, struct option *o) { *(const char **)o->into = word; }
 
 /* The events one after the other, as far as the cut. Old is what is in use now; new is what will be, found on a copy of the chip. */
@@ -110,8 +152,8 @@ static int run(const struct events *e, const uint8_t *list, long cut, int brief)
     chip_run(&copy, list, e->writes);
     struct beginning b = chip_begin(&chip);
     struct sent new = chip_sent(&copy);
-    printf("    #  %-9s %-8s %-6s %-6s %s\n", "event", "picture", "AVI", "audio", "matrix");
-    show(0, NULL, list, &b.old, &new, brief);
+    show_heading();
+    show_ages(0, NULL, list, &b.old, &new, brief);
     for (uint32_t k = 0; ; k++) {
         if (cut == (long)k) kill(getpid(), SIGKILL);
         if (k == e->count) return 1;
@@ -122,7 +164,7 @@ static int run(const struct events *e, const uint8_t *list, long cut, int brief)
             return 0;
         }
         chip_follow(&b, &chip, now->kind != WRITE);
-        show(k + 1, now, list, &b.old, &new, brief);
+        show_ages(k + 1, now, list, &b.old, &new, brief);
     }
 }
 
@@ -133,24 +175,38 @@ int main(int count, char **words) {
     struct places besides = { .count = 0 };
     const char *file = NULL;
     size_t length;
-    long cut = -1;
+    long cut = -1, seed = 0, chains = 0;
     int brief = 0;
     struct option options[] = {
         { "--chip", take_name, &file, 0, 0 },
         { "--cut", take_number, &cut, EVENTS, 0 },
         { "--vsync", take_places, &besides, 0, 0 },
         { "--brief", NULL, &brief, 0, 0 },
+        { "--chain", take_number, &seed, MOST_SEEDS, 0 },
+        { "--chains", take_number, &chains, MOST_CHAINS, 0 },
     };
+    enum { BY_CHIP, BY_CUT, BY_VSYNC, BY_BRIEF, BY_CHAIN, BY_CHAINS, OPTIONS };
     setvbuf(stdout, NULL, _IOLBF, 0);                       /* what was said before a kill is seen */
-    uint8_t *given = request_of_command(count, words, help, options, sizeof options / sizeof options[0], &length);
+    uint8_t *given = request_of_command(count, words, help, options, OPTIONS, &length);
+    if (options[BY_CHAIN].given && length) misuse("--chain and a request exclude each other");
+    for (int o = 0; o < OPTIONS; o++) {
+        if (options[BY_CHAIN].given && options[o].given && (o == BY_CUT || o == BY_VSYNC))
+            misuse("--chain and %s exclude each other", options[o].name);
+        if (options[BY_CHAINS].given && options[o].given && (o == BY_CHIP || o == BY_BRIEF))
+            misuse("--chains and %s exclude each other", options[o].name);
+    }
+    if (options[BY_CHAINS].given && !options[BY_CHAIN].given) misuse("--chains is given, and no --chain with the first seed");
+    if (options[BY_CHAINS].given && !chains) misuse("--chains 0: no chain is none to play");
+    if (options[BY_CHAINS].given) return play_chains(seed, chains);
     if (!file) misuse("--chip FILE is missing");
+    if (options[BY_CHAIN].given) return play_chain(file, seed, brief);
     if (length > sizeof asked.bytes) misuse("%u bytes, and the longest request has %u", (unsigned)length, STATION_REQUEST);
     if (length) {
         memcpy(asked.bytes, given, length);
         asked.length = length;
     }
     free(given);
-    open_chip(file);
+    find_chip(file);
 
     /* Read back, ask the library, and keep the list until the last write or the first that fails. */
     read_back(image);

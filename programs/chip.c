@@ -1,9 +1,12 @@
 #include "chip.h"
 #include <string.h>
 
-enum { COEFFICIENT_HOLD = 0x1A, ITS_BIT = 0x20 };
-
-static int is_held(const struct chip *c) { return (c->image[COEFFICIENT_HOLD] & ITS_BIT) != 0; }
+int chip_holds(const struct chip *c, enum group g) {
+    static const struct { uint8_t address, bit; } holds[GROUPS] = {
+        [AVI] = { 0x4A, 0x40 }, [AUDIO] = { 0x4A, 0x20 }, [MATRIX] = { 0x1A, 0x20 },
+    };
+    return (c->image[holds[g].address] & holds[g].bit) != 0;
+}
 
 static void packet(const struct chip *c, uint32_t which, uint8_t *bytes, size_t room) {
     struct station_part p = station_sent(c->image, STATION_IMAGE, c->packet, STATION_PACKET, which);
@@ -19,7 +22,7 @@ struct sent chip_sent(const struct chip *c) {
     station_matrix(c->image, STATION_IMAGE, c->coefficients, STATION_COEFFICIENTS, c->mark[0], matrix, sizeof matrix);
     memcpy(s.matrix, matrix + 1, sizeof s.matrix);
     s.mute = station_mute(c->image, STATION_IMAGE, c->packet, STATION_PACKET).mute;
-    s.waiting = c->mark[0] != 0 && !is_held(c);
+    s.waiting = c->mark[0] != 0 && !chip_holds(c, MATRIX);
     return s;
 }
 
@@ -54,7 +57,7 @@ struct beginning chip_begin(const struct chip *c) {
 
 void chip_follow(struct beginning *b, const struct chip *c, int is_vsync) {
     if (b->waits && is_vsync) memcpy(b->old.matrix, b->waited.matrix, sizeof b->old.matrix);
-    if (is_vsync || is_held(c)) b->waits = 0;
+    if (is_vsync || chip_holds(c, MATRIX)) b->waits = 0;
 }
 
 int age(enum group g, const struct sent *now, const struct sent *old, const struct sent *new) {

@@ -13,6 +13,7 @@ struct sent { uint8_t avi[16], audio[13], matrix[24]; uint32_t mute, waiting; };
 enum group { AVI, AUDIO, MATRIX, GROUPS };
 
 struct sent chip_sent(const struct chip *c);
+int         chip_holds(const struct chip *c, enum group g);             /* is the group's hold up? */
 uint32_t    chip_write(struct chip *c, const uint8_t *pair);            /* address and value; the number of the refusal */
 uint32_t    chip_vsync(struct chip *c);                                 /* a rising edge of Vsync */
 

@@ -1,5 +1,4 @@
 #include "events.h"
-#include "chip.h"
 #include <string.h>
 
 void take_places(const char *word, struct option *o) {
@@ -33,4 +32,8 @@ void events_of(struct events *e, uint32_t writes, const struct places *p, long c
     if (cut > (long)e->count)
         misuse("--cut %ld: the run has %u events: writes %u, Vsyncs %u", cut, (unsigned)e->count, (unsigned)writes,
                (unsigned)(e->count - writes));
+}
+
+uint32_t chip_event(struct chip *c, const struct event *e, const uint8_t *list) {
+    return e->kind == WRITE ? chip_write(c, list + 2 * e->write) : chip_vsync(c);
 }

@@ -3,7 +3,7 @@
 #ifndef EVENTS_H
 #define EVENTS_H
 
-#include "station.h"
+#include "chip.h"
 #include "words.h"
 
 /* Vsyncs that come besides, each after so many writes: the word of --vsync, numbers with commas between. */
@@ -19,5 +19,8 @@ struct events { struct event at[EVENTS]; uint32_t count, writes; };
 
 /* The events of a list's run. A place, or a cut, after its last is a misuse; a cut is counted in events, -1 is none. */
 void events_of(struct events *e, uint32_t writes, const struct places *p, long cut);
+
+/* One event of a list's run, on a chip; the number of its refusal. */
+uint32_t chip_event(struct chip *c, const struct event *e, const uint8_t *list);
 
 #endif

@@ -1,5 +1,6 @@
 /* A page that shows a run, write by write: what the chip machine has in use after each. Plain HTML with its drawings in it; no script, no
  * file beside it. The request and the registers may be a stranger's: they go through the exported calls and nowhere else. */
+#include "chain.h"
 #include "chip.h"
 #include "events.h"
 #include "fields.h"
@@ -19,6 +20,7 @@ static const char help[] =
     "tools/picture [OPTIONS] BYTES.. >run.html\n"
     "tools/picture [OPTIONS] --list FILE >run.html\n"
     "tools/picture --accident >run.html\n"
+    "tools/picture --chain SEED >chain.html\n"
     "\n"
     "Writes a page that shows a run: time goes from the first write to the last, with\n"
     "a lane each for the picture, the AVI InfoFrame, the audio InfoFrame, the matrix,\n"
@@ -46,12 +48,18 @@ static const char help[] =
     "                       no mute, cut after five coefficients; our list, cut at\n"
     "                       the same register; and cut before its Vsync, so that the\n"
     "                       hold is lowered and raised again\n"
+    "  --chain SEED         the chain of requests that host/run --chain SEED plays:\n"
+    "                       each link after the other with the place where its host\n"
+    "                       is killed, and each group in the colour of the link whose\n"
+    "                       request it is\n"
     "\n"
     "The status is 0 for a page, 1 for a request that is refused, and for a list that\n"
-    "cannot be run, refused 8 or 14 (it is said on the error stream), 2 for a command\n"
-    "or a list's text that is not as above.\n"
+    "cannot be run, refused 8 or 14 (it is said on the error stream), also for a chain\n"
+    "with a point that fails (the page says which), 2 for a command or a list's text\n"
+    "that is not as above.\n"
     "\n"
-    "  tools/picture --cut 25 " EXAMPLE " >run.html\n";
+    "  tools/picture --cut 25 " EXAMPLE " >run.html\n"
+    "  tools/picture --chain 7 >chain.html\n";
 
 /* ---- A run: a moment for the beginning, for each event, and for what stays. */
 
@@ -64,6 +72,9 @@ static const struct look
                      { "neither", "url(#dots)", "#000" } },
     of_group[] = { [NEITHER] = { "TORN", "url(#torn)", "#000" }, [OLD] = { "old", "url(#old)", "#000" },
                    [NEW] = { "new", "#0072b2", "#fff" }, [BOTH] = { "same as before", "#e4e4e4", "#000" } },
+    of_chain[] = { { "TORN", "url(#torn)", "#000" }, { "old", "url(#old)", "#000" }, { "link 1", "#0072b2", "#fff" },
+                   { "link 2", "#f0e442", "#000" }, { "link 3", "#00664b", "#fff" }, { "link 4", "#9ad4f5", "#000" },
+                   { "link 5", "#8c2d62", "#fff" }, { "link 6", "#e8e8e8", "#000" } },
     of_wait[] = { { "", "none", "#000" }, { "waiting", "#fff", "#000" } },
     of_hold[] = { { "", "none", "#000" }, { "up", "#5d3a9b", "#fff" } };
 
@@ -82,7 +93,29 @@ static const struct { const char *name; int height; const struct look *looks; ui
  * Vsync; neither at the beginning and at a cut. */
 enum { REST = 8, MOMENTS = 2 * EVENTS + 8, NO_STEP = STEPS };
 struct moment { int width, number, is_vsync, step, value[LANES]; uint8_t address, before, after; };
-struct run { struct chip chip; struct beginning begun; struct sent new; int count, cut; struct moment moments[MOMENTS]; };
+struct run {
+    struct chip chip;
+    struct beginning begun;
+    struct sent new;
+    int count, cut;
+    struct moment moments[MOMENTS];
+    struct chain *chain;            /* of a link's run; its groups are shown by whose they are, the others' by their age */
+    int points;
+    char fault[TEXT_OF_A_FAULT];    /* the first point of it that fails */
+};
+
+static const struct look *look_of(const struct run *r, enum lane l, int value) {
+    return r->chain && lanes[l].looks == of_group ? &of_chain[value] : &lanes[l].looks[value];
+}
+
+/* The groups at a moment: whose each is, from MIXED on; or its age. */
+static void look_at_groups(struct run *r, const struct sent *s, int *value) {
+    for (int g = 0; g < GROUPS; g++) value[LANE_AVI + g] = age((enum group)g, s, &r->begun.old, &r->new);
+    if (!r->chain) return;
+    struct point p = chain_point(r->chain, &r->chip);
+    for (int g = 0; g < GROUPS; g++) value[LANE_AVI + g] = p.whose[g] - MIXED;
+    if (*p.fault && !*r->fault) memcpy(r->fault, p.fault, sizeof r->fault);
+}
 
 /* One more moment: the chip as it stands. */
 static struct moment *look(struct run *r, int width) {
@@ -92,9 +125,7 @@ static struct moment *look(struct run *r, int width) {
     m->width = width;
     m->step = NO_STEP;
     m->value[PICTURE] = (int)(s.mute & 3);
-    m->value[LANE_AVI] = age(AVI, &s, &r->begun.old, &r->new);
-    m->value[LANE_AUDIO] = age(AUDIO, &s, &r->begun.old, &r->new);
-    m->value[LANE_MATRIX] = age(MATRIX, &s, &r->begun.old, &r->new);
+    look_at_groups(r, &s, m->value);
     m->value[LANE_WAITING] = (int)s.waiting;
     for (int l = HOLD_MATRIX; l < LANES; l++) m->value[l] = (r->chip.image[lanes[l].address] & lanes[l].mask) != 0;
     return m;
@@ -131,6 +162,7 @@ static void play_write(struct run *r, const uint8_t *pairs, uint32_t w, int widt
 static void play(struct run *r, const uint8_t *pairs, const struct events *e, uint32_t events) {
     for (uint32_t k = 0; k < events; k++) {
         int width = k + 1 == events ? REST : 1;
+        if (r->chain) chain_follow(r->chain, k);
         if (e->at[k].kind == WRITE) play_write(r, pairs, e->at[k].write, width);
         else play_vsync(r, width);
     }
@@ -182,7 +214,7 @@ static void draw_lane(const struct run *r, enum lane l, int y) {
     for (int m = 0; m < r->count; ) {
         int end = m + 1, value = r->moments[m].value[l];
         while (end < r->count && end != r->cut && r->moments[end].value[l] == value) end++;
-        draw_box(at(r, m), at(r, end) - at(r, m), y, lanes[l].height, &lanes[l].looks[value]);
+        draw_box(at(r, m), at(r, end) - at(r, m), y, lanes[l].height, look_of(r, l, value));
         m = end;
     }
 }
@@ -236,9 +268,11 @@ static void draw_steps(const struct run *r) {
 }
 
 /* What is in use at a moment, in words. */
-static void say(const struct moment *m) {
+static void say(const struct run *r, int moment) {
+    const struct moment *m = &r->moments[moment];
     for (int l = PICTURE; l <= LANE_MATRIX; l++)
-        printf("%s%s <b>%s</b>", l == PICTURE ? "" : l == LANE_MATRIX ? " and " : ", ", lanes[l].name, lanes[l].looks[m->value[l]].word);
+        printf("%s%s <b>%s</b>", l == PICTURE ? "" : l == LANE_MATRIX ? " and " : ", ", lanes[l].name,
+               look_of(r, (enum lane)l, m->value[l])->word);
     printf("%s.", m->value[LANE_WAITING] ? ", a new one <b>waiting</b> for Vsync" : "");
 }
 
@@ -260,7 +294,7 @@ static struct tally tally_of(const struct run *r) {
     return t;
 }
 
-static void draw(const struct run *r, const char *title, const char *of_cut) {
+static void draw_run(const struct run *r, const char *title, const char *of_cut) {
     int y = STEPS_TOP + STEPS_HIGH + GAP, bottom = y;
     for (int l = 0; l < LANES; l++) bottom += lanes[l].height + GAP;
     printf("<h2>%s</h2>\n<svg viewBox='0 0 %d %d' role='img' aria-label='%s'>\n", title, WIDE, bottom + 4, title);
@@ -276,8 +310,13 @@ static void draw(const struct run *r, const char *title, const char *of_cut) {
         printf("<path d='M%.1f 17V%d' stroke='#000' stroke-width='3' stroke-dasharray='9 5'/>", x, bottom);
         printf("<text x='%.1f' y='13' class='cut'>%s</text>\n", x, of_cut);
     }
+    printf("</svg>\n");
+}
+
+static void draw(const struct run *r, const char *title, const char *of_cut) {
     struct tally t = tally_of(r);
-    printf("</svg>\n<p>Of %d places where this run may be cut, something in use is torn at <b>%d</b>; from the first write on and before "
+    draw_run(r, title, of_cut);
+    printf("<p>Of %d places where this run may be cut, something in use is torn at <b>%d</b>; from the first write on and before "
            "the last the picture is not muted at <b>%d</b>.</p>\n", t.all, t.torn, t.shown);
 }
 
@@ -288,12 +327,12 @@ static void table(const struct run *r) {
     printf("</tr>\n");
     for (int m = 0; m < r->count; m++) {
         const struct moment *n = &r->moments[m];
-        if (m == r->cut) printf("<tr><td colspan=%d><b>cut; planned again</b></tr>\n", 6 + LANES);
+        if (m == r->cut) printf("<tr><td colspan=%d><b>%s</b></tr>\n", 6 + LANES, r->chain ? "the host is killed" : "cut; planned again");
         if (n->is_vsync) printf("<tr><td><td colspan=5>Vsync");
         else if (n->number) printf("<tr><td>%d<td>%s<td>0x%02X<td>%s<td>%02X<td>%02X", n->number, step_words[n->step], n->address,
                                    name_of(n->address), n->before, n->after);
         else continue;
-        for (int l = 0; l < LANES; l++) printf("<td>%s", lanes[l].looks[n->value[l]].word);
+        for (int l = 0; l < LANES; l++) printf("<td>%s", look_of(r, (enum lane)l, n->value[l])->word);
         printf("</tr>\n");
     }
     printf("</table></details>\n");
@@ -320,19 +359,35 @@ static const char head[] =
     "</defs></svg>\n";
 
 /* The looks and what they mean. */
-static void key(void) {
-    static const struct { const struct look *look; const char *says; } looks[] = {
-        { &of_group[OLD], "as before" },      { &of_group[NEW], "as asked" },    { &of_group[NEITHER], "a mix" },
-        { &of_picture[1], "nothing shown" },  { &of_picture[2], "shown" },       { &of_hold[1], "copy in use" },
-        { &of_wait[1], "for Vsync" },
-    };
-    int x = 1;
-    printf("<svg viewBox='0 0 %d 28' role='img' aria-label='the key'>\n", WIDE);
-    for (size_t k = 0; k < sizeof looks / sizeof looks[0]; k++) {
-        draw_box(x, 64, 3, 22, looks[k].look);
-        printf("<text x='%d' y='18'>%s</text>\n", x + 70, looks[k].says);
+struct meaning { const struct look *look; const char *says; };
+static const struct meaning of_states[] = {
+    { &of_picture[1], "nothing shown" }, { &of_picture[2], "shown" }, { &of_hold[1], "copy in use" }, { &of_wait[1], "for Vsync" },
+};
+enum { STATES = sizeof of_states / sizeof of_states[0] };
+
+static int draw_key(const struct meaning *looks, int number, int x, int y) {
+    for (int k = 0; k < number; k++) {
+        draw_box(x, 64, y + 3, 22, looks[k].look);
+        printf("<text x='%d' y='%d'>%s</text>\n", x + 70, y + 18, looks[k].says);
         x += 64 + 30 + LETTER * (int)strlen(looks[k].says);
     }
+    return x;
+}
+
+static void key(void) {
+    static const struct meaning ages[] = { { &of_group[OLD], "as before" }, { &of_group[NEW], "as asked" }, { &of_group[NEITHER], "a mix" } };
+    printf("<svg viewBox='0 0 %d 28' role='img' aria-label='the key'>\n", WIDE);
+    draw_key(of_states, STATES, draw_key(ages, 3, 1, 0), 0);
+    printf("</svg>\n");
+}
+
+/* Of a chain: the beginning and the links in one row, the rest in another. */
+static void key_of_chain(uint32_t links) {
+    struct meaning owners[2 + LINKS] = { { &of_chain[0], "a mix" }, { &of_chain[1], "as at the beginning" } };
+    for (uint32_t k = 1; k <= links; k++) owners[1 + k] = (struct meaning){ &of_chain[1 + k], "" };
+    printf("<svg viewBox='0 0 %d 58' role='img' aria-label='the key'>\n", WIDE);
+    draw_key(owners, 2 + (int)links, 1, 0);
+    draw_key(of_states, STATES, 1, 30);
     printf("</svg>\n");
 }
 
@@ -410,7 +465,7 @@ static void draw_cut(struct run *r, const struct change *g, uint32_t events, con
     play(r, again, &second, second.count);
     draw(r, title, text_of_cut(&g->events, events));
     printf("<p>At the cut: ");
-    say(&r->moments[at_cut]);
+    say(r, at_cut);
     printf(" The second list has %u writes, for it leaves out what is right by then; after it the registers are %s.</p>\n", (unsigned)more,
            memcmp(end.image, r->chip.image, STATION_IMAGE) ? "<b>NOT</b> those of a run without a cut" : "those of a run without a cut");
     table(r);
@@ -440,7 +495,7 @@ static void draw_old_way(struct run *r, const struct change *g) {
     look(r, 4 * REST);
     draw(r, "The old way: the new coefficients with no hold and no mute; the host dies after the fifth", "the host dies here");
     printf("<p>From the cut on, until somebody comes: ");
-    say(&r->moments[r->cut]);
+    say(r, r->cut);
     printf("</p>\n");
 }
 
@@ -531,10 +586,53 @@ static void page_of_list(const struct chip *c, const struct list *l, const uint8
         look(&r, 4 * REST);
         draw(&r, "The list, cut, and left so", text_of_cut(&events, (uint32_t)cut_at));
         printf("<p>From the cut on, until somebody comes: ");
-        say(&r.moments[r.cut]);
+        say(&r, r.cut);
         printf("</p>\n");
     }
     printf("</body></html>\n");
+}
+
+/* A link of a chain: its run up to its cut, or to its end. */
+static void draw_link(struct run *r, const struct chain *c) {
+    const struct link *l = &c->now;
+    char title[96], of_cut[64];
+    snprintf(title, sizeof title, "Link %u of %u: %s", (unsigned)c->number, (unsigned)c->links,
+             !l->is_cut ? "finished" : l->happen ? "its host is killed" : "its host is killed before it does anything");
+    snprintf(of_cut, sizeof of_cut, "killed after event %u of %u", (unsigned)l->happen, (unsigned)l->events.count);
+    begin(r, &r->chip, &c->asked[c->number]);
+    play(r, l->list, &l->events, l->happen);
+    if (l->is_cut) cut(r);
+    r->points += 1 + (int)l->happen;
+    draw_run(r, title, of_cut);
+    say_request("Asked for:", l->asked.bytes, l->asked.length);
+    printf("<p>The list has %u writes, and %u Vsyncs come beside the host's own; %u of %u events happen. After them: ",
+           (unsigned)l->events.writes, (unsigned)l->besides.count, (unsigned)l->happen, (unsigned)l->events.count);
+    say(r, r->count - 1);
+    printf("</p>\n");
+    table(r);
+}
+
+static int page_of_chain(long seed) {
+    static struct run r;
+    static struct chain c;
+    uint8_t request[STATION_REQUEST];
+    char fault[TEXT_OF_A_FAULT];
+    chain_begin(&c, seed);
+    r.chip = c.start;
+    r.chain = &c;
+    printf("%s<h1>A chain of requests, and hosts that are killed</h1>\n", head);
+    printf("<p>Chain %ld, %u links: requests, Vsyncs and cuts are drawn from that number. Each host reads the registers back, plans its "
+           "request on them, and is killed somewhere; the last one finishes. The chip was left by %s.</p>\n", seed, (unsigned)c.links,
+           text_of_beginning(&c));
+    struct station_count n = station_decode(c.start.image, STATION_IMAGE, request, sizeof request);
+    if (!n.refusal) say_request("On show before:", request, n.count);
+    key_of_chain(c.links);
+    while (chain_next(&c, &r.chip)) draw_link(&r, &c);
+    chain_end(&c, &r.chip, fault);
+    if (*r.fault || *fault) printf("<p>A point does <b>NOT</b> hold: %s.</p>\n</body></html>\n", *r.fault ? r.fault : fault);
+    else printf("<p>%d points checked: at each the picture is as it must be, every free bit as at the beginning, and each group in use old or "
+                "whole as one request asked; at the end all is as the last request asked.</p>\n</body></html>\n", r.points);
+    return *r.fault || *fault ? REFUSED : ACCEPTED;
 }
 
 static void take_list(const char *word, struct option *o) { list_of_file(word, o->into); }
@@ -552,7 +650,7 @@ int main(int count, char **words) {
     struct chip c = { { 0 }, { 0 }, { 0 }, { 0 } };
     struct request before = request_of_text(MAY_ASKED);
     struct places besides = { .count = 0 };
-    long cut_at = -1, mark = 0;
+    long cut_at = -1, mark = 0, seed = 0;
     int accident = 0;
     struct option options[] = {
         { "--image", take_file, c.image, STATION_IMAGE, 0 },
@@ -564,14 +662,19 @@ int main(int count, char **words) {
         { "--vsync", take_places, &besides, 0, 0 },
         { "--list", take_list, &l, 0, 0 },
         { "--accident", NULL, &accident, 0, 0 },
+        { "--chain", take_number, &seed, MOST_SEEDS, 0 },
     };
-    enum { BY_IMAGE, BY_PACKET, BY_COEFFICIENTS, BY_MARK, BY_BEFORE, BY_CUT, BY_VSYNC, BY_LIST, BY_ACCIDENT, OPTIONS };
+    enum { BY_IMAGE, BY_PACKET, BY_COEFFICIENTS, BY_MARK, BY_BEFORE, BY_CUT, BY_VSYNC, BY_LIST, BY_ACCIDENT, BY_CHAIN, OPTIONS };
     size_t length;
     uint8_t *request = request_of_command(count, words, help, options, OPTIONS, &length), pairs[STATION_WRITES];
     if (accident) {
         if (count > 2) misuse("--accident stands alone");
         page_of_accident();
         return printed(ACCEPTED);
+    }
+    if (options[BY_CHAIN].given) {
+        if (count > 3) misuse("--chain SEED stands alone");
+        return printed(page_of_chain(seed));
     }
     if (options[BY_LIST].given && length) misuse("--list and a request exclude each other");
     if (options[BY_IMAGE].given && options[BY_BEFORE].given) misuse("--image and --before exclude each other");

@@ -1,0 +1,30 @@
+/* What the example host and the chains of it share: the chip in its file, and a line for each point of a run. */
+#ifndef HOST_H
+#define HOST_H
+
+#include "../programs/chip.h"
+#include "../programs/events.h"
+#include <sys/types.h>
+
+/* The chip, as it stands in its file: registers, buffers and waiting mark outlive every host, as a chip's do. On a real one `read_back` is a
+ * read of 256 registers, a write goes over the bus, and Vsync comes by itself: host/i2c.c. */
+extern struct chip chip;
+off_t    open_chip(const char *name);                                   /* how many bytes the file has; none: the chip is not made yet */
+void     fetch_chip(void);                                              /* as the file has it now */
+void     keep_chip(void);
+void     read_back(uint8_t *image);
+uint32_t happen(const struct event *e, const uint8_t *list);            /* an event; the number of the chip's refusal */
+
+/* What is in use at a point: the picture, and a word for each group. A line of it: of an event, or of the beginning where there is none;
+ * with `changes` only where it is not the state of the line before. */
+enum { TEXT_OF_A_STATE = 64 };
+void text_of_state(char state[TEXT_OF_A_STATE], const struct sent *s, const char *avi, const char *audio, const char *matrix);
+void show_heading(void);
+void show(uint32_t number, const struct event *e, const uint8_t *list, const char *state, int changes);
+
+/* Plays the chain of a seed, each link a process that is killed at its cut; or so many chains, in this process, for the totals. The
+ * status. */
+int play_chain(const char *file, long seed, int brief);
+int play_chains(long seed, long count);
+
+#endif
