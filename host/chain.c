@@ -1,6 +1,6 @@
 /* A chain of hosts over one chip: request after request, each host killed at any place or finished, the last one finished (document 02,
- * request 14). Each host is a process of its own: it reads the registers back, plans, and sends its events. Between two of them it waits for
- * a word of its parent, which looks at the chip's file, checks what must hold there, and kills it where the chain says so. */
+ * request 14). Each host is a process of its own: it reads the registers back, plans, and sends its events. Between two of them it waits
+ * for a word of its parent, which looks at the chip's file, checks what must hold there, and kills it where the chain says so. */
 #include "../programs/chain.h"
 #include "../programs/words.h"
 #include "host.h"
@@ -70,7 +70,9 @@ static int end_host(struct hand *h, int is_cut) {
 /* What was met. Whose a group was at a point: of the beginning, of an earlier link, of the present one; `three` points had three hands in
  * them, each group another's. */
 enum { BEGINNINGS, EARLIER, PRESENT, OWNERS };
-struct totals { unsigned long chains, links, crashes, points, whose[GROUPS][OWNERS], three, waiting, held[GROUPS], left[WAYS_LEFT], faults; };
+struct totals {
+    unsigned long chains, left[WAYS_LEFT], links, crashes, points, whose[GROUPS][OWNERS], three, waiting, held[GROUPS], faults;
+};
 
 static void count_point(struct totals *t, const struct chain *c, const struct point *p) {
     t->points++;
@@ -169,7 +171,8 @@ int play_chain(const char *file, long seed, int brief) {
     struct way w = { 1, 0, brief };
     if (open_chip(file)) misuse("%s is there already, and a chain begins with a chip of its own", file);
     if (!play(seed, &w, &t)) return printed(REFUSED);
-    printf("%lu points checked: at each the picture, every group and every free bit as it must be; all is as the last request asked\n", t.points);
+    printf("%lu points checked: at each the picture, every group and every free bit as it must be; all is as the last request asked\n",
+           t.points);
     return printed(ACCEPTED);
 }
 
@@ -178,11 +181,11 @@ int play_chains(long seed, long count) {
     struct totals t = { 0 };
     struct way w = { 0, 1, 0 };
     for (long i = 0; i < count; i++) play(seed + i, &w, &t);
-    printf("chains %lu (left by a finished request %lu, cut %lu, noise %lu), links %lu, crashes %lu, points %lu; old/earlier/present:", t.chains,
+    printf("chains %lu (from finished %lu, cut %lu, noise %lu), links %lu, crashes %lu, points %lu; old/earlier/present:", t.chains,
            t.left[LEFT_FINISHED], t.left[LEFT_CUT], t.left[LEFT_NOISE], t.links, t.crashes, t.points);
     for (int g = 0; g < GROUPS; g++)
         printf(" %s %lu/%lu/%lu%s", names[g], t.whose[g][BEGINNINGS], t.whose[g][EARLIER], t.whose[g][PRESENT], g + 1 < GROUPS ? "," : ";");
-    printf(" each another's %lu; links begun with a change waiting %lu, with a hold up: AVI %lu, audio %lu, matrix %lu; faults %lu\n", t.three,
-           t.waiting, t.held[AVI], t.held[AUDIO], t.held[MATRIX], t.faults);
+    printf(" each another's %lu; links begun with a change waiting %lu, with a hold up: AVI %lu, audio %lu, matrix %lu; faults %lu\n",
+           t.three, t.waiting, t.held[AVI], t.held[AUDIO], t.held[MATRIX], t.faults);
     return printed(t.faults ? REFUSED : ACCEPTED);
 }

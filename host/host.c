@@ -36,14 +36,14 @@ static const char help[] =
     "Of N writes the Vsync that the host waits for is event N and the last write event N + 1, with no more Vsyncs: so --cut N-1 is\n"
     "before that Vsync, --cut N at it, before the host opens the picture, and --cut N+1 after all.\n"
     "\n"
-    "  --chain SEED    a chain of 2 to 6 requests, all drawn from this number, 0 to 999999999: the chip at the beginning, the requests, the\n"
-    "                  Vsyncs, where each host is killed. A host for each, a process of its own, reads back, plans and sends, and is killed\n"
-    "                  (SIGKILL) at its place or finishes; the last one finishes. At each point the chip's file is looked at. A group is\n"
-    "                  old, as at the beginning, or whole as a request asked, and then the number of that link is printed, the latest so\n"
-    "                  far; what is neither is MIXED, and fails. So does a free bit that moved, a picture that is open or muted where it\n"
-    "                  must not be, and an end that is not as the last request asked. A FILE that is named must not be there yet\n"
-    "  --chains COUNT  so many chains, of SEED, SEED + 1 and so on, at most 1000000, and one line: how often each situation was met. They\n"
-    "                  are played in one process, over no file, so a crash is only a cut: the rest of that list is not sent\n"
+    "  --chain SEED    a chain of 2 to 6 requests, all drawn from this number, 0 to 999999999: the chip at the beginning, the requests,\n"
+    "                  the Vsyncs, where each host is killed. A host for each, a process of its own, reads back, plans and sends, and is\n"
+    "                  killed (SIGKILL) at its place or finishes; the last one finishes. At each point the chip's file is looked at. A\n"
+    "                  group is old, as at the beginning, or whole as a request asked, and then the number of that link is printed, the\n"
+    "                  latest so far; what is neither is MIXED, and fails. So does a free bit that moved, a picture that is open or muted\n"
+    "                  where it must not be, and an end that is not as the last request asked. A FILE that is named must not be there yet\n"
+    "  --chains COUNT  so many chains, of SEED, SEED + 1 and so on, at most 1000000, and one line: how often each situation was met.\n"
+    "                  They are played in one process, over no file, so a crash is only a cut: the rest of that list is not sent\n"
     "\n"
     "The status is 0 for a request that is on show, and for chains in which all holds; 1 for a request that is refused, and for a chain\n"
     "with a point that fails; 2 for a command that is not as above.\n"
@@ -123,7 +123,8 @@ void show(uint32_t number, const struct event *e, const uint8_t *list, const cha
 }
 
 /* The age of each group. */
-static void show_ages(uint32_t number, const struct event *e, const uint8_t *list, const struct sent *old, const struct sent *new, int brief) {
+static void show_ages(uint32_t number, const struct event *e, const uint8_t *list, const struct sent *old, const struct sent *new,
+                      int brief) {
     static const char *const ages[] = { [NEITHER] = "MIXED", [OLD] = "old", [NEW] = "new", [BOTH] = "same" };
     char state[TEXT_OF_A_STATE];
     struct sent s = chip_sent(&chip);

@@ -193,7 +193,7 @@ void chain_end(const struct chain *c, const struct chip *now, char fault[TEXT_OF
 const char *text_of_beginning(const struct chain *c) {
     static char text[96];
     static const char *const lefts[WAYS_LEFT] = { [LEFT_FINISHED] = "a finished request", [LEFT_CUT] = "a run that was cut",
-                                             [LEFT_NOISE] = "noise" };
+                                             [LEFT_NOISE] = "nobody, its registers noise" };
     static const char *const holds[GROUPS] = { [AVI] = "AVI", [AUDIO] = "audio", [MATRIX] = "coefficient" };
     snprintf(text, sizeof text, "%s", lefts[c->left]);
     for (int g = 0; g < GROUPS; g++) {

@@ -54,8 +54,8 @@ static const char help[] =
     "                       request it is\n"
     "\n"
     "The status is 0 for a page, 1 for a request that is refused, and for a list that\n"
-    "cannot be run, refused 8 or 14 (it is said on the error stream), also for a chain\n"
-    "with a point that fails (the page says which), 2 for a command or a list's text\n"
+    "cannot be run, refused 8 or 14 (it is said on the error stream), and for a chain\n"
+    "with a point that fails (the page says what), 2 for a command or a list's text\n"
     "that is not as above.\n"
     "\n"
     "  tools/picture --cut 25 " EXAMPLE " >run.html\n"
@@ -375,7 +375,9 @@ static int draw_key(const struct meaning *looks, int number, int x, int y) {
 }
 
 static void key(void) {
-    static const struct meaning ages[] = { { &of_group[OLD], "as before" }, { &of_group[NEW], "as asked" }, { &of_group[NEITHER], "a mix" } };
+    static const struct meaning ages[] = {
+        { &of_group[OLD], "as before" }, { &of_group[NEW], "as asked" }, { &of_group[NEITHER], "a mix" },
+    };
     printf("<svg viewBox='0 0 %d 28' role='img' aria-label='the key'>\n", WIDE);
     draw_key(of_states, STATES, draw_key(ages, 3, 1, 0), 0);
     printf("</svg>\n");
@@ -630,8 +632,8 @@ static int page_of_chain(long seed) {
     while (chain_next(&c, &r.chip)) draw_link(&r, &c);
     chain_end(&c, &r.chip, fault);
     if (*r.fault || *fault) printf("<p>A point does <b>NOT</b> hold: %s.</p>\n</body></html>\n", *r.fault ? r.fault : fault);
-    else printf("<p>%d points checked: at each the picture is as it must be, every free bit as at the beginning, and each group in use old or "
-                "whole as one request asked; at the end all is as the last request asked.</p>\n</body></html>\n", r.points);
+    else printf("<p>%d points checked: at each the picture is as it must be, every free bit as at the beginning, and each group in use old "
+                "or whole as one request asked; at the end all is as the last request asked.</p>\n</body></html>\n", r.points);
     return *r.fault || *fault ? REFUSED : ACCEPTED;
 }
 
