@@ -54,8 +54,8 @@ struct point chain_point(const struct chain *c, const struct chip *now);
  * those that it makes alone of the beginning, and it reads back, but for its family. */
 void chain_end(const struct chain *c, const struct chip *now, char fault[TEXT_OF_A_FAULT]);
 
-/* In words: where the chip comes from, with the hold that is up; how many Vsyncs the present link has, up to its cut and in all. */
+/* For a person: who left the chip, and the holds that are up at the beginning; how many of a link's first events are Vsyncs. */
 const char *text_of_beginning(const struct chain *c);
-uint32_t vsyncs_of(const struct link *l, uint32_t events);
+uint32_t    vsyncs_of(const struct link *l, uint32_t events);
 
 #endif

@@ -110,8 +110,10 @@ static const struct look *look_of(const struct run *r, enum lane l, int value) {
 
 /* The groups at a moment: whose each is, from MIXED on; or its age. */
 static void look_at_groups(struct run *r, const struct sent *s, int *value) {
-    for (int g = 0; g < GROUPS; g++) value[LANE_AVI + g] = age((enum group)g, s, &r->begun.old, &r->new);
-    if (!r->chain) return;
+    if (!r->chain) {
+        for (int g = 0; g < GROUPS; g++) value[LANE_AVI + g] = age((enum group)g, s, &r->begun.old, &r->new);
+        return;
+    }
     struct point p = chain_point(r->chain, &r->chip);
     for (int g = 0; g < GROUPS; g++) value[LANE_AVI + g] = p.whose[g] - MIXED;
     if (*p.fault && !*r->fault) memcpy(r->fault, p.fault, sizeof r->fault);
@@ -603,7 +605,10 @@ static void draw_link(struct run *r, const struct chain *c) {
     snprintf(of_cut, sizeof of_cut, "killed after event %u of %u", (unsigned)l->happen, (unsigned)l->events.count);
     begin(r, &r->chip, &c->asked[c->number]);
     play(r, l->list, &l->events, l->happen);
-    if (l->is_cut) cut(r);
+    if (l->is_cut) {
+        cut(r);
+        look(r, 4 * REST);
+    }
     r->points += 1 + (int)l->happen;
     draw_run(r, title, of_cut);
     say_request("Asked for:", l->asked.bytes, l->asked.length);
