@@ -21,9 +21,9 @@
 #include <stdint.h>
 
 /* The version of this header, one for each landing; CHANGELOG.md says what came with it. */
-#define STATION_VERSION "3.0.0"
+#define STATION_VERSION "3.1.0"
 #define STATION_MAJOR 3
-#define STATION_MINOR 0
+#define STATION_MINOR 1
 #define STATION_PATCH 0
 
 /* Lengths in bytes. */
