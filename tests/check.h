@@ -51,6 +51,7 @@ struct groups { uint8_t avi[AVI_BYTES], audio[AUDIO_BYTES], matrix[24]; uint32_t
 int look(const struct chip *c, struct groups *g);       /* 0 where a view refuses */
 int old_or_new(const struct groups *g, const struct groups *old, const struct groups *new);
 int same(const struct groups *a, const struct groups *b);       /* the three groups */
+void coefficients_of(const uint8_t *bytes, uint8_t *matrix);    /* as a request has them, of 24 bytes as the chip has them */
 
 struct station_count planned(const uint8_t *request, size_t rl, const struct chip *c, uint8_t *list);
 int turned(struct chip *c);                             /* one Vsync; 0 where it is refused, as below */
@@ -67,6 +68,10 @@ void     count_left_out(const uint8_t *image, const uint8_t *list, uint32_t coun
 void     every_part_left_out(void);
 
 void cuts(void);
+void cuts_in_a_row(void);
+
+/* chains.c: by the library's own calls, judged by the model. ------------------------------------------------------------------------- */
+
 void chains(void);
 
 #endif

@@ -5,7 +5,7 @@
 #include <string.h>
 
 /* Twelve coefficients as a request has them, of 24 bytes as the chip has them: 13 bits each, two's complement. */
-static void coefficients_of(const uint8_t *bytes, uint8_t *matrix) {
+void coefficients_of(const uint8_t *bytes, uint8_t *matrix) {
     for (int i = 0; i < 24; i += 2) {
         matrix[i] = (uint8_t)((bytes[i] & 0x1F) | (bytes[i] & 0x10 ? 0xE0 : 0));
         matrix[i + 1] = bytes[i + 1];
@@ -372,8 +372,8 @@ void cuts(void) {
     if (run.share >= 1000) every_value_met();
 }
 
-/* In a chain of cuts the same past goes on. */
-static void in_chain(struct walk *k) {
+/* In a row of cuts the same past goes on. */
+static void in_row(struct walk *k) {
     struct groups g;
     if (!look(&k->now, &g)) differs("a view refused after a cut");
     else if (k->writes > 0) between(k, &g);
@@ -381,7 +381,7 @@ static void in_chain(struct walk *k) {
 }
 
 /* Cut, planned again, cut again, some times over, with events anywhere; then another request over the ruins, with what waits there. */
-void chains(void) {
+void cuts_in_a_row(void) {
     static struct walk k;
     for (uint32_t i = times(6000); i > 0; i--) {
         uint8_t bytes[LONGEST];
@@ -397,7 +397,7 @@ void chains(void) {
                 run.now->cases++;
                 if (!scripted(k.bytes, k.length, &k.now, &k.s)) break;
                 any_events(&k.s);
-                walked(&k, any(k.s.count), any(3), in_chain);
+                walked(&k, any(k.s.count), any(3), in_row);
             }
             planned_again(&k);
             start = k.now;

@@ -191,8 +191,7 @@ void any_start(struct chip *c) {
     c->mark = any_mark();
 }
 
-/* Another request, which differs in one section, or in one field. */
-static void other_part(struct fields *f) {
+void other_part(struct fields *f) {
     struct fields was = *f, other;
     do {
         const struct field *one = &model_fields[any(FIELDS)];

@@ -20,6 +20,7 @@ uint8_t  any_mark(void);                                /* none, 1, or another n
 void     any_start(struct chip *c);                     /* a state that planning accepts, with any mark */
 void     finish(uint8_t *image, const struct fields *f);
 void     left_up(uint8_t *image);                       /* holds that refusal 8 lets pass, as a cut could leave them */
+void     other_part(struct fields *f);                  /* another one, accepted, which differs in one section, or in one field */
 void     near_image(uint8_t *image, const struct fields *f);    /* one that planning accepts, and that needs few writes for this request */
 
 /* Every kind of request: each value of each field of the video and the audio section, sound and matrix on or off; where these are too many,

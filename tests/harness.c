@@ -1142,10 +1142,11 @@ static const struct { const char *name; void (*run)(void); } sections[SECTIONS] 
     { "lists of ours, a change each", changed_lists },
     { "lists of a vendor", vendors },
     { "every cut of every mode", cuts },
-    { "more than one cut", chains },
+    { "more than one cut", cuts_in_a_row },
+    { "chains of requests", chains },
 };
 
-int harness(const struct face *f, int first, unsigned share, int stop, int loud, struct section *result) {
+int harness(const struct face *f, int first, int end, unsigned share, int stop, int loud, struct section *result) {
     static char stack[1 << 16];
     static int open;
     volatile int bad = 0;
@@ -1166,7 +1167,7 @@ int harness(const struct face *f, int first, unsigned share, int stop, int loud,
     run.stop = stop;
     run.loud = loud;
     first_difference[0] = 0;
-    for (volatile int i = first; i < SECTIONS; i++) {
+    for (volatile int i = first; i < end; i++) {
         struct timeval from, to;
         result[i] = (struct section){ sections[i].name, 0, 0 };
         still = 0;

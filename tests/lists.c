@@ -192,7 +192,7 @@ static size_t step_end(const struct pairs *l, size_t from) {
 }
 
 /* A list of ours with its steps between the mute and the opening write in any order, and some left out or done again. */
-static void other_steps(struct pairs *l) {
+void other_steps(struct pairs *l) {
     enum { MOST = 16 };
     struct pairs ours = *l;
     size_t from[MOST], to[MOST], steps = 0, last = count_of(&ours) - 1;
@@ -214,7 +214,7 @@ static void other_steps(struct pairs *l) {
 
 /* A list of ours whose writes to 0x1A have the coefficient hold otherwise: never raised, dropped among the coefficients, or by chance; with
  * more such writes put in, and perhaps with an early end. */
-static void other_hold(const struct chip *c, struct pairs *l) {
+void other_hold(const struct chip *c, struct pairs *l) {
     uint32_t how = any(4), turn = 0;
     for (size_t at = 0; at < count_of(l); at++) {
         if (l->bytes[2 * at] != 0x1A) continue;

@@ -23,6 +23,8 @@ void   add(struct pairs *l, const struct pairs *more, size_t from, size_t to);
 uint8_t kept_value(const uint8_t *image, uint8_t address, uint8_t named);   /* mandated and free bits right, and these named bits */
 void   any_bad_pair(const struct chip *c, uint8_t *pair);           /* one that is bad in most lists */
 void   stretch(const struct chip *c, struct pairs *l, size_t count);        /* a passing list of ours to one of so many pairs */
+void   other_steps(struct pairs *l);                                /* a list of ours with its steps in any order, fewer or more */
+void   other_hold(const struct chip *c, struct pairs *l);           /* one with the coefficient hold otherwise */
 void   any_vendors(struct chip *c, struct pairs *l);                /* a list of any kind, and a state for it */
 
 #endif

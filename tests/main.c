@@ -1,8 +1,8 @@
 /* tests: `tests lib` compares the library with the model; `tests self` the model with itself, which tries the harness; `tests wrong` runs
- * every wrong library of tests/wrong and says how many were caught, after six right ones (the model, the two plain ones of bench/, and the
- * planner of wrong/fewer.c, the machine of wrong/mark.c and the judge of wrong/vet.c without a fault). `tests facts` is what station.h says
- * of sizes, alignment, threads and stack. Each ends with 'N passed, M failed'. `tests line` and `tests verdict` print what the programs
- * `desk` and `vet` should print, `tests input` writes inputs for `vet`. */
+ * every wrong library of tests/wrong and says how many were caught, after seven right ones (the model, the two plain ones of bench/, and
+ * the planner of wrong/fewer.c, the machine of wrong/mark.c, the judge of wrong/vet.c and the library of wrong/chain.c without a fault).
+ * `tests facts` is what station.h says of sizes, alignment, threads and stack. Each ends with 'N passed, M failed'. `tests line` and
+ * `tests verdict` print what the programs `desk` and `vet` should print, `tests input` writes inputs for `vet`. */
 #include "../bench/plain.h"
 #include "facts.h"
 #include "harness.h"
@@ -22,7 +22,7 @@ static int compared(const char *what, const struct face *f, unsigned share) {
     uint64_t cases = 0;
     int failed = 0;
     printf("%s against the model\n", what);
-    harness(f, ALL, share, 0, 1, s);
+    harness(f, ALL, SECTIONS, share, 0, 1, s);
     for (int i = 0; i < SECTIONS; i++) {
         cases += s[i].cases;
         failed += s[i].failed != 0;
@@ -45,35 +45,54 @@ static const struct { const char *what; void (*put)(struct face *); unsigned sha
     { "the planner of wrong/fewer.c without a fault", put_right_planner, 5 * SHARE },
     { "the machine of wrong/mark.c without a fault", put_right_machine, 5 * SHARE },
     { "the judge of wrong/vet.c without a fault", put_right_judge, 5 * SHARE },
+    { "the library of wrong/chain.c without a fault", put_right_library, 5 * SHARE },
 };
 enum { RIGHT = sizeof right / sizeof right[0] };
 
+/* One wrong library on some sections: does a difference show? */
+static int shown(const struct wrong *w, int first, int end, unsigned share) {
+    struct section s[SECTIONS];
+    struct face f = model;
+    w->put(&f);
+    return harness(&f, first, end, share, 1, 0, s) != 0;
+}
+static void say(int caught, const char *what) { printf("  %-6s %-48.48s %.100s\n", caught ? "caught" : "MISSED", what, first_difference); }
+
 static int caught(void) {
     struct section s[SECTIONS];
-    int all = 0, missed = 0, cuts = 0, control = 0;
+    int all = 0, missed = 0, cuts = 0, chains = 0, only = 0, control = 0;
     printf("wrong libraries, each with one fault\n");
     for (int i = 0; i < RIGHT; i++) {
         struct face f = model;
         right[i].put(&f);
-        int bad = harness(&f, ALL, right[i].share, 1, 0, s);
+        int bad = harness(&f, ALL, SECTIONS, right[i].share, 1, 0, s);
         control += bad != 0;
         printf("  %s: %s\n", right[i].what, bad ? first_difference : "no difference");
     }
     for (const struct wrong_set *set = wrong_sets; set->rows; set++)
         for (const struct wrong *w = set->rows; w->fault; w++, all++) {
-            struct face f = model;
-            w->put(&f);
-            int bad = harness(&f, set->first, SHARE, 1, 0, s);
-            printf("  %-6s %-48.48s %.100s\n", bad ? "caught" : "MISSED", w->fault, first_difference);
-            if (bad && w->on_cuts) {        /* demand 3 must show it too, without the model's list */
-                bad = harness(&f, ON_CUTS, SHARE, 1, 0, s);
-                cuts += bad != 0;
-                printf("  %-6s %-48.48s %.100s\n", bad ? "caught" : "MISSED", "  the same, by demand 3 alone", first_difference);
+            int bad = shown(w, set->first, SECTIONS, SHARE);
+            say(bad, w->fault);
+            if (bad && (w->alone & BY_CUTS)) {          /* demand 3 must show it too, without the model's list */
+                bad = shown(w, ON_CUTS, ON_CHAINS, SHARE);
+                cuts += bad;
+                say(bad, "  the same, by demand 3 alone");
+            }
+            if (bad && (w->alone & BY_CHAINS)) {        /* and the chains of requests */
+                bad = shown(w, ON_CHAINS, SECTIONS, 10 * SHARE);
+                chains += bad;
+                say(bad, "  the same, by chains of requests alone");
+            }
+            if (bad && (w->alone & NOT_BY_CUTS)) {      /* which a run of one request, planned again, does not show */
+                bad = !shown(w, ON_CUTS, ON_CHAINS, 10 * SHARE);
+                only += bad;
+                if (!bad) say(bad, "  the same, which demand 3 should not show");
             }
             missed += bad == 0;
             fflush(stdout);
         }
-    printf("  %d of %d wrong libraries caught, %d of them by demand 3 alone as well\n", all - missed, all, cuts);
+    printf("  %d of %d wrong libraries caught, %d of them by demand 3 alone as well, %d by chains alone, %d of these not by demand 3\n",
+           all - missed, all, cuts, chains, only);
     printf("%d passed, %d failed\n", all - missed + RIGHT - control, missed + control);
     return missed != 0 || control != 0;
 }
