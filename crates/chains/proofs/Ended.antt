@@ -7,7 +7,7 @@ use native.Mathlib.Omega.{arith}
 use lib.Dec.{eqb, lit≤}
 use lib.ListN.{length, getD}
 use lib.Seq.{take-length}
-use borrow.Author.Tests.{ne-eqb}
+use borrow.Author.Tests.{ne-eqb, ltb-false}
 use Rattle.bits.specs.Merge.{bit, bitsIn}
 use Rattle.bits.proofs.Laws.{bit-code}
 use Rattle.registers.specs.Classes.{named}
@@ -21,7 +21,9 @@ use Rattle.writes.specs.List.{isWritten, finished, finishedImage}
 use Rattle.writes.proofs.Image.{image-at}
 use Rattle.writes.proofs.Named.{named-bit}
 use Rattle.plan.proofs.Fine.{Fine, fine}
-use Rattle.cut.specs.Run.{Event, run, writesOf, InUse, allInUse, standing}
+use Rattle.decode.specs.Ends.{Ends}
+use Rattle.promises.proofs.Vendors.{vendors}
+use Rattle.cut.specs.Run.{Event, run, cut, writesOf, InUse, allInUse, standing}
 use Rattle.cut.specs.Vsync.{waits, Finished}
 use Rattle.cut.specs.Demand.{After, Clauses, Demand3}
 use Rattle.cut.proofs.Cut.{Ready, Near}
@@ -32,7 +34,7 @@ use Rattle.promises.specs.Finished.{places, Shows}
 use Rattle.promises.specs.Rules.{asked}
 use Rattle.promises.specs.LentBytes.{enteredCuts}
 use Rattle.promises.specs.AnyCut.{listOf}
-use Rattle.promises.proofs.AnyCut.{any-cut, listed, rules}
+use Rattle.promises.proofs.AnyCut.{accepted, any-cut, listed, again-fine, rules}
 use Rattle.promises.proofs.Ended.{at-place}
 use Rattle.promises.proofs.Filled.{picked}
 use Rattle.chains.specs.Chain.{vendor, Accepted, pairsFor, Link, Chain, wholeAs}
@@ -40,7 +42,7 @@ use Rattle.chains.specs.Chain as chain
 use Rattle.chains.specs.Theorems.{Last, Ended, EndedList, NamedIn, Alike}
 use Rattle.chains.proofs.Whole.{stands-whole, whole-agree}
 use Rattle.chains.proofs.Links.{near-trans, planned-ready, plugin-moved}
-use Rattle.chains.proofs.Vetted.{vetted-ready, list-after}
+use Rattle.chains.proofs.Vetted.{vetted-ready, vendor-moved, list-after}
 use Rattle.chains.proofs.Points.{start-ready, near-left, kept-near, over-slices}
 
 module _ (ls : List Link) (s : Chip) (c : Chain ls s) (input room : List ℕ) (es : List Event) (l : Last input room es (chain.left ls s)) where
@@ -61,6 +63,10 @@ module _ (ls : List Link) (s : Chip) (c : Chain ls s) (input room : List ℕ) (e
 
   ready : Ready (s .image)
   ready = start-ready ls s c (planned-ready input room t (l .accepted))
+
+  -- the request is accepted at the beginning too
+  f₀ : Fine input (s .image) room
+  f₀ = again-fine input (t .image) room f (s .image) room (ready .whole) (ready .holds) (ltb-false (length room) 256 (f .long))
 
   d : Demand3 (listOf input) (asked input) t
   d = holds (asked input) t (f .whole) (f .clear)
@@ -118,10 +124,9 @@ module _ (ls : List Link) (s : Chip) (c : Chain ls s) (input room : List ℕ) (e
     groups = all-new;
     kept = kept-near s e (near-trans s t e near last-near);
     opened = ended .opened;
-    same = λ fs g.
-        let y : Fine input (s .image) room = record { read = f .read; whole = ready .whole; clear = ready .holds; paired = f .paired; long = f .long } in
-        ends-same (asked input) s (ready .whole) (ready .holds) t near fs es
-        (subst (λ (ws : List Write). Finished ws fs) (listed input (s .image) room y .pairs) g) done;
+    accepted = accepted input (s .image) room f₀;
+    same = λ fs g. ends-same (asked input) s (ready .whole) (ready .holds) t near fs es
+        (subst (λ (ws : List Write). Finished ws fs) (listed input (s .image) room f₀ .pairs) g) done;
     idle = nothing;
     said = λ lent z at.
         let o = over-slices ls s lent z at in
@@ -136,7 +141,14 @@ list-ended ls s c list ending es a e =
     let t : Chip = chain.left ls s in
     let b = list-after list ending t (a .0) (a .1) (record { events = es; place = 0 }) e in
     let n : Near s t = near-left ls s c (vetted-ready list ending t (a .0) (a .1)) in
-    record { groups = b .1 ∙ whole-agree ending (t .image) (s .image) (n .kept); opened = b .0 }
+    let m = vendor-moved list ending t (a .0) (a .1) (record { events = es; place = length es }) e in
+    let whole : cut es t (length es) ≡ run es t = ap (λ (fs : List Event). run fs t) (take-length es) in
+    record {
+      registers = subst (Ends ending) (sym (vendors .passing list t (a .0) .anyEnd es e .0)) (a .1);
+      groups = b .1 ∙ whole-agree ending (t .image) (s .image) (n .kept);
+      kept = kept-near s (run es t) (near-trans s t (run es t) n (subst (λ (x : Chip). Near t x) whole (m .near)));
+      opened = b .0;
+    }
 
 -- ---- two chains with the same last request
 

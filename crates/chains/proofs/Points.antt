@@ -2,17 +2,17 @@
 use mathlib.Core.Path.{_≡_, refl, sym, ap, subst, _∙_}
 use mathlib.Core.Logic.{_⊎_, inl, inr, ⊎-elim, _≢_}
 use mathlib.Core.Bool.{Bool, true, false, false≢true, cond, not, _&&_}
-use mathlib.Core.List.{List, [], _∷_, _++_, map}
+use mathlib.Core.List.{List, [], _∷_, _++_, map, append-assoc}
 use Prim.Native.Nat.{ℕ, zero, suc, _+_, _<_}
 use native.Mathlib.Nat.{not-suc-le-zero}
 use native.Mathlib.Omega.{arith}
 use lib.Dec.{eqb}
-use lib.ListN.{length, getD, take}
-use borrow.Author.Tests.{eqb-true, ltb-true}
+use lib.ListN.{length, getD, take, length-append}
+use borrow.Author.Tests.{eqb-true}
 use Rattle.lists.specs.Find.{every}
 use Rattle.lists.proofs.Both.{both-left, both-right}
 use Rattle.bits.specs.Merge.{bit}
-use Rattle.refusals.specs.Rows.{imageLength, holdsUp, noExactPair, bufferShort, Condition, _when_, Given}
+use Rattle.refusals.specs.Rows.{number, at, imageLength, holdsUp, noExactPair, bufferShort, Condition, _when_, Given}
 use Rattle.refusals.proofs.Tests.{without}
 use Rattle.registers.specs.Classes.{readOnly, free}
 use Rattle.matrix.specs.Matrix.{Bytes}
@@ -28,16 +28,20 @@ use Rattle.writes.proofs.Carries.{masked}
 use Rattle.plan.specs.Plan.{planOf}
 use Rattle.plan.specs.Rules.{HoldsUp}
 use Rattle.plan.proofs.Ordered.{holds-up, refusals}
+use Rattle.vendor.specs.Vendor.{vetRules}
+use Rattle.vendor.specs.Found.{vetOf}
+use Rattle.vendor.proofs.Judged.{vetted}
 use Rattle.cut.specs.Run.{Event, run, cut, writesOf, writesBy, InUse, Stays}
 use Rattle.cut.specs.Vsync.{waits}
-use Rattle.cut.proofs.Erased.{run-append}
+use Rattle.cut.specs.Demand.{Cut}
+use Rattle.cut.proofs.Erased.{run-append, writes-append}
 use Rattle.cut.proofs.Bytes.{Agree}
 use Rattle.cut.proofs.Cut.{Ready, Near, near-self}
 use Rattle.promises.specs.LentBytes.{entered, enteredCuts}
 use Rattle.promises.proofs.LentBytes.{sized-entered, entered-run}
 use Rattle.chains.specs.Chain.{Hand, plugin, vendor, isPlugin, asks, Accepted, pairsFor, Link, after, left, Chain, happened, wholeAs, OneOf, allAsked}
-use Rattle.chains.specs.Chain.{muteAfter, muteBy, begun, unopened}
-use Rattle.chains.specs.Theorems.{ownRules, Kept, Point, Reached}
+use Rattle.chains.specs.Chain.{muteAfter, muteBy, unopened}
+use Rattle.chains.specs.Theorems.{Next, AnyChain, ownRules, Kept, Point, Reached}
 use Rattle.chains.proofs.Whole.{whole-agree}
 use Rattle.chains.proofs.Links.{near-trans, OfThree, vsync-use, plugin-matrix}
 use Rattle.chains.proofs.Vetted.{link-ready, moved}
@@ -128,20 +132,16 @@ module _ (l : Link) (o : unopened l ≡ true) where
       go true = refl
       go false = refl
 
-  becomes-muted : (was : ℕ) → begun l ≡ true → muteAfter (l .run) was ≡ 1
-  becomes-muted was b = rw o (go (eqb n 0) refl)
-    where
-      go : (x : Bool) → eqb n 0 ≡ x → cond x was 1 ≡ 1
-      go true e = let z : n ≡ 0 = eqb-true n 0 e in let h : 0 < n = ltb-true 0 n b in absurd (not-suc-le-zero (rw z at h))
-      go false e = refl
+  becomes-muted : (was : ℕ) → eqb n 0 ≡ false → muteAfter (l .run) was ≡ 1
+  becomes-muted was b = rw (o, b)
 
 muted-on : (ls : List Link) → every unopened ls ≡ true → muteBy ls 1 ≡ 1
 muted-on [] t = refl
 muted-on (l ∷ ls) t = rw (stays-muted l (both-left (unopened l) (every unopened ls) t)) (muted-on ls (both-right (unopened l) (every unopened ls) t))
 
-muted-since : (ls : List Link) (was : ℕ) → every (λ l. not (begun l)) ls ≡ false → every unopened ls ≡ true → muteBy ls was ≡ 1
-muted-since [] was b t = absurd (false≢true (sym b))
-muted-since (l ∷ ls) was b t = go (begun l) refl b (λ b. muted-since ls (muteAfter (l .run) was) b more)
+muted-since : (ls : List Link) (was : ℕ) → 0 < length (writesOf (happened ls)) → every unopened ls ≡ true → muteBy ls was ≡ 1
+muted-since [] was b t = absurd (not-suc-le-zero b)
+muted-since (l ∷ ls) was b t = go (eqb (n l one) 0) refl (λ h. muted-since ls (muteAfter (l .run) was) h more)
   where
     one : unopened l ≡ true
     one = both-left (unopened l) (every unopened ls) t
@@ -149,10 +149,15 @@ muted-since (l ∷ ls) was b t = go (begun l) refl b (λ b. muted-since ls (mute
     more : every unopened ls ≡ true
     more = both-right (unopened l) (every unopened ls) t
 
-    go : (x : Bool) → begun l ≡ x → (not x && every (λ l. not (begun l)) ls) ≡ false
-        → (every (λ l. not (begun l)) ls ≡ false → muteBy ls (muteAfter (l .run) was) ≡ 1) → muteBy ls (muteAfter (l .run) was) ≡ 1
-    go true e b ih = rw (becomes-muted l one was e) (muted-on ls more)
-    go false e b ih = ih b
+    sum : length (writesOf (happened (l ∷ ls))) ≡ writesBy (l .run .events) (l .run .place) + length (writesOf (happened ls))
+    sum =
+        ap length (writes-append (take (l .run .place) (l .run .events)) (happened ls))
+        ∙ length-append (writesOf (take (l .run .place) (l .run .events))) (writesOf (happened ls))
+
+    go : (x : Bool) → eqb (n l one) 0 ≡ x → (0 < length (writesOf (happened ls)) → muteBy ls (muteAfter (l .run) was) ≡ 1)
+        → muteBy ls (muteAfter (l .run) was) ≡ 1
+    go true e ih = let z : n l one ≡ 0 = eqb-true (n l one) 0 e in ih (omega (arith, z, sum, b))
+    go false e ih = rw (becomes-muted l one was e) (muted-on ls more)
 
 is-muted : (t : Chip) → mute t ≡ 1 → Muted t
 is-muted t e = (omega (arith, e), omega (arith, e))
@@ -167,6 +172,17 @@ next-given t r input room b =
     (without (readRules (walked input)) (imageLength when (length (t .image) ≢ 256)) (holdsUp when HoldsUp (t .image) ∷ rest) n
     (refusals input b (t .image) room .given) refl (λ x. x (r .whole))) refl
     (holds-up (t .image) .fails (ap not (r .holds)))
+
+never-eight : (t : Chip) → Ready (t .image) → (list : List ℕ) → vetOf t list .refusal ≢ 8
+never-eight t r list e = let f = vetted t list .given .some (λ z. omega (arith, z, e)) in go (f .place) (f .within) (f .numbered) (f .applies)
+  where
+    go : (place : ℕ) → place < 5 → vetOf t list .refusal ≡ number (at (vetRules t list) place .row) → at (vetRules t list) place .When → ⊥
+    go zero h n w = omega (arith, n, e)
+    go (suc zero) h n w = holds-up (t .image) .fails (ap not (r .holds)) w
+    go (suc (suc zero)) h n w = omega (arith, n, e)
+    go (suc (suc (suc zero))) h n w = omega (arith, n, e)
+    go (suc (suc (suc (suc zero)))) h n w = omega (arith, n, e)
+    go (suc (suc (suc (suc (suc place))))) h n w = omega (arith, h)
 
 -- ---- over slices
 
@@ -215,6 +231,44 @@ kept-bit s t near a j h (inr r) =
 pub kept-near : (s t : Chip) → Near s t → Kept s t
 kept-near s t near = record { bits = kept-bit s t near; unwritten = near .rest }
 
+-- a chain leaves what its events do
+left-run : (ls : List Link) (s : Chip) → left ls s ≡ run (happened ls) s
+left-run [] s = refl
+left-run (l ∷ ls) s = left-run ls (after l s) ∙ sym (run-append (take (l .run .place) (l .run .events)) (happened ls) s)
+
+append-nil : (l : List Event) → l ++ [] ≡ l
+append-nil [] = refl
+append-nil (e ∷ es) = ap (λ (l : List Event). e ∷ l) (append-nil es)
+
+-- one more link
+module _ (h : Hand) (c : Cut) where
+  abbrev l : Link
+  l = record { hand = h; run = c }
+
+  grown : (ls : List Link) (s : Chip) → Chain ls s → Accepted h (left ls s) → writesOf (c .events) ≡ pairsFor h (left ls s) → Chain (ls ++ l ∷ []) s
+  grown [] s k a e = (a, e, tt)
+  grown (m ∷ ls) s k a e = (k .0, k .1, grown ls (after m s) (k .2) a e)
+
+  goes-on : (ls : List Link) (s : Chip) → left (ls ++ l ∷ []) s ≡ cut (c .events) (left ls s) (c .place)
+  goes-on [] s = refl
+  goes-on (m ∷ ls) s = goes-on ls (after m s)
+
+  has-happened : (ls : List Link) → happened (ls ++ l ∷ []) ≡ happened ls ++ take (c .place) (c .events)
+  has-happened [] = append-nil (take (c .place) (c .events))
+  has-happened (m ∷ ls) =
+      ap (λ (f : List Event). take (m .run .place) (m .run .events) ++ f) (has-happened ls)
+      ∙ sym (append-assoc (take (m .run .place) (m .run .events)) (happened ls) (take (c .place) (c .events)))
+
+  one-more : (ls : List Link) (s : Chip) → Chain ls s → Accepted h (left ls s) → writesOf (c .events) ≡ pairsFor h (left ls s) → Next h c ls s
+  one-more ls s k a e = record { chain = grown ls s k a e; left = goes-on ls s; happened = has-happened ls }
+
+pub any-chain : (s : Chip) → AnyChain s
+any-chain s = record {
+  none = (tt, refl, refl);
+  request = λ ls k input room c a e. (one-more (plugin input room) c ls s k a e, refl);
+  list = λ ls k list c a e r ends. one-more (vendor list r) c ls s k (a, ends) e;
+}
+
 pub point : (ls : List Link) (s : Chip) → Chain ls s → Point ls s
 point [] s c = record {
   kept = record { bits = λ a j h f. refl; unwritten = λ a h w. refl };
@@ -222,8 +276,9 @@ point [] s c = record {
   audio = refl;
   matrix = λ w t. refl;
   mute = refl;
-  muted = λ b t. absurd (false≢true (sym b));
+  muted = λ b. absurd (not-suc-le-zero b);
   next = λ h. absurd (not-suc-le-zero h);
+  nextList = λ h. absurd (not-suc-le-zero h);
   slices = over-slices [] s;
 }
 point (l ∷ ls) s c =
@@ -238,6 +293,7 @@ point (l ∷ ls) s c =
       mute = mute-chain ms s c;
       muted = λ b t. is-muted (left ms s) (mute-chain ms s c ∙ muted-since ms (mute s) b t);
       next = λ h. next-given (left ms s) (near .ready);
+      nextList = λ h. never-eight (left ms s) (near .ready);
       slices = over-slices ms s;
     }
 
@@ -261,15 +317,6 @@ front-of zero p es = refl
 front-of (suc k) zero es = refl
 front-of (suc k) (suc p) [] = refl
 front-of (suc k) (suc p) (e ∷ es) = ap (λ (l : List Event). e ∷ l) (front-of k p es)
-
-append-nil : (l : List Event) → l ++ [] ≡ l
-append-nil [] = refl
-append-nil (e ∷ es) = ap (λ (l : List Event). e ∷ l) (append-nil es)
-
--- a chain leaves what its events do
-left-run : (ls : List Link) (s : Chip) → left ls s ≡ run (happened ls) s
-left-run [] s = refl
-left-run (l ∷ ls) s = left-run ls (after l s) ∙ sym (run-append (take (l .run .place) (l .run .events)) (happened ls) s)
 
 -- a chain that reaches the point
 record Reaching (k : ℕ) (ls : List Link) (s : Chip) : Type 0 where

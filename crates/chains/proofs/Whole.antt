@@ -45,7 +45,7 @@ module _ (image : List ℕ) (r : Request) where
   abbrev end : List ℕ
   end = finishedImage (wanted r) image
 
-  avi-heads : (getD end 0x52 0 ≡ 0x02 + under 0xF8 (getD image 0x52 0)) × (getD end 0x53 0 ≡ 0x0D + under 0xE0 (getD image 0x53 0))
+  avi-heads : (getD end 0x52 0 ≡ 0x02 + under (free 0x52) (getD image 0x52 0)) × (getD end 0x53 0 ≡ 0x0D + under (free 0x53) (getD image 0x53 0))
   unfolding isWritten decided classAt byte merge
   avi-heads =
       let h = promises.heads r (r .sound) in (
@@ -53,7 +53,7 @@ module _ (image : List ℕ) (r : Request) where
         image-at (wanted r) image 0x53 (lit< tt) ∙ left (wanted r) image 0x53 refl ∙ rw (h .1) (omega arith),
       )
 
-  audio-heads : (getD end 0x70 0 ≡ 0x01 + under 0xF8 (getD image 0x70 0)) × (getD end 0x71 0 ≡ 0x0A + under 0xE0 (getD image 0x71 0))
+  audio-heads : (getD end 0x70 0 ≡ 0x01 + under (free 0x70) (getD image 0x70 0)) × (getD end 0x71 0 ≡ 0x0A + under (free 0x71) (getD image 0x71 0))
   unfolding isWritten decided classAt byte merge
   audio-heads =
       let h = promises.heads r (r .sound) in (
@@ -86,13 +86,12 @@ module _ (image : List ℕ) (r : Request) where
 
 -- the same with the free bits of the same
 pub whole-agree : (r : Request) (x y : List ℕ) → Agree x y → wholeAs x r ≡ wholeAs y r
-unfolding classAt
 whole-agree r x y a =
-    let head : (first version count : ℕ) → free first ≡ 0xF8 → free (first + 1) ≡ 0xE0 → heads first version count x ≡ heads first version count y =
-    λ first version count p q.
-    ap₂ (λ (m n : ℕ). (version + m) ∷ (count + n) ∷ []) (rw p at (agree-free x y a first)) (rw q at (agree-free x y a (first + 1))) in
+    let head : (first version count : ℕ) → heads first version count x ≡ heads first version count y =
+    λ first version count.
+    ap₂ (λ (m n : ℕ). (version + m) ∷ (count + n) ∷ []) (agree-free x y a first) (agree-free x y a (first + 1)) in
     λ j. record {
-      avi = head 0x52 0x02 0x0D refl refl j ++ drop 3 (aviFrame (r .video));
-      audio = head 0x70 0x01 0x0A refl refl j ++ drop 3 (audioPacket (r .sound));
+      avi = head 0x52 0x02 0x0D j ++ drop 3 (aviFrame (r .video));
+      audio = head 0x70 0x01 0x0A j ++ drop 3 (audioPacket (r .sound));
       matrix = r .matrix .coefficients;
     }

@@ -7,6 +7,7 @@ use Prim.Native.Nat.{ℕ, _+_}
 use lib.Dec.{eqb, ltb}
 use lib.ListN.{length, getD, take, drop}
 use Rattle.bits.specs.Merge.{under}
+use Rattle.registers.specs.Classes.{free}
 use Rattle.frames.specs.Frames.{aviFrame}
 use Rattle.request.specs.declared.Request.{Request}
 use Rattle.request.specs.Read.{readOf}
@@ -37,7 +38,7 @@ abbrev pub asks : Hand → Request
 asks (plugin input room) = readOf input .request
 asks (vendor list ending) = ending
 
--- it is accepted on a state as it stands: by planning, or by the verdict
+-- it is accepted on a state as it stands: by planning; or by the verdict, and it ends in that request
 abbrev pub Accepted : Hand → Chip → Type 0
 Accepted (plugin input room) s = planOf input (s .image) room .refusal ≡ 0
 Accepted (vendor list ending) s = (vetOf s list .refusal ≡ 0) × Ends ending (endOf (pairsOf list) s .image)
@@ -65,7 +66,7 @@ abbrev pub Chain : List Link → Chip → Type 0
 Chain [] s = Unit {0}
 Chain (l ∷ ls) s = Accepted (l .hand) s × (writesOf (l .run .events) ≡ pairsFor (l .hand) s) × Chain ls (after l s)
 
--- all that has happened in it, one event after the other: "every point" is a cut of this
+-- all that has happened in it, one event after the other: each point is a cut of this
 abbrev pub happened : List Link → List Event
 happened [] = []
 happened (l ∷ ls) = take (l .run .place) (l .run .events) ++ happened ls
@@ -75,9 +76,9 @@ happened (l ∷ ls) = take (l .run .place) (l .run .events) ++ happened ls
 -- a packet's version and length, each beside the free bits of an image
 abbrev pub heads : ℕ → ℕ → ℕ → List ℕ → List ℕ
 heads first version count image =
-    (version + under 0xF8 (getD image first 0)) ∷ (count + under 0xE0 (getD image (first + 1) 0)) ∷ []
+    (version + under (free first) (getD image first 0)) ∷ (count + under (free (first + 1)) (getD image (first + 1) 0)) ∷ []
 
--- "whole as one request of the chain asked": its own two InfoFrames and its own coefficients, "with the free bits of the beginning", whose
+-- "whole as one request of the chain asked": its own two InfoFrames and its own coefficients, with the free bits of the beginning, whose
 -- registers are `image`. "AVI header 0x82, 0x02, 0x0D; audio header 0x84, 0x01, 0x0A"; the first byte has no register.
 abbrev pub wholeAs : List ℕ → Request → InUse
 wholeAs image r = record {
@@ -96,7 +97,7 @@ allAsked image = map (λ l. wholeAs image (asks (l .hand)))
 
 -- ---- muted or open
 
--- the mute, 1 muted and 2 open, after the first k events of a run: as it was until the first write, muted until the last, then open
+-- the mute, 1 muted and 2 open, after a run as far as its cut: as it was until the first write, muted until the last, then open
 abbrev pub muteAfter : Cut → ℕ → ℕ
 muteAfter c was =
     let n : ℕ = writesBy (c .events) (c .place) in
@@ -106,9 +107,6 @@ abbrev pub muteBy : List Link → ℕ → ℕ
 muteBy [] was = was
 muteBy (l ∷ ls) was = muteBy ls (muteAfter (l .run) was)
 
--- a link has made a write, and has not made its last
-abbrev pub begun : Link → Bool
-begun l = ltb 0 (writesBy (l .run .events) (l .run .place))
-
+-- a link has not made its last write
 abbrev pub unopened : Link → Bool
 unopened l = ltb (writesBy (l .run .events) (l .run .place)) (length (writesOf (l .run .events)))

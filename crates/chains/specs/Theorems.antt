@@ -1,7 +1,7 @@
 -- What is proved of chains: document 02, request 14.
 use mathlib.Core.Path.{_≡_}
-use mathlib.Core.Logic.{_⊎_}
-use mathlib.Core.Bool.{true, false, not}
+use mathlib.Core.Logic.{_⊎_, _≢_}
+use mathlib.Core.Bool.{true, false}
 use mathlib.Core.List.{List, [], _∷_, _++_, map}
 use Prim.Native.Nat.{ℕ, _+_, _<_}
 use lib.ListN.{length, getD, take}
@@ -19,14 +19,34 @@ use Rattle.chip.specs.Machine.{Group, avi, audio, packets, inUse, coefficients,
 use Rattle.chip.specs.Write.{vsyncOf}
 use Rattle.views.specs.Entry.{Lent, stateOf}
 use Rattle.views.specs.Theorems.{LentSized}
-use Rattle.writes.specs.List.{isWritten}
+use Rattle.writes.specs.List.{isWritten, pairsOf}
 use Rattle.plan.specs.Plan.{planOf}
-use Rattle.cut.specs.Run.{Event, run, cut, allInUse, Stays}
+use Rattle.decode.specs.Ends.{Ends}
+use Rattle.vendor.specs.Found.{vetOf}
+use Rattle.vendor.specs.Vendor.{endOf}
+use Rattle.cut.specs.Run.{Event, run, cut, writesOf, allInUse, Stays}
 use Rattle.cut.specs.Vsync.{waits, Finished}
-use Rattle.cut.specs.Demand.{Same}
+use Rattle.cut.specs.Demand.{Same, Cut}
 use Rattle.promises.specs.Finished as field
 use Rattle.promises.specs.LentBytes.{pairsLeft, entered, enteredCuts, SaidAfter}
-use Rattle.chains.specs.Chain.{isPlugin, Link, left, Chain, happened, wholeAs, OneOf, allAsked, muteBy, begun, unopened}
+use Rattle.chains.specs.Chain.{Hand, plugin, vendor, isPlugin, Link, left, Chain, happened, wholeAs, OneOf, allAsked, muteBy, unopened}
+
+-- ---- "any chain": `Chain` leaves none out
+
+-- one more link, with any run of its pairs, cut anywhere: it begins where the others left off
+pub record Next (hand : Hand) (c : Cut) (ls : List Link) (s : Chip) : Type 0 where
+  pub chain : Chain (ls ++ record { hand = hand; run = c } ∷ []) s
+  pub left : left (ls ++ record { hand = hand; run = c } ∷ []) s ≡ cut (c .events) (left ls s) (c .place)
+  pub happened : happened (ls ++ record { hand = hand; run = c } ∷ []) ≡ happened ls ++ take (c .place) (c .events)
+
+-- from no link on: a request that planning accepts where a chain ends, with the pairs that planning leaves in the buffer; a vendor's list
+-- that the verdict passes there
+pub record AnyChain (s : Chip) : Type 0 where
+  pub none : Chain [] s × (left [] s ≡ s) × (happened [] ≡ [])
+  pub request : (ls : List Link) → Chain ls s → (input room : List ℕ) (c : Cut) → planOf input (left ls s .image) room .refusal ≡ 0
+      → writesOf (c .events) ≡ pairsLeft input (left ls s .image) room → Next (plugin input room) c ls s × (isPlugin (plugin input room) ≡ true)
+  pub list : (ls : List Link) → Chain ls s → (list : List ℕ) (c : Cut) → vetOf (left ls s) list .refusal ≡ 0
+      → writesOf (c .events) ≡ pairsOf list → (r : Request) → Ends r (endOf (pairsOf list) (left ls s) .image) → Next (vendor list r) c ls s
 
 -- ---- "At every point"
 
@@ -46,21 +66,22 @@ pub record Point (ls : List Link) (s : Chip) : Type 0 where
   pub avi : OneOf (inUse packets avi s) (map (λ g. g .avi) (allAsked (s .image) ls)) (inUse packets avi (left ls s))
   pub audio : OneOf (inUse packets audio s) (map (λ g. g .audio) (allAsked (s .image) ls)) (inUse packets audio (left ls s))
   -- "No matrix change waits at the beginning." With a vendor's list in the chain nothing is said of the coefficients here: it may lower
-  -- their hold half way
+  -- their hold half way. At the end `Ended` says it, whoever the links were and whatever waited
   pub matrix : waits s ≡ false → every (λ l. isPlugin (l .hand)) ls ≡ true
       → OneOf (coefficients s) (map (λ g. g .matrix) (allAsked (s .image) ls)) (coefficients (left ls s))
   -- the picture: as at the beginning until the first write, muted from a link's first write until its last, and then open until the next
   -- link's first
   pub mute : mute (left ls s) ≡ muteBy ls (mute s)
   -- and so muted once a write is made, until some link has made its last
-  pub muted : every (λ l. not (begun l)) ls ≡ false → every unopened ls ≡ true → Muted (left ls s)
-  -- whoever comes next is refused by his own rules alone: never by 7 or 8
+  pub muted : 0 < length (writesOf (happened ls)) → every unopened ls ≡ true → Muted (left ls s)
+  -- whoever plans next is refused by his own rules alone, never by 7 or 8; and no vendor's list is refused by 8
   pub next : 0 < length ls → (input room : List ℕ) → Bytes input → Given (ownRules input room) (planOf input (left ls s .image) room .refusal)
+  pub nextList : 0 < length ls → (list : List ℕ) → vetOf (left ls s) list .refusal ≢ 8
   -- by the calls, over lent slices that hold the beginning: they hold this state
   pub slices : (lent : Lent) → LentSized lent → stateOf lent ≡ s
       → let there : Lent = enteredCuts (map (λ l. l .run) ls) lent in LentSized there × (stateOf there ≡ left ls s)
 
--- the point after the first k events of a chain: there a chain ends, of its first hands, in which these k events have happened
+-- the point after the first k events: the chain's first links, the last of them cut there, are a chain that ends there
 pub record Reached (k : ℕ) (ls : List Link) (s : Chip) : Type 0 where
   pub links : List Link
   pub first : map (λ l. l .hand) links ≡ map (λ l. l .hand) (take (length links) ls)
@@ -84,7 +105,8 @@ pub record Ended (input room : List ℕ) (es : List Event) (ls : List Link) (s :
   pub groups : allInUse (run es (left ls s)) ≡ wholeAs (s .image) (readOf input .request)
   pub kept : Kept s (run es (left ls s))
   pub opened : Open (run es (left ls s))
-  -- as if the last request alone had been run, from the beginning
+  -- as if the last request alone had been run, from the beginning, where it is accepted too
+  pub accepted : planOf input (s .image) room .refusal ≡ 0
   pub same : (fs : List Event) → Finished (pairsLeft input (s .image) room) fs → Same (run fs s) (run es (left ls s))
   -- no change waits, so that another chain may begin here
   pub idle : waits (run es (left ls s)) ≡ false
@@ -92,14 +114,16 @@ pub record Ended (input room : List ℕ) (es : List Event) (ls : List Link) (s :
   pub said : (lent : Lent) → LentSized lent → stateOf lent ≡ s
       → SaidAfter (readOf input .request) (entered es (enteredCuts (map (λ l. l .run) ls) lent))
 
--- a vendor's list as the last link, sent whole, wherever Vsyncs come: the same of the request in which it ends, one Vsync later at the latest
+-- a vendor's list as the last link, sent whole, wherever Vsyncs come: of the request in which it ends, one Vsync later at the latest
 pub record EndedList (ending : Request) (es : List Event) (ls : List Link) (s : Chip) : Type 0 where
+  pub registers : Ends ending (run es (left ls s) .image)
   pub groups : allInUse (vsyncOf (run es (left ls s))) ≡ wholeAs (s .image) ending
+  pub kept : Kept s (run es (left ls s))
   pub opened : Open (run es (left ls s))
 
 -- ---- "depend on the last request alone"
 
--- the named bits of a packet in use, and of the other
+-- two packets in use, of one group, have the same named bits
 abbrev pub NamedIn : Group → List ℕ → List ℕ → Type 0
 NamedIn g xs ys = (i j : ℕ) → i < g .count → j < 8 → bit j (named (g .first + i)) ≡ 1 → bit j (getD xs i 0) ≡ bit j (getD ys i 0)
 

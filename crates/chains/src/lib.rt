@@ -6,11 +6,16 @@ ghost use Rattle.request.specs.declared.Request.{Request};
 ghost use Rattle.chip.specs.declared.Chip.{Chip};
 ghost use Rattle.cut.specs.Run.{Event, run, writesOf};
 ghost use Rattle.chains.specs.Chain.{vendor, Accepted, pairsFor, Link, Chain, left};
-ghost use Rattle.chains.specs.Theorems.{Reached, Last, Ended, EndedList, Alike};
+ghost use Rattle.chains.specs.Theorems.{AnyChain, Point, Reached, Last, Ended, EndedList, Alike};
 
-// "At every point": inside every link, after every write and every Vsync.
+// "any chain": what may be a link.
+pub fn any_chain()
+    ensures { λ _. ⌜ ((s : Chip) → AnyChain s) ⌝ }
+{}
+
+// "At every point": where a chain ends, and inside every link, after every write and every Vsync.
 pub fn every_point()
-    ensures { λ _. ⌜ ((ls : List Link) (s : Chip) → Chain ls s → (k : ℕ) → Reached k ls s) ⌝ }
+    ensures { λ _. ⌜ ((ls : List Link) (s : Chip) → Chain ls s → Point ls s × ((k : ℕ) → Reached k ls s)) ⌝ }
 {}
 
 // "each cut at any place or finished, and the last one finished".
