@@ -168,7 +168,7 @@ module _ (input room : List ℕ) (u : Chip) (z : planOf input (u .image) room .r
   pub d : Demand3 (listOf input) (asked input) u
   d = holds (asked input) u (f .whole) (f .clear)
 
-  pairs : pairsLeft input (u .image) room ≡ listOf input (u .image)
+  pub pairs : pairsLeft input (u .image) room ≡ listOf input (u .image)
   pairs = listed input (u .image) room f .pairs
 
   pub asked-new : standing end ≡ wholeAs (u .image) (readOf input .request)

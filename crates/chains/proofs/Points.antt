@@ -19,7 +19,7 @@ use Rattle.matrix.specs.Matrix.{Bytes}
 use Rattle.request.specs.Sections.{walked}
 use Rattle.request.specs.Request.{readRules, NoPair}
 use Rattle.chip.specs.declared.Chip.{Chip}
-use Rattle.chip.specs.Machine.{avi, audio, packets, held, inUse, coefficients, Muted, mute}
+use Rattle.chip.specs.Machine.{Write, avi, audio, packets, held, inUse, coefficients, Muted, mute}
 use Rattle.chip.specs.Write.{vsyncOf}
 use Rattle.chip.proofs.Writes.{turned}
 use Rattle.views.specs.Entry.{Lent, stateOf}
@@ -32,7 +32,7 @@ use Rattle.vendor.specs.Vendor.{vetRules}
 use Rattle.vendor.specs.Found.{vetOf}
 use Rattle.vendor.proofs.Judged.{vetted}
 use Rattle.cut.specs.Run.{Event, run, cut, writesOf, writesBy, InUse, Stays}
-use Rattle.cut.specs.Vsync.{waits}
+use Rattle.cut.specs.Vsync.{waits, waited, Finished}
 use Rattle.cut.specs.Demand.{Cut}
 use Rattle.cut.proofs.Erased.{run-append, writes-append}
 use Rattle.cut.proofs.Bytes.{Agree}
@@ -43,7 +43,7 @@ use Rattle.chains.specs.Chain.{Hand, plugin, vendor, isPlugin, asks, Acc
 use Rattle.chains.specs.Chain.{muteAfter, muteBy, unopened}
 use Rattle.chains.specs.Theorems.{Next, AnyChain, ownRules, Kept, Point, Reached}
 use Rattle.chains.proofs.Whole.{whole-agree}
-use Rattle.chains.proofs.Links.{near-trans, OfThree, vsync-use, plugin-matrix}
+use Rattle.chains.proofs.Links.{near-trans, OfThree, vsync-use, pairs, d, plugin-matrix}
 use Rattle.chains.proofs.Vetted.{link-ready, moved}
 
 -- the registers: near those of the beginning
@@ -267,6 +267,10 @@ any-chain s = record {
   none = (tt, refl, refl);
   request = λ ls k input room c a e. (one-more (plugin input room) c ls s k a e, refl);
   list = λ ls k list c a e r ends. one-more (vendor list r) c ls s k (a, ends) e;
+  last = λ input room a. (
+    λ es f. record { accepted = a; finished = f },
+    subst (λ (ws : List Write). Finished ws (waited ws)) (sym (pairs input room s a)) (d input room s a .room .waits),
+  );
 }
 
 pub point : (ls : List Link) (s : Chip) → Chain ls s → Point ls s

@@ -15,7 +15,7 @@ use Rattle.request.specs.Sections.{walked}
 use Rattle.request.specs.Request.{nctsRules}
 use Rattle.request.specs.Read.{readOf, nctsOf}
 use Rattle.chip.specs.declared.Chip.{Chip}
-use Rattle.chip.specs.Machine.{Group, avi, audio, packets, inUse, coefficients, Muted, Open, mute}
+use Rattle.chip.specs.Machine.{Write, Group, avi, audio, packets, inUse, coefficients, Muted, Open, mute}
 use Rattle.chip.specs.Write.{vsyncOf}
 use Rattle.views.specs.Entry.{Lent, stateOf}
 use Rattle.views.specs.Theorems.{LentSized}
@@ -25,7 +25,7 @@ use Rattle.decode.specs.Ends.{Ends}
 use Rattle.vendor.specs.Found.{vetOf}
 use Rattle.vendor.specs.Vendor.{endOf}
 use Rattle.cut.specs.Run.{Event, run, cut, writesOf, allInUse, Stays}
-use Rattle.cut.specs.Vsync.{waits, Finished}
+use Rattle.cut.specs.Vsync.{waits, waited, Finished}
 use Rattle.cut.specs.Demand.{Same, Cut}
 use Rattle.promises.specs.Finished as field
 use Rattle.promises.specs.LentBytes.{pairsLeft, entered, enteredCuts, SaidAfter}
@@ -39,6 +39,11 @@ pub record Next (hand : Hand) (c : Cut) (ls : List Link) (s : Chip) : Type 0 whe
   pub left : left (ls ++ record { hand = hand; run = c } ∷ []) s ≡ cut (c .events) (left ls s) (c .place)
   pub happened : happened (ls ++ record { hand = hand; run = c } ∷ []) ≡ happened ls ++ take (c .place) (c .events)
 
+-- "and the last one finished": a plug-in's, accepted as the others left the chip, t, and run to its end, with its Vsync
+pub record Last (input room : List ℕ) (es : List Event) (t : Chip) : Type 0 where
+  pub accepted : planOf input (t .image) room .refusal ≡ 0
+  pub finished : Finished (pairsLeft input (t .image) room) es
+
 -- from no link on: a request that planning accepts where a chain ends, with the pairs that planning leaves in the buffer; a vendor's list
 -- that the verdict passes there
 pub record AnyChain (s : Chip) : Type 0 where
@@ -47,6 +52,9 @@ pub record AnyChain (s : Chip) : Type 0 where
       → writesOf (c .events) ≡ pairsLeft input (left ls s .image) room → Next (plugin input room) c ls s × (isPlugin (plugin input room) ≡ true)
   pub list : (ls : List Link) → Chain ls s → (list : List ℕ) (c : Cut) → vetOf (left ls s) list .refusal ≡ 0
       → writesOf (c .events) ≡ pairsOf list → (r : Request) → Ends r (endOf (pairsOf list) (left ls s) .image) → Next (vendor list r) c ls s
+  -- a request that is accepted may be the last, with any finished run; its pairs with one Vsync before the last of them are one
+  pub last : (input room : List ℕ) → planOf input (s .image) room .refusal ≡ 0 → let ws : List Write = pairsLeft input (s .image) room in
+      ((es : List Event) → Finished ws es → Last input room es s) × Finished ws (waited ws)
 
 -- ---- "At every point"
 
@@ -92,12 +100,7 @@ pub record Reached (k : ℕ) (ls : List Link) (s : Chip) : Type 0 where
 
 -- ---- "and the last one finished"
 
--- one more link, a plug-in's: accepted as the others left the chip, and run to its end, with its Vsync
-pub record Last (input room : List ℕ) (es : List Event) (t : Chip) : Type 0 where
-  pub accepted : planOf input (t .image) room .refusal ≡ 0
-  pub finished : Finished (pairsLeft input (t .image) room) es
-
--- where it ends
+-- where the last link ends
 pub record Ended (input room : List ℕ) (es : List Event) (ls : List Link) (s : Chip) : Type 0 where
   -- "the named bits, in the registers ..": the number of each named field is the last request's; mandated bits are the table's
   pub fields : field.Finished (readOf input .request) (nctsOf input) (run es (left ls s) .image)
