@@ -19,7 +19,7 @@ use Rattle.matrix.specs.Matrix.{Bytes}
 use Rattle.request.specs.Sections.{walked}
 use Rattle.request.specs.Request.{readRules, NoPair}
 use Rattle.chip.specs.declared.Chip.{Chip}
-use Rattle.chip.specs.Machine.{Write, avi, audio, packets, held, inUse, coefficients, Muted, mute}
+use Rattle.chip.specs.Machine.{Write, Group, avi, audio, packets, held, inUse, coefficients, Muted, mute}
 use Rattle.chip.specs.Write.{vsyncOf}
 use Rattle.chip.proofs.Writes.{turned}
 use Rattle.views.specs.Entry.{Lent, stateOf}
@@ -210,15 +210,10 @@ latch-matrix l u a e t = record { now = go (l .hand) a e t .0; later = go (l .ha
     go (plugin input room) a e t = plugin-matrix input room u a (l .run) e
     go (vendor list ending) a e t = absurd (false≢true t)
 
-latch-avi : (l : Link) (u : Chip) → Accepted (l .hand) u → writesOf (l .run .events) ≡ pairsFor (l .hand) u → true ≡ true
-    → Latches (inUse packets avi) (λ g. g .avi) l u
-latch-avi l u a e t =
-    let m = moved l u a e .three .avi in record { now = m; later = subst (OfThree (inUse packets avi) u _) (sym (vsync-use avi (after l u))) m }
-
-latch-audio : (l : Link) (u : Chip) → Accepted (l .hand) u → writesOf (l .run .events) ≡ pairsFor (l .hand) u → true ≡ true
-    → Latches (inUse packets audio) (λ g. g .audio) l u
-latch-audio l u a e t =
-    let m = moved l u a e .three .audio in record { now = m; later = subst (OfThree (inUse packets audio) u _) (sym (vsync-use audio (after l u))) m }
+-- a packet does not see a Vsync
+latch-packet : (g : Group) (pick : InUse → List ℕ) (l : Link) (u : Chip)
+    → OfThree (inUse packets g) u (pick (wholeAs (u .image) (asks (l .hand)))) (inUse packets g (after l u)) → Latches (inUse packets g) pick l u
+latch-packet g pick l u m = record { now = m; later = subst (OfThree (inUse packets g) u _) (sym (vsync-use g (after l u))) m }
 
 -- the bits that no list moves
 kept-bit : (s t : Chip) → Near s t → (a j : ℕ) → j < 8 → (bit j (free a) ≡ 1) ⊎ (bit j (readOnly a) ≡ 1) → Stays a j s t
@@ -291,8 +286,10 @@ point (l ∷ ls) s c =
     let near : Near s (left ms s) = near-chain s ms s c (near-self s r) in
     record {
       kept = kept-near s (left ms s) near;
-      avi = one-of (inUse packets avi) (λ g. g .avi) (λ _. true) latch-avi s ms c (all-true ms) r (vsync-use avi s);
-      audio = one-of (inUse packets audio) (λ g. g .audio) (λ _. true) latch-audio s ms c (all-true ms) r (vsync-use audio s);
+      avi = one-of (inUse packets avi) (λ g. g .avi) (λ _. true) (λ l u a e t. latch-packet avi (λ g. g .avi) l u (moved l u a e .three .avi)) s ms c
+          (all-true ms) r (vsync-use avi s);
+      audio = one-of (inUse packets audio) (λ g. g .audio) (λ _. true) (λ l u a e t. latch-packet audio (λ g. g .audio) l u (moved l u a e .three .audio)) s ms
+          c (all-true ms) r (vsync-use audio s);
       matrix = λ w t. one-of coefficients (λ g. g .matrix) (λ l. isPlugin (l .hand)) latch-matrix s ms c t r (ap coefficients (idle s w));
       mute = mute-chain ms s c;
       muted = λ b t. is-muted (left ms s) (mute-chain ms s c ∙ muted-since ms (mute s) b t);

@@ -67,18 +67,22 @@ module _ (image : List ℕ) (r : Request) where
   sized : length end ≡ 256
   sized = image-length (wanted r) image
 
+  -- a packet, by its two first registers and the rest
+  packet-whole : (g : Group) (version count : ℕ) (rest : List ℕ) → g .first + g .count ≤ 256 → 2 ≤ g .count
+      → getD end (g .first + 0) 0 ≡ version + under (free (g .first)) (getD image (g .first) 0)
+      → getD end (g .first + 1) 0 ≡ count + under (free (g .first + 1)) (getD image (g .first + 1) 0) → drop 2 (registersOf g end) ≡ rest
+      → registersOf g end ≡ heads (g .first) version count image ++ rest
+  packet-whole g version count rest inside two v c m =
+      parted g end sized inside two ∙ ap₂ (λ (x y : ℕ). x ∷ y ∷ drop 2 (registersOf g end)) v c
+      ∙ ap (λ (more : List ℕ). heads (g .first) version count image ++ more) m
+
   module _ (f : Fits r) where
     avi-whole : registersOf avi end ≡ wholeAs image r .avi
-    avi-whole =
-        parted avi end sized (lit≤ tt) (lit≤ tt)
-        ∙ ap₂ (λ (x y : ℕ). x ∷ y ∷ drop 2 (registersOf avi end)) (avi-heads .0) (avi-heads .1)
-        ∙ ap (λ (more : List ℕ). heads 0x52 0x02 0x0D image ++ more) (avi-in r end sized f stands)
+    avi-whole = packet-whole avi 0x02 0x0D _ (lit≤ tt) (lit≤ tt) (avi-heads .0) (avi-heads .1) (avi-in r end sized f stands)
 
     audio-whole : registersOf audio end ≡ wholeAs image r .audio
-    audio-whole =
-        parted audio end sized (lit≤ tt) (lit≤ tt)
-        ∙ ap₂ (λ (x y : ℕ). x ∷ y ∷ drop 2 (registersOf audio end)) (audio-heads .0) (audio-heads .1)
-        ∙ ap (λ (more : List ℕ). heads 0x70 0x01 0x0A image ++ more) (audio-in r end sized f stands ∙ ap (drop 3) (audio-frame (r .sound)))
+    audio-whole = packet-whole audio 0x01 0x0A _ (lit≤ tt) (lit≤ tt) (audio-heads .0) (audio-heads .1)
+        (audio-in r end sized f stands ∙ ap (drop 3) (audio-frame (r .sound)))
 
     -- all three
     pub stands-whole : standing (finishedImage (wanted r) image) ≡ wholeAs image r
