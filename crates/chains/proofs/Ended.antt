@@ -1,10 +1,10 @@
 -- Where a chain with its last link finished ends: the last request's, and nothing else but the free bits of the beginning. Assumes nothing.
 use mathlib.Core.Path.{_≡_, refl, sym, ap, subst, _∙_}
-use mathlib.Core.Bool.{Bool, true, false, not, _&&_}
+use mathlib.Core.Bool.{true, false}
 use mathlib.Core.List.{List, map}
 use Prim.Native.Nat.{ℕ, _+_, _≤_, _<_}
 use native.Mathlib.Omega.{arith}
-use lib.Dec.{eqb, lit≤}
+use lib.Dec.{lit≤}
 use lib.ListN.{length, getD}
 use lib.Seq.{take-length}
 use borrow.Author.Tests.{ne-eqb, ltb-false}
@@ -26,7 +26,7 @@ use Rattle.promises.proofs.Vendors.{vendors}
 use Rattle.cut.specs.Run.{Event, run, cut, writesOf, InUse, allInUse, standing}
 use Rattle.cut.specs.Vsync.{waits, Finished}
 use Rattle.cut.specs.Demand.{After, Clauses, Demand3}
-use Rattle.cut.proofs.Cut.{Ready, Near}
+use Rattle.cut.proofs.Cut.{Ready, Near, near-trans}
 use Rattle.cut.proofs.Runs.{nothing-waits}
 use Rattle.cut.proofs.Fewer.{holds, ends-same}
 use Rattle.promises.specs.Finished as field
@@ -41,7 +41,7 @@ use Rattle.chains.specs.Chain.{vendor, Accepted, pairsFor, Link, Chain, 
 use Rattle.chains.specs.Chain as chain
 use Rattle.chains.specs.Theorems.{Last, Ended, EndedList, NamedIn, Alike}
 use Rattle.chains.proofs.Whole.{stands-whole, whole-agree}
-use Rattle.chains.proofs.Links.{near-trans, planned-ready, plugin-moved}
+use Rattle.chains.proofs.Links.{planned-ready, plugin-moved}
 use Rattle.chains.proofs.Vetted.{vetted-ready, vendor-moved, list-after}
 use Rattle.chains.proofs.Points.{start-ready, near-left, kept-near, over-slices}
 
@@ -92,17 +92,10 @@ module _ (ls : List Link) (s : Chip) (c : Chain ls s) (input room : List ℕ) (e
   hold-down : held e ≡ false
   hold-down =
       let b : bitsIn 5 5 (getD (e .image) 0x1A 0) ≡ 0 = picked (Shows (e .image)) (places r (nctsOf input)) (in-fields .fields) 0x1A 5 refl in
-      down 5 (getD (e .image) 0x1A 0) (bit-code 5 (getD (e .image) 0x1A 0) ∙ omega (arith, b))
-    where
-      down : (j n : ℕ) → bit j n ≡ 0 → eqb (bit j n) 1 ≡ false
-      down j n z = rw z
+      ne-eqb (bit 5 (getD (e .image) 0x1A 0)) 1 (λ z. omega (arith, z, b, bit-code 5 (getD (e .image) 0x1A 0)))
 
   nothing : waits e ≡ false
-  nothing = rw (nothing-waits (listOf input (t .image)) es t (f .whole) done hold-down) (go (not (held e)))
-    where
-      go : (b : Bool) → (b && false) ≡ false
-      go true = refl
-      go false = refl
+  nothing = rw (hold-down, nothing-waits (listOf input (t .image)) es t (f .whole) done hold-down)
 
   pub its-registers : e .image ≡ finishedImage (asked input) (t .image)
   its-registers = clauses .registers

@@ -6,8 +6,7 @@ use mathlib.Core.List.{List, [], _∷_}
 use Prim.Native.Nat.{ℕ, zero, suc, _+_, _*_, _<_, _≤_}
 use native.Mathlib.Omega.{arith}
 use lib.Dec.{eqb, ltb}
-use lib.ListN.{length, getD, take}
-use lib.Seq.{take-all}
+use lib.ListN.{length, take}
 use borrow.Author.Tests.{eqb-true, eqb-false, ltb-true, ltb-false, not-true}
 use Rattle.lists.proofs.Both.{both-left}
 use Rattle.bits.specs.Merge.{bit}
@@ -18,16 +17,16 @@ use Rattle.chip.specs.declared.Chip.{Chip}
 use Rattle.chip.specs.Machine.{Write, Group, avi, audio, matrix, packets, registersOf, held, inUse, coefficients, gcInUse, Muted, Open, mute}
 use Rattle.chip.specs.Write.{vsyncOf}
 use Rattle.chip.proofs.Writes.{turned}
-use Rattle.writes.specs.List.{finishedImage, ready}
+use Rattle.writes.specs.List.{finishedImage}
 use Rattle.plan.specs.Plan.{planOf}
 use Rattle.plan.proofs.Fine.{Fine, fine}
 use Rattle.cut.specs.Run.{Event, write, vsync, happens, cut, writesOf, writesBy, InUse, standing}
 use Rattle.cut.specs.Vsync.{waits, turnedOver, old}
 use Rattle.cut.specs.Demand.{Cut, Clauses, Demand3}
-use Rattle.cut.proofs.Bytes.{Agree, agree-trans}
 use Rattle.cut.proofs.Cut.{Ready, Near, near-self}
+use Rattle.cut.proofs.Runs.{all-writes}
 use Rattle.cut.proofs.Demanded.{near-run}
-use Rattle.cut.proofs.Erased.{alike-self, alike-use, alike-gc, alike-vsync, writes-take}
+use Rattle.cut.proofs.Erased.{alike-self, alike-use, alike-gc, alike-vsync}
 use Rattle.cut.proofs.Fewer.{holds, fewer-good, left-fair}
 use Rattle.writes.proofs.Fewer.{leftSteps, by-steps}
 use Rattle.promises.specs.Rules.{asked}
@@ -36,23 +35,6 @@ use Rattle.promises.specs.AnyCut.{listOf}
 use Rattle.promises.proofs.AnyCut.{listed}
 use Rattle.chains.specs.Chain.{wholeAs, muteAfter}
 use Rattle.chains.proofs.Whole.{stands-whole}
-
--- ---- near states
-
-pub near-trans : (s u v : Chip) → Near s u → Near u v → Near s v
-near-trans s u v n m = record {
-  ready = m .ready;
-  kept = agree-trans (v .image) (u .image) (s .image) (m .kept) (n .kept);
-  rest = λ a h w. m .rest a h w ∙ n .rest a h w;
-}
-
--- it is a matter of the registers
-pub near-image : (s u v : Chip) → v .image ≡ u .image → Near s u → Near s v
-near-image s u v e n = record {
-  ready = subst Ready (sym e) (n .ready);
-  kept = subst (λ (l : List ℕ). Agree l (s .image)) (sym e) (n .kept);
-  rest = λ a h w. ap (λ (l : List ℕ). getD l a 0) e ∙ n .rest a h w;
-}
 
 -- ---- a group of a state, as it was, as it was after a Vsync, or new
 
@@ -85,9 +67,6 @@ module _ (es : List Event) (k : ℕ) where
     pub begun : 0 < n
     pub unended : n < m
 
-  pub all-of : m ≤ n → writesOf (take k es) ≡ writesOf es
-  all-of h = writes-take es k ∙ take-all n (writesOf es) h
-
   -- what holds in each of the three holds
   pub by-place : (P : ℕ → Type 0) (was : ℕ) → (n ≡ 0 → P was) → (Some → P 1) → (0 < n → writesOf (take k es) ≡ writesOf es → P 2)
       → P (muteAfter (record { events = es; place = k }) was)
@@ -99,7 +78,7 @@ module _ (es : List Event) (k : ℕ) where
       go false e false f =
           let z : n ≡ 0 → ⊥ = eqb-false n 0 e in
           let l : m ≤ n = ltb-false n m f in
-          all (omega (arith, z)) (all-of l)
+          all (omega (arith, z)) (all-writes es k l)
 
 -- the mute, from its two bits
 pub mute-of : (a b : Chip) → gcInUse a ≡ gcInUse b → mute a ≡ mute b

@@ -2,7 +2,7 @@
 use mathlib.Core.Path.{_≡_, refl, sym, ap, subst, _∙_}
 use mathlib.Core.Logic.{_⊎_, inl, inr, ⊎-elim, _≢_}
 use mathlib.Core.Bool.{Bool, true, false, false≢true, cond, not, _&&_}
-use mathlib.Core.List.{List, [], _∷_, _++_, map, append-assoc}
+use mathlib.Core.List.{List, [], _∷_, _++_, map, append-assoc, append-nil}
 use Prim.Native.Nat.{ℕ, zero, suc, _+_, _<_}
 use native.Mathlib.Nat.{not-suc-le-zero}
 use native.Mathlib.Omega.{arith}
@@ -19,7 +19,7 @@ use Rattle.matrix.specs.Matrix.{Bytes}
 use Rattle.request.specs.Sections.{walked}
 use Rattle.request.specs.Request.{readRules, NoPair}
 use Rattle.chip.specs.declared.Chip.{Chip}
-use Rattle.chip.specs.Machine.{Write, Group, avi, audio, packets, held, inUse, coefficients, Muted, mute}
+use Rattle.chip.specs.Machine.{Write, Group, avi, audio, packets, held, inUse, coefficients, mute}
 use Rattle.chip.specs.Write.{vsyncOf}
 use Rattle.chip.proofs.Writes.{turned}
 use Rattle.views.specs.Entry.{Lent, stateOf}
@@ -36,14 +36,14 @@ use Rattle.cut.specs.Vsync.{waits, waited, Finished}
 use Rattle.cut.specs.Demand.{Cut}
 use Rattle.cut.proofs.Erased.{run-append, writes-append}
 use Rattle.cut.proofs.Bytes.{Agree}
-use Rattle.cut.proofs.Cut.{Ready, Near, near-self}
+use Rattle.cut.proofs.Cut.{Ready, Near, near-self, near-trans, is-muted}
 use Rattle.promises.specs.LentBytes.{entered, enteredCuts}
 use Rattle.promises.proofs.LentBytes.{sized-entered, entered-run}
 use Rattle.chains.specs.Chain.{Hand, plugin, vendor, isPlugin, asks, Accepted, pairsFor, Link, after, left, Chain, happened, wholeAs, OneOf, allAsked}
 use Rattle.chains.specs.Chain.{muteAfter, muteBy, unopened}
 use Rattle.chains.specs.Theorems.{Next, AnyChain, ownRules, Kept, Point, Reached}
 use Rattle.chains.proofs.Whole.{whole-agree}
-use Rattle.chains.proofs.Links.{near-trans, OfThree, vsync-use, pairs, d, plugin-matrix}
+use Rattle.chains.proofs.Links.{OfThree, vsync-use, pairs, d, plugin-matrix}
 use Rattle.chains.proofs.Vetted.{link-ready, moved}
 
 -- the registers: near those of the beginning
@@ -159,9 +159,6 @@ muted-since (l ∷ ls) was b t = go (eqb (n l one) 0) refl (λ h. muted-since ls
     go true e ih = let z : n l one ≡ 0 = eqb-true (n l one) 0 e in ih (omega (arith, z, sum, b))
     go false e ih = rw (becomes-muted l one was e) (muted-on ls more)
 
-is-muted : (t : Chip) → mute t ≡ 1 → Muted t
-is-muted t e = (omega (arith, e), omega (arith, e))
-
 -- ---- whoever comes next
 
 next-given : (t : Chip) → Ready (t .image) → (input room : List ℕ) → Bytes input → Given (ownRules input room) (planOf input (t .image) room .refusal)
@@ -230,10 +227,6 @@ kept-near s t near = record { bits = kept-bit s t near; unwritten = near .rest }
 left-run : (ls : List Link) (s : Chip) → left ls s ≡ run (happened ls) s
 left-run [] s = refl
 left-run (l ∷ ls) s = left-run ls (after l s) ∙ sym (run-append (take (l .run .place) (l .run .events)) (happened ls) s)
-
-append-nil : (l : List Event) → l ++ [] ≡ l
-append-nil [] = refl
-append-nil (e ∷ es) = ap (λ (l : List Event). e ∷ l) (append-nil es)
 
 -- one more link
 module _ (h : Hand) (c : Cut) where

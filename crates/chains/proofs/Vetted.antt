@@ -25,7 +25,7 @@ use Rattle.decode.proofs.Answers.{at-most-one}
 use Rattle.cut.specs.Run.{Event, run, cut, writesOf, writesBy, InUse, allInUse, standing}
 use Rattle.cut.specs.Vsync.{sent, waited}
 use Rattle.cut.specs.Demand.{Cut}
-use Rattle.cut.proofs.Cut.{Ready, Near, near-self}
+use Rattle.cut.proofs.Cut.{Ready, Near, near-self, near-image}
 use Rattle.cut.proofs.Demanded.{waited-writes}
 use Rattle.cut.proofs.Erased.{alike-open, cut-alike, before-first}
 use Rattle.cut.proofs.Erased as erased
@@ -41,7 +41,7 @@ use Rattle.promises.specs.AnyCut.{listOf}
 use Rattle.promises.specs.Vendors.{inputOf, Passing}
 use Rattle.promises.proofs.Vendors.{vendors}
 use Rattle.chains.specs.Chain.{Hand, plugin, vendor, asks, Accepted, pairsFor, Link, wholeAs}
-use Rattle.chains.proofs.Links.{near-image, Three, unmoved, Some, by-place, mute-of, muted-one, open-two, vsync-use, vsync-gc, Moved}
+use Rattle.chains.proofs.Links.{Three, unmoved, Some, by-place, mute-of, muted-one, open-two, vsync-use, vsync-gc, Moved}
 use Rattle.chains.proofs.Links.{planned-ready, d, asked-new, plugin-moved}
 
 -- a request's frames do not ask for its family

@@ -2,14 +2,14 @@
 -- it: what its writes do to the registers and the packets in use, at every cut. What the walks show of the groups in use is `Latch`'s; the
 -- coefficients, and Vsyncs, come in `Runs`. Assumes nothing.
 use mathlib.Core.Path.{_≡_, refl, sym, ap, subst, _∙_}
-use mathlib.Core.Logic.{_⊎_, inl, inr, ⊎-map, _≢_}
+use mathlib.Core.Logic.{_⊎_, inl, inr, _≢_}
 use mathlib.Core.Bool.{false≢true, Bool, true, false, not, _||_, cond}
 use mathlib.Core.List.{List, [], _∷_, _++_, map, map-append}
 use Prim.Native.Nat.{ℕ, zero, suc, _+_, _*_, _≤_, _<_}
 use native.Mathlib.Nat.{not-suc-le-zero, le-of-suc-le-suc}
 use native.Mathlib.Omega.{arith}
 use lib.Dec.{eqb, ltb, lit<}
-use lib.ListN.{length-append, length-map, List·getD-map, length, getD, take}
+use lib.ListN.{length-append, length, getD, take}
 use lib.Seq.{ext-getD, take-append-le, getD-take, getD-drop, getD-set-same, getD-set-other}
 use borrow.Author.Tests.{eqb-true, eqb-false, ltb-true, ltb-false}
 use Rattle.lists.specs.Find.{every}
@@ -27,11 +27,10 @@ use Rattle.cut.proofs.Latch.{nexts, walk, acts, Faithful, status-acts, 
 use Rattle.cut.proofs.Bank.{store, only, status, avi-same, audio-same, gc-same, matrix-same, view, Whole, Shown, image-store}
 use Rattle.cut.proofs.Bank.{size-store, down-part, status-store, avi-shown, audio-shown, gc-shown}
 use Rattle.cut.proofs.Bytes.{clean, place, mute-byte, Seen, packets-seen, converter-seen, walk-seen, nexts-seen}
-use Rattle.cut.proofs.Bytes.{Agree, agree-self, agree-trans, agree-free, written-agree, agree-acts}
+use Rattle.cut.proofs.Bytes.{Agree, agree-self, agree-trans, written-agree, agree-acts}
 use Rattle.cut.proofs.Turning.{mark, safe, lead, safe-seen, lead-seen}
 use Rattle.cut.proofs.Taken.{neat, neat-only, tidy, neat-at, tidy-seen, Fit, run-acts, run-all, taken-at}
 use Rattle.writes.proofs.Last.{last, read, last-none}
-use Rattle.writes.proofs.Image.{is-image}
 use Rattle.cut.proofs.Last.{stored-last}
 
 -- an image on which planning is not refused by 7 or 8
@@ -128,7 +127,7 @@ gc-bit x h =
     omega arith
 
 -- the two mute bits, from their number
-is-muted : (u : Chip) → mute u ≡ 1 → Muted u
+pub is-muted : (u : Chip) → mute u ≡ 1 → Muted u
 is-muted u e = (omega arith, omega arith)
 
 is-open : (u : Chip) → mute u ≡ 2 → Open u
@@ -142,6 +141,21 @@ pub record Near (s u : Chip) : Type 0 where
 
 pub near-self : (s : Chip) → Ready (s .image) → Near s s
 near-self s r = record { ready = r; kept = agree-self (s .image); rest = λ a h t. refl }
+
+pub near-trans : (s u v : Chip) → Near s u → Near u v → Near s v
+near-trans s u v n m = record {
+  ready = m .ready;
+  kept = agree-trans (v .image) (u .image) (s .image) (m .kept) (n .kept);
+  rest = λ a h w. m .rest a h w ∙ n .rest a h w;
+}
+
+-- what is near by its registers
+pub near-image : (s u v : Chip) → v .image ≡ u .image → Near s u → Near s v
+near-image s u v e n = record {
+  ready = subst Ready (sym e) (n .ready);
+  kept = subst (λ (l : List ℕ). Agree l (s .image)) (sym e) (n .kept);
+  rest = λ a h w. ap (λ (l : List ℕ). getD l a 0) e ∙ n .rest a h w;
+}
 
 pub finished-near : (want : ℕ → ℕ) (s u : Chip) → Near s u → (a : ℕ) → a < 256 → finished want (u .image) a ≡ finished want (s .image) a
 unfolding finished

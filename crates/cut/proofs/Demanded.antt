@@ -19,13 +19,11 @@ use Rattle.writes.specs.List.{decided, written, listWith, finishedImage, ready}
 use Rattle.cut.specs.Run.{Event, write, vsync, run, cut, writesOf, writesBy, Fair}
 use Rattle.cut.specs.Vsync.{sent, waited, leavesHold, Finished, Room}
 use Rattle.cut.specs.Demand.{Cut, cuts, PlannedAgain, Same, Clauses, Demand3}
-use Rattle.cut.proofs.Planned.{Planner, cutOf, endOf}
-use Rattle.cut.proofs.Bytes.{clean, mute-byte, Agree}
+use Rattle.cut.proofs.Bytes.{clean, mute-byte}
 use Rattle.cut.proofs.Turning.{hold-seen}
-use Rattle.cut.proofs.Erased.{Alike}
 use Rattle.cut.proofs.Place.{between}
 use Rattle.cut.proofs.Cut as cut
-use Rattle.cut.proofs.Cut.{Ready, Near, near-self, Good, Lowers, elsewhere-or-up, not-hold}
+use Rattle.cut.proofs.Cut.{Ready, Near, near-self, near-image, Good, Lowers, elsewhere-or-up, not-hold}
 use Rattle.cut.proofs.Runs.{alike, image-end, clauses, after-same}
 
 -- ---- the list with its Vsync before the last write
@@ -132,14 +130,6 @@ module _ (want : ℕ → ℕ) (image : List ℕ) where
 
 -- ---- planned again
 
--- what is near by its registers
-near-alike : (s t u : Chip) → Alike t u → Near s u → Near s t
-near-alike s t u a n = record {
-  ready = subst Ready (sym (a .image)) (n .ready);
-  kept = subst (λ (l : List ℕ). Agree l (s .image)) (sym (a .image)) (n .kept);
-  rest = λ b h w. ap (λ (l : List ℕ). getD l b 0) (a .image) ∙ n .rest b h w;
-}
-
 module _ (mid : (ℕ → ℕ) → List ℕ → List Step)
     (good : (want : ℕ → ℕ) (image : List ℕ) → Ready image → Good want image (mid want image))
     (fair : (want : ℕ → ℕ) (image : List ℕ) (k : ℕ) → k < length (listWith mid want image)
@@ -149,7 +139,7 @@ module _ (mid : (ℕ → ℕ) → List ℕ → List Step)
 
   pub near-run : (s u : Chip) (es : List Event) (k : ℕ) → writesOf es ≡ P (u .image) → Near s u → Near s (cut es u k)
   near-run s u es k e n =
-      near-alike s (cut es u k) _ (alike mid good want u (n .ready) es e k) (cut.near-cut mid good want s u (writesBy es k) n)
+      near-image s _ (cut es u k) (alike mid good want u (n .ready) es e k .image) (cut.near-cut mid good want s u (writesBy es k) n)
 
   pub near-cuts : (s u : Chip) (cs : List Cut) → PlannedAgain P cs u → Near s u → Near s (cuts cs u)
   near-cuts s u [] p n = n

@@ -1,46 +1,45 @@
 -- Demand 3's clauses of every run of a list that is `Good`, with Vsyncs anywhere among its writes. Assumes nothing.
-use mathlib.Core.Path.{_≡_, refl, sym, ap, ap₂, subst, _∙_}
-use mathlib.Core.Logic.{_⊎_, inl, inr, ⊎-map, ⊎-elim, _≢_}
-use mathlib.Core.Bool.{false≢true, Bool, true, false, cond, not, _&&_, _||_}
-use mathlib.Core.List.{List, [], _∷_, _++_, map, map-append}
+use mathlib.Core.Path.{_≡_, refl, sym, ap, subst, _∙_}
+use mathlib.Core.Logic.{_⊎_, ⊎-map, ⊎-elim, _≢_}
+use mathlib.Core.Bool.{Bool, true, false, cond, not, _&&_}
+use mathlib.Core.List.{List, [], _∷_, _++_, map, append-nil}
 use Prim.Native.Nat.{ℕ, zero, suc, _<_, _≤_}
-use native.Mathlib.Nat.{not-suc-le-zero, le-of-suc-le-suc, zero-lt-suc, suc-ne-zero, le-refl}
+use native.Mathlib.Nat.{not-suc-le-zero, le-of-suc-le-suc, suc-ne-zero, le-refl}
 use native.Mathlib.Omega.{arith}
-use lib.Dec.{eqb, lit<}
-use lib.ListN.{length, getD, take, drop, length-map, length-append, List·getD-map}
-use lib.Seq.{take-append-le, take-length}
-use borrow.Author.Tests.{eqb-true, eqb-false, not-true}
-use Rattle.lists.specs.Find.{every}
+use lib.Dec.{eqb}
+use lib.ListN.{length, getD, take, drop, length-map, length-append}
+use lib.Seq.{take-append-le, take-length, take-all}
+use borrow.Author.Tests.{eqb-false, not-true}
 use Rattle.lists.proofs.Both.{both-left, both-right}
 use Rattle.map.specs.Map as reg
-use Rattle.bits.specs.Merge.{bit, under}
+use Rattle.bits.specs.Merge.{under}
 use Rattle.registers.specs.Classes.{free}
 use Rattle.matrix.specs.Matrix.{fields}
 use Rattle.chip.specs.declared.Chip.{Chip}
 use Rattle.chip.specs.declared.Wrote.{Wrote}
-use Rattle.chip.specs.Machine.{Write, _gets_, Group, avi, audio, matrix, packets, converter, up, registersOf, holdsOf, held, inUse, coefficients, Muted, Open}
+use Rattle.chip.specs.Machine.{Write, _gets_, Group, avi, audio, matrix, packets, converter, up, registersOf, holdsOf, held, inUse, coefficients, Muted}
 use Rattle.chip.specs.Write.{writeOf, vsyncOf}
 use Rattle.chip.proofs.Writes.{stepped, turned}
-use Rattle.writes.specs.Steps.{Step, _raising_, steps}
-use Rattle.writes.specs.List.{written, listWith, finishedImage, ready}
+use Rattle.writes.specs.Steps.{Step, steps}
+use Rattle.writes.specs.List.{written, listWith, finishedImage}
 use Rattle.writes.proofs.Image.{is-image}
-use Rattle.cut.specs.Run.{Event, write, vsync, happens, run, cut, event, writesOf, writesBy, standing, Either, Between, Fair, IsFair, Careful}
+use Rattle.cut.specs.Run.{Event, write, vsync, happens, run, cut, event, writesOf, writesBy, standing, Either, Fair, IsFair, Careful}
 use Rattle.cut.specs.Run.{Covered}
-use Rattle.cut.specs.Vsync.{waits, turnedOver, old, sent, waited, leavesHold, Finished, Room}
+use Rattle.cut.specs.Vsync.{waits, turnedOver, old, sent, leavesHold, Finished}
 use Rattle.cut.specs.Retried.{begun, Retried}
 use Rattle.cut.specs.Demand.{After, Same, Clauses}
 use Rattle.cut.proofs.Planned.{Planner, cutOf, endOf}
 use Rattle.cut.proofs.Latch.{acts}
 use Rattle.cut.proofs.Bank.{store, down-part}
-use Rattle.cut.proofs.Bytes.{clean, agree-free}
+use Rattle.cut.proofs.Bytes.{agree-free}
 use Rattle.cut.proofs.Retry.{retries, sized-happens}
 use Rattle.cut.proofs.FairRun.{untouched}
-use Rattle.cut.proofs.Turning.{act, shown, oldBytes, old-or-new, hold-seen}
+use Rattle.cut.proofs.Turning.{act, shown, oldBytes, old-or-new}
 use Rattle.cut.proofs.Taken.{Fit, head-taken, tail-fit}
 use Rattle.cut.proofs.Erased.{Alike, alike-self, alike-use, alike-muted, alike-open, alike-write, alike-vsync, run-alike, cut-alike, which, counted}
-use Rattle.cut.proofs.Erased.{within, before-first, writes-append, run-append}
+use Rattle.cut.proofs.Erased.{within, before-first, writes-take, writes-append, run-append}
 use Rattle.cut.proofs.Cut as cut
-use Rattle.cut.proofs.Cut.{Ready, Near, near-self, Good, Lowers}
+use Rattle.cut.proofs.Cut.{Ready, near-self, Good}
 
 -- ---- runs whose writes are stored as they are
 
@@ -111,17 +110,8 @@ nothing-waits ws es s z f h =
     ∙ left-idle (f .after) (vsyncOf t) (sized-happens vsync t y) (f .lowered) d (turned t .ends (sym (held-vsync t) ∙ d))
 
 -- a finished run is finished from its last write on
-all-writes : (es : List Event) (k : ℕ) → length (writesOf es) ≤ writesBy es k → writesOf (take k es) ≡ writesOf es
-all-writes [] zero h = refl
-all-writes [] (suc k) h = refl
-all-writes (write w ∷ es) zero h = absurd (not-suc-le-zero h)
-all-writes (vsync ∷ es) zero h = go (writesOf es) h
-  where
-    go : (l : List Write) → length l ≤ 0 → [] ≡ l
-    go [] h = refl
-    go (w ∷ l) h = absurd (not-suc-le-zero h)
-all-writes (write w ∷ es) (suc k) h = ap (λ (l : List Write). w ∷ l) (all-writes es k (le-of-suc-le-suc h))
-all-writes (vsync ∷ es) (suc k) h = all-writes es k h
+pub all-writes : (es : List Event) (k : ℕ) → length (writesOf es) ≤ writesBy es k → writesOf (take k es) ≡ writesOf es
+all-writes es k h = writes-take es k ∙ take-all (writesBy es k) (writesOf es) h
 
 record Front (before after : List Event) (k : ℕ) : Type 0 where
   rest : List Event
@@ -240,10 +230,6 @@ module _ (mid : (ℕ → ℕ) → List ℕ → List Step)
 
       writes-longer : writesOf longer ≡ ws
       writes-longer = writes-append es (vsync ∷ []) ∙ append-nil (writesOf es) ∙ e
-        where
-          append-nil : (l : List Write) → l ++ [] ≡ l
-          append-nil [] = refl
-          append-nil (x ∷ xs) = ap (λ (l : List Write). x ∷ l) (append-nil xs)
 
       run-acts : (k : ℕ) → cut es s k ≡ acts act (take k es) s
       run-acts k = stored-run want (s .image) es (steps (mid want (s .image))) s k e (cut.fit mid good want s r)
