@@ -144,8 +144,14 @@ prModeShift = 5
 abbrev pub prPllManualMask : ℕ
 prPllManualMask = 0x18
 
+abbrev pub prPllManualShift : ℕ
+prPllManualShift = 3
+
 abbrev pub prValueManualMask : ℕ
 prValueManualMask = 0x06
+
+abbrev pub prValueManualShift : ℕ
+prValueManualShift = 1
 
 -- 0x3C: VIC Manual
 abbrev pub vicManual : ℕ
@@ -202,6 +208,13 @@ clearAvMuteMask = 0x80
 
 abbrev pub setAvMuteMask : ℕ
 setAvMuteMask = 0x40
+
+-- 0x4C: Color Depth, of the GC packet
+abbrev pub gcDepth : ℕ
+gcDepth = 0x4C
+
+abbrev pub colorDepthMask : ℕ
+colorDepthMask = 0x0F
 
 -- 0x52: AVI InfoFrame Version: the first of 16 registers
 abbrev pub aviInfoframeVersion : ℕ

@@ -55,8 +55,8 @@ rows =
     register 0x1A reg.coefficientUpdate ∷ mask 5 5 reg.coefficientUpdateMask ∷
     register 0x3B reg.pixelRepetition ∷
     mask 6 5 reg.prModeMask ∷ shift 6 5 reg.prModeShift ∷
-    mask 4 3 reg.prPllManualMask ∷
-    mask 2 1 reg.prValueManualMask ∷
+    mask 4 3 reg.prPllManualMask ∷ shift 4 3 reg.prPllManualShift ∷
+    mask 2 1 reg.prValueManualMask ∷ shift 2 1 reg.prValueManualShift ∷
     register 0x3C reg.vicManual ∷ mask 5 0 reg.vicManualMask ∷
     register 0x40 reg.packetEnable0 ∷ mask 7 7 reg.gcPacketEnableMask ∷
     register 0x44 reg.packetEnable1 ∷
@@ -72,6 +72,7 @@ rows =
     register 0x4B reg.avMute ∷
     mask 7 7 reg.clearAvMuteMask ∷
     mask 6 6 reg.setAvMuteMask ∷
+    register 0x4C reg.gcDepth ∷ mask 3 0 reg.colorDepthMask ∷
     register 0x52 reg.aviInfoframeVersion ∷
     count 0x52 0x61 reg.aviInfoframeCount ∷
     mask 2 0 reg.aviInfoframeVersionMask ∷

@@ -107,7 +107,11 @@ impl Map {
 
     pub const PR_PLL_MANUAL_MASK: u8 = 0x18;
 
+    pub const PR_PLL_MANUAL_SHIFT: u8 = 3;
+
     pub const PR_VALUE_MANUAL_MASK: u8 = 0x06;
+
+    pub const PR_VALUE_MANUAL_SHIFT: u8 = 1;
 
     // 0x3C: VIC Manual
     pub const VIC_MANUAL: u8 = 0x3C;
@@ -147,6 +151,11 @@ impl Map {
     pub const CLEAR_AV_MUTE_MASK: u8 = 0x80;
 
     pub const SET_AV_MUTE_MASK: u8 = 0x40;
+
+    // 0x4C: Color Depth, of the GC packet
+    pub const GC_DEPTH: u8 = 0x4C;
+
+    pub const COLOR_DEPTH_MASK: u8 = 0x0F;
 
     // 0x52: AVI InfoFrame Version: the first of 16 registers
     pub const AVI_INFOFRAME_VERSION: u8 = 0x52;
@@ -215,7 +224,7 @@ impl Map {
 }
 
 // Every constant of the map: it is its twin, and what is printed.
-pub fn constants() -> [u8; 85]
+pub fn constants() -> [u8; 89]
     ensures { λ r. ⌜ r ≡ twins ⌝ }
     ensures { λ r. ⌜ r ≡ printed ⌝ }
 {
@@ -263,7 +272,9 @@ pub fn constants() -> [u8; 85]
         Map::PR_MODE_MASK,
         Map::PR_MODE_SHIFT,
         Map::PR_PLL_MANUAL_MASK,
+        Map::PR_PLL_MANUAL_SHIFT,
         Map::PR_VALUE_MANUAL_MASK,
+        Map::PR_VALUE_MANUAL_SHIFT,
         Map::VIC_MANUAL,
         Map::VIC_MANUAL_MASK,
         Map::PACKET_ENABLE0,
@@ -281,6 +292,8 @@ pub fn constants() -> [u8; 85]
         Map::AV_MUTE,
         Map::CLEAR_AV_MUTE_MASK,
         Map::SET_AV_MUTE_MASK,
+        Map::GC_DEPTH,
+        Map::COLOR_DEPTH_MASK,
         Map::AVI_INFOFRAME_VERSION,
         Map::AVI_INFOFRAME_COUNT,
         Map::AVI_INFOFRAME_VERSION_MASK,

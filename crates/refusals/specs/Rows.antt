@@ -1,4 +1,4 @@
--- Document 01, "Refusal numbers", and those of document 02 that have landed (03): the rows of the list, their numbers, their order, and
+-- Document 01, "Refusal numbers", and those of document 02 that have landed (03, 06): the rows of the list, their numbers, their order, and
 -- what it is to give one.
 use mathlib.Core.Path.{_≡_}
 use mathlib.Core.Logic.{_↔_, _≢_}
@@ -11,7 +11,7 @@ use lib.ListN.{length, getD}
 -- a row, named after its "When"
 pub data Row : Type 0 where
   inputEnds countNotAllowed bytesAfter modeNotOffered fieldOutOfRange combination : Row
-  imageLength holdsUp noExactPair bufferShort noRequest inputAbove twoHolds listLength badPair badEnd : Row
+  imageLength holdsUp noExactPair bufferShort noRequest inputAbove twoHolds listLength badPair badEnd clockAbove : Row
 
 abbrev pub number : Row → ℕ
 number inputEnds = 1
@@ -30,11 +30,12 @@ number twoHolds = 13
 number listLength = 14
 number badPair = 15
 number badEnd = 16
+number clockAbove = 17
 
--- "Checked in this order"; 14, 15 and 16 "in that order, after 7 and 8"
+-- "Checked in this order"; 14, 15 and 16 "in that order, after 7 and 8"; 17 "after 6 and before 7"
 abbrev pub order : List Row
 order =
-    inputEnds ∷ countNotAllowed ∷ bytesAfter ∷ modeNotOffered ∷ fieldOutOfRange ∷ combination ∷
+    inputEnds ∷ countNotAllowed ∷ bytesAfter ∷ modeNotOffered ∷ fieldOutOfRange ∷ combination ∷ clockAbove ∷
     imageLength ∷ holdsUp ∷ noExactPair ∷ bufferShort ∷ noRequest ∷ inputAbove ∷ twoHolds ∷ listLength ∷ badPair ∷ badEnd ∷ []
 
 -- a row that a call checks, and when it applies to the call's input

@@ -41,10 +41,12 @@ impl Refusal {
     pub const BAD_PAIR: u8 = 15;
 
     pub const BAD_END: u8 = 16;
+
+    pub const CLOCK_ABOVE: u8 = 17;
 }
 
 // The constants are 0 for none, and then the numbers of the rows in the list's order.
-pub fn numbers() -> [u8; 17]
+pub fn numbers() -> [u8; 18]
     ensures { λ r. ⌜ r ≡ 0 ∷ map number order ⌝ }
 {
     [
@@ -55,6 +57,7 @@ pub fn numbers() -> [u8; 17]
         Refusal::MODE_NOT_OFFERED,
         Refusal::FIELD_OUT_OF_RANGE,
         Refusal::COMBINATION,
+        Refusal::CLOCK_ABOVE,
         Refusal::IMAGE_LENGTH,
         Refusal::HOLDS_UP,
         Refusal::NO_EXACT_PAIR,

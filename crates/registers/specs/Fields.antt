@@ -1,5 +1,6 @@
 -- Document 01, "Register classes": the fields that are named, in the order of its sentence "Named: N, CTS, ..". `registers::fields` says
--- that the class table names their bits, and `AllNamed` (promises) that the document's places cover these and no others.
+-- that the class table names their bits, and `AllNamed` (promises) that the document's places cover these and no others. Document 02, request
+-- 06, adds the depth.
 use mathlib.Core.List.{List, [], _∷_, _++_}
 use Prim.Native.Nat.{ℕ, zero, suc, _+_}
 use Rattle.map.specs.Map.{n0, n0Mask, n1, n2, ctsManual0, ctsManual0Mask, ctsManual1, ctsManual2}
@@ -15,13 +16,17 @@ use Rattle.map.specs.Map.{avMute, clearAvMuteMask, setAvMuteMask, hdcpHdmiCfg, 
 use Rattle.map.specs.Map.{aviInfoframeVersion, aviInfoframeVersionMask, aviInfoframeLength, aviInfoframeLengthMask}
 use Rattle.map.specs.Map.{aviInfoframeChecksum, aviInfoframeByte1}
 use Rattle.map.specs.Map.{audioInfoframeVersion, audioInfoframeVersionMask, audioInfoframeLength, audioInfoframeLengthMask}
-use Rattle.map.specs.Map.{audioInfoframeChecksum, audioInfoframeByte1}
+use Rattle.map.specs.Map.{audioInfoframeChecksum, audioInfoframeByte1, gcDepth, colorDepthMask}
 use Rattle.registers.specs.Field.{Field, field, whole, bytes, fieldsAt, masks}
 
 -- count coefficients from register `first` on: the high five bits of each in one register, the low eight in the next
 abbrev pub coefficients : ℕ → ℕ → List Field
 coefficients first zero = []
 coefficients first (suc count) = field first cscHighMask ∷ field (first + 1) whole ∷ coefficients (first + 2) count
+
+-- request 06: "The general control fields for depth become named"
+abbrev pub becomeNamed : List Field
+becomeNamed = field gcDepth colorDepthMask ∷ []
 
 abbrev pub namedFields : List Field
 namedFields =
@@ -38,7 +43,7 @@ namedFields =
     -- "CSC with its hold"
     field csc cscEnableMask ∷ field csc cscScalingFactorMask ∷ field coefficientUpdate coefficientUpdateMask ∷ [] ++
     coefficients csc 12 ++
-    -- "0x3B[6:5] = 2 with [4:1] = 0"
+    -- "0x3B[6:5] = 2 with [4:1]"
     field pixelRepetition prModeMask ∷ field pixelRepetition prPllManualMask ∷ field pixelRepetition prValueManualMask ∷
     -- "VIC in 0x3C[5:0], the GC enable 0x40[7]"
     field vicManual vicManualMask ∷ field packetEnable0 gcPacketEnableMask ∷
@@ -57,7 +62,8 @@ namedFields =
     -- "the audio InfoFrame": its data bytes 6 to 10 are marked reserved, so they are not named
     field audioInfoframeVersion audioInfoframeVersionMask ∷ field audioInfoframeLength audioInfoframeLengthMask ∷
     field audioInfoframeChecksum whole ∷ [] ++
-    bytes audioInfoframeByte1 5
+    bytes audioInfoframeByte1 5 ++
+    becomeNamed
 
 -- the bits of register a that lie in a field of the list, 0 where it has none
 abbrev pub maskIn : List Field → ℕ → ℕ

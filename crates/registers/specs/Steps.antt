@@ -6,7 +6,7 @@ use Prim.Native.Nat.{ℕ, _+_}
 use lib.Dec.{eqb, leb, ltb}
 use Rattle.lists.specs.Among.{among}
 use Rattle.map.specs.Map.{n0, n1, n2, ctsManual0, ctsManual1, ctsManual2, audioSource, i2sConfig, i2sFreqIdCfg, videoInputCfg1}
-use Rattle.map.specs.Map.{pixelRepetition, vicManual, packetEnable0, packetEnable1, hdcpHdmiCfg, avMute, infoframeUpdate}
+use Rattle.map.specs.Map.{pixelRepetition, vicManual, packetEnable0, packetEnable1, gcDepth, hdcpHdmiCfg, avMute, infoframeUpdate}
 use Rattle.map.specs.Map.{csc, cscCount, aviInfoframeVersion, aviInfoframeCount, audioInfoframeVersion, audioInfoframeCount}
 use Rattle.map.specs.Map.{fixed98, fixed9a, fixed9c, fixed9d, fixedA2, fixedA3, fixedE0, fixedI2cAddress}
 use Rattle.registers.specs.Classes.{named}
@@ -19,7 +19,7 @@ table14 = fixed98 ∷ fixed9a ∷ fixed9c ∷ fixed9d ∷ fixedA2 ∷ fixedA3 �
 abbrev pub others : List ℕ
 others =
     n0 ∷ n1 ∷ n2 ∷ ctsManual0 ∷ ctsManual1 ∷ ctsManual2 ∷ audioSource ∷ i2sConfig ∷ i2sFreqIdCfg ∷
-    videoInputCfg1 ∷ pixelRepetition ∷ vicManual ∷ packetEnable0 ∷ packetEnable1 ∷ hdcpHdmiCfg ∷ []
+    videoInputCfg1 ∷ pixelRepetition ∷ vicManual ∷ packetEnable0 ∷ packetEnable1 ∷ gcDepth ∷ hdcpHdmiCfg ∷ []
 
 -- whether a register has a named bit
 abbrev pub hasNamed : ℕ → Bool

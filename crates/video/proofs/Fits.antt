@@ -3,7 +3,7 @@ use mathlib.Core.Path.{_≡_, refl}
 use mathlib.Core.Logic.{_≢_, inl, inr}
 use mathlib.Core.Bool.{Bool, true, false, cond, _&&_}
 use mathlib.Core.List.{List, [], _∷_}
-use Prim.Native.Nat.{ℕ, _<_, _≤_}
+use Prim.Native.Nat.{ℕ, _/_, _%_, _<_, _≤_}
 use native.Mathlib.Omega.{arith}
 use lib.Dec.{eqb, ltb, leb}
 use borrow.Author.Tests.{eqb-true, eqb-false, ltb-true, ltb-false, leb-true}
@@ -13,23 +13,29 @@ use Rattle.lists.proofs.Decides.{Decides, equal, less, opposite, either, togeth
 use Rattle.video.specs.declared.Mode.{Mode}
 use Rattle.video.specs.declared.Video.{Video}
 use Rattle.video.specs.Modes.{modes, rowOf, modeOf, offered}
-use Rattle.video.specs.Video.{ShownOutside, VideoOutside, FullYCbCr, VideoCombined}
-use Rattle.video.specs.Video.{shownOutside, videoOutside, fullYCbCr, videoCombined}
+use Rattle.video.specs.Video.{depth, repetition, ShownOutside, VideoOutside, PixelOutside, FullYCbCr, DeepApart, VideoCombined}
+use Rattle.video.specs.Video.{shownOutside, videoOutside, pixelOutside, fullYCbCr, deepApart, videoCombined}
 use Rattle.video.specs.Fits.{VideoFits}
 
 pub is-shown-outside : (v : Video) → Decides (shownOutside v) (ShownOutside v)
-is-shown-outside v = either (less 2 (v .encoding)) (less 1 (v .range))
+is-shown-outside v = either (less 2 (v .encoding)) (either (less 1 (v .range)) (less 2 (repetition v)))
 
 pub is-outside : (v : Video) → Decides (videoOutside v) (VideoOutside v)
 unfolding videoOutside
-is-outside v = either (less 1 (v .link)) (is-shown-outside v)
+is-outside v = either (less 1 (v .link)) (either (less 2 (depth v)) (is-shown-outside v))
+
+pub is-pixel-outside : (v : Video) → Decides (pixelOutside v) (PixelOutside v)
+is-pixel-outside v = either (less 2 (depth v)) (less 2 (repetition v))
 
 pub is-full : (v : Video) → Decides (fullYCbCr v) (FullYCbCr v)
 is-full v = together (equal (v .range) 1) (opposite (equal (v .encoding) 0))
 
+pub is-deep : (v : Video) → Decides (deepApart v) (DeepApart v)
+is-deep v = together (opposite (equal (depth v) 0)) (either (equal (v .encoding) 1) (equal (v .link) 0))
+
 pub is-combined : (v : Video) → Decides (videoCombined v) (VideoCombined v)
 unfolding videoCombined
-is-combined v = either (together (equal (v .link) 0) (opposite (equal (v .encoding) 0))) (is-full v)
+is-combined v = either (together (equal (v .link) 0) (opposite (equal (v .encoding) 0))) (either (is-full v) (is-deep v))
 
 -- ---- a mode that is offered is one of the table's
 
@@ -73,17 +79,23 @@ module _ (v : Video) (f : VideoFits v) where
   is-listed e = omega (arith, ltb-true (v .family) (modeOf (v .vic) .families) (f .offered))
 
   pub encoding-fits : v .encoding ≤ 2
-  encoding-fits = at-most 2 (v .encoding) (λ h. f .inside (inr (inl h)))
+  encoding-fits = at-most 2 (v .encoding) (λ h. f .inside (inr (inr (inl h))))
 
   pub link-fits : v .link ≤ 1
   link-fits = at-most 1 (v .link) (λ h. f .inside (inl h))
 
   pub range-fits : v .range ≤ 1
-  range-fits = at-most 1 (v .range) (λ h. f .inside (inr (inr h)))
+  range-fits = at-most 1 (v .range) (λ h. f .inside (inr (inr (inr (inl h)))))
+
+  pub depth-fits : depth v ≤ 2
+  depth-fits = at-most 2 (depth v) (λ h. f .inside (inr (inl h)))
+
+  pub repetition-fits : repetition v ≤ 2
+  repetition-fits = at-most 2 (repetition v) (λ h. f .inside (inr (inr (inr (inr h)))))
 
   pub range-limited : v .encoding ≢ 0 → v .range ≡ 0
   range-limited h = go (eqb (v .range) 1) refl
     where
       go : (b : Bool) → eqb (v .range) 1 ≡ b → v .range ≡ 0
-      go true e = absurd (f .apart (inr (eqb-true (v .range) 1 e, h)))
+      go true e = absurd (f .apart (inr (inl (eqb-true (v .range) 1 e, h))))
       go false e = omega (arith, range-fits, eqb-false (v .range) 1 e)

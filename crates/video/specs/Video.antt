@@ -1,24 +1,41 @@
--- Document 01, "The request": the video section, with the range byte of document 02, request 01. A later byte of it is a field here.
+-- Document 01, "The request": the video section, with the range byte of document 02, request 01, and the depth byte of request 06. A later
+-- byte of it is a field here.
 use mathlib.Core.Path.{_≡_}
 use mathlib.Core.Logic.{_≢_, _⊎_}
 use mathlib.Core.Bool.{Bool, not, _&&_, _||_}
 use mathlib.Core.List.{List, [], _∷_}
-use Prim.Native.Nat.{ℕ, _<_}
+use Prim.Native.Nat.{ℕ, _/_, _%_, _<_}
 use lib.Dec.{eqb, ltb}
 use lib.ListN.{getD, length}
 use Rattle.video.specs.declared.Video.{Video}
 
--- "Video, count ..: VIC; family ..; encoding ..; link .."; request 01: "The video section gains a range byte (0 limited, 1 full; count 5)"
+-- "Video, count ..: VIC; family ..; encoding ..; link .."; request 01: "The video section gains a range byte (0 limited, 1 full; count 5)";
+-- request 06: "Depth is a byte at the end of the video section"
 abbrev pub videoCount : ℕ
-videoCount = 5
+videoCount = 6
 
 -- what a body asks for, and the body that asks for it
 abbrev pub videoIn : List ℕ → Video
 videoIn body =
-    record { vic = getD body 0 0; family = getD body 1 0; encoding = getD body 2 0; link = getD body 3 0; range = getD body 4 0 }
+    record {
+      vic = getD body 0 0;
+      family = getD body 1 0;
+      encoding = getD body 2 0;
+      link = getD body 3 0;
+      range = getD body 4 0;
+      pixel = getD body 5 0;
+    }
 
 abbrev pub videoBody : Video → List ℕ
-videoBody v = v .vic ∷ v .family ∷ v .encoding ∷ v .link ∷ v .range ∷ []
+videoBody v = v .vic ∷ v .family ∷ v .encoding ∷ v .link ∷ v .range ∷ v .pixel ∷ []
+
+-- request 06: the depth is the byte's "lower half", 0, 1 or 2 for 24, 30 and 36 bits; "Pixel repetition (none, 2, 4)" is 0, 1 or 2 "in that
+-- byte's upper half"
+abbrev pub depth : Video → ℕ
+depth v = v .pixel % 16
+
+abbrev pub repetition : Video → ℕ
+repetition v = v .pixel / 16
 
 -- what stands beside a refusal: each field 0
 abbrev pub noVideo : Video
@@ -26,7 +43,8 @@ noVideo = videoIn []
 
 -- the same in another family
 abbrev pub inFamily : ℕ → Video → Video
-inFamily family v = record { vic = v .vic; family = family; encoding = v .encoding; link = v .link; range = v .range }
+inFamily family v =
+    record { vic = v .vic; family = family; encoding = v .encoding; link = v .link; range = v .range; pixel = v .pixel }
 
 -- "the same request, but for the frame-rate family": "Family is answered as 0"
 abbrev pub answered : Video → Video
@@ -38,30 +56,44 @@ pub record Body : Type 0 where
   pub back : (v : Video) → videoIn (videoBody v) ≡ v
   pub whole : (body : List ℕ) → length body ≡ videoCount → videoBody (videoIn body) ≡ body
 
--- row 5, of this section: "any other field outside its range"; request 01: "range above 1 is refusal 5". First of the fields that the AVI
--- InfoFrame shows, then of all; the VIC and the family are row 4's (`offered`, Modes).
+-- row 5, of this section: "any other field outside its range"; request 01: "range above 1 is refusal 5"; request 06: "a value outside its
+-- range is 5". First of the fields that the AVI InfoFrame shows, then of all; the VIC and the family are row 4's (`offered`, Modes).
 abbrev pub ShownOutside : Video → Type 0
-ShownOutside v = (2 < v .encoding) ⊎ (1 < v .range)
+ShownOutside v = (2 < v .encoding) ⊎ (1 < v .range) ⊎ (2 < repetition v)
 
 abbrev pub VideoOutside : Video → Type 0
-VideoOutside v = (1 < v .link) ⊎ ShownOutside v
+VideoOutside v = (1 < v .link) ⊎ (2 < depth v) ⊎ ShownOutside v
 
--- row 6, of this section alone: request 01, "range 1 with YCbCr is refusal 6"; "DVI .. with encoding not 0"
+-- and of the fields from which the clock is made
+abbrev pub PixelOutside : Video → Type 0
+PixelOutside v = (2 < depth v) ⊎ (2 < repetition v)
+
+-- row 6, of this section alone: request 01, "range 1 with YCbCr is refusal 6"; request 06, "more than 24 bits with 4:2:2 or DVI is 6";
+-- "DVI .. with encoding not 0"
 abbrev pub FullYCbCr : Video → Type 0
 FullYCbCr v = (v .range ≡ 1) × (v .encoding ≢ 0)
 
-abbrev pub VideoCombined : Video → Type 0
-VideoCombined v = ((v .link ≡ 0) × (v .encoding ≢ 0)) ⊎ FullYCbCr v
+abbrev pub DeepApart : Video → Type 0
+DeepApart v = (depth v ≢ 0) × ((v .encoding ≡ 1) ⊎ (v .link ≡ 0))
 
--- the tests that decide them, as `request::rows` and `frames::frame_refusals` say
+abbrev pub VideoCombined : Video → Type 0
+VideoCombined v = ((v .link ≡ 0) × (v .encoding ≢ 0)) ⊎ FullYCbCr v ⊎ DeepApart v
+
+-- the tests that decide them, as `request::rows`, `frames::frame_refusals` and `clock::clock_refusals` say
 abbrev pub shownOutside : Video → Bool
-shownOutside v = ltb 2 (v .encoding) || ltb 1 (v .range)
+shownOutside v = ltb 2 (v .encoding) || (ltb 1 (v .range) || ltb 2 (repetition v))
 
 unfoldable pub videoOutside : Video → Bool
-videoOutside v = ltb 1 (v .link) || shownOutside v
+videoOutside v = ltb 1 (v .link) || (ltb 2 (depth v) || shownOutside v)
+
+abbrev pub pixelOutside : Video → Bool
+pixelOutside v = ltb 2 (depth v) || ltb 2 (repetition v)
 
 abbrev pub fullYCbCr : Video → Bool
 fullYCbCr v = eqb (v .range) 1 && not (eqb (v .encoding) 0)
 
+abbrev pub deepApart : Video → Bool
+deepApart v = not (eqb (depth v) 0) && (eqb (v .encoding) 1 || eqb (v .link) 0)
+
 unfoldable pub videoCombined : Video → Bool
-videoCombined v = (eqb (v .link) 0 && not (eqb (v .encoding) 0)) || fullYCbCr v
+videoCombined v = (eqb (v .link) 0 && not (eqb (v .encoding) 0)) || (fullYCbCr v || deepApart v)

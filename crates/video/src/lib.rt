@@ -1,19 +1,21 @@
-// The video section of a request and the listed modes: document 01, "The request" and "Modes and clocks"; document 02, request 01.
+// The video section of a request and the listed modes: document 01, "The request" and "Modes and clocks"; document 02, requests 01 and
+// 06.
 ghost use mathlib.Core.Path.{_≡_};
 ghost use Rattle.video.specs.Modes.{mode, modeOf, ModeTable};
-ghost use Rattle.video.specs.Video.{videoIn, videoBody, noVideo, inFamily, Body};
-ghost use Rattle.video.specs.Video.{shownOutside, videoOutside, fullYCbCr, videoCombined};
+ghost use Rattle.video.specs.Video.{videoIn, videoBody, depth, repetition, noVideo, inFamily, Body};
+ghost use Rattle.video.specs.Video.{shownOutside, videoOutside, pixelOutside, fullYCbCr, deepApart, videoCombined};
 
 // The count of the video section.
-pub const VIDEO_COUNT: u8 = 5;
+pub const VIDEO_COUNT: u8 = 6;
 
-// What the video section asks for.
+// What the video section asks for. `pixel` is the depth byte, with the repetition in its upper half.
 pub struct Video {
     pub vic: u8,
     pub family: u8,
     pub encoding: u8,
     pub link: u8,
     pub range: u8,
+    pub pixel: u8,
 }
 
 // A listed mode. A VIC that is not listed offers no family.
@@ -71,12 +73,14 @@ pub fn video_in(body: &[u8]) -> Video
     let encoding = lists::byte_at(body, 2);
     let link = lists::byte_at(body, 3);
     let range = lists::byte_at(body, 4);
+    let pixel = lists::byte_at(body, 5);
     Video {
         vic: vic,
         family: family,
         encoding: encoding,
         link: link,
         range: range,
+        pixel: pixel,
     }
 }
 
@@ -84,7 +88,20 @@ pub fn video_in(body: &[u8]) -> Video
 pub fn video_body(v: Video) -> [u8; VIDEO_COUNT as usize]
     ensures { λ r. ⌜ r ≡ videoBody v ⌝ }
 {
-    [v.vic, v.family, v.encoding, v.link, v.range]
+    [v.vic, v.family, v.encoding, v.link, v.range, v.pixel]
+}
+
+// The depth, and the repetition.
+pub fn depth(v: Video) -> u8
+    ensures { λ r. ⌜ r ≡ depth v ⌝ }
+{
+    v.pixel % 16
+}
+
+pub fn repetition(v: Video) -> u8
+    ensures { λ r. ⌜ r ≡ repetition v ⌝ }
+{
+    v.pixel / 16
 }
 
 // What stands beside a refusal.
@@ -97,6 +114,7 @@ pub fn no_video() -> Video
         encoding: 0,
         link: 0,
         range: 0,
+        pixel: 0,
     }
 }
 
@@ -110,6 +128,7 @@ pub fn in_family(v: Video, family: u8) -> Video
         encoding: v.encoding,
         link: v.link,
         range: v.range,
+        pixel: v.pixel,
     }
 }
 
@@ -117,7 +136,7 @@ pub fn in_family(v: Video, family: u8) -> Video
 pub fn shown_outside(v: Video) -> bool
     ensures { λ r. ⌜ r ≡ shownOutside v ⌝ }
 {
-    (2 < v.encoding) | (1 < v.range)
+    (2 < v.encoding) | ((1 < v.range) | (2 < v.pixel / 16))
 }
 
 // Row 5, of this section.
@@ -125,7 +144,14 @@ pub fn outside(v: Video) -> bool
     ensures { λ r. ⌜ r ≡ videoOutside v ⌝ }
 {
     let shown = shown_outside(v);
-    (1 < v.link) | shown
+    (1 < v.link) | ((2 < v.pixel % 16) | shown)
+}
+
+// Row 5, of the fields from which the clock is made.
+pub fn pixel_outside(v: Video) -> bool
+    ensures { λ r. ⌜ r ≡ pixelOutside v ⌝ }
+{
+    (2 < v.pixel % 16) | (2 < v.pixel / 16)
 }
 
 // Row 6: range 1 with YCbCr.
@@ -135,12 +161,20 @@ pub fn full_ycbcr(v: Video) -> bool
     (v.range == 1) & (v.encoding != 0)
 }
 
+// Row 6: more than 24 bits with 4:2:2 or DVI.
+pub fn deep_apart(v: Video) -> bool
+    ensures { λ r. ⌜ r ≡ deepApart v ⌝ }
+{
+    (v.pixel % 16 != 0) & ((v.encoding == 1) | (v.link == 0))
+}
+
 // Row 6, of this section alone.
 pub fn combined(v: Video) -> bool
     ensures { λ r. ⌜ r ≡ videoCombined v ⌝ }
 {
     let full = full_ycbcr(v);
-    ((v.link == 0) & (v.encoding != 0)) | full
+    let deep = deep_apart(v);
+    ((v.link == 0) & (v.encoding != 0)) | (full | deep)
 }
 
 // The mode of each VIC is the table's.

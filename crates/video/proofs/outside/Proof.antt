@@ -9,7 +9,7 @@ shown-outside-requires c κs = search needs
 
 returns : tie.Need-returns
 unfolding videoOutside
-returns c = rw (← c .before .shown-outside .ensures) (search needs)
+returns c = rw (← c .before .before .shown-outside .ensures) (search needs)
 
 pub outside-spec : {M : Type 1} → statement M
 outside-spec = tie.close (tie.spec shown-outside-requires returns)
