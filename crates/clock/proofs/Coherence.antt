@@ -10,7 +10,6 @@ use lib.Dec.{eqb, ltb}
 use borrow.Author.Tests.{eqb-true, eqb-false, le-ltb}
 use Rattle.refusals.specs.Rows.{noExactPair, _if_, lowest, answer}
 use Rattle.video.specs.declared.Video.{Video}
-use Rattle.video.specs.Modes.{offered}
 use Rattle.clock.specs.declared.Clock.{Clock}
 use Rattle.clock.specs.declared.Pair.{Pair}
 use Rattle.clock.specs.Clocks.{clockOf}
@@ -18,7 +17,7 @@ use Rattle.clock.specs.Pairs.{reference, Exact, recommendedOf, Coherent,
 use Rattle.clock.specs.Found.{exactly, leastK, mostK, nearestIn, nearestOf, coherentOf, pairOf}
 use Rattle.clock.specs.Theorems.{PairRule}
 use Rattle.clock.proofs.Rates.{reference-some}
-use Rattle.clock.proofs.Offered.{sized}
+use Rattle.clock.proofs.Offered.{taken, sized}
 use Rattle.clock.proofs.Exactness.{exact-of, exactly-of, turned, None, Best, nearest-found}
 
 zero-not-nine : _≢_ {A = ℕ} 0 9
@@ -114,8 +113,8 @@ module _ (clock : Clock) (rate : ℕ) where
           let n : a .n ≡ b .n = both (x .1) (y .1) (exactly clock rate N C) refl in
           (x .0 ∙ sym (y .0), n, same-cts den some (b .n) (a .cts) (b .cts) (subst (λ (k : ℕ). Exact clock rate k (a .cts)) n (x .1)) (y .1))
 
--- of a mode that is offered
-pub in-mode : (video : Video) (rate : ℕ) → offered video ≡ true → rate < 7 → Coherent (clockOf video) rate (coherentOf (clockOf video) rate)
+-- of a clock that is answered
+pub in-mode : (video : Video) (rate : ℕ) → clockOf video .refusal ≡ 0 → rate < 7 → Coherent (clockOf video) rate (coherentOf (clockOf video) rate)
 in-mode video rate o h = let s = sized video o in found (clockOf video) rate (s .some) (s .part) (reference-some rate h)
 
 -- what is answered is refusal 9 with zeros, or no refusal
@@ -134,12 +133,14 @@ pub either-way : (clock : Clock) (rate : ℕ) → EitherWay (coherentOf clock ra
 unfolding coherentOf nearestOf
 either-way clock rate = one-of (exactly clock rate (N clock rate) (C clock rate)) (inr refl) (near _ _ _)
 
--- what is answered where rows 4 and 5 do not apply
-pub pair-in : (video : Video) (rate coherent : ℕ) → offered video ≡ true → rate < 7 → coherent < 2
+-- what is answered where rows 4, 5 and 17 do not apply
+pub pair-in : (video : Video) (rate coherent : ℕ) → clockOf video .refusal ≡ 0 → rate < 7 → coherent < 2
     → pairOf video rate coherent ≡ cond (eqb coherent 1) (coherentOf (clockOf video) rate) (other rate)
 unfolding pairOf
 pair-in video rate coherent o h k =
-    rw (o, le-ltb 6 rate (omega arith), le-ltb 1 coherent (omega arith)) (go (eqb coherent 1) (coherentOf (clockOf video) rate) (either-way (clockOf video) rate))
+    let t = taken video o in
+    rw (t .offered, t .inside, t .within, le-ltb 6 rate (omega arith), le-ltb 1 coherent (omega arith))
+    (go (eqb coherent 1) (coherentOf (clockOf video) rate) (either-way (clockOf video) rate))
   where
     go : (b : Bool) (c : Pair) → EitherWay c
         → answer (lowest (noExactPair if (b && not (eqb (c .refusal) 0)) ∷ [])) noPair (cond b c (other rate)) ≡ cond b c (other rate)

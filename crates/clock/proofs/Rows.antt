@@ -1,40 +1,46 @@
--- The two calls on single fields give the lowest of their rows that applies: row 4, and rows 4, 5 and 9. Assumes nothing.
+-- The two calls on single fields give the lowest of their rows that applies: rows 4, 5 and 17, and rows 4, 5, 17 and 9. Assumes nothing.
 use mathlib.Core.Path.{_≡_, refl, ap}
 use mathlib.Core.Logic.{inl, inr, _≢_}
 use mathlib.Core.Bool.{Bool, true, false, cond, not, _&&_}
 use mathlib.Core.List.{List}
-use Prim.Native.Nat.{ℕ, _<_}
+use Prim.Native.Nat.{ℕ, _*_, _<_}
 use native.Mathlib.Omega.{arith}
 use lib.Dec.{eqb, ltb}
 use borrow.Author.Tests.{ltb-false, eqb-true, eqb-false, not-true, not-false}
-use Rattle.lists.proofs.Both.{neither-left}
+use Rattle.lists.proofs.Both.{neither-left, neither-right}
 use Rattle.lists.proofs.Decides.{Decides, failing, equal, less, either, together}
 use Rattle.refusals.specs.Rows.{Condition, Given, Test, lowest}
 use Rattle.refusals.proofs.Tests.{Decided, lowest-given, none-at, answer-given, answer-beside}
 use Rattle.clock.specs.declared.Clock.{Clock}
 use Rattle.clock.specs.declared.Pair.{Pair}
 use Rattle.video.specs.declared.Video.{Video}
-use Rattle.video.specs.Modes.{modeOf, offered}
-use Rattle.clock.specs.Clocks.{clockIn, clockTests, noClock, clockOf}
+use Rattle.video.specs.Modes.{offered}
+use Rattle.video.specs.Video.{pixelOutside}
+use Rattle.video.proofs.Fits.{is-pixel-outside}
+use Rattle.clock.specs.Clocks.{tmds, limit, aboveLimit, clockTests, noClock, clockOf}
 use Rattle.clock.specs.Pairs.{Coherent, noPair, other}
 use Rattle.clock.specs.Found.{coherentOf, pairTests, pairOf}
 use Rattle.clock.specs.Theorems.{clockRules, pairRules, ClockRefusals}
 use Rattle.clock.proofs.Exactness.{None}
 use Rattle.clock.proofs.Coherence.{in-mode, EitherWay, either-way}
-use Rattle.clock.proofs.Offered.{no-refusal}
+use Rattle.clock.proofs.Offered.{number-is}
+use Rattle.clock.proofs.Offered as offered-clock
 
 module _ (video : Video) where
   abbrev clockNumber : Clock → ℕ
   clockNumber c = c .refusal
 
-  none-beside : lowest (clockTests video) ≡ 0 → clockIn (modeOf (video .vic) .hertz) (video .family) .refusal ≡ 0
-  none-beside _ = no-refusal (modeOf (video .vic) .hertz) (video .family)
+  none-beside : lowest (clockTests video) ≡ 0 → tmds video .refusal ≡ 0
+  none-beside _ = offered-clock.no-number video
+
+  pub is-above : Decides (aboveLimit (tmds video)) (limit * tmds video .den < tmds video .num)
+  is-above = less (limit * tmds video .den) (tmds video .num)
 
   clock-given : Given (clockRules video) (clockOf video .refusal)
   unfolding clockOf
   clock-given =
       answer-given noClock _ clockNumber (clockRules video) (lowest (clockTests video)) refl none-beside
-      (lowest-given (clockTests video) (clockRules video) refl (refl, failing (offered video), λ _. tt))
+      (lowest-given (clockTests video) (clockRules video) refl (refl, failing (offered video), λ _. (refl, is-pixel-outside video, λ _. (refl, is-above, λ _. tt))))
 
   no-clock : clockOf video .refusal ≢ 0 → (clockOf video .num ≡ 0) × (clockOf video .den ≡ 0)
   unfolding clockOf
@@ -55,7 +61,7 @@ module _ (video : Video) (rate coherent : ℕ) where
   abbrev pairNumber : Pair → ℕ
   pairNumber p = p .refusal
 
-  -- row 9, past rows 4 and 5
+  -- row 9, past the others
   no-exact : Coherent (clockOf video) rate found → EitherWay found → Decides (not (eqb (found .refusal) 0)) (None (clockOf video) rate)
   no-exact w (inl e) =
       let nine = ap pairNumber e in
@@ -69,10 +75,16 @@ module _ (video : Video) (rate coherent : ℕ) where
     failing (offered video),
     λ o. (
       refl,
-      either (less 6 rate) (less 1 coherent),
-      λ r.
-          let h : rate < 7 = omega (arith, ltb-false 6 rate (neither-left (ltb 6 rate) (ltb 1 coherent) r)) in
-          (refl, together (equal coherent 1) (no-exact (in-mode video rate (not-false (offered video) o) h) (either-way (clockOf video) rate)), λ _. tt),
+      either (is-pixel-outside video) (either (less 6 rate) (less 1 coherent)),
+      λ r. (
+        refl,
+        is-above video,
+        λ a.
+            let p = neither-left (pixelOutside video) _ r in
+            let h : rate < 7 = omega (arith, ltb-false 6 rate (neither-left (ltb 6 rate) (ltb 1 coherent) (neither-right (pixelOutside video) _ r))) in
+            let z : clockOf video .refusal ≡ 0 = rw (number-is video, not-false (offered video) o, p, a) in
+            (refl, together (equal coherent 1) (no-exact (in-mode video rate z h) (either-way (clockOf video) rate)), λ _. tt),
+      ),
     ),
   )
 
@@ -81,7 +93,7 @@ module _ (video : Video) (rate coherent : ℕ) where
   taken = cond (eqb coherent 1) found (other rate)
 
   no-number : lowest tests ≡ 0 → taken .refusal ≡ 0
-  no-number z = go (eqb coherent 1) (none-at tests 2 z)
+  no-number z = go (eqb coherent 1) (none-at tests 3 z)
     where
       go : (b : Bool) → (b && not (eqb (found .refusal) 0)) ≡ false → cond b found (other rate) .refusal ≡ 0
       go true e = eqb-true (found .refusal) 0 (not-false _ e)

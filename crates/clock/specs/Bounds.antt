@@ -1,16 +1,14 @@
 -- Bounds, so that no product overflows: the one place where the largest numbers stand. Nothing is promised by them.
 use Prim.Native.Nat.{ℕ, _+_, _*_, _/_, _<_, _≤_}
 use Rattle.clock.specs.declared.Clock.{Clock}
+use Rattle.clock.specs.Clocks.{limit, tmdsBottom}
 
--- the clock in Hz of a mode at family 0; a clock's two numbers
-abbrev pub hertzMost : ℕ
-hertzMost = 148500000
+-- a clock's two numbers: what divides it divides the fraction's bottom, and it is at most the limit
+abbrev pub denMost : ℕ
+denMost = tmdsBottom 1
 
 abbrev pub numMost : ℕ
-numMost = hertzMost * 1000
-
-abbrev pub denMost : ℕ
-denMost = 1001
+numMost = limit * denMost
 
 -- the rate in Hz; 128·fs; N, which is at most 128·fs/300
 abbrev pub rateMost : ℕ
@@ -29,7 +27,7 @@ partsMost = denMost * referenceMost
 abbrev pub stepMost : ℕ
 stepMost = referenceMost + partsMost
 
--- a clock that is offered
+-- a clock that is answered
 pub record WithinBounds (clock : Clock) : Type 0 where
   pub some : 0 < clock .num
   pub most : clock .num ≤ numMost

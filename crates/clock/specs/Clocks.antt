@@ -1,29 +1,68 @@
--- Document 01, "Modes and clocks": the clock of a video, kept exact.
+-- Document 01, "Modes and clocks", and document 02, request 06: the clock of a video, kept exact, over its mode, family, depth and repetition.
 use mathlib.Core.Path.{_≡_}
-use mathlib.Core.Bool.{cond, not}
+use mathlib.Core.Bool.{Bool, cond, not}
 use mathlib.Core.List.{List, [], _∷_}
-use Prim.Native.Nat.{ℕ, _*_}
-use lib.Dec.{eqb}
-use Rattle.refusals.specs.Rows.{modeNotOffered, Test, _if_, lowest, answer}
+use Prim.Native.Nat.{ℕ, _*_, _<_}
+use lib.Dec.{eqb, ltb}
+use lib.ListN.{getD}
+use Rattle.refusals.specs.Rows.{modeNotOffered, fieldOutOfRange, clockAbove, Test, _if_, lowest, answer}
+use Rattle.ratio.specs.Lowest.{topOf, bottomOf}
 use Rattle.video.specs.declared.Video.{Video}
 use Rattle.video.specs.Modes.{modeOf, offered}
+use Rattle.video.specs.Video.{depth, repetition, pixelOutside}
 use Rattle.clock.specs.declared.Clock.{Clock}
 
--- "Family 1 is that clock times 1000/1001, kept exact"
-abbrev pub clockIn : ℕ → ℕ → Clock
-clockIn hertz family =
-    cond (eqb family 0) (record { refusal = 0; num = hertz; den = 1 }) (record { refusal = 0; num = hertz * 1000; den = 1001 })
+-- "The clock that N and CTS rest on is the TMDS clock, which is the pixel clock times 5/4 or 3/2": so many quarters at 24, 30 and 36 bits
+abbrev pub quarters : ℕ → ℕ
+quarters depth = getD (4 ∷ 5 ∷ 6 ∷ []) depth 0
 
--- the test of row 4; it decides the condition of `clockRules` (`ClockRefusals`)
+-- "Pixel repetition (none, 2, 4) comes with it, under the same fraction"
+abbrev pub times : ℕ → ℕ
+times repetition = getD (1 ∷ 2 ∷ 4 ∷ []) repetition 0
+
+-- the clock of a mode, by its clock in Hz at family 0; "Family 1 is that clock times 1000/1001, kept exact"
+abbrev pub tmdsTop : ℕ → ℕ → ℕ → ℕ → ℕ
+tmdsTop hertz family depth repetition = hertz * cond (eqb family 0) 1 1000 * quarters depth * times repetition
+
+abbrev pub tmdsBottom : ℕ → ℕ
+tmdsBottom family = cond (eqb family 0) 1 1001 * 4
+
+-- "that exact fraction", in lowest terms
+abbrev pub tmdsOf : ℕ → ℕ → ℕ → ℕ → Clock
+tmdsOf hertz family depth repetition =
+    record {
+      refusal = 0;
+      num = topOf (tmdsTop hertz family depth repetition) (tmdsBottom family);
+      den = bottomOf (tmdsTop hertz family depth repetition) (tmdsBottom family);
+    }
+
+unfoldable pub tmds : Video → Clock
+tmds video = tmdsOf (modeOf (video .vic) .hertz) (video .family) (depth video) (repetition video)
+
+-- "Our limit is 225,000,000 Hz."
+abbrev pub limit : ℕ
+limit = 225000000
+
+-- row 17, "a clock above the limit"
+abbrev pub AboveLimit : Clock → Type 0
+AboveLimit clock = limit * clock .den < clock .num
+
+abbrev pub aboveLimit : Clock → Bool
+aboveLimit clock = ltb (limit * clock .den) (clock .num)
+
+-- the tests of rows 4, 5 and 17; they decide the conditions of `clockRules` (`ClockRefusals`)
 abbrev pub clockTests : Video → List Test
-clockTests video = modeNotOffered if not (offered video) ∷ []
+clockTests video =
+    modeNotOffered if not (offered video) ∷
+    fieldOutOfRange if pixelOutside video ∷
+    clockAbove if aboveLimit (tmds video) ∷ []
 
 -- a refusal has its number, and zeros beside it
 abbrev pub noClock : ℕ → Clock
 noClock number = record { refusal = number; num = 0; den = 0 }
 
 unfoldable pub clockOf : Video → Clock
-clockOf video = answer (lowest (clockTests video)) noClock (clockIn (modeOf (video .vic) .hertz) (video .family))
+clockOf video = answer (lowest (clockTests video)) noClock (tmds video)
 
 -- what `clock_of` promises
 abbrev pub GivesClock : Video → Clock → Type 0

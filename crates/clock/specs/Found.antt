@@ -1,19 +1,44 @@
--- How the code finds the pair that `Pairs` speaks of, and what the calls answer: tied to document 01's words by `PairRule` and
--- `ClockRefusals`. With u/v the ratio clock / (128·fs) in lowest terms, CTS = N·u/v, so the exact pairs are N = k·v, CTS = k·u.
+-- How the code finds the clock and the pair that `Clocks` and `Pairs` speak of, and what the calls answer: tied to the documents' words by
+-- `PairRule` and `ClockRefusals`. With u/v the ratio clock / (128·fs) in lowest terms, CTS = N·u/v, so the exact pairs are N = k·v, CTS = k·u.
 use mathlib.Core.Path.{_≡_}
 use mathlib.Core.Bool.{Bool, cond, _&&_, _||_, not}
 use mathlib.Core.List.{List, [], _∷_}
 use Prim.Native.Nat.{ℕ, _+_, _-_, _*_, _/_, min}
 use lib.Dec.{eqb, leb, ltb}
-use Rattle.refusals.specs.Rows.{modeNotOffered, fieldOutOfRange, noExactPair, number, Test, _if_, lowest, answer}
+use Rattle.refusals.specs.Rows.{modeNotOffered, fieldOutOfRange, clockAbove, noExactPair, number, Test, _if_, lowest, answer}
 use Rattle.video.specs.declared.Video.{Video}
 use Rattle.video.specs.Modes.{offered}
+use Rattle.video.specs.Video.{pixelOutside}
 use Rattle.ratio.specs.Lowest.{topOf, bottomOf}
 use Rattle.clock.specs.declared.Clock.{Clock}
 use Rattle.clock.specs.declared.NCts.{NCts}
 use Rattle.clock.specs.declared.Pair.{Pair}
-use Rattle.clock.specs.Clocks.{clockOf}
+use Rattle.clock.specs.declared.Quarter.{Quarter}
+use Rattle.clock.specs.Clocks.{quarters, times, tmds, aboveLimit, clockOf}
 use Rattle.clock.specs.Pairs.{reference, recommendedOf, thePair, noPair, other}
+
+-- a quarter of a mode's clock in lowest terms, in each family, by the clock at family 0
+abbrev pub quarter : ℕ → ℕ → Quarter
+quarter num den = record { num = num; den = den }
+
+abbrev pub slowQuarter : ℕ → Quarter
+slowQuarter hertz =
+    cond (eqb hertz 25200000) (quarter 900000000 143)
+    (cond (eqb hertz 27027000) (quarter 6750000 1)
+    (cond (eqb hertz 59400000) (quarter 1350000000 91)
+    (cond (eqb hertz 74250000) (quarter 1687500000 91) (cond (eqb hertz 148500000) (quarter 3375000000 91) (quarter 0 1)))))
+
+unfoldable pub quarterOf : ℕ → ℕ → Quarter
+quarterOf hertz family = cond (eqb family 0) (quarter (hertz / 4) 1) (slowQuarter hertz)
+
+-- so many of these quarters; for a mode that is offered, that is `tmdsOf`
+abbrev pub foundClock : ℕ → ℕ → ℕ → ℕ → Clock
+foundClock hertz family depth repetition =
+    record {
+      refusal = 0;
+      num = quarterOf hertz family .num * (quarters depth * times repetition);
+      den = quarterOf hertz family .den;
+    }
 
 -- k of the nearest pair among least to most, where `below` is the last k with k·v at most 128·fs/1000
 unfoldable pub nearestK : ℕ → ℕ → ℕ → ℕ → ℕ → ℕ
@@ -50,11 +75,12 @@ coherentOf clock rate =
     let r : NCts = recommendedOf clock rate in
     cond (exactly clock rate (r .n) (r .cts)) (thePair (r .n) (r .cts)) (nearestOf clock rate)
 
--- the tests of rows 4, 5 and 9, a line for each; they decide the conditions of `pairRules` (`ClockRefusals`)
+-- the tests of rows 4, 5, 17 and 9, a line for each; they decide the conditions of `pairRules` (`ClockRefusals`)
 abbrev pub pairTests : Video → ℕ → ℕ → List Test
 pairTests video rate coherent =
     modeNotOffered if not (offered video) ∷
-    fieldOutOfRange if (ltb 6 rate || ltb 1 coherent) ∷
+    fieldOutOfRange if (pixelOutside video || (ltb 6 rate || ltb 1 coherent)) ∷
+    clockAbove if aboveLimit (tmds video) ∷
     noExactPair if (eqb coherent 1 && not (eqb (coherentOf (clockOf video) rate .refusal) 0)) ∷ []
 
 -- N/CTS on single fields

@@ -11,7 +11,7 @@ rates = 32000 ∷ 44100 ∷ 48000 ∷ 88200 ∷ 96000 ∷ 176400 ∷ 192000 ∷ 
 abbrev pub pair : ℕ → ℕ → NCts
 pair n cts = record { n = n; cts = cts }
 
--- a pixel clock, as a fraction in Hz; its N at each rate, and its CTS
+-- a clock, as a fraction in Hz; its N at each rate, and its CTS
 pub record Recommended : Type 0 where
   pub num : ℕ
   pub den : ℕ

@@ -1,11 +1,12 @@
-// The exact clock fraction, and N and CTS: document 01, "Modes and clocks" and "N and CTS".
+// The exact clock fraction, and N and CTS: document 01, "Modes and clocks" and "N and CTS"; document 02, request 06.
 ghost use mathlib.Core.Path.{_≡_};
 ghost use Prim.Native.Nat.{_<_, _≤_, _+_, _-_, _*_, min};
-ghost use Rattle.clock.specs.Clocks.{GivesClock};
+ghost use Rattle.clock.specs.Clocks.{quarters, times, noClock, GivesClock};
 ghost use Rattle.clock.specs.Bounds.{WithinBounds, numMost, referenceMost, partsMost, stepMost};
 ghost use Rattle.clock.specs.Pairs.{reference, recommendedOf, thePair, noPair, audioOff};
+ghost use Rattle.clock.specs.Found.{quarter, slowQuarter, quarterOf};
 ghost use Rattle.clock.specs.Found.{nearestK, leastK, mostK, nearestIn, nearestOf, exactly, coherentOf, GivesPair};
-ghost use Rattle.clock.specs.Theorems.{PairRule, ClockRefusals};
+ghost use Rattle.clock.specs.Theorems.{ClockRule, PairRule, ClockRefusals};
 use refusals::Refusal;
 use video::Video;
 
@@ -14,6 +15,12 @@ pub struct Clock {
     pub refusal: u8,
     pub num: u64,
     pub den: u64,
+}
+
+// A quarter of a pixel clock in Hz, kept exact.
+pub struct Quarter {
+    pub num: u32,
+    pub den: u32,
 }
 
 // N and CTS, or the number of a refusal with zeros beside it.
@@ -72,30 +79,88 @@ const RATES: [u32; 7] = [32000, 44100, 48000, 88200, 96000, 176400, 192000];
 // N of the "Other" row.
 const OTHERS: [u32; 7] = [4096, 6272, 6144, 12544, 12288, 25088, 24576];
 
-// The clock of a video, or refusal 4.
+// "Our limit is 225,000,000 Hz."
+const LIMIT: u64 = 225000000;
+
+fn fraction(num: u32, den: u32) -> Quarter
+    ensures { λ r. ⌜ r ≡ quarter num den ⌝ }
+{
+    Quarter { num: num, den: den }
+}
+
+// A quarter of a mode's clock in family 1, in lowest terms, by its clock in family 0.
+fn slow_quarter(hertz: u32) -> Quarter
+    ensures { λ r. ⌜ r ≡ slowQuarter hertz ⌝ }
+{
+    match hertz {
+        25200000 => fraction(900000000, 143),
+        27027000 => fraction(6750000, 1),
+        59400000 => fraction(1350000000, 91),
+        74250000 => fraction(1687500000, 91),
+        148500000 => fraction(3375000000, 91),
+        _ => fraction(0, 1),
+    }
+}
+
+// The same in either family.
+fn quarter_of(hertz: u32, family: u8) -> Quarter
+    ensures { λ r. ⌜ r ≡ quarterOf hertz family ⌝ }
+{
+    if family == 0 {
+        return fraction(hertz / 4, 1);
+    }
+    slow_quarter(hertz)
+}
+
+// How many quarters a depth and a repetition make of it.
+fn parts(depth: u8, repetition: u8) -> u64
+    requires { ⌜ (depth ≤ 2) × (repetition ≤ 2) ⌝ }
+    ensures { λ r. ⌜ (r ≡ quarters depth * times repetition) × (r ≤ 24) ⌝ }
+{
+    let quarters = 4 + depth as u64;
+    match repetition {
+        0 => quarters,
+        1 => 2 * quarters,
+        _ => 4 * quarters,
+    }
+}
+
+// A refusal, with zeros beside it.
+fn no_clock(number: u8) -> Clock
+    ensures { λ r. ⌜ r ≡ noClock number ⌝ }
+{
+    Clock {
+        refusal: number,
+        num: 0,
+        den: 0,
+    }
+}
+
+// The clock of a video: refusals 4, 5 and 17.
 pub fn clock_of(video: Video) -> Clock
     ensures { λ r. ⌜ GivesClock video r ⌝ }
 {
     let family = video.family;
     let row = video::mode_of(video.vic);
     if row.families <= family {
-        return Clock {
-            refusal: Refusal::MODE_NOT_OFFERED,
-            num: 0,
-            den: 0,
-        };
+        return no_clock(Refusal::MODE_NOT_OFFERED);
     }
-    if family == 0 {
-        return Clock {
-            refusal: Refusal::NONE,
-            num: row.hertz as u64,
-            den: 1,
-        };
+    if video::pixel_outside(video) {
+        return no_clock(Refusal::FIELD_OUT_OF_RANGE);
+    }
+    let depth = video::depth(video);
+    let repetition = video::repetition(video);
+    let quarter = quarter_of(row.hertz, family);
+    let many = parts(depth, repetition);
+    let num = quarter.num as u64 * many;
+    let den = quarter.den as u64;
+    if LIMIT * den < num {
+        return no_clock(Refusal::CLOCK_ABOVE);
     }
     Clock {
         refusal: Refusal::NONE,
-        num: row.hertz as u64 * 1000,
-        den: 1001,
+        num: num,
+        den: den,
     }
 }
 
@@ -278,19 +343,23 @@ fn the_pair(n: u32, cts: u32) -> Pair
     }
 }
 
-// N and CTS on single fields: refusals 4, 5 and 9.
+// N and CTS on single fields: refusals 4, 5, 17 and 9.
 pub fn pair_of(video: Video, rate: u8, coherent: u8) -> Pair
     ensures { λ r. ⌜ GivesPair video rate coherent r ⌝ }
 {
     let clock = clock_of(video);
-    if clock.refusal != Refusal::NONE {
-        return no_pair(clock.refusal);
+    let number = clock.refusal;
+    if (number == Refusal::MODE_NOT_OFFERED) | (number == Refusal::FIELD_OUT_OF_RANGE) {
+        return no_pair(number);
     }
     if rate > 6 {
         return no_pair(Refusal::FIELD_OUT_OF_RANGE);
     }
     if coherent > 1 {
         return no_pair(Refusal::FIELD_OUT_OF_RANGE);
+    }
+    if number != Refusal::NONE {
+        return no_pair(Refusal::CLOCK_ABOVE);
     }
     if coherent == 1 {
         return coherent_pair(clock, rate);
@@ -304,6 +373,11 @@ pub fn audio_off() -> Pair
 {
     the_pair(6144, 0)
 }
+
+// The clock that is answered: exact, in lowest terms, at most the limit.
+pub fn clock_rule()
+    ensures { λ _. ⌜ ClockRule ⌝ }
+{}
 
 // What is proved of the answers: which pair is given, and the refusals of the two calls on single fields.
 pub fn pair_rule()

@@ -1,18 +1,13 @@
 -- The other named registers are those that the class table names and no other step writes, by one test over all 256 addresses.
 -- Assumes nothing.
-use mathlib.Core.Path.{_≡_, refl, sym}
-use mathlib.Core.Bool.{Bool, true, false, not, _&&_, Bool·beq}
+use mathlib.Core.Path.{_≡_, refl}
+use mathlib.Core.Bool.{Bool, not, _&&_, Bool·beq}
 use Prim.Native.Nat.{ℕ, _<_}
 use Rattle.lists.specs.Among.{among}
+use Rattle.lists.proofs.Both.{beq-true}
 use Rattle.bits.proofs.Below.{at-below}
 use Rattle.registers.specs.Classes.{classAt}
 use Rattle.registers.specs.Steps.{others, hasNamed, elsewhere}
-
-beq-true : (a b : Bool) → Bool·beq a b ≡ true → a ≡ b
-beq-true true true e = refl
-beq-true true false e = sym e
-beq-true false true e = e
-beq-true false false e = refl
 
 abbrev test : ℕ → Bool
 test a = Bool·beq (among a others) (hasNamed a && not (elsewhere a))

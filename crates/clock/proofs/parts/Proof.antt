@@ -1,0 +1,43 @@
+-- `clock::parts` meets its contract. Assumes nothing.
+use mathlib.Core.Path.{_≡_, refl}
+use Prim.Native.Nat.{ℕ, zero, suc, _+_, _*_, _≤_}
+use native.Mathlib.Omega.{arith}
+use borrow.Author.Needs.{needs}
+use Rattle.clock.specs.Clocks.{quarters, times}
+use Rattle.clock.proofs.parts.Statement.{statement}
+use Rattle.clock.proofs.parts.Tie as tie
+
+in-quarters : (depth : ℕ) → depth ≤ 2 → quarters depth ≡ 4 + depth
+in-quarters zero h = refl
+in-quarters (suc zero) h = refl
+in-quarters (suc (suc zero)) h = refl
+in-quarters (suc (suc (suc d))) h = absurd (omega arith)
+
+two : (r : ℕ) → r ≤ 2 → (r ≡ 0 → ⊥) → (r ≡ 1 → ⊥) → r ≡ 2
+two zero h a b = absurd (a refl)
+two (suc zero) h a b = absurd (b refl)
+two (suc (suc zero)) h a b = refl
+two (suc (suc (suc r))) h a b = absurd (omega arith)
+
+add-quarters : tie.Need-add-quarters
+add-quarters c = search needs
+
+mul-result : tie.Need-mul-result
+mul-result c = search needs
+
+mul-result-2 : tie.Need-mul-result-2
+mul-result-2 c = search needs
+
+returns : tie.Need-returns
+returns c = rw (in-quarters _ (c .before .pre .0), c .match .keys1) (omega arith, omega arith)
+
+returns-2 : tie.Need-returns-2
+returns-2 c = rw (in-quarters _ (c .before .pre .0), c .match .keys2) (omega arith, omega arith)
+
+returns-3 : tie.Need-returns-3
+returns-3 c =
+    let other = c .match .rest in
+    rw (in-quarters _ (c .before .pre .0), two _ (c .before .pre .1) (other .0 .1) (other .1)) (omega arith, omega arith)
+
+pub parts-spec : {M : Type 1} → statement M
+parts-spec = tie.close (tie.spec add-quarters mul-result mul-result-2 returns returns-2 returns-3)
