@@ -163,16 +163,31 @@ sized video z = let t = taken video z in rw (is-tmds video z) (sized-in video (t
 abbrev pub numberOf : Bool → Bool → Bool → ℕ
 numberOf o p a = cond (not o) 4 (cond p 5 (cond a 17 0))
 
+-- 4 is given exactly where the mode is not offered
+pub fourth : (o p a : Bool) → numberOf o p a ≡ 4 → o ≡ false
+fourth false p a e = refl
+fourth true true a e = absurd (omega arith)
+fourth true false true e = absurd (omega arith)
+fourth true false false e = absurd (omega arith)
+
+pub not-fourth : (o p a : Bool) → (numberOf o p a ≡ 4 → ⊥) → o ≡ true
+not-fourth true p a n = refl
+not-fourth false p a n = absurd (n refl)
+
 -- past 4 and 5
 pub later : (o p a : Bool) → (eqb (numberOf o p a) 4 || eqb (numberOf o p a) 5) ≡ false → (o ≡ true) × (p ≡ false)
 later false p a f = absurd (false≢true (sym f))
 later true true a f = absurd (false≢true (sym f))
 later true false a f = (refl, refl)
 
--- and then 17 is given where some number is
+-- and then 17 is given, or none
 pub above : (a : Bool) → (numberOf true false a ≡ 0 → ⊥) → a ≡ true
 above true n = refl
 above false n = absurd (n refl)
+
+pub not-above : (a : Bool) → numberOf true false a ≡ 0 → a ≡ false
+not-above true z = absurd (omega arith)
+not-above false z = refl
 
 -- ---- the theorem
 

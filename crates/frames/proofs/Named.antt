@@ -1,14 +1,17 @@
 -- An AVI frame names the video that it was made for. Assumes nothing.
-use mathlib.Core.Path.{_≡_, refl, sym, ap, _∙_}
+use mathlib.Core.Path.{_≡_, refl, sym}
 use mathlib.Core.Bool.{Bool, true, false, cond}
-use Prim.Native.Nat.{ℕ, _*_, _/_, _%_}
+use mathlib.Core.List.{[], _∷_}
+use Prim.Native.Nat.{ℕ, zero, suc, _+_, _*_, _/_, _%_, _≤_}
 use native.Mathlib.Omega.{arith}
 use lib.Dec.{eqb}
+use lib.ListN.{getD}
 use borrow.Author.Tests.{eqb-true, eqb-false}
 use Rattle.video.specs.declared.Video.{Video}
 use Rattle.video.specs.Fits.{VideoFits}
-use Rattle.video.proofs.Fits.{encoding-fits, range-fits, range-limited}
-use Rattle.frames.specs.Frames.{quantisation, aviPayload, videoNamed}
+use Rattle.video.specs.Video.{depth, repetition}
+use Rattle.video.proofs.Fits.{encoding-fits, range-fits, range-limited, repetition-fits}
+use Rattle.frames.specs.Frames.{quantisation, repeats, aviPayload, videoNamed}
 use Rattle.frames.specs.Theorems.{NamedBack}
 
 -- the high bit of Q
@@ -20,9 +23,20 @@ range-back v f = go (eqb (v .encoding) 0) refl (eqb (v .range) 0) refl
     go true e false h = omega (arith, range-fits v f, eqb-false (v .range) 0 h)
     go false e c h = sym (range-limited v f (eqb-false (v .encoding) 0 e))
 
+-- the repetition by PR
+repetition-back : (n : ℕ) → n ≤ 2 → (getD (0 ∷ 1 ∷ 3 ∷ []) n 0 % 16 + 1) / 2 ≡ n
+repetition-back zero h = refl
+repetition-back (suc zero) h = refl
+repetition-back (suc (suc zero)) h = refl
+repetition-back (suc (suc (suc n))) h = absurd (omega arith)
+
+pixel-back : (v : Video) → VideoFits v → (repeats v % 16 + 1) / 2 * 16 + depth v % 16 ≡ v .pixel
+pixel-back v f = rw (repetition-back (repetition v) (repetition-fits v f)) (omega arith)
+
 pub named : NamedBack
 named v f =
-    let w : Video = videoNamed (v .link) (aviPayload v) in
+    let w : Video = videoNamed (v .link) (depth v) (aviPayload v) in
     let encoding : w .encoding ≡ v .encoding = omega (arith, encoding-fits v f) in
-    ap (λ (n : ℕ). record { vic = w .vic; family = w .family; encoding = n; link = w .link; range = w .range }) encoding
-    ∙ ap (λ (n : ℕ). record { vic = w .vic; family = w .family; encoding = v .encoding; link = w .link; range = n }) (range-back v f)
+    let range = range-back v f in
+    let pixel = pixel-back v f in
+    λ i. record { vic = v .vic; family = 0; encoding = encoding i; link = v .link; range = range i; pixel = pixel i }

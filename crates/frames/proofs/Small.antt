@@ -1,15 +1,18 @@
--- What every mode's row says of its aspect and its colorimetry: one test over the table; and how large C and Q are. Assumes nothing.
+-- What every mode's row says of its aspect and its colorimetry: one test over the table; and how large C, Q and PR are. Assumes nothing.
 use mathlib.Core.Path.{_≡_, refl}
 use mathlib.Core.Bool.{Bool, true, false, cond, _&&_}
-use Prim.Native.Nat.{ℕ, _≤_}
+use mathlib.Core.List.{[], _∷_}
+use Prim.Native.Nat.{ℕ, zero, suc, _≤_}
 use lib.Dec.{eqb, leb, lit≤}
+use lib.ListN.{getD}
 use borrow.Author.Tests.{leb-true}
 use Rattle.lists.proofs.Both.{both-left, both-right}
 use Rattle.lists.proofs.Find.{found}
 use Rattle.video.specs.declared.Mode.{Mode}
 use Rattle.video.specs.declared.Video.{Video}
 use Rattle.video.specs.Modes.{modes, unlisted, modeOf}
-use Rattle.frames.specs.Frames.{colorimetry, quantisation}
+use Rattle.video.specs.Video.{repetition}
+use Rattle.frames.specs.Frames.{colorimetry, quantisation, repeats}
 
 pub record Small (m : Mode) : Type 0 where
   pub aspect : m .aspect ≤ 2
@@ -41,3 +44,12 @@ quantisation-small v = go (eqb (v .encoding) 0) (eqb (v .range) 0)
     go true true = lit≤ tt
     go true false = lit≤ tt
     go false c = lit≤ tt
+
+pub repeats-small : (v : Video) → repeats v ≤ 3
+repeats-small v = go (repetition v)
+  where
+    go : (n : ℕ) → getD (0 ∷ 1 ∷ 3 ∷ []) n 0 ≤ 3
+    go zero = lit≤ tt
+    go (suc zero) = lit≤ tt
+    go (suc (suc zero)) = lit≤ tt
+    go (suc (suc (suc n))) = lit≤ tt

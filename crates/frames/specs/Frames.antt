@@ -1,4 +1,4 @@
--- Document 01, "InfoFrames": the checksum, the AVI and the audio frame; Q is document 02's, request 01.
+-- Document 01, "InfoFrames": the checksum, the AVI and the audio frame; Q is document 02's, request 01, and PR request 06's.
 use mathlib.Core.Bool.{cond}
 use mathlib.Core.List.{List, [], _∷_, _++_}
 use Prim.Native.Nat.{ℕ, _+_, _-_, _*_, _/_, _%_}
@@ -7,6 +7,7 @@ use lib.ListN.{getD, replicate}
 use Rattle.video.specs.declared.Mode.{Mode}
 use Rattle.video.specs.declared.Video.{Video}
 use Rattle.video.specs.Modes.{modeOf}
+use Rattle.video.specs.Video.{repetition}
 
 -- "the sum of all bytes"
 unfoldable pub total : List ℕ → ℕ
@@ -33,6 +34,10 @@ colorimetry mode encoding = cond (eqb encoding 0) 0 (mode .colorimetry)
 abbrev pub quantisation : Video → ℕ
 quantisation v = cond (eqb (v .encoding) 0) (cond (eqb (v .range) 0) 1 2) 0
 
+-- request 06: "PR follow[s]" the repetition, none, 2 or 4: how often a pixel is repeated after it was sent
+abbrev pub repeats : Video → ℕ
+repeats v = getD (0 ∷ 1 ∷ 3 ∷ []) (repetition v) 0
+
 -- "AVI header 0x82, 0x02, 0x0D"
 abbrev pub aviCount : ℕ
 aviCount = 0x0D
@@ -40,7 +45,7 @@ aviCount = 0x0D
 abbrev pub aviHeader : List ℕ
 aviHeader = 0x82 ∷ 0x02 ∷ aviCount ∷ []
 
--- "Y is the encoding; A is 1; B, S, ITC, EC, SC, .. PR and bars are 0; C ..; M from the aspect; R is 8; VIC as asked"
+-- "Y is the encoding; A is 1; B, S, ITC, EC, SC, .. and bars are 0; C ..; M from the aspect; R is 8; VIC as asked"
 -- Byte 1 is 0 Y1 Y0 A B1 B0 S1 S0, byte 2 C1 C0 M1 M0 R3 to R0, byte 3 ITC EC Q SC, byte 4 the VIC, byte 5 PR, bytes 6 to 13 the bars.
 abbrev pub aviPayload : Video → List ℕ
 aviPayload v =
@@ -49,17 +54,24 @@ aviPayload v =
     (colorimetry mode (v .encoding) * 64 + mode .aspect * 16 + 8) ∷
     (quantisation v * 4) ∷
     v .vic ∷
-    0 ∷
+    repeats v ∷
     replicate 8 0
 
 unfoldable pub aviFrame : Video → List ℕ
 aviFrame video = frame aviHeader (aviPayload video)
 
--- what the data bytes of an AVI frame name, over a link: Y of byte 1, the high bit of Q in byte 3, and byte 4. "Family is answered as 0".
--- `NamedBack` ties it to them.
-abbrev pub videoNamed : ℕ → List ℕ → Video
-videoNamed link bytes =
-    record { vic = getD bytes 3 0; family = 0; encoding = getD bytes 0 0 / 32 % 4; link = link; range = getD bytes 2 0 / 8 % 2 }
+-- what the data bytes of an AVI frame name, over a link and at a depth: Y of byte 1, the high bit of Q in byte 3, byte 4, and PR in byte 5.
+-- "Family is answered as 0". `NamedBack` ties it to them.
+abbrev pub videoNamed : ℕ → ℕ → List ℕ → Video
+videoNamed link depth bytes =
+    record {
+      vic = getD bytes 3 0;
+      family = 0;
+      encoding = getD bytes 0 0 / 32 % 4;
+      link = link;
+      range = getD bytes 2 0 / 8 % 2;
+      pixel = (getD bytes 4 0 % 16 + 1) / 2 * 16 + depth % 16;
+    }
 
 -- "CC is channels less one; CA is 0x00 for 2 and 0x13 for 8; the rest 0." Byte 1 is CT3 to CT0 0 CC2 to CC0, byte 4 is CA.
 abbrev pub audioPayload : ℕ → ℕ → List ℕ

@@ -10,7 +10,7 @@ use Rattle.lists.specs.Among.{among}
 use Rattle.refusals.specs.Rows.{modeNotOffered, fieldOutOfRange, combination, Condition, _when_, Given}
 use Rattle.video.specs.declared.Video.{Video}
 use Rattle.video.specs.Modes.{listed}
-use Rattle.video.specs.Video.{answered, ShownOutside, FullYCbCr}
+use Rattle.video.specs.Video.{depth, answered, ShownOutside, FullYCbCr}
 use Rattle.video.specs.Fits.{VideoFits}
 use Rattle.frames.specs.Frames.{total, checksumOf, frame, framed, aviCount, aviPayload, aviFrame, videoNamed, audioCount, audioFrame}
 use Rattle.frames.specs.Answers.{aviOf, audioOf}
@@ -43,6 +43,6 @@ pub record Checksum : Type 0 where
   pub already : (bytes : List ℕ) → total bytes % 256 ≡ 0 → checksumOf bytes ≡ 0
 
 -- "the finished image reads back as the same request, but for the frame-rate family", of the AVI packet alone: its data bytes name the
--- video that it was made for. Which link it goes over no byte of it says.
+-- video that it was made for. Which link it goes over, and at what depth, no byte of it says.
 abbrev pub NamedBack : Type 0
-NamedBack = (v : Video) → VideoFits v → videoNamed (v .link) (aviPayload v) ≡ answered v
+NamedBack = (v : Video) → VideoFits v → videoNamed (v .link) (depth v) (aviPayload v) ≡ answered v

@@ -1,10 +1,10 @@
-// The checksum, and the AVI and audio InfoFrames: document 01, "InfoFrames"; document 02, request 01.
+// The checksum, and the AVI and audio InfoFrames: document 01, "InfoFrames"; document 02, requests 01 and 06.
 ghost use mathlib.Core.Path.{_≡_};
 ghost use mathlib.Core.Bool.{false};
 ghost use Prim.Native.Nat.{_%_};
 ghost use Rattle.video.specs.Modes.{modeOf};
 ghost use Rattle.video.specs.Video.{shownOutside};
-ghost use Rattle.frames.specs.Frames.{total, checksumOf, frame, colorimetry, quantisation};
+ghost use Rattle.frames.specs.Frames.{total, checksumOf, frame, colorimetry, quantisation, repeats};
 ghost use Rattle.frames.specs.Frames.{aviFrame, videoNamed, audioHeader, audioPayload, audioOffFrame};
 ghost use Rattle.frames.specs.Answers.{noAvi, GivesAvi, GivesAudio};
 ghost use Rattle.frames.specs.Theorems.{Checksum, FrameRefusals, NamedBack};
@@ -76,6 +76,17 @@ fn quantised(video: Video) -> u8
     2
 }
 
+// PR of the AVI InfoFrame.
+fn repeated(video: Video) -> u8
+    ensures { λ r. ⌜ r ≡ repeats video ⌝ }
+{
+    match video.pixel / 16 {
+        1 => 1,
+        2 => 3,
+        _ => 0,
+    }
+}
+
 // The AVI InfoFrame of a video, and its mode.
 fn avi_frame(video: Video, mode: Mode) -> [u8; AVI_FRAME]
     requires { ⌜ (mode ≡ modeOf (video .vic)) × (shownOutside video ≡ false) ⌝ }
@@ -85,6 +96,7 @@ fn avi_frame(video: Video, mode: Mode) -> [u8; AVI_FRAME]
     let vic = video.vic;
     let colour = colour(mode, encoding);
     let q = quantised(video);
+    let repeats = repeated(video);
     let aspect = mode.aspect;
     let first = encoding * 32 + 16;
     let second = colour * 64 + aspect * 16 + 8;
@@ -98,7 +110,7 @@ fn avi_frame(video: Video, mode: Mode) -> [u8; AVI_FRAME]
         second,
         third,
         vic,
-        0,
+        repeats,
         0,
         0,
         0,
@@ -145,19 +157,21 @@ pub fn avi_of(video: Video) -> Avi
     }
 }
 
-// What the data bytes of an AVI InfoFrame name, over a link, in family 0.
-pub fn video_named(link: u8, bytes: &[u8]) -> Video
-    ensures { λ r. ⌜ r ≡ videoNamed link (now (bytes .entry)) ⌝ }
+// What the data bytes of an AVI InfoFrame name, over a link and at a depth, in family 0.
+pub fn video_named(link: u8, depth: u8, bytes: &[u8]) -> Video
+    ensures { λ r. ⌜ r ≡ videoNamed link depth (now (bytes .entry)) ⌝ }
 {
     let first = lists::byte_at(bytes, 0);
     let third = lists::byte_at(bytes, 2);
     let vic = lists::byte_at(bytes, 3);
+    let fifth = lists::byte_at(bytes, 4);
     Video {
         vic: vic,
         family: 0,
         encoding: first / 32 % 4,
         link: link,
         range: third / 8 % 2,
+        pixel: (fifth % 16 + 1) / 2 * 16 + depth % 16,
     }
 }
 

@@ -12,9 +12,9 @@ use Rattle.refusals.specs.Rows.{noExactPair, _when_, Given, _if_, lowest}
 use Rattle.refusals.proofs.Tests.{lowest-given, answer-beside, in-stages, later, reworded}
 use Rattle.clock.specs.declared.Pair.{Pair}
 use Rattle.video.specs.declared.Video.{Video}
-use Rattle.video.specs.Video.{noVideo}
+use Rattle.video.specs.Video.{noVideo, PixelOutside}
 use Rattle.clock.specs.Pairs.{noPair}
-use Rattle.clock.proofs.Rows.{refusals}
+use Rattle.clock.proofs.Rows.{refusals, is-above}
 use Rattle.request.specs.declared.Sound.the-variants.{Off, On}
 use Rattle.request.specs.declared.Checked.{Checked}
 use Rattle.matrix.specs.Matrix.{noMatrix, Bytes}
@@ -24,12 +24,14 @@ use Rattle.request.specs.Read.{emptied, bodyTests, judged, walkTests, ch
 use Rattle.request.specs.Theorems.{Rows}
 use Rattle.request.proofs.Ordered.{read-given, Judged, passed, full, is-outside}
 
--- where row 5 does not apply, the rate and the coherent byte of an audio section are in range
-in-range : (v : Video) (a m : List ℕ) → (Outside v a m → ⊥) → Present a → (6 < rate a) ⊎ (1 < coherent a) → ⊥
-in-range v a m o p (inl h) = o (inr (inl (p, inl h)))
-in-range v a m o p (inr h) = o (inr (inl (p, inr (inr h))))
+-- where row 5 does not apply, the depth byte, the rate and the coherent byte of an audio section are in range
+in-range : (v : Video) (a m : List ℕ) → (Outside v a m → ⊥) → Present a → PixelOutside v ⊎ (6 < rate a) ⊎ (1 < coherent a) → ⊥
+in-range v a m o p (inl (inl h)) = o (inl (inr (inl h)))
+in-range v a m o p (inl (inr h)) = o (inl (inr (inr (inr (inr h)))))
+in-range v a m o p (inr (inl h)) = o (inr (inl (p, inl h)))
+in-range v a m o p (inr (inr h)) = o (inr (inl (p, inr (inr h))))
 
--- row 9 of a walk that rows 1 to 6 let pass: the rows of the call on single fields, past rows 4 and 5
+-- row 9 of a walk that rows 1 to 6 and 17 let pass: the rows of the call on single fields, past rows 4, 5 and 17
 module _ (w : Walk) where
   abbrev v : Video
   v = videoOf w
@@ -51,7 +53,8 @@ module _ (w : Walk) where
           let outside : Outside v a m → ⊥ = is-outside v a m bytes .fails (j .inside) in
           let past4 = later _ _ _ (refusals .pair v (rate a) (coherent a)) refl (λ f. false≢true (sym f ∙ j .mode)) in
           let past5 = later _ _ _ past4 refl (in-range v a m outside p) in
-          reworded noExactPair _ (NoPair w) _ (λ x. (p, x .0, x .1)) (λ x. (x .1, x .2)) past5
+          let past17 = later _ _ _ past5 refl (is-above v .fails (j .within)) in
+          reworded noExactPair _ (NoPair w) _ (λ x. (p, x .0, x .1)) (λ x. (x .1, x .2)) past17
       go false e =
           lowest-given (noExactPair if false ∷ []) (noExactPair when NoPair w ∷ []) refl
           (refl, record { passes = λ t. absurd (false≢true t); fails = λ _ x. full a .fails e (x .0) }, λ _. tt)
@@ -123,7 +126,7 @@ rows input =
       none = beside w;
     }
 
--- row 9 of an input that rows 1 to 6 let pass
+-- row 9 of an input that is read
 pub pair-given : (input : List ℕ) → Bytes input → readOf input .refusal ≡ 0
     → Given (noExactPair when NoPair (walked input) ∷ []) (pairFor (readOf input .request) .refusal)
 unfolding readOf walked

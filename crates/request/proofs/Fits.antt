@@ -12,7 +12,9 @@ use Rattle.lists.proofs.Both.{neither-left, neither-right}
 use Rattle.video.specs.declared.Video.{Video}
 use Rattle.video.specs.Video.{videoOutside, videoCombined}
 use Rattle.video.specs.Modes.{offered}
-use Rattle.video.proofs.Fits.{is-outside, is-combined}
+use Rattle.video.proofs.Fits.{is-outside, is-combined, pixel-inside}
+use Rattle.clock.specs.Clocks.{tmds, aboveLimit}
+use Rattle.clock.proofs.Offered.{number-is}
 use Rattle.matrix.specs.declared.Matrix.{Matrix}
 use Rattle.matrix.specs.Matrix.{matrixOf, noMatrix}
 use Rattle.matrix.specs.Tests.{isAllowed}
@@ -56,9 +58,10 @@ matrix-fits m false s e f = (inl refl, lit≤ tt)
 matrix-fits m true true e f = (inr (filled m e), mode-small m e)
 matrix-fits m true false e f = absurd (false≢true (sym f))
 
-in-range : (v : Video) (a m : List ℕ) → offered v ≡ true → outside v a m ≡ false → combined v a m ≡ false → Fits (requestIn v a m)
+in-range : (v : Video) (a m : List ℕ) → offered v ≡ true → outside v a m ≡ false → combined v a m ≡ false → aboveLimit (tmds v) ≡ false
+    → Fits (requestIn v a m)
 unfolding outside combined
-in-range v a m o x c =
+in-range v a m o x c w =
     let later : Bool = present m && not (isAllowed m) in
     let y : ((present a && audioOutside a) || later) ≡ false = neither-right (videoOutside v) _ x in
     let f = matrix-fits m (present m) (isAllowed m) refl (neither-right (present a && audioOutside a) _ y) in
@@ -68,6 +71,7 @@ in-range v a m o x c =
         inside = is-outside v .fails (neither-left (videoOutside v) _ x);
         apart = is-combined v .fails (neither-right (eqb (v .link) 0 && present a) _ (neither-right (not (eqb (v .encoding) 0) && eqb (length m) 0) _ c));
       };
+      clock = rw (number-is v, o, pixel-inside v (neither-left (videoOutside v) _ x), w);
       sound = sound-fits a (present a) (neither-left (present a && audioOutside a) later y);
       matrix = f .0;
       mode = f .1;
@@ -78,7 +82,7 @@ unfolding readOf
 fits input z =
     let w : Walk = walked input in
     let j = passed w z in
-    subst Fits (sym (j .request)) (in-range (videoOf w) (audioSection w) (matrixSection w) (j .mode) (j .inside) (j .apart))
+    subst Fits (sym (j .request)) (in-range (videoOf w) (audioSection w) (matrixSection w) (j .mode) (j .inside) (j .apart) (j .within))
 
 -- a matrix that is none or filled: its enable is one bit, and each coefficient has 13
 pub on-small : (m : Matrix) → Shaped m → m .on ≤ 1

@@ -14,6 +14,8 @@ use Rattle.refusals.proofs.Tests.{Decided, lowest-given, answer-given, in-stage
 use Rattle.video.specs.declared.Video.{Video}
 use Rattle.video.specs.Modes.{offered}
 use Rattle.video.proofs.Fits as video
+use Rattle.clock.specs.Clocks.{tmds, aboveLimit}
+use Rattle.clock.proofs.Rows.{is-above}
 use Rattle.request.specs.declared.Checked.{Checked}
 use Rattle.request.specs.Sections.{Walk, ends, notAllowed, whole, audioSection, matrixSection, restOf}
 use Rattle.request.specs.Request.{Present, present, videoOf, rate, channels, coherent, AudioOutside, Outside, Combined, requestIn, readRules}
@@ -51,7 +53,7 @@ is-combined v a m =
 abbrev numberOf : Checked → ℕ
 numberOf c = c .refusal
 
--- rows 1 to 3 by the walk, and then rows 4 to 6 by its bodies: the tests decide them one by one
+-- rows 1 to 3 by the walk, and then rows 4 to 6 and 17 by its bodies: the tests decide them one by one
 module _ (w : Walk) (bytes : Bytes (matrixSection w)) where
   abbrev v : Video
   v = videoOf w
@@ -72,7 +74,7 @@ module _ (w : Walk) (bytes : Bytes (matrixSection w)) where
   walk-decided = (refl, ends-decided w, λ _. (refl, refused-decided w, λ _. (refl, full (restOf w), λ _. tt)))
 
   body-decided : Decided (bodyTests v a m) bodyRules
-  body-decided = (refl, failing (offered v), λ _. (refl, is-outside v a m bytes, λ _. (refl, is-combined v a m, λ _. tt)))
+  body-decided = (refl, failing (offered v), λ _. (refl, is-outside v a m bytes, λ _. (refl, is-combined v a m, λ _. (refl, is-above v, λ _. tt))))
 
   pub read-given : Given (readRules w) (checked w .refusal)
   unfolding judged
@@ -88,6 +90,7 @@ module _ (v : Video) (a m : List ℕ) where
     pub mode : offered v ≡ true
     pub inside : outside v a m ≡ false
     pub apart : combined v a m ≡ false
+    pub within : aboveLimit (tmds v) ≡ false
 
   pub accepted : judged v a m .refusal ≡ 0 → Judged (judged v a m)
   unfolding judged
@@ -98,6 +101,7 @@ module _ (v : Video) (a m : List ℕ) where
         mode = not-false (offered v) (none-at (bodyTests v a m) 0 n);
         inside = none-at (bodyTests v a m) 1 n;
         apart = none-at (bodyTests v a m) 2 n;
+        within = none-at (bodyTests v a m) 3 n;
       }
 
 -- a walk that no row refuses: no byte is left, its request is what its bodies say, in a mode that is offered, with each field in range

@@ -3,6 +3,7 @@ use mathlib.Core.Path.{_≡_}
 use mathlib.Core.Logic.{_⊎_}
 use Prim.Native.Nat.{_≤_}
 use Rattle.video.specs.Fits.{VideoFits}
+use Rattle.clock.specs.Clocks.{clockOf}
 use Rattle.request.specs.declared.Sound.{Sound}
 use Rattle.request.specs.declared.Sound.the-variants.{Off, On}
 use Rattle.request.specs.declared.Request.{Request}
@@ -13,9 +14,10 @@ abbrev pub SoundFits : Sound → Type 0
 SoundFits Off = Unit
 SoundFits (On rate channels coherent) = (rate ≤ 6) × ((channels ≡ 2) ⊎ (channels ≡ 8)) × (coherent ≤ 1)
 
--- the matrix is none, or twelve fields of 13 bits; "(matrix mode above 2)" is row 5's
+-- the clock is answered; the matrix is none, or twelve fields of 13 bits; "(matrix mode above 2)" is row 5's
 pub record Fits (r : Request) : Type 0 where
   pub video : VideoFits (r .video)
+  pub clock : clockOf (r .video) .refusal ≡ 0
   pub sound : SoundFits (r .sound)
   pub matrix : Shaped (r .matrix)
   pub mode : r .matrix .mode ≤ 2

@@ -9,6 +9,7 @@ use Rattle.clock.specs.declared.Pair.{Pair}
 use Rattle.video.specs.declared.Video.{Video}
 use Rattle.video.specs.Video.{noVideo, videoOutside, videoCombined}
 use Rattle.video.specs.Modes.{offered}
+use Rattle.clock.specs.Clocks.{tmds, aboveLimit}
 use Rattle.clock.specs.Pairs.{noPair, audioOff}
 use Rattle.clock.specs.Found.{pairOf}
 use Rattle.matrix.specs.Matrix.{noMatrix}
@@ -20,7 +21,7 @@ use Rattle.request.specs.declared.Checked.{Checked}
 use Rattle.request.specs.Sections.{Walk, ends, notAllowed, whole, walked, audioSection, matrixSection, restOf}
 use Rattle.request.specs.Request.{present, videoOf, rate, channels, coherent, requestIn}
 use Rattle.refusals.specs.Rows.{Test, _if_, lowest, answer}
-use Rattle.refusals.specs.Rows.{inputEnds, countNotAllowed, bytesAfter, modeNotOffered, fieldOutOfRange, combination}
+use Rattle.refusals.specs.Rows.{inputEnds, countNotAllowed, bytesAfter, modeNotOffered, fieldOutOfRange, combination, clockAbove}
 
 -- a refusal stands beside an empty request: fields 0, audio off, no matrix
 abbrev pub emptied : ℕ → Checked
@@ -37,12 +38,13 @@ unfoldable pub combined : Video → List ℕ → List ℕ → Bool
 combined video audio matrix =
     (not (eqb (video .encoding) 0) && eqb (length matrix) 0) || ((eqb (video .link) 0 && present audio) || videoCombined video)
 
--- rows 4 to 6 of the sections, and rows 1 to 3 before them: a line for each row. They decide the conditions of `readRules` (`Rows`).
+-- rows 4 to 6 and 17 of the sections, and rows 1 to 3 before them: a line for each row. They decide the conditions of `readRules` (`Rows`).
 abbrev pub bodyTests : Video → List ℕ → List ℕ → List Test
 bodyTests video audio matrix =
     modeNotOffered if not (offered video) ∷
     fieldOutOfRange if outside video audio matrix ∷
-    combination if combined video audio matrix ∷ []
+    combination if combined video audio matrix ∷
+    clockAbove if aboveLimit (tmds video) ∷ []
 
 unfoldable pub judged : Video → List ℕ → List ℕ → Checked
 judged video audio matrix =
@@ -67,7 +69,7 @@ walkTests w =
 abbrev pub checked : Walk → Checked
 checked w = answer (lowest (walkTests w)) emptied (judged (videoOf w) (audioSection w) (matrixSection w))
 
--- a request read from an input: refusals 1 to 6
+-- a request read from an input: refusals 1 to 6 and 17
 unfoldable pub readOf : List ℕ → Checked
 readOf input = checked (walked input)
 
@@ -86,7 +88,7 @@ pairFor r = pairIn r (r .sound)
 abbrev pub Pairs : Request → Pair → Type 0
 Pairs r given = given ≡ pairFor r
 
--- N and CTS over a request slice: refusals 1 to 6 and 9
+-- N and CTS over a request slice: refusals 1 to 6, 17 and 9
 unfoldable pub nctsOf : List ℕ → Pair
 nctsOf input = answer (readOf input .refusal) noPair (pairFor (readOf input .request))
 

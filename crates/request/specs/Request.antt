@@ -7,11 +7,11 @@ use Prim.Native.Nat.{ℕ, _<_}
 use lib.Dec.{eqb}
 use lib.ListN.{getD, length}
 use Rattle.refusals.specs.Rows.{Condition, _when_}
-use Rattle.refusals.specs.Rows.{inputEnds, countNotAllowed, bytesAfter, modeNotOffered, fieldOutOfRange, combination, noExactPair}
+use Rattle.refusals.specs.Rows.{inputEnds, countNotAllowed, bytesAfter, modeNotOffered, fieldOutOfRange, combination, clockAbove, noExactPair}
 use Rattle.video.specs.declared.Video.{Video}
 use Rattle.video.specs.Video.{videoIn, VideoOutside, VideoCombined}
 use Rattle.video.specs.Modes.{offered}
-use Rattle.clock.specs.Clocks.{clockOf}
+use Rattle.clock.specs.Clocks.{tmds, AboveLimit, clockOf}
 use Rattle.clock.specs.Pairs.{Exact}
 use Rattle.matrix.specs.Matrix.{Allowed, matrixOf, noMatrix}
 use Rattle.request.specs.declared.Sound.{Sound}
@@ -47,11 +47,11 @@ abbrev pub Outside : Video → List ℕ → List ℕ → Type 0
 Outside video audio matrix = VideoOutside video ⊎ (Present audio × AudioOutside audio) ⊎ (Present matrix × (Allowed matrix → ⊥))
 
 -- row 6, "encoding not 0 without a matrix; DVI with audio or with encoding not 0": the last is the video section's,
--- and so is what concerns the range
+-- and so is what concerns the range and the depth
 abbrev pub Combined : Video → List ℕ → List ℕ → Type 0
 Combined video audio matrix = ((video .encoding ≢ 0) × (length matrix ≡ 0)) ⊎ ((video .link ≡ 0) × Present audio) ⊎ VideoCombined video
 
--- rows 1 to 6, by what the walk finds in the input: its three bodies, and the bytes after them
+-- rows 1 to 6 and 17, by what the walk finds in the input: its three bodies, and the bytes after them
 abbrev pub readRules : Walk → List Condition
 readRules w =
     inputEnds when (w ≡ ends) ∷
@@ -59,7 +59,8 @@ readRules w =
     bytesAfter when Present (restOf w) ∷
     modeNotOffered when (offered (videoOf w) ≡ false) ∷
     fieldOutOfRange when Outside (videoOf w) (audioSection w) (matrixSection w) ∷
-    combination when Combined (videoOf w) (audioSection w) (matrixSection w) ∷ []
+    combination when Combined (videoOf w) (audioSection w) (matrixSection w) ∷
+    clockAbove when AboveLimit (tmds (videoOf w)) ∷ []
 
 -- row 9, "coherent audio, and no exact pair exists"
 abbrev pub NoPair : Walk → Type 0

@@ -1,4 +1,4 @@
-// The request: document 01, "The request" and "Refusal numbers".
+// The request: document 01, "The request" and "Refusal numbers"; document 02, requests 01 and 06.
 ghost use mathlib.Core.Path.{_≡_};
 ghost use mathlib.Core.Bool.{not, _&&_};
 ghost use Prim.Native.Nat.{ℕ, _%_};
@@ -112,13 +112,14 @@ fn is_combined(video: Video, audio: &[u8], body: &[u8]) -> bool
         | (((video.link == 0) & (audio.len() != 0)) | video::combined(video))
 }
 
-// What the three sections ask for: rows 4 to 6.
+// What the three sections ask for: rows 4 to 6 and 17.
 fn judge(video: Video, audio: &[u8], body: &[u8]) -> Checked
     requires { ⌜ length (now audio) % audioCount ≡ 0 ⌝ }
     ensures { λ r. ⌜ r ≡ judged video (now (audio .entry)) (now (body .entry)) ⌝ }
 {
     let clock = clock::clock_of(video);
-    if clock.refusal != Refusal::NONE {
+    let number = clock.refusal;
+    if number == Refusal::MODE_NOT_OFFERED {
         return refused(Refusal::MODE_NOT_OFFERED);
     }
     if is_outside(video, audio, body) {
@@ -126,6 +127,9 @@ fn judge(video: Video, audio: &[u8], body: &[u8]) -> Checked
     }
     if is_combined(video, audio, body) {
         return refused(Refusal::COMBINATION);
+    }
+    if number != Refusal::NONE {
+        return refused(Refusal::CLOCK_ABOVE);
     }
     let sound = sound_of(audio);
     let matrix = matrix::read(body);
@@ -139,7 +143,7 @@ fn judge(video: Video, audio: &[u8], body: &[u8]) -> Checked
     }
 }
 
-// A request read from an input: rows 1 to 6.
+// A request read from an input: rows 1 to 6 and 17.
 pub fn read(s: &[u8]) -> Checked
     ensures { λ r. ⌜ Reads (now (s .entry)) r ⌝ }
 {
@@ -179,7 +183,7 @@ pub fn pair_for(r: Request) -> Pair
     }
 }
 
-// N and CTS over a request slice: rows 1 to 6 and 9.
+// N and CTS over a request slice: rows 1 to 6, 17 and 9.
 pub fn ncts(s: &[u8]) -> Pair
     ensures { λ r. ⌜ PairsInput (now (s .entry)) r ⌝ }
 {

@@ -1,6 +1,6 @@
 -- What the tests of a video decide, and what they say of each field of one that is accepted. Assumes nothing.
 use mathlib.Core.Path.{_≡_, refl}
-use mathlib.Core.Logic.{_≢_, inl, inr}
+use mathlib.Core.Logic.{_≢_, inl, inr, ⊎-elim}
 use mathlib.Core.Bool.{Bool, true, false, cond, _&&_}
 use mathlib.Core.List.{List, [], _∷_}
 use Prim.Native.Nat.{ℕ, _/_, _%_, _<_, _≤_}
@@ -9,7 +9,7 @@ use lib.Dec.{eqb, ltb, leb}
 use borrow.Author.Tests.{eqb-true, eqb-false, ltb-true, ltb-false, leb-true}
 use Rattle.lists.specs.Find.{every}
 use Rattle.lists.proofs.Both.{both-left, both-right}
-use Rattle.lists.proofs.Decides.{Decides, equal, less, opposite, either, together}
+use Rattle.lists.proofs.Decides.{Decides, equal, less, opposite, either, together, refuted}
 use Rattle.video.specs.declared.Mode.{Mode}
 use Rattle.video.specs.declared.Video.{Video}
 use Rattle.video.specs.Modes.{modes, rowOf, modeOf, offered}
@@ -29,6 +29,10 @@ is-pixel-outside v = either (less 2 (depth v)) (less 2 (repetition v))
 
 pub is-full : (v : Video) → Decides (fullYCbCr v) (FullYCbCr v)
 is-full v = together (equal (v .range) 1) (opposite (equal (v .encoding) 0))
+
+-- what is outside for the clock is outside
+pub pixel-inside : (v : Video) → videoOutside v ≡ false → pixelOutside v ≡ false
+pixel-inside v e = refuted (is-pixel-outside v) (λ h. is-outside v .fails e (⊎-elim (λ d. inr (inl d)) (λ r. inr (inr (inr (inr r)))) h))
 
 pub is-deep : (v : Video) → Decides (deepApart v) (DeepApart v)
 is-deep v = together (opposite (equal (depth v) 0)) (either (equal (v .encoding) 1) (equal (v .link) 0))

@@ -1,5 +1,7 @@
 -- `frames::avi_frame` meets its contract: the place of the checksum is 0 while the sum is taken. Assumes nothing.
+use mathlib.Core.Bool.{_||_}
 use Prim.Native.Nat.{_≤_}
+use Rattle.video.specs.Video.{repetition}
 use lib.Dec.{ltb}
 use borrow.Author.Tests.{ltb-false}
 use Rattle.lists.proofs.Both.{neither-left}
@@ -16,23 +18,27 @@ colour-requires c κs = search needs
 quantised-requires : tie.Need-quantised-requires
 quantised-requires c κs = search needs
 
--- Y, C, M and Q have two bits
-record Small-fields (c : tie.After-quantised) : Type 0 where
-  encoding : c .before .before .args .video .encoding ≤ 2
-  colour : c .before .colour .result ≤ 2
-  aspect : c .before .before .args .mode .aspect ≤ 2
-  q : c .quantised .result ≤ 2
+repeated-requires : tie.Need-repeated-requires
+repeated-requires c κs = search needs
 
-small : (c : tie.After-quantised) → Small-fields c
+-- Y, C, M and Q have two bits
+record Small-fields (c : tie.After-repeated) : Type 0 where
+  encoding : c .before .before .before .args .video .encoding ≤ 2
+  colour : c .before .before .colour .result ≤ 2
+  aspect : c .before .before .before .args .mode .aspect ≤ 2
+  q : c .before .quantised .result ≤ 2
+
+small : (c : tie.After-repeated) → Small-fields c
 small c =
-    let p = c .before .before in
+    let q = c .before in
+    let p = q .before .before in
     let v = p .args .video in
     let m : Small (p .args .mode) = rw (p .pre .0) (mode-small (v .vic)) in
     record {
-      encoding = ltb-false 2 (v .encoding) (neither-left (ltb 2 (v .encoding)) (ltb 1 (v .range)) (p .pre .1));
-      colour = rw (c .before .colour .ensures) (colour-small (p .args .mode) (v .encoding) m);
+      encoding = ltb-false 2 (v .encoding) (neither-left (ltb 2 (v .encoding)) (ltb 1 (v .range) || ltb 2 (repetition v)) (p .pre .1));
+      colour = rw (q .before .colour .ensures) (colour-small (p .args .mode) (v .encoding) m);
       aspect = m .aspect;
-      q = rw (c .quantised .ensures) (quantisation-small v);
+      q = rw (q .quantised .ensures) (quantisation-small v);
     }
 
 mul-first : tie.Need-mul-first
@@ -68,9 +74,17 @@ array-write-bytes c = search needs
 returns : tie.Need-returns
 unfolding aviFrame
 returns c =
-    let q = c .before .before in
+    let r = c .before .before in
+    let q = r .before in
     let p = q .before in
-    simp (c .checksum .ensures, kept aviHeader (aviPayload (p .before .args .video)), p .colour .ensures, q .quantised .ensures, p .before .pre .0)
+    simp (
+      c .checksum .ensures,
+      kept aviHeader (aviPayload (p .before .args .video)),
+      p .colour .ensures,
+      q .quantised .ensures,
+      r .repeated .ensures,
+      p .before .pre .0,
+    )
 
 pub avi-frame-spec : {M : Type 1} → statement M
 avi-frame-spec =
@@ -78,6 +92,7 @@ avi-frame-spec =
     (tie.spec
     colour-requires
     quantised-requires
+    repeated-requires
     mul-first
     add-first
     mul-second
