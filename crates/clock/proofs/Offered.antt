@@ -209,7 +209,7 @@ within v z = rw (is-tmds v z) (ltb-false _ _ (taken v z .within))
 inside : (v : Video) → (PixelOutside v → ⊥) → pixelOutside v ≡ false
 inside v out = refuted (is-pixel-outside v) out
 
-families : (v : Video) → offered (inFamily 1 v) ≡ true → (PixelOutside v → ⊥) → AboveLimit (tmds (inFamily 0 v)) ↔ AboveLimit (tmds (inFamily 1 v))
+pub families : (v : Video) → offered (inFamily 1 v) ≡ true → (PixelOutside v → ⊥) → AboveLimit (tmds (inFamily 0 v)) ↔ AboveLimit (tmds (inFamily 1 v))
 unfolding tmds
 families v o out =
     let s = halves v (inside v out) in

@@ -1,7 +1,7 @@
 -- What is extracted of an image in which a request stands is that request. Assumes nothing.
 use mathlib.Core.Path.{_≡_, refl, sym, ap, ap₂, _∙_}
 use mathlib.Core.Logic.{_⊎_, inl, inr}
-use mathlib.Core.Bool.{true, _&&_}
+use mathlib.Core.Bool.{Bool, true, _&&_}
 use mathlib.Core.List.{List}
 use Prim.Native.Nat.{ℕ, _+_, _*_, _/_, _%_, _<_, _≤_}
 use native.Mathlib.Omega.{arith}
@@ -9,20 +9,20 @@ use lib.Dec.{eqb, ltb, lit<}
 use lib.ListN.{length, getD}
 use borrow.Author.Tests.{eqb-true, ltb-true, eq-eqb, ne-eqb}
 use Rattle.lists.proofs.Both.{both-left, both-right}
-use Rattle.bits.proofs.Below.{at-below}
+use Rattle.bits.proofs.Below.{below, at-below}
 use Rattle.registers.specs.Classes.{classAt}
 use Rattle.map.specs.Map as reg
-use Rattle.video.specs.Video.{answered}
-use Rattle.video.proofs.Fits.{link-fits}
+use Rattle.video.specs.Video.{depth, answered}
+use Rattle.video.proofs.Fits.{link-fits, depth-fits}
 use Rattle.frames.specs.Frames.{videoNamed}
 use Rattle.frames.proofs.Named.{named}
 use Rattle.request.specs.declared.Sound.{Sound}
 use Rattle.request.specs.declared.Sound.the-variants.{Off, On}
 use Rattle.request.specs.declared.Request.{Request}
-use Rattle.plan.specs.Wanted.{wanted, rateCodes, withAudio, rateCode, ctsSelect}
+use Rattle.plan.specs.Wanted.{wanted, rateCodes, withAudio, rateCode, ctsSelect, depthCodes}
 use Rattle.writes.specs.List.{isWritten, decided}
 use Rattle.decode.specs.Ends.{Stands}
-use Rattle.decode.specs.Extract.{byteIn, rateOf, soundIn, matrixIn, linkIn, dataIn, extract}
+use Rattle.decode.specs.Extract.{byteIn, rateOf, soundIn, matrixIn, linkIn, depthOf, depthIn, dataIn, extract}
 use Rattle.decode.proofs.Stored.{cc, Wants, wants}
 use Rattle.decode.proofs.Standing.{reads}
 use Rattle.decode.proofs.Groups.{avi-data, matrix-in}
@@ -30,12 +30,16 @@ use Rattle.request.specs.Bytes.{answeredAs}
 use Rattle.request.specs.Theorems.{Shaped}
 use Rattle.request.specs.Fits.{SoundFits, Fits}
 
--- ---- rates
+-- ---- codes of four bits: rates and depths
 
-rate-back : (n : ℕ) → n ≤ 6 → (rateOf (getD rateCodes n 0) ≡ n) × (getD rateCodes n 0 < 16)
-rate-back n h =
-    let t : (eqb (rateOf (getD rateCodes n 0)) n && ltb (getD rateCodes n 0) 16) ≡ true = at-below (λ n. eqb (rateOf (getD rateCodes n 0)) n && ltb (getD rateCodes n 0) 16) 7 n refl (omega arith) in
-    (eqb-true _ _ (both-left _ (ltb (getD rateCodes n 0) 16) t), ltb-true _ _ (both-right (eqb (rateOf (getD rateCodes n 0)) n) _ t))
+abbrev isBack : (ℕ → ℕ) → List ℕ → ℕ → Bool
+isBack of codes n = eqb (of (getD codes n 0)) n && ltb (getD codes n 0) 16
+
+code-back : (of : ℕ → ℕ) (codes : List ℕ) (count n : ℕ) → below (isBack of codes) count ≡ true → n < count
+    → (of (getD codes n 0) ≡ n) × (getD codes n 0 < 16)
+code-back of codes count n a h =
+    let t : isBack of codes n ≡ true = at-below (isBack of codes) count n a h in
+    (eqb-true _ _ (both-left _ (ltb (getD codes n 0) 16) t), ltb-true _ _ (both-right (eqb (of (getD codes n 0)) n) _ t))
 
 enabled : (s : Sound) (link : ℕ) → link ≤ 1 → (withAudio s * 104 + link * 16) / 32 % 2 ≡ withAudio s
 enabled Off link h = omega arith
@@ -51,8 +55,16 @@ module _ (r : Request) (image : List ℕ) (long : length image ≡ 256) (g : Fit
   unfolding isWritten decided classAt
   link = omega (arith, reads r image st reg.hdcpHdmiCfg 1 1 (lit< tt) refl, w .link, link-fits (r .video) (g .video))
 
-  video : videoNamed (linkIn image) (dataIn image) ≡ answered (r .video)
-  video = ap₂ videoNamed link (avi-data r image long g st) ∙ named (r .video) (g .video)
+  deep : depthIn image ≡ depth (r .video)
+  unfolding isWritten decided classAt
+  deep =
+      let b = code-back depthOf depthCodes 3 (depth (r .video)) refl (omega (arith, depth-fits (r .video) (g .video))) in
+      let e : byteIn image reg.gcDepth % 16 ≡ getD depthCodes (depth (r .video)) 0 =
+      omega (arith, reads r image st reg.gcDepth 0 4 (lit< tt) refl, w .depth, b .1) in
+      ap depthOf e ∙ b .0
+
+  video : videoNamed (linkIn image) (depthIn image) (dataIn image) ≡ answered (r .video)
+  video = rw (link, deep, avi-data r image long g st) (named (r .video) (g .video))
 
   -- ---- sound
 
@@ -76,7 +88,7 @@ module _ (r : Request) (image : List ℕ) (long : length image ≡ 256) (g : Fit
       → byteIn image reg.audioInfoframeByte1 % 8 ≡ cc s % 8 → byteIn image reg.audioSource / 128 % 2 ≡ ctsSelect s * 128 / 128 % 2 → soundIn image ≡ s
   heard Off k p q c h = rw (eq-eqb (byteIn image reg.packetEnable1 / 32 % 2) 0 p)
   heard (On x y z) k p q c h =
-      let b = rate-back x (k .0) in
+      let b = code-back rateOf rateCodes 7 x refl (omega (arith, k .0)) in
       let code : getD rateCodes x 0 * 16 / 16 % 16 ≡ getD rateCodes x 0 = omega (arith, b .1) in
       let e : rateOf (byteIn image reg.i2sFreqIdCfg / 16 % 16) ≡ x = rw (q, code) (b .0) in
       let f : byteIn image reg.audioInfoframeByte1 % 8 + 1 ≡ y = count (k .1) in

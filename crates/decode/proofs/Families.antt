@@ -7,13 +7,18 @@ use native.Mathlib.Omega.{arith}
 use lib.Dec.{eqb, ltb}
 use lib.ListN.{getD, replicate}
 use borrow.Author.Tests.{eqb-true, eq-eqb, ltb-true, lt-ltb}
-use Rattle.lists.proofs.Both.{both-left, both-right}
+use Rattle.lists.proofs.Both.{both-left, both-right, neither-left}
+use Rattle.lists.proofs.Decides.{refuted}
 use Rattle.map.specs.Map as reg
 use Rattle.video.specs.declared.Video.{Video}
 use Rattle.video.specs.Video.{videoOutside, videoCombined}
+use Rattle.video.proofs.Fits.{is-pixel-outside, pixel-inside}
 use Rattle.video.specs.Video as video
 use Rattle.video.specs.Modes.{modeOf, offered}
 use Rattle.clock.specs.declared.Pair.{Pair}
+use Rattle.clock.specs.Clocks.{tmds, aboveLimit}
+use Rattle.clock.proofs.Offered.{families}
+use Rattle.clock.proofs.Rows.{is-above}
 use Rattle.clock.proofs.Coherence.{pair-in}
 use Rattle.frames.specs.Frames.{aviFrame}
 use Rattle.request.specs.declared.Sound.{Sound}
@@ -31,10 +36,17 @@ use Rattle.plan.specs.Wanted.{laid, stores, clockBytes, inputBytes, cscBytes, e
 use Rattle.writes.specs.List.{standsBelow}
 use Rattle.decode.specs.Decode.{isCoherent, endsIn}
 
--- ---- rows 4 to 6
+-- ---- rows 4 to 6 and 17
 
 first-offered : (v : Video) → offered (video.inFamily 1 v) ≡ true → offered (video.inFamily 0 v) ≡ true
 first-offered v o = lt-ltb 0 (modeOf (v .vic) .families) (omega (arith, ltb-true 1 (modeOf (v .vic) .families) o))
+
+-- above the limit in both families or in none
+first-within : (v : Video) → offered (video.inFamily 1 v) ≡ true → videoOutside v ≡ false → aboveLimit (tmds (video.inFamily 1 v)) ≡ false
+    → aboveLimit (tmds (video.inFamily 0 v)) ≡ false
+first-within v o x w =
+    refuted (is-above (video.inFamily 0 v))
+    (λ h. is-above (video.inFamily 1 v) .fails w (families v o (is-pixel-outside v .fails (pixel-inside v x)) .0 h))
 
 judged-first : (v : Video) (a m : List ℕ) → judged (video.inFamily 1 v) a m .refusal ≡ 0 → judged (video.inFamily 0 v) a m .refusal ≡ 0
 unfolding judged outside combined videoOutside videoCombined
@@ -42,7 +54,8 @@ judged-first v a m z =
     let j = accepted (video.inFamily 1 v) a m z in
     let x : outside (video.inFamily 0 v) a m ≡ false = j .inside in
     let c : combined (video.inFamily 0 v) a m ≡ false = j .apart in
-    rw (first-offered v (j .mode), x, c)
+    let i : videoOutside v ≡ false = neither-left (videoOutside v) _ (j .inside) in
+    rw (first-offered v (j .mode), x, c, first-within v (j .mode) i (j .within))
 
 module _ (r : Request) (s : Shaped (r .matrix)) where
   read-first : readOf (asBytes (inFamily 1 r)) .refusal ≡ 0 → readOf (asBytes (inFamily 0 r)) .refusal ≡ 0
@@ -54,22 +67,22 @@ module _ (r : Request) (s : Shaped (r .matrix)) where
   -- ---- N and CTS
 
   module _ (z : readOf (asBytes (inFamily 1 r)) .refusal ≡ 0) where
-    fitting : Fits (inFamily 1 r)
-    fitting = subst Fits (ap (λ (c : Checked). c .request) (said (inFamily 1 r) s z)) (fits (asBytes (inFamily 1 r)) z)
+    fitting : (family : ℕ) → readOf (asBytes (inFamily family r)) .refusal ≡ 0 → Fits (inFamily family r)
+    fitting family z =
+        subst Fits (ap (λ (c : Checked). c .request) (said (inFamily family r) s z)) (fits (asBytes (inFamily family r)) z)
 
     pair-same : (t : Sound) → isCoherent t ≡ false → SoundFits t → pairIn (inFamily 0 r) t ≡ pairIn (inFamily 1 r) t
     pair-same Off n f = refl
     pair-same (On rate channels coherent) n f =
-        let o : offered (video.inFamily 1 (r .video)) ≡ true = fitting .video .offered in
         let h : rate < 7 = omega (arith, f .0) in
         let k : coherent < 2 = omega (arith, f .2) in
-        let e = pair-in (video.inFamily 0 (r .video)) rate coherent (first-offered (r .video) o) h k in
-        let g = pair-in (video.inFamily 1 (r .video)) rate coherent o h k in
+        let e = pair-in (video.inFamily 0 (r .video)) rate coherent (fitting 0 (read-first z) .clock) h k in
+        let g = pair-in (video.inFamily 1 (r .video)) rate coherent (fitting 1 z .clock) h k in
         (rw n at e) ∙ sym (rw n at g)
 
     same-pair : isCoherent (r .sound) ≡ false → pairFor (inFamily 0 r) ≡ pairFor (inFamily 1 r)
     unfolding pairFor
-    same-pair n = pair-same (r .sound) n (fitting .sound)
+    same-pair n = pair-same (r .sound) n (fitting 1 z .sound)
 
     -- ---- the wanted bytes
 

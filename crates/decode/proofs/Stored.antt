@@ -14,7 +14,7 @@ use Rattle.chip.specs.Machine.{Write}
 use Rattle.request.specs.declared.Sound.{Sound}
 use Rattle.request.specs.declared.Sound.the-variants.{Off, On}
 use Rattle.request.specs.declared.Request.{Request}
-use Rattle.plan.specs.Wanted.{stores, wantedBytes, wantedImage, wanted, cscBytes, withAudio, rateCode, ctsSelect, audioBytes}
+use Rattle.plan.specs.Wanted.{stores, wantedBytes, wantedImage, wanted, cscBytes, withAudio, rateCode, ctsSelect, audioBytes, depthCode}
 
 -- the last value stored at a, and d where none is
 abbrev pub look : ℕ → List Write → ℕ → ℕ
@@ -60,6 +60,7 @@ cc (On rate channels coherent) = channels - 1
 
 pub record Wants (r : Request) : Type 0 where
   pub link : wanted r reg.hdcpHdmiCfg ≡ r .video .link * 2
+  pub depth : wanted r reg.gcDepth ≡ depthCode (r .video)
   pub audio : wanted r reg.packetEnable1 ≡ withAudio (r .sound) * 104 + r .video .link * 16
   pub rate : wanted r reg.i2sFreqIdCfg ≡ rateCode (r .sound) * 16
   pub channels : wanted r reg.audioInfoframeByte1 ≡ cc (r .sound)
@@ -84,6 +85,7 @@ module _ (r : Request) where
   unfolding aviFrame audioFrame audioOffFrame
   sound Off = record {
     link = low Off (lit< tt) refl;
+    depth = low Off (lit< tt) refl;
     audio = low Off (lit< tt) refl;
     rate = low Off (lit< tt) refl;
     channels = low Off (lit< tt) refl;
@@ -94,6 +96,7 @@ module _ (r : Request) where
   }
   sound (On x y z) = let s : Sound = On x y z in record {
     link = low s (lit< tt) refl;
+    depth = low s (lit< tt) refl;
     audio = low s (lit< tt) refl;
     rate = low s (lit< tt) refl;
     channels = low s (lit< tt) refl;

@@ -40,14 +40,21 @@ matrixIn image =
 abbrev pub linkIn : List ℕ → ℕ
 linkIn image = byteIn image reg.hdcpHdmiCfg / reg.hdmiDviModeSelectMask % 2
 
--- the data bytes of the AVI InfoFrame: the video is the one that they name
+-- the depth of a code, 0 to 2; 3 for a code that is none
+abbrev pub depthOf : ℕ → ℕ
+depthOf code = getD (0 ∷ 3 ∷ 3 ∷ 3 ∷ 3 ∷ 1 ∷ 2 ∷ 3 ∷ 3 ∷ 3 ∷ 3 ∷ 3 ∷ 3 ∷ 3 ∷ 3 ∷ 3 ∷ []) code 3
+
+abbrev pub depthIn : List ℕ → ℕ
+depthIn image = depthOf (byteIn image reg.gcDepth % 16)
+
+-- the data bytes of the AVI InfoFrame: the video is the one that they name, over that link and at that depth
 abbrev pub dataIn : List ℕ → List ℕ
 dataIn image = take aviCount (drop reg.aviInfoframeByte1 image)
 
 unfoldable pub extract : List ℕ → Request
 extract image =
     record {
-      video = videoNamed (linkIn image) (dataIn image);
+      video = videoNamed (linkIn image) (depthIn image) (dataIn image);
       sound = soundIn image;
       matrix = matrixIn image;
     }

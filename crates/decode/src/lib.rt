@@ -11,7 +11,7 @@ ghost use Rattle.request.specs.Sections.{audioCount, matrixCount, longest};
 ghost use Rattle.request.specs.Bytes.{audioBody, matrixBody, asBytes, inFamily};
 ghost use Rattle.request.specs.Theorems.{Shaped};
 ghost use Rattle.plan.specs.Plan.{standsIn};
-ghost use Rattle.decode.specs.Extract.{rateOf, soundIn, matrixIn, extract};
+ghost use Rattle.decode.specs.Extract.{rateOf, soundIn, matrixIn, depthOf, extract};
 ghost use Rattle.decode.specs.Decode.{inFront, isCoherent, notDecoded, Decodes};
 ghost use Rattle.decode.specs.Theorems.{ExactlyWhen, BitByBit, AtMostOne, Refusals, ReadBack};
 use frames::AVI_COUNT;
@@ -38,6 +38,16 @@ fn rate_of(code: u8) -> u8
     ensures { λ r. ⌜ r ≡ rateOf code ⌝ }
 {
     RATES[code as usize]
+}
+
+const DEPTHS: [u8; 16] = [0, 3, 3, 3, 3, 1, 2, 3, 3, 3, 3, 3, 3, 3, 3, 3];
+
+// The depth of a code.
+fn depth_of(code: u8) -> u8
+    requires { ⌜ code < 16 ⌝ }
+    ensures { λ r. ⌜ r ≡ depthOf code ⌝ }
+{
+    DEPTHS[code as usize]
 }
 
 fn sound_in(image: &[u8]) -> Sound
@@ -82,9 +92,10 @@ fn extract(image: &[u8]) -> Request
     let sound = sound_in(image);
     let matrix = matrix_in(image);
     let link = image[Map::HDCP_HDMI_CFG as usize] / Map::HDMI_DVI_MODE_SELECT_MASK % 2;
+    let depth = depth_of(image[Map::GC_DEPTH as usize] % 16);
     let start = Map::AVI_INFOFRAME_BYTE1 as usize;
     let end = start + AVI_COUNT as usize;
-    let video = frames::video_named(link, &image[start..end]);
+    let video = frames::video_named(link, depth, &image[start..end]);
     Request {
         video: video,
         sound: sound,

@@ -1,8 +1,9 @@
--- A search in a table: what every entry passes, and what stands in for none, the entry found passes. Assumes nothing.
-use mathlib.Core.Path.{_≡_, ap, _∙_}
+-- A search in a table: what every entry passes, and what stands in for none, the entry found passes; a table of three numbers, the first 0.
+-- Assumes nothing.
+use mathlib.Core.Path.{_≡_, refl, ap, _∙_}
 use mathlib.Core.Bool.{Bool, true, false, cond}
 use mathlib.Core.List.{List, [], _∷_}
-use Prim.Native.Nat.{ℕ, _+_, _<_}
+use Prim.Native.Nat.{ℕ, zero, suc, _+_, _<_}
 use native.Mathlib.Numerals.{add-one}
 use lib.ListN.{length, drop, getD}
 use lib.Seq.{drop-cons}
@@ -31,3 +32,10 @@ module _ {A B : Type 0} (seek : List A → B) (test : A → Bool) (value : A →
 
   pub fails : test (getD l i d) ≡ false → seek (drop i l) ≡ seek (drop (i + 1) l)
   fails e = ap seek (next l i d h) ∙ step _ _ ∙ rw e
+
+-- at no place but the second and the third is there a number other than 0
+pub neither : (x y n : ℕ) → (n ≡ 1 → ⊥) → (n ≡ 2 → ⊥) → getD (0 ∷ x ∷ y ∷ []) n 0 ≡ 0
+neither x y zero a b = refl
+neither x y (suc zero) a b = absurd (a refl)
+neither x y (suc (suc zero)) a b = absurd (b refl)
+neither x y (suc (suc (suc n))) a b = refl

@@ -16,7 +16,7 @@ abbrev pub HoldsUp : List ℕ → Type 0
 HoldsUp image =
     (up gc (holdsOf packets image) ≡ true) ⊎ ((up avi (holdsOf packets image) ≡ true) × (up audio (holdsOf packets image) ≡ true))
 
--- "Planning checks 1 to 10", on the request, the image and the buffer as they are lent
+-- "Planning checks 1 to 10", with 17 "after 6 and before 7", on the request, the image and the buffer as they are lent
 abbrev pub planRules : List ℕ → List ℕ → List ℕ → List Condition
 planRules input image buffer =
     readRules (walked input) ++

@@ -6,6 +6,8 @@ use Prim.Native.Nat.{ℕ, zero, suc, _+_, _*_, _/_, _%_, _^_}
 use lib.Dec.{eqb}
 use lib.ListN.{getD, set, drop, replicate}
 use Rattle.map.specs.Map as reg
+use Rattle.video.specs.declared.Video.{Video}
+use Rattle.video.specs.Video.{depth, repetition}
 use Rattle.clock.specs.declared.Pair.{Pair}
 use Rattle.matrix.specs.declared.Matrix.{Matrix}
 use Rattle.frames.specs.Frames.{aviFrame, audioFrame, audioOffFrame}
@@ -80,16 +82,27 @@ inputBytes r =
     reg.i2sFreqIdCfg gets (rateCode (r .sound) * 2 ^ reg.i2sSamplingFrequencyShift) ∷
     reg.videoInputCfg1 gets cond (eqb (r .video .encoding) 1) reg.outputFormatMask 0 ∷ []
 
--- "0x3B[6:5] = 2", the VIC, the enables, "0x4A[7] is 1", HDMI or DVI
+-- request 06: "0x3B[4:1] .. follow": the repetition in [4:3] and in [2:1]; and 0x4C[3:0] for 24, 30 and 36 bits
+abbrev pub repetitionByte : Video → ℕ
+repetitionByte v = 2 * 2 ^ reg.prModeShift + repetition v * 2 ^ reg.prPllManualShift + repetition v * 2 ^ reg.prValueManualShift
+
+abbrev pub depthCodes : List ℕ
+depthCodes = 0 ∷ 5 ∷ 6 ∷ []
+
+abbrev pub depthCode : Video → ℕ
+depthCode v = getD depthCodes (depth v) 0
+
+-- "0x3B[6:5] = 2", the VIC, the enables, "0x4A[7] is 1", the depth, HDMI or DVI
 abbrev pub enableBytes : Request → List Write
 enableBytes r =
-    reg.pixelRepetition gets (2 * 2 ^ reg.prModeShift) ∷
+    reg.pixelRepetition gets repetitionByte (r .video) ∷
     reg.vicManual gets r .video .vic ∷
     reg.packetEnable0 gets (r .video .link * reg.gcPacketEnableMask) ∷
     reg.packetEnable1
     gets (withAudio (r .sound) * (reg.nCtsPacketEnableMask + reg.audioSamplePacketEnableMask + reg.audioInfoframeEnableMask)
     + r .video .link * reg.aviInfoframeEnableMask) ∷
     reg.infoframeUpdate gets reg.autoChecksumEnableMask ∷
+    reg.gcDepth gets depthCode (r .video) ∷
     reg.hdcpHdmiCfg gets (r .video .link * reg.hdmiDviModeSelectMask) ∷ []
 
 -- the InfoFrames, whose first byte has no register

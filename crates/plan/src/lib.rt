@@ -1,4 +1,4 @@
-// Planning: from a request and a register image to the write list. Document 01, "The write list".
+// Planning: from a request and a register image to the write list. Document 01, "The write list"; document 02, request 06.
 ghost use mathlib.Core.Path.{_≡_};
 ghost use mathlib.Core.Bool.{cond, not, _&&_};
 ghost use mathlib.Core.List.{List};
@@ -6,6 +6,7 @@ ghost use Prim.Native.Nat.{ℕ, _+_, _/_, _%_, _<_, _≤_};
 ghost use lib.Dec.{eqb};
 ghost use lib.ListN.{getD, length};
 ghost use Rattle.map.specs.Map.{outputFormatMask};
+ghost use Rattle.video.specs.Video.{repetition};
 ghost use Rattle.video.specs.Fits.{VideoFits};
 ghost use Rattle.frames.specs.Frames.{aviFrame};
 ghost use Rattle.matrix.specs.Matrix.{Bytes};
@@ -14,7 +15,7 @@ ghost use Rattle.request.specs.Theorems.{Shaped};
 ghost use Rattle.request.specs.Fits.{SoundFits, Fits};
 ghost use Rattle.chip.specs.Machine.{up, avi, audio, gc};
 ghost use Rattle.plan.specs.Wanted.{laid, stores, twenty, ctsSelect, inputs, rateCode, withAudio, audioBytes, halves, cscBytes};
-ghost use Rattle.plan.specs.Wanted.{clockBytes, inputBytes, enableBytes, frameBytes, wantedImage};
+ghost use Rattle.plan.specs.Wanted.{clockBytes, inputBytes, repetitionByte, depthCode, enableBytes, frameBytes, wantedImage};
 ghost use Rattle.plan.specs.Plan.{nothing, PlansWith, Plans, standsIn};
 ghost use Rattle.plan.specs.Rules.{PlanRefusals};
 use clock::Pair;
@@ -198,9 +199,31 @@ fn with_inputs(out: [u8; 256], r: Request) -> [u8; 256]
     next
 }
 
-// The VIC, the enables and HDMI or DVI.
+// The repetition in its two fields, beside the mode of repetition.
+fn repetition_byte(video: Video) -> u8
+    requires { ⌜ repetition video ≤ 2 ⌝ }
+    ensures { λ r. ⌜ r ≡ repetitionByte video ⌝ }
+{
+    let repetition = video.pixel / 16;
+    2 * (1 << Map::PR_MODE_SHIFT)
+        + repetition * (1 << Map::PR_PLL_MANUAL_SHIFT)
+        + repetition * (1 << Map::PR_VALUE_MANUAL_SHIFT)
+}
+
+// The code of the depth.
+fn depth_code(video: Video) -> u8
+    ensures { λ r. ⌜ r ≡ depthCode video ⌝ }
+{
+    match video.pixel % 16 {
+        1 => 5,
+        2 => 6,
+        _ => 0,
+    }
+}
+
+// The repetition, the VIC, the enables, the depth and HDMI or DVI.
 fn with_enables(out: [u8; 256], r: Request) -> [u8; 256]
-    requires { ⌜ r .video .link ≤ 1 ⌝ }
+    requires { ⌜ (r .video .link ≤ 1) × (repetition (r .video) ≤ 2) ⌝ }
     ensures { λ image. ⌜ image ≡ stores out (enableBytes r) ⌝ }
 {
     let sound = r.sound;
@@ -208,12 +231,13 @@ fn with_enables(out: [u8; 256], r: Request) -> [u8; 256]
         + Map::AUDIO_SAMPLE_PACKET_ENABLE_MASK
         + Map::AUDIO_INFOFRAME_ENABLE_MASK;
     let mut next = out;
-    next[Map::PIXEL_REPETITION as usize] = 2 * (1 << Map::PR_MODE_SHIFT);
+    next[Map::PIXEL_REPETITION as usize] = repetition_byte(r.video);
     next[Map::VIC_MANUAL as usize] = r.video.vic;
     next[Map::PACKET_ENABLE0 as usize] = r.video.link * Map::GC_PACKET_ENABLE_MASK;
     next[Map::PACKET_ENABLE1 as usize] = with_audio(sound) * audio
         + r.video.link * Map::AVI_INFOFRAME_ENABLE_MASK;
     next[Map::INFOFRAME_UPDATE as usize] = Map::AUTO_CHECKSUM_ENABLE_MASK;
+    next[Map::GC_DEPTH as usize] = depth_code(r.video);
     next[Map::HDCP_HDMI_CFG as usize] = r.video.link * Map::HDMI_DVI_MODE_SELECT_MASK;
     next
 }
@@ -301,7 +325,7 @@ fn plan_with(r: Request, image: &[u8], writes: &mut [u8]) -> Planned
     }
 }
 
-// The write list of a request on an image, as pairs of address and value in a lent buffer: refusals 1 to 10.
+// The write list of a request on an image, as pairs of address and value in a lent buffer: refusals 1 to 6, 17 and 7 to 10.
 pub fn plan(input: &[u8], image: &[u8], writes: &mut [u8]) -> Planned
     ensures { λ r. ⌜ Plans (now (input .entry)) (now (image .entry)) (now (writes .entry)) r (now (writes .exit)) ⌝ }
 {

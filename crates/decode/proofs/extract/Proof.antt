@@ -16,6 +16,15 @@ cast-link c = search needs
 shared-slice-read-link : tie.Need-shared-slice-read-link
 shared-slice-read-link c = search needs
 
+cast-depth-of : tie.Need-cast-depth-of
+cast-depth-of c = search needs
+
+shared-slice-read-depth-of : tie.Need-shared-slice-read-depth-of
+shared-slice-read-depth-of c = search needs
+
+depth-of-requires : tie.Need-depth-of-requires
+depth-of-requires c κs = search needs
+
 cast-start : tie.Need-cast-start
 cast-start c = search needs
 
@@ -40,8 +49,9 @@ video-named-requires c κs = search needs
 returns : tie.Need-returns
 unfolding extract
 returns c =
-    let p = c .before .before .before in
-    simp (c .video-named .ensures, p .before .sound-in .ensures, p .matrix-in .ensures)
+    let d = c .before .before in
+    let p = d .before .before .before in
+    simp (c .video-named .ensures, d .depth-of .ensures, p .before .sound-in .ensures, p .matrix-in .ensures)
 
 pub extract-spec : {M : Type 1} → statement M
 extract-spec =
@@ -51,6 +61,9 @@ extract-spec =
     matrix-in-requires
     cast-link
     shared-slice-read-link
+    cast-depth-of
+    shared-slice-read-depth-of
+    depth-of-requires
     cast-start
     cast-end
     add-end

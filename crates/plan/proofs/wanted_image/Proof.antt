@@ -4,7 +4,7 @@ use Prim.Native.Nat.{ℕ}
 use lib.ListN.{replicate}
 use Rattle.map.specs.Map as reg
 use Rattle.chip.specs.Machine.{Write}
-use Rattle.video.proofs.Fits.{link-fits}
+use Rattle.video.proofs.Fits.{link-fits, repetition-fits}
 use Rattle.request.specs.Read.{pairFor}
 use Rattle.plan.specs.Wanted.{laid, cscBytes, clockBytes, inputBytes, enableBytes, frameBytes, wantedImage}
 use Rattle.plan.proofs.Stored.{more}
@@ -31,7 +31,9 @@ laid-requires : tie.Need-laid-requires
 laid-requires c κs = search needs
 
 with-enables-requires : tie.Need-with-enables-requires
-with-enables-requires c κs = link-fits _ (c .before .before .before .before .before .before .pre .0 .video)
+with-enables-requires c κs =
+    let f = c .before .before .before .before .before .before .pre .0 .video in
+    (link-fits _ f, repetition-fits _ f)
 
 with-frames-requires : tie.Need-with-frames-requires
 with-frames-requires c κs = search needs
