@@ -22,7 +22,7 @@ abbrev pub audioChecksum : Sound → ℕ
 audioChecksum Off = getD audioOffFrame 3 0
 audioChecksum (On rate channels coherent) = getD (audioOf channels .bytes) 3 0
 
--- "accepted vic .. n .. cts .. avi .. audio ..", or "refused" with its number: refusals 1 to 6 and 9
+-- "accepted vic .. n .. cts .. avi .. audio ..", or "refused" with its number: refusals 1 to 6, 17 and 9
 abbrev pub acceptedLine : Request → Pair → Line
 acceptedLine r p =
     record {
@@ -41,7 +41,7 @@ refusedLine number = record { refusal = number; vic = 0; n = 0; cts = 0; avi = 0
 unfoldable pub lineOf : List ℕ → Line
 lineOf input = answer (nctsOf input .refusal) refusedLine (acceptedLine (readOf input .request) (nctsOf input))
 
--- "It gives refusals 1 to 6 and 9"; and one byte more than the longest request decides
+-- "It gives refusals 1 to 6 and 9", and 17 after 6; and one byte more than the longest request decides
 pub record Lines (input : List ℕ) : Type 0 where
   pub given : Bytes input → Given (nctsRules (walked input)) (lineOf input .refusal)
   pub cut : (n : ℕ) → longest < n → lineOf (take n input) ≡ lineOf input

@@ -7,7 +7,7 @@ use lib.Dec.{lit<}
 use Rattle.ratio.specs.Lowest.{steps, divisorOf}
 use Rattle.video.specs.Modes.{modeOf}
 use Rattle.video.specs.Video.{videoOutside, videoCombined}
-use Rattle.clock.specs.Clocks.{clockOf}
+use Rattle.clock.specs.Clocks.{tmds, clockOf}
 use Rattle.clock.specs.Pairs.{reference, recommendedOf}
 use Rattle.clock.specs.Found.{nearestK, nearestIn, nearestOf, exactly, coherentOf, pairOf}
 use Rattle.ratio.proofs.Multiples.{divides}
@@ -30,15 +30,15 @@ use Rattle.promises.specs.Worked.{Few}
 use Rattle.promises.specs.Cases.{rgbOverHdmi, MarkedCases}
 
 multiple : (n cts : ℕ) → reference 0 * cts * clockOf (rgbOverHdmi 4 1) .den ≡ clockOf (rgbOverHdmi 4 1) .num * n → 23296 ∣ n
-unfolding reference clockOf modeOf divisorOf steps
-multiple n cts e = divides 74250000000 4100096000 (lit< tt) n cts (omega arith)
+unfolding reference tmds clockOf modeOf divisorOf steps
+multiple n cts e = divides 6750000000 372736000 (lit< tt) n cts (omega arith)
 
 few : Few
-unfolding flatMap divisorOf modeOf clockOf reference recommendedOf nearestK nearestIn nearestOf exactly coherentOf pairOf total aviFrame audioFrame fields inRange isAllowed walk walked videoOutside videoCombined outside combined judged readOf pairFor merge classAt decided byte written middle isWritten finished column flat alreadyThere wantedImage wanted laterRefusal planWith bufferWith planOf planBuffer
+unfolding flatMap steps divisorOf modeOf tmds clockOf reference recommendedOf nearestK nearestIn nearestOf exactly coherentOf pairOf total aviFrame audioFrame fields inRange isAllowed walk walked videoOutside videoCombined outside combined judged readOf pairFor merge classAt decided byte written middle isWritten finished column flat alreadyThere wantedImage wanted laterRefusal planWith bufferWith planOf planBuffer
 few = (refl, refl)
 
 pub cases : MarkedCases
-unfolding flatMap steps divisorOf modeOf clockOf reference recommendedOf nearestK nearestIn nearestOf exactly coherentOf pairOf total aviFrame aviOf audioFrame audioOf audioOffFrame fields inRange isAllowed codeOf previewOf walk walked videoOutside videoCombined outside combined judged readOf pairFor nctsOf lineOf digits acceptedText refusedText
+unfolding flatMap steps divisorOf modeOf tmds clockOf reference recommendedOf nearestK nearestIn nearestOf exactly coherentOf pairOf total aviFrame aviOf audioFrame audioOf audioOffFrame fields inRange isAllowed codeOf previewOf walk walked videoOutside videoCombined outside combined judged readOf pairFor nctsOf lineOf digits acceptedText refusedText planOf
 cases =
     record {
       line = refl;
@@ -46,6 +46,7 @@ cases =
       empty = refl;
       case1 = refl;
       case2 = refl;
+      case2Four = refl;
       case3 = refl;
       case4 = (refl, refl);
       case5 = refl;
@@ -69,6 +70,22 @@ cases =
       case11 = (refl, refl);
       case12 = (refl, refl);
       case13 = refl;
+      deep = (refl, refl);
+      deepRow = (refl, refl);
+      twiceRow = (refl, refl);
+      lowest = (refl, refl);
+      twice = (refl, refl);
+      limits = (refl, refl);
+      beforeSeven = refl;
+      afterSix = refl;
+      nineDeep = refl;
+      oneFamily = (refl, refl);
+      depths = (refl, refl);
+      depthsAlone = (refl, refl);
+      deepWith422 = refl;
+      deepWith444 = refl;
+      deepOverDvi = (refl, refl);
+      fourTimes = refl;
       few = few;
       encodings = refl;
       links = refl;

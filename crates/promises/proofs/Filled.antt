@@ -11,7 +11,7 @@ use Rattle.lists.specs.Find.{find}
 use Rattle.lists.proofs.Both.{both-left, both-right}
 use Rattle.bits.proofs.Below.{at-below}
 use Rattle.video.specs.declared.Video.{Video}
-use Rattle.video.specs.Modes.{modeOf, offered}
+use Rattle.video.specs.Modes.{modeOf}
 use Rattle.video.proofs.Fits.{vic-small, is-listed}
 use Rattle.clock.specs.declared.Pair.{Pair}
 use Rattle.clock.specs.Clocks.{clockOf}
@@ -49,11 +49,11 @@ use Rattle.promises.proofs.Places.{audio-frame, Ranges, stand}
 -- ---- N and CTS
 
 -- a pair on fields in range
-in-range : (video : Video) (rate coherent : ℕ) → offered video ≡ true → rate ≤ 6 → coherent ≤ 1
+in-range : (video : Video) (rate coherent : ℕ) → clockOf video .refusal ≡ 0 → rate ≤ 6 → coherent ≤ 1
     → pairOf video rate coherent ≡ cond (eqb coherent 1) (coherentOf (clockOf video) rate) (other rate)
 in-range video rate coherent o h k = pair-in video rate coherent o (omega arith) (omega arith)
 
-paired-in : (r : Request) (s : Sound) → offered (r .video) ≡ true → SoundFits s → Paired (r .video) s (pairIn r s)
+paired-in : (r : Request) (s : Sound) → clockOf (r .video) .refusal ≡ 0 → SoundFits s → Paired (r .video) s (pairIn r s)
 paired-in r Off o h = (refl, refl, refl)
 paired-in r (On rate channels coherent) o h =
     let e = in-range (r .video) rate coherent o (h .0) (h .2) in (
@@ -74,7 +74,7 @@ unfolding pairFor
 paired input z =
     let r : Request = readOf input .request in
     let f : Fits r = fits input z in
-    subst (λ (p : Pair). Paired (r .video) (r .sound) p) (sym (asked-pair input z)) (paired-in r (r .sound) (f .video .offered) (f .sound))
+    subst (λ (p : Pair). Paired (r .video) (r .sound) p) (sym (asked-pair input z)) (paired-in r (r .sound) (f .clock) (f .sound))
 
 -- ---- what is known of an accepted request
 

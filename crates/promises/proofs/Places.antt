@@ -15,7 +15,8 @@ use Rattle.bits.specs.Merge.{bitsIn}
 use Rattle.bits.proofs.Below.{at-below}
 use Rattle.registers.specs.Classes.{classAt}
 use Rattle.video.specs.Modes.{modeOf}
-use Rattle.video.proofs.Fits.{vic-small, encoding-fits, link-fits, range-fits}
+use Rattle.video.specs.Video.{depth, repetition}
+use Rattle.video.proofs.Fits.{vic-small, encoding-fits, link-fits, range-fits, repetition-fits}
 use Rattle.clock.specs.declared.Pair.{Pair}
 use Rattle.frames.specs.Frames as F
 use Rattle.frames.specs.Frames.{checksumOf, aviFrame, audioFrame, audioOffFrame}
@@ -28,10 +29,10 @@ use Rattle.request.specs.Fits.{SoundFits, Fits}
 use Rattle.request.proofs.Fits.{on-small, coefficients-small}
 use Rattle.writes.specs.List.{decided, isWritten, leftUp, finished}
 use Rattle.plan.specs.Wanted.{laid, audioBytes, wanted, clockBytes, inputBytes, cscBytes, enableBytes}
-use Rattle.plan.specs.Wanted.{inputs, rateCode, ctsSelect, withAudio}
+use Rattle.plan.specs.Wanted.{inputs, rateCode, ctsSelect, withAudio, depthCodes}
 use Rattle.decode.proofs.Stored.{look, stored}
 use Rattle.promises.specs.Finished.{Place, places, Shows, Each}
-use Rattle.promises.specs.Finished.{withSound, eightChannels, manualCts, rateCodeOf, inC, inM, inQ, inCC, inCA, audioPacket}
+use Rattle.promises.specs.Finished.{withSound, eightChannels, manualCts, rateCodeOf, inC, inM, inQ, inPR, inCD, inCC, inCA, audioPacket}
 use Rattle.writes.proofs.Named.{isField, small-address, field}
 
 -- ---- the byte that is wanted at an address
@@ -173,6 +174,29 @@ byte3 encoding range h = go (eqb encoding 0)
     go true = two range h
     go false = (refl, refl, refl)
 
+-- the repetition in 0x3B, and in data byte 5
+abbrev Repeated : ℕ → ℕ → Type 0
+Repeated x n = (bitsIn 6 5 x ≡ 2) × (bitsIn 4 3 x ≡ n) × (bitsIn 2 1 x ≡ n)
+
+repeated : (n : ℕ) → n ≤ 2 → Repeated (2 * 32 + n * 8 + n * 2) n
+repeated zero h = (refl, refl, refl)
+repeated (suc zero) h = (refl, refl, refl)
+repeated (suc (suc zero)) h = (refl, refl, refl)
+repeated (suc (suc (suc n))) h = absurd (omega arith)
+
+byte5 : (n : ℕ) → (bitsIn 7 4 (getD (0 ∷ 1 ∷ 3 ∷ []) n 0) ≡ 0) × (bitsIn 3 0 (getD (0 ∷ 1 ∷ 3 ∷ []) n 0) ≡ inPR n)
+byte5 zero = (refl, refl)
+byte5 (suc zero) = (refl, refl)
+byte5 (suc (suc zero)) = (refl, refl)
+byte5 (suc (suc (suc n))) = (refl, refl)
+
+-- the depth
+deep : (n : ℕ) → bitsIn 3 0 (getD depthCodes n 0) ≡ inCD n
+deep zero = refl
+deep (suc zero) = refl
+deep (suc (suc zero)) = refl
+deep (suc (suc (suc n))) = refl
+
 -- 20 bits in three registers
 abbrev Twenty : ℕ → Type 0
 Twenty n = (bitsIn 3 0 (n / 65536 % 256) ≡ n / 65536) × (bitsIn 7 0 (n / 256 % 256) ≡ n / 256 % 256) × (bitsIn 7 0 (n % 256) ≡ n % 256)
@@ -246,6 +270,8 @@ sources r image after ends g =
     let y = byte1 (r .video .encoding) (encoding-fits (r .video) (f .video)) in
     let z = byte2 _ _ _ _ (color r (pairFor r) g) (g .shape) (color-small (r .video .vic) (r .video .encoding)) (shape-small (r .video .vic)) in
     let q = byte3 (r .video .encoding) (r .video .range) (range-fits (r .video) (f .video)) in
+    let repeat = repeated (repetition (r .video)) (repetition-fits (r .video) (f .video)) in
+    let pr = byte5 (repetition (r .video)) in
     let channels : inCC (r .sound) ≤ 7 = cc-small (r .sound) (f .sound) in
     n .0 ▸ n .1 ▸ n .2 ▸ c .0 ▸ c .1 ▸ c .2 ▸
     select .0 ▸ select .1 ▸ select .2 ▸
@@ -264,7 +290,7 @@ sources r image after ends g =
     five-whole _ (five-small _ (k 9)) ▸ byte-whole _ (omega arith) ▸
     five-whole _ (five-small _ (k 10)) ▸ byte-whole _ (omega arith) ▸
     five-whole _ (five-small _ (k 11)) ▸ byte-whole _ (omega arith) ▸
-    refl ▸ refl ▸ omega (arith, vic) ▸
+    repeat .0 ▸ repeat .1 ▸ repeat .2 ▸ omega (arith, vic) ▸
     omega (arith, link) ▸
     on .0 ▸ on .1 ▸ on .3 ▸ on .2 ▸
     refl ▸ refl ▸ refl ▸ refl ▸ omega (arith, link) ▸
@@ -272,9 +298,11 @@ sources r image after ends g =
     y .0 ▸ y .1 ▸ y .2 ▸ y .3 ▸
     z .0 ▸ z .1 ▸ z .2 ▸
     q .0 ▸ q .1 ▸ q .2 ▸ byte-whole _ (omega (arith, vic)) ▸
-    refl ▸ refl ▸ refl ▸ refl ▸ refl ▸ refl ▸ refl ▸ refl ▸ refl ▸
+    pr .0 ▸ pr .1 ▸
+    refl ▸ refl ▸ refl ▸ refl ▸ refl ▸ refl ▸ refl ▸ refl ▸
     refl ▸ refl ▸ byte-whole _ (sum-small _) ▸
-    omega arith ▸ omega arith ▸ refl ▸ refl ▸ byte-whole _ (ca-small (r .sound)) ▸ refl ▸ tt
+    omega arith ▸ omega arith ▸ refl ▸ refl ▸ byte-whole _ (ca-small (r .sound)) ▸ refl ▸
+    deep (depth (r .video)) ▸ tt
 
 -- the finished image of a request whose fields are in range
 pub stand : (r : Request) (image after : List ℕ) → ((a : ℕ) → a < 256 → getD after a 0 ≡ finished (wanted r) image a) → Ranges r (pairFor r)

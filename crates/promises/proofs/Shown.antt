@@ -9,7 +9,8 @@ use lib.ListN.{length, getD}
 use Rattle.lists.specs.Among.{among}
 use Rattle.bits.specs.Merge.{bitsIn}
 use Rattle.refusals.specs.Rows.{number, at, First}
-use Rattle.video.proofs.Fits.{range-fits}
+use Rattle.video.specs.Video.{depth}
+use Rattle.video.proofs.Fits.{range-fits, depth-fits}
 use Rattle.request.specs.declared.Request.{Request}
 use Rattle.request.specs.declared.Checked.{Checked}
 use Rattle.request.specs.Sections.{longest}
@@ -23,7 +24,7 @@ use Rattle.decode.specs.Ends.{Ends}
 use Rattle.decode.specs.Decode.{decodeOf}
 use Rattle.decode.specs.Theorems.{decodeRules}
 use Rattle.decode.proofs.Answers.{exactly, refusals}
-use Rattle.promises.specs.Finished.{Place, place, places, Shows, inQ, Finished}
+use Rattle.promises.specs.Finished.{Place, place, places, Shows, inQ, inCD, Finished}
 use Rattle.promises.specs.Rules.{FieldByField}
 use Rattle.promises.proofs.Filled.{filled, picked}
 
@@ -43,6 +44,16 @@ is-allowed encoding range h = go (eqb encoding 0)
     go true = two range h
     go false = refl
 
+-- the codes of a depth
+abbrev codes : List ℕ
+codes = 0b0000 ∷ 0b0101 ∷ 0b0110 ∷ []
+
+is-code : (depth : ℕ) → depth ≤ 2 → among (inCD depth) codes ≡ true
+is-code zero h = refl
+is-code (suc zero) h = refl
+is-code (suc (suc zero)) h = refl
+is-code (suc (suc (suc n))) h = absurd (omega arith)
+
 module _ (image : List ℕ) (sized : length image ≡ 256) where
   module _ (r : Request) (e : Ends r image) where
     abbrev q : Request
@@ -59,18 +70,23 @@ module _ (image : List ℕ) (sized : length image ≡ 256) where
         = λ a h. sym (e .stands a h) ∙ ap (λ (x : Request). finished (wanted x) image a) (sym said) in
         subst (λ (x : Request). Finished x (nctsOf (asBytes q)) image) said (filled (asBytes q) image z y image sized ends)
 
-    -- the range, and Q
-    in-range : r .video .range ≤ 1
-    in-range =
-        let f : Fits q = subst Fits said (fits (asBytes q) (ap (λ (c : Checked). c .refusal) (e .acceptable .read))) in
-        range-fits (q .video) (f .video)
+    fitting : Fits q
+    fitting = subst Fits said (fits (asBytes q) (ap (λ (c : Checked). c .refusal) (e .acceptable .read)))
 
+    -- Q
     in-q : among (bitsIn 3 2 (getD image 0x57 0)) (allowed (bitsIn 6 5 (getD image 0x55 0))) ≡ true
     in-q =
         let at = picked (Shows image) (places q (nctsOf (asBytes q))) (in-fields .fields) in
         let y : bitsIn 6 5 (getD image 0x55 0) ≡ r .video .encoding = at 0x55 6 refl in
         let x : bitsIn 3 2 (getD image 0x57 0) ≡ inQ (r .video .encoding) (r .video .range) = at 0x57 3 refl in
-        rw (x, y) (is-allowed (r .video .encoding) (r .video .range) in-range)
+        rw (x, y) (is-allowed (r .video .encoding) (r .video .range) (range-fits (q .video) (fitting .video)))
+
+    -- the depth
+    in-depth : among (bitsIn 3 0 (getD image 0x4C 0)) codes ≡ true
+    in-depth =
+        let at = picked (Shows image) (places q (nctsOf (asBytes q))) (in-fields .fields) in
+        let x : bitsIn 3 0 (getD image 0x4C 0) ≡ inCD (depth (r .video)) = at 0x4C 3 refl in
+        rw x (is-code (depth (r .video)) (depth-fits (q .video) (fitting .video)))
 
 -- neither 7 nor 10 applies
 eleven : (image room : List ℕ) → length image ≡ 256 → longest ≤ length room → First (decodeRules image room) (decodeOf image room .refusal)
@@ -90,4 +106,7 @@ shown image = record {
   noRange = λ sized none room long.
       eleven image room sized long (refusals image room .given .some (λ z.
       let a = exactly image room .only z in false≢true (sym none ∙ in-q image sized (a .request) (a .ends))));
+  noDepth = λ sized none room long.
+      eleven image room sized long (refusals image room .given .some (λ z.
+      let a = exactly image room .only z in false≢true (sym none ∙ in-depth image sized (a .request) (a .ends))));
 }

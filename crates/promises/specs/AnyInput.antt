@@ -33,14 +33,14 @@ use Rattle.station.specs.Machine.{StationWrite, StationVsync, StationSent, Stat
 -- "A bad request gets a numbered refusal from the list in document 01, a count of zero, and every lent buffer unchanged." Each of these
 -- says that the number given is that of the first row that applies (`Given`), and what is left beside it. `Bytes` is true of every slice.
 pub record Demand1 : Type 0 where
-  -- planning, 1 to 10; decoding, 7, 10 and 11: a count of zero, and the lent buffer as it was
+  -- planning, 1 to 10 and 17; decoding, 7, 10 and 11: a count of zero, and the lent buffer as it was
   pub planning : (request image buffer : List ℕ) → Bytes request → PlanRefusals request image buffer
   pub decoding : (image buffer : List ℕ) → Refusals image buffer
-  -- reading, N and CTS, and the small program's line over a request: 1 to 6 and 9
+  -- reading, N and CTS, and the small program's line over a request: 1 to 6, 17 and 9
   pub request : (request : List ℕ) → Rows request
   pub line : (request : List ℕ) → Bytes request → Given (nctsRules (walked request)) (lineOf request .refusal)
   pub pair : (request : List ℕ) → nctsOf request .refusal ≢ 0 → (nctsOf request .n ≡ 0) × (nctsOf request .cts ≡ 0)
-  -- the calls on single fields: a clock 4, a pair 4, 5 and 9; the AVI InfoFrame 4, 5 and 6, the audio InfoFrame 5
+  -- the calls on single fields: a clock 4, 5 and 17, a pair 4, 5, 17 and 9; the AVI InfoFrame 4, 5 and 6, the audio InfoFrame 5
   pub clock : ClockRefusals
   pub frames : FrameRefusals
   -- the preview, 5 and 12

@@ -1,13 +1,18 @@
 -- Document 01, "Marked cases, proved together as one table", the worked example of "What the station's library does", and the lengths that
--- "The request" says in numbers; with request 01 in: "Count 4 is no longer allowed, cases and example follow"; and two of request 09.
+-- "The request" says in numbers; with request 01 in: "Count 4 is no longer allowed, cases and example follow"; those of request 06, and two of
+-- request 09.
 use mathlib.Core.Path.{_≡_}
+use mathlib.Core.Bool.{true, false}
 use mathlib.Core.List.{List, [], _∷_}
 use Prim.Native.Nat.{ℕ, _*_, _∣_}
+use lib.Dec.{eqb}
 use lib.IntN.{negsuc}
 use lib.ListN.{getD, set}
+use Rattle.lists.specs.Find.{every}
 use Rattle.video.specs.declared.Video.{Video}
 use Rattle.video.specs.Video.{videoIn}
-use Rattle.clock.specs.Clocks.{clockOf}
+use Rattle.clock.specs.declared.Clock.{Clock}
+use Rattle.clock.specs.Clocks.{aboveLimit, clockOf}
 use Rattle.clock.specs.Pairs.{reference, thePair, noPair}
 use Rattle.clock.specs.Found.{coherentOf, pairOf}
 use Rattle.frames.specs.Frames.{audioOffFrame}
@@ -16,6 +21,7 @@ use Rattle.matrix.specs.Coefficient.{word, field, valueOf}
 use Rattle.matrix.specs.Preview.{previewOf}
 use Rattle.request.specs.Sections.{lengths, longest}
 use Rattle.request.specs.Read.{readOf}
+use Rattle.plan.specs.Plan.{planOf}
 use Rattle.line.specs.Words.{ascii, lineText}
 use Rattle.promises.specs.Worked.{example, Few}
 
@@ -25,9 +31,20 @@ table39 =
     1 ∷ 0x0C ∷ 0x53 ∷ 0x08 ∷ 0x00 ∷ 0x00 ∷ 0x00 ∷ 0xF9 ∷ 0xD6 ∷ 0xFC ∷ 0x56 ∷ 0x08 ∷ 0x00 ∷ 0xFE ∷ 0x88 ∷ 0x02 ∷ 0x91 ∷
     0xFF ∷ 0xFF ∷ 0x08 ∷ 0x00 ∷ 0x0E ∷ 0x85 ∷ 0xF8 ∷ 0xBE ∷ []
 
--- a VIC in a family, RGB over HDMI, limited
+-- a VIC in a family, RGB over HDMI, limited, with a depth byte; and with 24 bits and no repetition
+abbrev pub deepRgb : ℕ → ℕ → ℕ → Video
+deepRgb vic family pixel = videoIn (vic ∷ family ∷ 0 ∷ 1 ∷ 0 ∷ pixel ∷ [])
+
 abbrev pub rgbOverHdmi : ℕ → ℕ → Video
-rgbOverHdmi vic family = videoIn (vic ∷ family ∷ 0 ∷ 1 ∷ 0 ∷ [])
+rgbOverHdmi vic family = deepRgb vic family 0x00
+
+-- a request for VIC 16, family 0, without sound or matrix: the encoding, the link and the depth byte
+abbrev asked16 : ℕ → ℕ → ℕ → List ℕ
+asked16 encoding link pixel = 0x06 ∷ 0x10 ∷ 0x00 ∷ encoding ∷ link ∷ 0x00 ∷ pixel ∷ 0x00 ∷ 0x00 ∷ []
+
+-- a clock of so many Hz
+abbrev hertz : ℕ → Clock
+hertz n = record { refusal = 0; num = n; den = 1 }
 
 pub record MarkedCases : Type 0 where
   -- "the whole output is `accepted vic 16 n 6144 cts 148500 ..`", with the AVI checksum of case 10
@@ -37,15 +54,16 @@ pub record MarkedCases : Type 0 where
   -- "and for an empty input `refused 1`"
   pub empty : lineText [] ≡ ascii "refused 1\n"
   -- 1. The first count alone: refused 1
-  pub case1 : readOf (0x05 ∷ []) .refusal ≡ 1
-  -- 2. A count that is not allowed: refused 2; request 01: "Count 4 is no longer allowed"
-  pub case2 : readOf (0x04 ∷ 0x10 ∷ 0x00 ∷ 0x00 ∷ 0x01 ∷ []) .refusal ≡ 2
+  pub case1 : readOf (0x06 ∷ []) .refusal ≡ 1
+  -- 2. A count that is not allowed: refused 2; request 01: "Count 4 is no longer allowed"; nor is 5 now
+  pub case2 : readOf (0x05 ∷ 0x10 ∷ 0x00 ∷ 0x00 ∷ 0x01 ∷ []) .refusal ≡ 2
+  pub case2Four : readOf (0x04 ∷ 0x10 ∷ 0x00 ∷ 0x00 ∷ 0x01 ∷ []) .refusal ≡ 2
   -- 3. One byte too many: refused 3
-  pub case3 : readOf (0x05 ∷ 0x10 ∷ 0x00 ∷ 0x00 ∷ 0x01 ∷ 0x00 ∷ 0x00 ∷ 0x00 ∷ 0x00 ∷ []) .refusal ≡ 3
+  pub case3 : readOf (0x06 ∷ 0x10 ∷ 0x00 ∷ 0x00 ∷ 0x01 ∷ 0x00 ∷ 0x00 ∷ 0x00 ∷ 0x00 ∷ 0x00 ∷ []) .refusal ≡ 3
   -- 4. VIC 19, family 1: refused 4
-  pub case4 : (clockOf (rgbOverHdmi 19 1) .refusal ≡ 4) × (readOf (0x05 ∷ 19 ∷ 1 ∷ 0x00 ∷ 0x01 ∷ 0x00 ∷ 0x00 ∷ 0x00 ∷ []) .refusal ≡ 4)
+  pub case4 : (clockOf (rgbOverHdmi 19 1) .refusal ≡ 4) × (readOf (0x06 ∷ 19 ∷ 1 ∷ 0x00 ∷ 0x01 ∷ 0x00 ∷ 0x00 ∷ 0x00 ∷ 0x00 ∷ []) .refusal ≡ 4)
   -- 5. YCbCr 4:2:2 without a matrix: refused 6
-  pub case5 : readOf (0x05 ∷ 0x10 ∷ 0x00 ∷ 0x01 ∷ 0x01 ∷ 0x00 ∷ 0x00 ∷ 0x00 ∷ []) .refusal ≡ 6
+  pub case5 : readOf (0x06 ∷ 0x10 ∷ 0x00 ∷ 0x01 ∷ 0x01 ∷ 0x00 ∷ 0x00 ∷ 0x00 ∷ 0x00 ∷ []) .refusal ≡ 6
   -- 6. VIC 16, family 0, 48 kHz, coherent (so are 7 and 8): 6144, 148500. (Rates 0, 1, 2 are 32, 44.1 and 48 kHz.)
   pub case6 : pairOf (rgbOverHdmi 16 0) 2 1 ≡ thePair 6144 148500
   -- 7. VIC 60, family 0, 44.1 kHz: 5488, 57750
@@ -69,9 +87,9 @@ pub record MarkedCases : Type 0 where
   pub nearer : coherentOf (record { refusal = 0; num = reference 2; den = 2457 }) 2 ≡ thePair 7371 3
   -- 10. AVI, VIC 16, RGB: checksum; request 01: "case 10 becomes 0x23 when limited"; and in full range
   pub case10 : getD (aviOf (rgbOverHdmi 16 0) .bytes) 3 0 ≡ 0x23
-  pub case10Full : getD (aviOf (videoIn (0x10 ∷ 0x00 ∷ 0x00 ∷ 0x01 ∷ 0x01 ∷ [])) .bytes) 3 0 ≡ 0x1F
+  pub case10Full : getD (aviOf (videoIn (0x10 ∷ 0x00 ∷ 0x00 ∷ 0x01 ∷ 0x01 ∷ 0x00 ∷ [])) .bytes) 3 0 ≡ 0x1F
   -- and YCbCr 4:4:4, whose Q "stays 0"
-  pub case10YCbCr : getD (aviOf (videoIn (0x10 ∷ 0x00 ∷ 0x02 ∷ 0x01 ∷ 0x00 ∷ [])) .bytes) 3 0 ≡ 0x67
+  pub case10YCbCr : getD (aviOf (videoIn (0x10 ∷ 0x00 ∷ 0x02 ∷ 0x01 ∷ 0x00 ∷ 0x00 ∷ [])) .bytes) 3 0 ≡ 0x67
   -- 11. Audio InfoFrame, 8 channels: 0x57; off: 0x71
   pub case11 : (getD (audioOf 8 .bytes) 3 0 ≡ 0x57) × (getD audioOffFrame 3 0 ≡ 0x71)
   -- 12. Table 39's A4 bytes 0x19, 0xD6: -1578; C1 0x1F, 0xFF: -1
@@ -80,28 +98,54 @@ pub record MarkedCases : Type 0 where
   pub case13 : previewOf table39 2048 3760 2048 ≡ record { refusal = 0; a = 3759; b = 3760; c = 3760 }
   -- "encoding (0 RGB, 1 YCbCr 4:2:2, 2 YCbCr 4:4:4); link (0 DVI, 1 HDMI)"; "range above 1": the next number of each is refused 5, the
   -- range's with RGB and, before 6, with YCbCr, and in the AVI call
-  pub encodings : readOf (0x05 ∷ 0x10 ∷ 0x00 ∷ 0x03 ∷ 0x01 ∷ 0x00 ∷ 0x00 ∷ 0x00 ∷ []) .refusal ≡ 5
-  pub links : readOf (0x05 ∷ 0x10 ∷ 0x00 ∷ 0x00 ∷ 0x02 ∷ 0x00 ∷ 0x00 ∷ 0x00 ∷ []) .refusal ≡ 5
-  pub ranges : readOf (0x05 ∷ 0x10 ∷ 0x00 ∷ 0x00 ∷ 0x01 ∷ 0x02 ∷ 0x00 ∷ 0x00 ∷ []) .refusal ≡ 5
-  pub rangesOfYCbCr : readOf (0x05 ∷ 0x10 ∷ 0x00 ∷ 0x02 ∷ 0x01 ∷ 0x02 ∷ 0x00 ∷ 0x00 ∷ []) .refusal ≡ 5
-  pub rangesAvi : aviOf (videoIn (0x10 ∷ 0x00 ∷ 0x00 ∷ 0x01 ∷ 0x02 ∷ [])) .refusal ≡ 5
+  pub encodings : readOf (0x06 ∷ 0x10 ∷ 0x00 ∷ 0x03 ∷ 0x01 ∷ 0x00 ∷ 0x00 ∷ 0x00 ∷ 0x00 ∷ []) .refusal ≡ 5
+  pub links : readOf (0x06 ∷ 0x10 ∷ 0x00 ∷ 0x00 ∷ 0x02 ∷ 0x00 ∷ 0x00 ∷ 0x00 ∷ 0x00 ∷ []) .refusal ≡ 5
+  pub ranges : readOf (0x06 ∷ 0x10 ∷ 0x00 ∷ 0x00 ∷ 0x01 ∷ 0x02 ∷ 0x00 ∷ 0x00 ∷ 0x00 ∷ []) .refusal ≡ 5
+  pub rangesOfYCbCr : readOf (0x06 ∷ 0x10 ∷ 0x00 ∷ 0x02 ∷ 0x01 ∷ 0x02 ∷ 0x00 ∷ 0x00 ∷ 0x00 ∷ []) .refusal ≡ 5
+  pub rangesAvi : aviOf (videoIn (0x10 ∷ 0x00 ∷ 0x00 ∷ 0x01 ∷ 0x02 ∷ 0x00 ∷ [])) .refusal ≡ 5
   -- "DVI with audio or with encoding not 0", "range 1 with YCbCr": refused 6, with a matrix too
-  pub dviWithAudio : readOf (0x05 ∷ 0x10 ∷ 0x00 ∷ 0x00 ∷ 0x00 ∷ 0x00 ∷ 0x03 ∷ 0x02 ∷ 0x02 ∷ 0x01 ∷ 0x00 ∷ []) .refusal ≡ 6
-  pub dviWithEncoding : readOf (0x05 ∷ 0x10 ∷ 0x00 ∷ 0x02 ∷ 0x00 ∷ 0x00 ∷ 0x00 ∷ 0x19 ∷ table39) .refusal ≡ 6
-  pub fullWithYCbCr : readOf (0x05 ∷ 0x10 ∷ 0x00 ∷ 0x02 ∷ 0x01 ∷ 0x01 ∷ 0x00 ∷ 0x19 ∷ table39) .refusal ≡ 6
-  pub fullWithYCbCr422 : readOf (0x05 ∷ 0x10 ∷ 0x00 ∷ 0x01 ∷ 0x01 ∷ 0x01 ∷ 0x00 ∷ 0x19 ∷ table39) .refusal ≡ 6
-  pub fullWithYCbCrAvi : aviOf (videoIn (0x10 ∷ 0x00 ∷ 0x02 ∷ 0x01 ∷ 0x01 ∷ [])) .refusal ≡ 6
+  pub dviWithAudio : readOf (0x06 ∷ 0x10 ∷ 0x00 ∷ 0x00 ∷ 0x00 ∷ 0x00 ∷ 0x00 ∷ 0x03 ∷ 0x02 ∷ 0x02 ∷ 0x01 ∷ 0x00 ∷ []) .refusal ≡ 6
+  pub dviWithEncoding : readOf (0x06 ∷ 0x10 ∷ 0x00 ∷ 0x02 ∷ 0x00 ∷ 0x00 ∷ 0x00 ∷ 0x00 ∷ 0x19 ∷ table39) .refusal ≡ 6
+  pub fullWithYCbCr : readOf (0x06 ∷ 0x10 ∷ 0x00 ∷ 0x02 ∷ 0x01 ∷ 0x01 ∷ 0x00 ∷ 0x00 ∷ 0x19 ∷ table39) .refusal ≡ 6
+  pub fullWithYCbCr422 : readOf (0x06 ∷ 0x10 ∷ 0x00 ∷ 0x01 ∷ 0x01 ∷ 0x01 ∷ 0x00 ∷ 0x00 ∷ 0x19 ∷ table39) .refusal ≡ 6
+  pub fullWithYCbCrAvi : aviOf (videoIn (0x10 ∷ 0x00 ∷ 0x02 ∷ 0x01 ∷ 0x01 ∷ 0x00 ∷ [])) .refusal ≡ 6
   -- full range is accepted with RGB: with a matrix ("our matrix gives full-range RGB"), and over DVI and with VIC 1, with Q 2; and YCbCr,
   -- limited
-  pub fullWithMatrix : readOf (0x05 ∷ 0x10 ∷ 0x00 ∷ 0x00 ∷ 0x01 ∷ 0x01 ∷ 0x00 ∷ 0x19 ∷ table39) .refusal ≡ 0
-  pub fullOverDvi : lineText (0x05 ∷ 0x10 ∷ 0x00 ∷ 0x00 ∷ 0x00 ∷ 0x01 ∷ 0x00 ∷ 0x00 ∷ [])
+  pub fullWithMatrix : readOf (0x06 ∷ 0x10 ∷ 0x00 ∷ 0x00 ∷ 0x01 ∷ 0x01 ∷ 0x00 ∷ 0x00 ∷ 0x19 ∷ table39) .refusal ≡ 0
+  pub fullOverDvi : lineText (0x06 ∷ 0x10 ∷ 0x00 ∷ 0x00 ∷ 0x00 ∷ 0x01 ∷ 0x00 ∷ 0x00 ∷ 0x00 ∷ [])
       ≡ ascii "accepted vic 16 n 6144 cts 0 avi 1f audio 71\n"
-  pub fullWithVic1 : lineText (0x05 ∷ 0x01 ∷ 0x00 ∷ 0x00 ∷ 0x01 ∷ 0x01 ∷ 0x00 ∷ 0x00 ∷ [])
+  pub fullWithVic1 : lineText (0x06 ∷ 0x01 ∷ 0x00 ∷ 0x00 ∷ 0x01 ∷ 0x01 ∷ 0x00 ∷ 0x00 ∷ 0x00 ∷ [])
       ≡ ascii "accepted vic 1 n 6144 cts 0 avi 3e audio 71\n"
-  pub limitedWithYCbCr : readOf (0x05 ∷ 0x10 ∷ 0x00 ∷ 0x02 ∷ 0x01 ∷ 0x00 ∷ 0x00 ∷ 0x19 ∷ table39) .refusal ≡ 0
+  pub limitedWithYCbCr : readOf (0x06 ∷ 0x10 ∷ 0x00 ∷ 0x02 ∷ 0x01 ∷ 0x00 ∷ 0x00 ∷ 0x00 ∷ 0x19 ∷ table39) .refusal ≡ 0
+  -- request 06: VIC 16, 36 bits, 48 kHz, coherent: 222.75 MHz, within the limit
+  pub deep : (clockOf (deepRgb 16 0 0x02) ≡ hertz 222750000) × (pairOf (deepRgb 16 0 0x02) 2 1 ≡ thePair 6144 222750)
+  -- the recommended row is that of the clock: VIC 60 at 30 bits takes that of 74.25 MHz, VIC 17 twice that of 54 MHz; at 44.1 kHz
+  pub deepRow : (clockOf (deepRgb 60 0 0x01) ≡ hertz 74250000) × (pairOf (deepRgb 60 0 0x01) 1 1 ≡ thePair 6272 82500)
+  pub twiceRow : (clockOf (deepRgb 17 0 0x10) ≡ hertz 54000000) × (pairOf (deepRgb 17 0 0x10) 1 1 ≡ thePair 6272 60000)
+  -- in lowest terms: VIC 2, family 1, is 27 MHz, and 33.75 MHz at 30 bits
+  pub lowest : (clockOf (deepRgb 2 1 0x00) ≡ hertz 27000000) × (clockOf (deepRgb 2 1 0x01) ≡ hertz 33750000)
+  -- "a clock above the limit is 17": VIC 16 twice; of 1 Hz too much, and not of the limit itself
+  pub twice : (clockOf (deepRgb 16 0 0x10) .refusal ≡ 17) × (pairOf (deepRgb 16 0 0x10) 2 1 .refusal ≡ 17)
+  pub limits : (aboveLimit (hertz 225000000) ≡ false) × (aboveLimit (hertz 225000001) ≡ true)
+  -- "after 6 and before 7": on no image, and with DVI and 30 bits
+  pub beforeSeven : planOf (asked16 0 1 0x10) [] [] .refusal ≡ 17
+  pub afterSix : planOf (asked16 0 0 0x11) [] [] .refusal ≡ 6
+  -- VIC 4, family 1, 30 bits, coherent: refused 9 at every rate
+  pub nineDeep : every (λ rate. eqb (pairOf (deepRgb 4 1 0x01) rate 1 .refusal) 9) (0 ∷ 1 ∷ 2 ∷ 3 ∷ 4 ∷ 5 ∷ 6 ∷ []) ≡ true
+  -- "Family is answered as 0", and that may be refused 9 where family 1 is accepted: VIC 2, 30 bits, 32 kHz, coherent
+  pub oneFamily : (pairOf (deepRgb 2 0 0x01) 0 1 .refusal ≡ 9) × (pairOf (deepRgb 2 1 0x01) 0 1 ≡ thePair 4096 33750)
+  -- "a value outside its range is 5": the next number of each half, the repetition's in the AVI call too
+  pub depths : (readOf (asked16 0 1 0x03) .refusal ≡ 5) × (readOf (asked16 0 1 0x30) .refusal ≡ 5)
+  pub depthsAlone : (clockOf (deepRgb 16 0 0x03) .refusal ≡ 5) × (aviOf (deepRgb 16 0 0x30) .refusal ≡ 5)
+  -- "more than 24 bits with 4:2:2 or DVI is 6"; not with 4:4:4, and repetition with neither; VIC 2 over DVI, four times, shows PR 3
+  pub deepWith422 : readOf (0x06 ∷ 0x10 ∷ 0x00 ∷ 0x01 ∷ 0x01 ∷ 0x00 ∷ 0x01 ∷ 0x00 ∷ 0x19 ∷ table39) .refusal ≡ 6
+  pub deepWith444 : readOf (0x06 ∷ 0x10 ∷ 0x00 ∷ 0x02 ∷ 0x01 ∷ 0x00 ∷ 0x02 ∷ 0x00 ∷ 0x19 ∷ table39) .refusal ≡ 0
+  pub deepOverDvi : (readOf (asked16 0 0 0x01) .refusal ≡ 6) × (readOf (asked16 0 0 0x02) .refusal ≡ 6)
+  pub fourTimes : lineText (0x06 ∷ 0x02 ∷ 0x00 ∷ 0x00 ∷ 0x00 ∷ 0x00 ∷ 0x20 ∷ 0x00 ∷ 0x00 ∷ [])
+      ≡ ascii "accepted vic 2 n 6144 cts 0 avi 3e audio 71\n"
   -- request 09
   pub few : Few
-  -- Lengths follow from the counts: document 01 had 7, 10, 32, 35, and each has a byte more
-  pub lengths : lengths ≡ 8 ∷ 11 ∷ 33 ∷ 36 ∷ []
+  -- Lengths follow from the counts: document 01 had 7, 10, 32, 35, and each has two bytes more
+  pub lengths : lengths ≡ 9 ∷ 12 ∷ 34 ∷ 37 ∷ []
   -- "the longest request"
-  pub longest : longest ≡ 36
+  pub longest : longest ≡ 37

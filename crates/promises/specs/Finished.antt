@@ -1,5 +1,5 @@
 -- Demand 2, "the finished image", field by field: the number that stands in each named field, in document 01's notation and in the order of
--- its sentence "Named: N, CTS, ..". No number of `places` comes from writes, from steps or from wanted bytes; `ordered` asks which
+-- its sentence "Named: N, CTS, ..", with document 02's. No number of `places` comes from writes, from steps or from wanted bytes; `ordered` asks which
 -- registers are written, and `NeverThree` is about the writes.
 use mathlib.Core.Path.{_≡_}
 use mathlib.Core.Logic.{_≢_}
@@ -13,8 +13,9 @@ use Rattle.bits.specs.Merge.{under, bitsIn}
 use Rattle.map.specs.Map.{audioSelectDefault, audioModeDefault, i2sFormatDefault, inputIdDefault}
 use Rattle.registers.specs.Classes.{mandated, named, bits}
 use Rattle.video.specs.declared.Video.{Video}
+use Rattle.video.specs.Video.{depth, repetition}
 use Rattle.clock.specs.declared.Pair.{Pair}
-use Rattle.clock.specs.Clocks.{clockOf}
+use Rattle.clock.specs.Clocks.{times, clockOf}
 use Rattle.clock.specs.Tables.{otherRow}
 use Rattle.clock.specs.Pairs.{Coherent}
 use Rattle.frames.specs.Frames.{total, frame, aviFrame}
@@ -64,6 +65,13 @@ inM vic = cond (among vic (1 ∷ 2 ∷ 17 ∷ [])) 1 2
 abbrev pub inQ : ℕ → ℕ → ℕ
 inQ encoding range = cond (eqb encoding 0) (getD (1 ∷ 2 ∷ []) range 0) 0
 
+-- request 06: "PR follow[s]" the repetition, "none, 2, 4", and counts the repeats, so it is one less; the general control field for the depth
+abbrev pub inPR : ℕ → ℕ
+inPR repetition = times repetition - 1
+
+abbrev pub inCD : ℕ → ℕ
+inCD depth = getD (0b0000 ∷ 0b0101 ∷ 0b0110 ∷ []) depth 0
+
 -- "CC is channels less one; CA is 0x00 for 2 and 0x13 for 8; the rest 0." "Audio off: payload all 0."
 abbrev pub inCC : Sound → ℕ
 inCC Off = 0
@@ -105,8 +113,8 @@ places r p =
     -- "CSC with its hold"
     place 0x18 7 7 (r .matrix .on) ∷ place 0x18 6 5 (r .matrix .mode) ∷ place 0x1A 5 5 0 ∷ [] ++
     coefficientPlaces 0x18 (r .matrix .coefficients) 0 12 ++
-    -- "0x3B[6:5] = 2 with [4:1] = 0, VIC in 0x3C[5:0]"
-    place 0x3B 6 5 2 ∷ place 0x3B 4 1 0 ∷ place 0x3C 5 0 (r .video .vic) ∷
+    -- "0x3B[6:5] = 2", "VIC in 0x3C[5:0]"; request 06: "0x3B[4:1] .. follow" the repetition, 0, 1 or 2 in both of its fields
+    place 0x3B 6 5 2 ∷ place 0x3B 4 3 (repetition (r .video)) ∷ place 0x3B 2 1 (repetition (r .video)) ∷ place 0x3C 5 0 (r .video .vic) ∷
     -- "the GC enable 0x40[7], the enables 0x44[6:3]": "with HDMI the GC and AVI enables are 1 and the three audio enables .. 1 exactly with
     -- audio". "With DVI these five enables are 0", for DVI with audio is refusal 6
     place 0x40 7 7 (r .video .link) ∷
@@ -114,17 +122,20 @@ places r p =
     place 0x44 4 4 (r .video .link) ∷
     -- "0x4A[7:5]": "0x4A[7] is 1", the holds are down; "AV mute": "Open: set 0, clear 1"; "HDMI/DVI"
     place 0x4A 7 7 1 ∷ place 0x4A 6 5 0 ∷ place 0x4B 7 7 1 ∷ place 0x4B 6 6 0 ∷ place 0xAF 1 1 (r .video .link) ∷
-    -- "the AVI version, length, checksum and data bytes 1 to 13": byte 1 is 0 Y A B S, byte 2 C M R, byte 3 ITC EC Q SC, byte 4 the VIC
+    -- "the AVI version, length, checksum and data bytes 1 to 13": byte 1 is 0 Y A B S, byte 2 C M R, byte 3 ITC EC Q SC, byte 4 the VIC, byte 5 PR
     place 0x52 2 0 0x02 ∷ place 0x53 4 0 0x0D ∷ place 0x54 7 0 (getD (aviFrame (r .video)) 3 0) ∷
     place 0x55 7 7 0 ∷ place 0x55 6 5 (r .video .encoding) ∷ place 0x55 4 4 1 ∷ place 0x55 3 0 0 ∷
     place 0x56 7 6 (inC (r .video .vic) (r .video .encoding)) ∷ place 0x56 5 4 (inM (r .video .vic)) ∷ place 0x56 3 0 8 ∷
     place 0x57 7 4 0 ∷ place 0x57 3 2 (inQ (r .video .encoding) (r .video .range)) ∷ place 0x57 1 0 0 ∷
-    place 0x58 7 0 (r .video .vic) ∷ [] ++
-    zeroPlaces 0x59 9 ++
+    place 0x58 7 0 (r .video .vic) ∷
+    place 0x59 7 4 0 ∷ place 0x59 3 0 (inPR (repetition (r .video))) ∷ [] ++
+    zeroPlaces 0x5A 8 ++
     -- "the audio InfoFrame": byte 1 is CT 0 CC, byte 4 CA
     place 0x70 2 0 0x01 ∷ place 0x71 4 0 0x0A ∷ place 0x72 7 0 (getD (audioPacket (r .sound)) 3 0) ∷
     place 0x73 7 3 0 ∷ place 0x73 2 0 (inCC (r .sound)) ∷ place 0x74 7 0 0 ∷ place 0x75 7 0 0 ∷ place 0x76 7 0 (inCA (r .sound)) ∷
-    place 0x77 7 0 0 ∷ []
+    place 0x77 7 0 0 ∷
+    -- request 06: "The general control fields for depth become named"
+    place 0x4C 3 0 (inCD (depth (r .video))) ∷ []
 
 -- a number stands in its place of an image
 abbrev pub Shows : List ℕ → Place → Type 0

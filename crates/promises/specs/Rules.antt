@@ -91,3 +91,6 @@ pub record FieldByField (image : List ℕ) : Type 0 where
   pub noRange : length image ≡ 256
       → among (bitsIn 3 2 (getD image 0x57 0)) (cond (eqb (bitsIn 6 5 (getD image 0x55 0)) 0) (1 ∷ 2 ∷ []) (0 ∷ [])) ≡ false
       → (room : List ℕ) → longest ≤ length room → decodeOf image room .refusal ≡ 11
+  -- and so does a depth other than that of 24, 30 or 36 bits
+  pub noDepth : length image ≡ 256 → among (bitsIn 3 0 (getD image 0x4C 0)) (0b0000 ∷ 0b0101 ∷ 0b0110 ∷ []) ≡ false
+      → (room : List ℕ) → longest ≤ length room → decodeOf image room .refusal ≡ 11

@@ -27,7 +27,7 @@ pub struct PixelOut {
     pub c: u32,
 }
 
-// The write list of a request on an image, as pairs of address and value: refusals 1 to 10.
+// The write list of a request on an image, as pairs of address and value: refusals 1 to 6, 17 and 7 to 10.
 #[no_mangle]
 pub extern "C" fn station_plan(request: &[u8], image: &[u8], writes: &mut [u8]) -> CountOut
     ensures { λ r. ⌜ StationPlan (now (request .entry)) (now (image .entry)) (now (writes .entry)) r (now (writes .exit)) ⌝ }
@@ -51,7 +51,7 @@ pub extern "C" fn station_decode(image: &[u8], request: &mut [u8]) -> CountOut
     }
 }
 
-// N and CTS over a request: refusals 1 to 6 and 9.
+// N and CTS over a request: refusals 1 to 6, 17 and 9.
 #[no_mangle]
 pub extern "C" fn station_ncts(request: &[u8]) -> PairOut
     ensures { λ r. ⌜ StationNcts (now (request .entry)) r ⌝ }
