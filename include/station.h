@@ -6,13 +6,17 @@
  * length 0 was tried and behaves as an empty slice; it is not promised.
  *
  * A request is three sections in this order, each after a byte that counts its bytes:
- *   video   5        VIC (1 to 5, 16 to 20, 31, 32, 34, 60, 62); family (0 whole frame rate, 1 divided by 1.001, which VIC 17 to 20 and 31
+ *   video   6        VIC (1 to 5, 16 to 20, 31, 32, 34, 60, 62); family (0 whole frame rate, 1 divided by 1.001, which VIC 17 to 20 and 31
  *                    do not offer); encoding (0 RGB, 1 YCbCr 4:2:2, 2 YCbCr 4:4:4); link (0 DVI, 1 HDMI); range (0 limited, 1 full: what
- *                    the screen is told of RGB; with YCbCr it is 0)
+ *                    the screen is told of RGB; with YCbCr it is 0); depth and pixel repetition in one byte: in its lower half the depth (0,
+ *                    1, 2 for 24, 30, 36 bits a pixel), in its upper half the repetition (0 none, 1 twice, 2 four times)
  *   audio   0 or 3   rate (0 to 6 for 32, 44.1, 48, 88.2, 96, 176.4, 192 kHz); channels (2 or 8); coherent (0 or 1)
  *   matrix  0 or 25  mode (0 to 2); coefficients A1 to A4, B1 to B4, C1 to C4, two bytes each, high byte first, two's complement, from
  *                    -4096 to 4095
- * So 05 10 00 00 01 00 03 02 02 01 00 is 1080p at 60 Hz, RGB over HDMI, limited range, coherent stereo at 48 kHz, no matrix.
+ * So 06 10 00 00 01 00 00 03 02 02 01 00 is 1080p at 60 Hz, RGB over HDMI, limited range, 24 bits, no repetition, coherent stereo at
+ * 48 kHz, no matrix.
+ * N and CTS rest on the TMDS clock: the pixel clock times 1, 5/4 or 3/2 by the depth, times 1, 2 or 4 by the repetition. It is 225,000,000 Hz
+ * at the most.
  */
 #ifndef STATION_H
 #define STATION_H
@@ -21,9 +25,9 @@
 #include <stdint.h>
 
 /* The version of this header, one for each landing; CHANGELOG.md says what came with it. */
-#define STATION_VERSION "3.1.0"
-#define STATION_MAJOR 3
-#define STATION_MINOR 1
+#define STATION_VERSION "4.0.0"
+#define STATION_MAJOR 4
+#define STATION_MINOR 0
 #define STATION_PATCH 0
 
 /* Lengths in bytes. */
@@ -32,7 +36,7 @@
 #define STATION_COEFFICIENTS 24 /* its coefficient buffer */
 #define STATION_MARK 1          /* its waiting mark */
 #define STATION_WRITES 256      /* the least room for a write list */
-#define STATION_REQUEST 36      /* the longest request, and the least room for one */
+#define STATION_REQUEST 37      /* the longest request, and the least room for one */
 #define STATION_MATRIX 25       /* a matrix as a request has it: its mode and twelve coefficients */
 #define STATION_LIST 1024       /* the longest list that a vendor may bring, 512 pairs */
 
@@ -40,16 +44,17 @@
 extern "C" {
 #endif
 
-/* Why a call refuses. Of those that a call gives, the lowest that applies, in this order, is given; then every other field of the answer
- * is 0 (but for the place beside 15), and no lent byte is changed. station_text.h has these lines as strings. */
+/* Why a call refuses. Of those that a call gives, the first that applies, in the order of their numbers, is given; but 17 is checked after 6
+ * and before 7. Then every other field of the answer is 0 (but for the place beside 15), and no lent byte is changed. station_text.h has
+ * these lines as strings. */
 enum station_refusal {
     STATION_ACCEPTED = 0,           /* none */
     STATION_INPUT_ENDS = 1,         /* input ends before a count or inside a section */
     STATION_COUNT_NOT_ALLOWED = 2,  /* a count the section does not allow */
     STATION_BYTES_AFTER = 3,        /* bytes after the matrix section */
     STATION_MODE_NOT_OFFERED = 4,   /* VIC not listed, or family not offered by it */
-    STATION_FIELD_OUT_OF_RANGE = 5, /* any other field outside its range (matrix mode above 2, range above 1) */
-    STATION_COMBINATION = 6,        /* encoding not 0 without a matrix or with range 1; DVI with audio or with encoding not 0 */
+    STATION_FIELD_OUT_OF_RANGE = 5, /* any other field outside its range (matrix mode above 2, range above 1, depth or repetition above 2) */
+    STATION_COMBINATION = 6,        /* encoding not 0 without a matrix or with range 1; DVI with audio or with encoding not 0; more than 24 bits with 4:2:2 or DVI */
     STATION_IMAGE_LENGTH = 7,       /* image not of 256 bytes; in the machine also packet buffer not of 32, coefficient buffer not of 24, mark not of 1 */
     STATION_HOLDS_UP = 8,           /* GC hold up, or AVI and audio holds both up */
     STATION_NO_EXACT_PAIR = 9,      /* coherent audio, and no exact pair exists */
@@ -59,7 +64,8 @@ enum station_refusal {
     STATION_TWO_HOLDS = 13,         /* two packet holds are up, or the write would leave two up */
     STATION_LIST_LENGTH = 14,       /* a list of an odd length, or of more than 512 pairs */
     STATION_BAD_PAIR = 15,          /* a bad pair in a list; the first one's place stands beside the number */
-    STATION_BAD_END = 16            /* a list that ends in an image in which no request ends */
+    STATION_BAD_END = 16,           /* a list that ends in an image in which no request ends */
+    STATION_CLOCK_ABOVE = 17        /* a TMDS clock above 225,000,000 Hz */
 };
 
 struct station_count { uint32_t refusal, count; };
@@ -72,7 +78,7 @@ struct station_verdict { uint32_t refusal, place; };
 
 /* The write list of a request on a register image of 256 bytes: `count` pairs of address and value at the front of `writes`, which has at
  * least 256 bytes; the bytes after them stay. A register whose byte in the image is right already is left out, so lend the registers as
- * the chip holds them now; nine writes always stay, to 0x4B, 0x4A and 0x1A. Refusals 1 to 10.
+ * the chip holds them now; nine writes always stay, to 0x4B, 0x4A and 0x1A. Refusals 1 to 6, 17, 7 to 10.
  * Send the pairs in order, and wait for one rising edge of Vsync just before the last pair. The last pair to 0x1A lowers the coefficient
  * hold, and the chip takes the new coefficients at the first Vsync after it; the last pair of the list opens the picture. Any place between
  * these two will do, and just before the last pair is always such a place. Without that Vsync the picture opens on the old coefficients. */
@@ -80,10 +86,11 @@ struct station_count station_plan(const uint8_t *request, size_t request_length,
                                   uint8_t *writes, size_t writes_length);
 
 /* The request that ends in a register image of 256 bytes: `count` bytes at the front of `request`, which has at least STATION_REQUEST; the
- * bytes after them stay. Its family is answered as 0, for no register names it. Refusals 7, 10 and 11. */
+ * bytes after them stay. Its family is answered as 0, for no register names it; where the request was finished in family 1, the one that is
+ * answered may itself be refused 9. Refusals 7, 10 and 11. */
 struct station_count station_decode(const uint8_t *image, size_t image_length, uint8_t *request, size_t request_length);
 
-/* N and CTS for a request. Refusals 1 to 6 and 9. */
+/* N and CTS for a request. Refusals 1 to 6, 17 and 9. */
 struct station_pair station_ncts(const uint8_t *request, size_t length);
 
 /* Three 12-bit codes through a colour matrix: its mode and twelve coefficients as a request has them, 25 bytes. Refusals 5 (also a

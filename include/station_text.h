@@ -15,8 +15,8 @@ static inline const char *station_text(uint32_t refusal) {
         "a count the section does not allow",
         "bytes after the matrix section",
         "VIC not listed, or family not offered by it",
-        "any other field outside its range (matrix mode above 2, range above 1)",
-        "encoding not 0 without a matrix or with range 1; DVI with audio or with encoding not 0",
+        "any other field outside its range (matrix mode above 2, range above 1, depth or repetition above 2)",
+        "encoding not 0 without a matrix or with range 1; DVI with audio or with encoding not 0; more than 24 bits with 4:2:2 or DVI",
         "image not of 256 bytes; in the machine also packet buffer not of 32, coefficient buffer not of 24, mark not of 1",
         "GC hold up, or AVI and audio holds both up",
         "coherent audio, and no exact pair exists",
@@ -26,7 +26,8 @@ static inline const char *station_text(uint32_t refusal) {
         "two packet holds are up, or the write would leave two up",
         "a list of an odd length, or of more than 512 pairs",
         "a bad pair in a list; the first one's place stands beside the number",
-        "a list that ends in an image in which no request ends"
+        "a list that ends in an image in which no request ends",
+        "a TMDS clock above 225,000,000 Hz"
     };
     return refusal < sizeof texts / sizeof texts[0] ? texts[refusal] : "a number that this header does not know";
 }
