@@ -46,13 +46,13 @@ target/c/accident: programs/accident.c programs/fields.c programs/chip.c program
 target/c/agree: programs/agree.c programs/judge.c programs/fields.c programs/chip.c programs/words.c
 target/c/image: programs/image.c programs/words.c
 target/c/listing: programs/listing.c programs/table.c programs/registers.c programs/chip.c programs/words.c
-target/c/modes: programs/modes.c programs/fields.c programs/words.c
+target/c/modes: programs/modes.c programs/clocks.c programs/fields.c programs/words.c
 target/c/picture: programs/picture.c programs/chain.c programs/events.c programs/list.c programs/judge.c programs/registers.c \
   programs/fields.c programs/chip.c programs/words.c
-target/c/request: programs/request.c programs/fields.c programs/words.c
+target/c/request: programs/request.c programs/clocks.c programs/fields.c programs/words.c
 target/c/review: programs/review.c programs/list.c programs/judge.c programs/table.c programs/registers.c programs/fields.c \
   programs/chip.c programs/words.c
-target/c/vectors: programs/vectors.c programs/fields.c programs/words.c
+target/c/vectors: programs/vectors.c programs/clocks.c programs/fields.c programs/words.c
 target/c/example: host/example.c
 target/c/host: host/host.c host/chain.c programs/chain.c programs/events.c programs/fields.c programs/chip.c programs/words.c
 target/c/i2c: host/i2c.c programs/words.c

@@ -52,6 +52,11 @@ static const struct field {
     { IN_VIDEO, 3, 0, 8, "link", NULL, { { "dvi", 0, "DVI" }, { "hdmi", 1, "HDMI" } } },
     { IN_VIDEO, 4, 0, 8, "range", "limited",
       { { "limited", 0, "limited: RGB from 16 to 235; of YCbCr nothing is said" }, { "full", 1, "full: RGB from 0 to 255" } } },
+    { IN_VIDEO, 5, 0, 4, "depth", "24bit",
+      { { "24bit", 0, "24 bits a pixel" }, { "30bit", 1, "30 bits a pixel, deep colour" },
+        { "36bit", 2, "36 bits a pixel, deep colour" } } },
+    { IN_VIDEO, 5, 4, 4, "repetition", "once",
+      { { "once", 0, "none, each pixel once" }, { "twice", 1, "each pixel twice" }, { "four-times", 2, "each pixel four times" } } },
     { IN_AUDIO, 0, 0, 8, "rate", NULL,
       { { "32kHz", 0, "32 kHz" }, { "44.1kHz", 1, "44.1 kHz" }, { "48kHz", 2, "48 kHz" }, { "88.2kHz", 3, "88.2 kHz" },
         { "96kHz", 4, "96 kHz" }, { "176.4kHz", 5, "176.4 kHz" }, { "192kHz", 6, "192 kHz" } } },
@@ -72,6 +77,12 @@ static size_t bytes_of_fields(int section) {
 }
 
 static size_t count_of(int section) { return bytes_of_fields(section) + 2 * sections[section].numbers; }
+
+static const struct field *field_of(const char *name) {
+    size_t f = 0;
+    while (strcmp(fields[f].name, name)) f++;
+    return &fields[f];
+}
 
 /* ---- Words to bytes. */
 
@@ -98,6 +109,11 @@ static int value_of(const struct field *f, int count, char **words, int *used) {
     if (count < 2) misuse("%s has no number after it", f->name);
     *used = 2;
     return (int)number_of_word(words[1], f->name, 0, most);
+}
+
+int value_of_word(const char *name, char *word) {
+    int used;
+    return value_of(field_of(name), 1, &word, &used);
 }
 
 /* Words that are being read: in which section we are, what was given so far, the numbers as bytes. */
@@ -253,6 +269,8 @@ static const char *word_of(const struct field *f, int value) {
     return NULL;
 }
 
+const char *word_of_value(const char *name, int value) { return word_of(field_of(name), value); }
+
 int words_of_request(const uint8_t *request, size_t length, char text[TEXT_OF_A_REQUEST]) {
     size_t at = 0;
     *text = 0;
@@ -301,17 +319,24 @@ static void meaning(const struct field *f, const uint8_t *body, size_t there, ch
     }
 }
 
+/* A field's byte in hex; of two fields in one byte each has its digit, and a dot for the other's. */
+static const char *digits_of(const struct field *f, const uint8_t *body, char text[3]) {
+    snprintf(text, 3, "%02x", body[f->at]);
+    if (f->bits < 8) text[f->shift ? 1 : 0] = '.';
+    return text;
+}
+
 void explain_request(FILE *to, const uint8_t *request, size_t length) {
     size_t at = 0;
-    char text[128];
+    char text[128], digits[3];
     for (int s = 0; s < SECTIONS; s++) {
         if (at == length) {
-            fprintf(to, "  %-8s  --     no count: the bytes end here\n", sections[s].name);
+            fprintf(to, "  %-10s  --     no count: the bytes end here\n", sections[s].name);
             return;
         }
         size_t count = request[at], want = count_of(s), there = length - at - 1;
         int left_out = count == 0 && sections[s].may_be_left_out;
-        fprintf(to, "  %-8s  %02x     %s\n", sections[s].name, request[at],
+        fprintf(to, "  %-10s  %02x     %s\n", sections[s].name, request[at],
                 left_out ? "none" : count == want ? "its count" : "a count that is not allowed");
         at++;
         if (left_out) continue;
@@ -320,12 +345,12 @@ void explain_request(FILE *to, const uint8_t *request, size_t length) {
         for (size_t f = 0; f < FIELDS; f++) {
             if (fields[f].section != s || fields[f].at >= there) continue;
             meaning(&fields[f], request + at, there, text, sizeof text);
-            fprintf(to, "  %-8s  %02x     %s\n", fields[f].name, request[at + fields[f].at], text);
+            fprintf(to, "  %-10s  %s     %s\n", fields[f].name, digits_of(&fields[f], request + at, digits), text);
         }
         for (size_t n = 0, first = bytes_of_fields(s); n < sections[s].numbers && first + 2 * n + 1 < there; n++) {
             const uint8_t *bytes = request + at + first + 2 * n;
             int value = number_in(bytes);
-            fprintf(to, "  %c%u        %02x %02x  %d%s\n", "ABC"[n / 4], (unsigned)n % 4 + 1, bytes[0], bytes[1], value,
+            fprintf(to, "  %c%u          %02x %02x  %d%s\n", "ABC"[n / 4], (unsigned)n % 4 + 1, bytes[0], bytes[1], value,
                     value < -4096 || value > 4095 ? ", outside its range" : "");
         }
         if (there < want) {
@@ -353,12 +378,12 @@ int explain_changes(FILE *to, const uint8_t *before, const uint8_t *after) {
             if (fields[f].section != s) continue;
             short_of(&fields[f], before, was, sizeof was);
             short_of(&fields[f], after, is, sizeof is);
-            if (strcmp(was, is)) fprintf(to, "  %-8s  %s -> %s\n", fields[f].name, was, is), changes++;
+            if (strcmp(was, is)) fprintf(to, "  %-10s  %s -> %s\n", fields[f].name, was, is), changes++;
         }
         for (size_t n = 0; n < sections[s].numbers && before[0] && after[0]; n++) {
             size_t at = 1 + bytes_of_fields(s) + 2 * n;
             int old = number_in(before + at), new = number_in(after + at);
-            if (old != new) fprintf(to, "  %c%u        %d -> %d\n", "ABC"[n / 4], (unsigned)n % 4 + 1, old, new), changes++;
+            if (old != new) fprintf(to, "  %c%u          %d -> %d\n", "ABC"[n / 4], (unsigned)n % 4 + 1, old, new), changes++;
         }
     }
     return changes;
@@ -367,7 +392,7 @@ int explain_changes(FILE *to, const uint8_t *before, const uint8_t *after) {
 void explain_words(FILE *to) {
     char text[TEXT_OF_A_REQUEST];
     for (size_t f = 0; f < FIELDS; f++)
-        fprintf(to, "  %-7s %-9s %s%s%s%s\n", f == 0 || fields[f].section != fields[f - 1].section ? sections[fields[f].section].name : "",
+        fprintf(to, "  %-7s %-11s %s%s%s%s\n", f == 0 || fields[f].section != fields[f - 1].section ? sections[fields[f].section].name : "",
                 fields[f].name, words_of_field(&fields[f], text, sizeof text), fields[f].usual ? " (" : "",
                 fields[f].usual ? fields[f].usual : "", fields[f].usual ? " where none is given)" : "");
 }

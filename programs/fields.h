@@ -25,6 +25,10 @@ int explain_changes(FILE *to, const uint8_t *before, const uint8_t *after);
 /* The words that there are, a line for each field. */
 void explain_words(FILE *to);
 
+/* By a field's name: the value that a word gives it, -1 where the word is not for it; and the word of a value, NULL where it has none. */
+int         value_of_word(const char *name, char *word);
+const char *word_of_value(const char *name, int value);
+
 /* The mode of a VIC in words ("1920x1080p 60 Hz, 16:9"), with the frame rate of a family. */
 void text_of_mode(uint8_t vic, uint8_t family, char *text, size_t room);
 

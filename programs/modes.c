@@ -1,93 +1,129 @@
 /* The modes that a request may name: names from the table, families, clocks, N and CTS as the library answers for a request made for each.
  * What it prints is compared with modes.out. */
-#include "station.h"
+#include "clocks.h"
 #include "fields.h"
 #include "guide.h"
 #include "words.h"
-#include <inttypes.h>
-#include <stdlib.h>
 #include <string.h>
 
 const char *program = "tools/modes";
 
 static const char help[] =
-    "tools/modes\n"
+    "tools/modes [DEPTH] [REPETITION]\n"
     "\n"
-    "Lists the modes that a request may name: VIC, name, family, frame rate and pixel\n"
-    "clock, the clock as an exact fraction and in MHz; and for each clock N and CTS\n"
-    "of coherent audio at each rate, '-' where no pair is exact (refusal 9). What it\n"
-    "says of families, clocks, N and CTS is the library's answer. The status is 0, or\n"
-    "2 for a command that is not as above.\n";
+    "Lists the modes that a request may name: VIC, name, family, frame rate and TMDS\n"
+    "clock, which is the pixel clock times 1, 5/4 or 3/2 by the depth, times 1, 2 or\n"
+    "4 by the repetition; the clock as an exact fraction and in MHz. Then for each\n"
+    "pixel clock the TMDS clock at every depth and repetition, '-' where it is above\n"
+    "225 MHz (refusal 17); and for each clock of the list N and CTS of coherent audio\n"
+    "at each rate, '-' where no pair is exact (refusal 9). What it says of families,\n"
+    "refusals, N and CTS is the library's answer.\n"
+    "\n"
+    "DEPTH is 24bit, 30bit or 36bit, REPETITION once, twice or four-times, as in\n"
+    "tools/request; where none is given, 24bit and once: the pixel clock.\n"
+    "\n"
+    "The status is 0; 1 where what the library answers does not rest on these clocks;\n"
+    "2 for a command that is not as above.\n"
+    "\n"
+    "  tools/modes\n"
+    "  tools/modes 30bit twice\n";
 
-enum { FAMILIES = 2, CLOCKS = 32, TIMES = 128, KHZ_48 = 2 };
+enum { CLOCKS = 32, KHZ_48 = 2 };
 
-/* The rates of a request, in Hz. */
-static const uint32_t hertz[RATES] = { 32000, 44100, 48000, 88200, 96000, 176400, 192000 };
+/* The first mode of each pixel clock. */
+static struct row_of_clock { uint8_t vic, family; } clocks[CLOCKS];
+static size_t number;
 
-static struct station_pair ask(uint8_t vic, uint8_t family, uint8_t rate, uint8_t coherent) {
-    struct request q = request_of_text("vic %u family=%u rgb hdmi audio rate=%u 2 coherent=%u", vic, family, rate, coherent);
-    return station_ncts(q.bytes, q.length);
+static int depth, repetition, wrong;
+
+static void keep(uint8_t vic, uint8_t family) {
+    struct clock c = pixel_clock(vic, family), known;
+    for (size_t k = 0; k < number; k++) {
+        known = pixel_clock(clocks[k].vic, clocks[k].family);
+        if (known.over == c.over && known.under == c.under) return;
+    }
+    if (number < CLOCKS) clocks[number++] = (struct row_of_clock){ vic, family };
 }
 
-static uint64_t divisor(uint64_t a, uint64_t b) { return b ? divisor(b, a % b) : a; }
-
-/* The clock that an exact pair rests on: 128 fs CTS / N, in lowest terms. */
-struct clock { uint64_t over, under; };
-static struct clock clock_of(struct station_pair p, uint32_t fs) {
-    uint64_t over = (uint64_t)TIMES * fs * p.cts, d = divisor(over, p.n);
-    return d ? (struct clock){ over / d, p.n / d } : (struct clock){ 0, 1 };
+/* Does the library refuse the clock? */
+static int refused(uint8_t vic, uint8_t family, int d, int r) {
+    int is = ask(vic, family, d, r, KHZ_48, 0).refusal == STATION_CLOCK_ABOVE;
+    wrong |= is != is_above(tmds_clock(vic, family, d, r));
+    return is;
 }
 
-static const char *fraction(struct clock c, char *text, size_t room) {
-    if (c.under == 1) snprintf(text, room, "%" PRIu64, c.over);
-    else snprintf(text, room, "%" PRIu64 "/%" PRIu64, c.over, c.under);
-    return text;
+static void print_mode(const struct mode *m, uint8_t family) {
+    char lead[48], text[48];
+    struct clock c = tmds_clock(m->vic, family, depth, repetition);
+    snprintf(lead, sizeof lead, "%s %s", m->lines, m->aspect);
+    printf("%3u  %-16s %6u  %7.5g Hz  %-16s %10.6f%s\n", m->vic, lead, family, frame_rate(m, family), text_of_clock(c, text, sizeof text),
+           megahertz(c), refused(m->vic, family, depth, repetition) ? " refused 17" : "");
 }
 
-static double megahertz(struct clock c) { return (double)c.over / (double)c.under / 1e6; }
+static void print_clocks(void) {
+    printf("\nTMDS clock in MHz, by repetition and depth; the first is the pixel clock:\n");
+    for (int r = 0; r < REPETITIONS; r++) printf(r ? "%24s" : "%8s", word_of_value("repetition", r));
+    printf("\n");
+    for (int r = 0; r < REPETITIONS; r++)
+        for (int d = 0; d < DEPTHS; d++) printf("%8s", word_of_value("depth", d));
+    printf("\n");
+    for (size_t k = 0; k < number; k++) {
+        for (int r = 0; r < REPETITIONS; r++)
+            for (int d = 0; d < DEPTHS; d++) {
+                if (refused(clocks[k].vic, clocks[k].family, d, r)) printf("%8s", "-");
+                else printf("%8.3f", megahertz(tmds_clock(clocks[k].vic, clocks[k].family, d, r)));
+            }
+        printf("\n");
+    }
+}
 
-static void print_pairs(const char *lead, const char *of, uint8_t vic, uint8_t family, uint8_t coherent, int cts) {
+static void print_pairs(const char *lead, const char *of, const struct row_of_clock *k, int coherent, int cts) {
+    struct clock c = tmds_clock(k->vic, k->family, depth, repetition);
     printf("%-18s%-4s", lead, of);
-    for (uint8_t r = 0; r < RATES; r++) {
-        struct station_pair p = ask(vic, family, r, coherent);
+    for (int r = 0; r < RATES; r++) {
+        struct station_pair p = ask(k->vic, k->family, depth, repetition, r, coherent);
+        wrong |= coherent && !p.refusal && !rests_on(p, r, c);
         if (p.refusal) printf("%8s", "-");
         else printf("%8u", (unsigned)(cts ? p.cts : p.n));
     }
     printf("\n");
 }
 
-int main(int count, char **words) {
-    struct { struct clock clock; uint8_t vic, family; } clocks[CLOCKS];
-    size_t number = 0;
-    char text[48], lead[48];
-    if (count > 1 && !strcmp(words[1], "--help")) return printf("%s", help) < 0;
-    if (count > 1) misuse("'%.80s': no word is taken", words[1]);
+static void take(char *word) {
+    static int given[2];
+    int d = value_of_word("depth", word), r = d < 0 ? value_of_word("repetition", word) : -1;
+    if ((d < 0 && r < 0) || d >= DEPTHS || r >= REPETITIONS) misuse("'%.80s' is neither a depth nor a repetition", word);
+    if (given[d < 0]++) misuse("'%.80s': that field is given twice", word);
+    if (d < 0) repetition = r;
+    else depth = d;
+}
 
-    printf("%3s  %-16s %6s  %10s  %-16s %s\n", "VIC", "mode", "family", "frame rate", "clock in Hz", "in MHz");
+int main(int count, char **words) {
+    char text[48];
+    for (int i = 1; i < count; i++)
+        if (!strcmp(words[i], "--help")) return printf("%s", help) < 0;
+    for (int i = 1; i < count; i++) take(words[i]);
+
+    printf("%3s  %-16s %6s  %10s  %-16s %s\n", "VIC", "mode", "family", "frame rate", "TMDS clock in Hz", "in MHz");
     for (size_t m = 0; m < number_of_modes; m++)
         for (uint8_t family = 0; family < FAMILIES; family++) {
-            struct station_pair p = ask(modes[m].vic, family, KHZ_48, 1);
-            if (p.refusal) continue;
-            struct clock c = clock_of(p, hertz[KHZ_48]);
-            snprintf(lead, sizeof lead, "%s %s", modes[m].lines, modes[m].aspect);
-            printf("%3u  %-16s %6u  %7.5g Hz  %-16s %10.6f\n", modes[m].vic, lead, family, frame_rate(&modes[m], family),
-                   fraction(c, text, sizeof text), megahertz(c));
-            size_t k = 0;
-            while (k < number && (clocks[k].clock.over != c.over || clocks[k].clock.under != c.under)) k++;
-            if (k < number || number == CLOCKS) continue;
-            clocks[number].clock = c;
-            clocks[number].vic = modes[m].vic;
-            clocks[number++].family = family;
+            if (!pixel_clock(modes[m].vic, family).over) continue;
+            print_mode(&modes[m], family);
+            keep(modes[m].vic, family);
         }
+    print_clocks();
 
-    printf("\nN and CTS of coherent audio, by the clock and the rate in kHz:\n%-22s", "clock in Hz");
+    printf("\nN and CTS of coherent audio, by the TMDS clock and the rate in kHz:\n%-22s", "clock in Hz");
     for (int r = 0; r < RATES; r++) printf("%8g", hertz[r] / 1000.0);
     printf("\n");
     for (size_t k = 0; k < number; k++) {
-        print_pairs(fraction(clocks[k].clock, text, sizeof text), "N", clocks[k].vic, clocks[k].family, 1, 0);
-        print_pairs("", "CTS", clocks[k].vic, clocks[k].family, 1, 1);
+        if (refused(clocks[k].vic, clocks[k].family, depth, repetition)) continue;
+        struct clock c = tmds_clock(clocks[k].vic, clocks[k].family, depth, repetition);
+        print_pairs(text_of_clock(c, text, sizeof text), "N", &clocks[k], 1, 0);
+        print_pairs("", "CTS", &clocks[k], 1, 1);
     }
-    print_pairs("not coherent", "N", modes[0].vic, 0, 0, 0);
+    print_pairs("not coherent", "N", &clocks[0], 0, 0);
     printf("%-18s%-4s%s\n", "", "CTS", " 0: the chip measures it");
-    return printed(ACCEPTED);
+    if (wrong) fprintf(stderr, "%s: WHAT THE LIBRARY ANSWERS DOES NOT REST ON THESE CLOCKS\n", program);
+    return printed(wrong ? REFUSED : ACCEPTED);
 }

@@ -1,5 +1,5 @@
 /* A request from words to bytes, and from bytes to words. Whether it is accepted, and by which rule not, the library says. */
-#include "station.h"
+#include "clocks.h"
 #include "fields.h"
 #include "station_text.h"
 #include "words.h"
@@ -25,12 +25,13 @@ static const char help[] =
     more[] =
     "\n"
     "NAME=NUMBER gives a field any number, also one that is refused. tools/modes\n"
-    "lists the VICs. The status is 0 for a request that is accepted, 1 for one that\n"
-    "is refused (its bytes are printed, the rule is said on the error stream), 2 for\n"
-    "a command that is not as above.\n"
+    "lists the VICs, and their clocks by depth and repetition. The status is 0 for a\n"
+    "request that is accepted, 1 for one that is refused (its bytes are printed, the\n"
+    "rule is said on the error stream), 2 for a command that is not as above.\n"
     "\n"
     "  tools/request vic 16 rgb hdmi audio 48kHz 2 coherent\n"
     "  tools/request vic 4 /1.001 ycbcr444 hdmi matrix table43\n"
+    "  tools/request vic 32 rgb hdmi 36bit audio 48kHz 8 coherent\n"
     "  tools/request vic 1 rgb dvi matrix 1 2048 0 0 0 0 2048 0 0 0 0 2048 0\n"
     "  tools/request --explain " EXAMPLE "\n";
 
@@ -41,6 +42,19 @@ static int tell(FILE *to, struct station_pair p, int of_sound) {
     }
     if (of_sound) fprintf(to, "accepted: N %u, CTS %u%s\n", (unsigned)p.n, (unsigned)p.cts, p.cts ? "" : ", measured by the chip");
     return ACCEPTED;
+}
+
+/* Where VIC, family and the byte of depth and repetition stand in a request. */
+enum { AT_VIC = 1, AT_FAMILY = 2, AT_DEPTH = 6 };
+
+/* The clock of a request of which no rule before that of the clock is broken. */
+static void tell_clock(const uint8_t *request) {
+    char factor[48];
+    uint8_t vic = request[AT_VIC], family = request[AT_FAMILY];
+    int depth = request[AT_DEPTH] & 0x0F, repetition = request[AT_DEPTH] >> 4;
+    printf("  TMDS clock         %.9g MHz: %.9g times %s times %d, at most %d\n",
+           megahertz(tmds_clock(vic, family, depth, repetition)), megahertz(pixel_clock(vic, family)),
+           text_of_clock(of_depth(depth), factor, sizeof factor), (int)of_repetition(repetition).over, HIGHEST_CLOCK / 1000000);
 }
 
 int main(int count, char **words) {
@@ -58,7 +72,9 @@ int main(int count, char **words) {
         uint8_t *request = request_of_command(count - 1, words + 1, help, NULL, 0, &length);
         if (words_of_request(request, length, text)) printf("%s\n", text);
         explain_request(stdout, request, length);
-        int status = tell(stdout, station_ncts(request, length), 1);
+        struct station_pair p = station_ncts(request, length);
+        if (p.refusal == 0 || p.refusal == STATION_CLOCK_ABOVE || p.refusal == STATION_NO_EXACT_PAIR) tell_clock(request);
+        int status = tell(stdout, p, 1);
         free(request);
         return printed(status);
     }
