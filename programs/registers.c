@@ -42,6 +42,7 @@ const struct register_words registers[256] = {
     [0x44] = { "enables", "enables" },
     [0x4A] = { "packet holds", "auto sum" },
     [0x4B] = { "AV mute", "" },
+    [0x4C] = { "colour depth", "colour depth" },
     [0x52] = { "AVI version", "version" },
     [0x53] = { "AVI length", "length" },
     [0x54] = { "AVI sum", "checksum" },

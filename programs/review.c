@@ -141,7 +141,7 @@ static void print_shown(const char *what, const struct chip *c, const struct sho
 }
 
 /* What speaks against any request, where none ends in the image: what a vendor forgets. */
-enum { GC = 0x4B, OPEN = 0x80, MUTE_BITS = 0xC0 };
+enum { GC = 0x4B, OPEN = 0x80, MUTE_BITS = 0xC0, REPETITION = 0x3B, AVI_BYTE_5 = 0x59, COLOUR_DEPTH = 0x4C };
 static void print_bad_end(const struct chip *c) {
     static const struct { uint8_t address, mask; const char *name; } holds[] = {
         { 0x4A, 0x40, "the AVI hold, 0x4A[6]" }, { 0x4A, 0x20, "the audio hold, 0x4A[5]" }, { 0x1A, 0x20, "the coefficient hold, 0x1A[5]" },
@@ -163,6 +163,11 @@ static void print_bad_end(const struct chip *c) {
         for (int a = packets[p].first; a <= packets[p].last; a++) sum = (uint8_t)(sum + (c->image[a] & station_class((uint8_t)a).named));
         if (sum) printf("    the sum of the %s InfoFrame is not 0\n", packets[p].name), told++;
     }
+    uint8_t pll = c->image[REPETITION] >> 3 & 3, value = c->image[REPETITION] >> 1 & 3, repeats = c->image[AVI_BYTE_5];
+    if (pll != value || value > 2 || repeats != (1 << value) - 1)
+        printf("    0x3B[4:3], 0x3B[2:1] and PR (0x59[3:0]) are of no one repetition\n"), told++;
+    uint8_t depth = c->image[COLOUR_DEPTH] & 0x0F;
+    if (depth != 0 && depth != 5 && depth != 6) printf("    0x4C[3:0], the colour depth, is none of 0000, 0101 and 0110\n"), told++;
     if (!told) printf("    its fields are those of no request\n");
 }
 
