@@ -1,6 +1,7 @@
 /* Runs the tables of the programming guide (guide.h) through the library, and compares: each number agrees, or differs by a misprint that
  * is named, or is unexplained. It takes no argument; the status is 1 where anything is unexplained. What it prints is compared with
  * vectors.out. */
+#include "clocks.h"
 #include "fields.h"
 #include "guide.h"
 #include "words.h"
@@ -31,17 +32,19 @@ static enum verdict verdict_of(const struct row *r, size_t rate, struct station_
 }
 
 /* A mode that has a row's clock, at the seven rates: the tally, then a line for each rate at which print and answer differ. */
-static void run_mode(const struct row *r, uint8_t vic, uint8_t family, struct tally *all) {
+static void run_mode(const struct row *r, const struct at_clock *m, struct tally *all) {
     struct tally t = { { 0 } };
     struct station_pair answers[RATES];
     const struct misprint *is[RATES];
     for (size_t k = 0; k < RATES; k++) {
-        struct request q = request_of_text("vic %u family=%u rgb hdmi audio rate=%u 2 coherent=%u", vic, family, (unsigned)k, r->coherent);
-        answers[k] = station_ncts(q.bytes, q.length);
+        answers[k] = ask(m->vic, m->family, m->depth, m->repetition, (int)k, r->coherent);
         is[k] = named((size_t)(r - rows), k, answers[k]);
         t.of[verdict_of(r, k, answers[k], is[k])]++;
     }
-    printf("%s, VIC %u, family %u: ", r->clock, vic, family);
+    printf("%s, VIC %u, family %u", r->clock, m->vic, m->family);
+    if (m->depth) printf(", %s", word_of_value("depth", m->depth));
+    if (m->repetition) printf(", %s", word_of_value("repetition", m->repetition));
+    printf(": ");
     show(&t);
     for (int v = 0; v < VERDICTS; v++) all->of[v] += t.of[v];
     for (size_t k = 0; k < RATES; k++) {
@@ -59,11 +62,9 @@ static void run_mode(const struct row *r, uint8_t vic, uint8_t family, struct ta
 static struct tally run_rows(void) {
     struct tally all = { { 0 } };
     printf("Tables 80 to 82: N and CTS as printed, and as the library answers\n");
-    for (const struct row *r = rows; r < rows + COUNT(rows); r++) {
-        if (r->modes[0].vic == 0) printf("%s: not run, the clock of no listed mode\n", r->clock);
+    for (const struct row *r = rows; r < rows + COUNT(rows); r++)
         for (size_t m = 0; m < COUNT(r->modes); m++)
-            if (r->modes[m].vic) run_mode(r, r->modes[m].vic, r->modes[m].family, &all);
-    }
+            if (r->modes[m].vic) run_mode(r, &r->modes[m], &all);
     printf("N and CTS: ");
     show(&all);
     return all;
