@@ -36,14 +36,18 @@ static void any_matrix(struct chain *c, char *text, size_t room) {
 static struct request any_request(struct chain *c) {
     static const char *const families[] = { "whole", "/1.001" }, *const encodings[] = { "rgb", "ycbcr422", "ycbcr444" },
         *const wires[] = { "hdmi", "dvi" }, *const ranges[] = { "limited", "full" }, *const coherent[] = { "coherent", "not-coherent" },
-        *const rates[] = { "32kHz", "44.1kHz", "48kHz", "88.2kHz", "96kHz", "176.4kHz", "192kHz" }, *const channels[] = { "2", "8" };
+        *const rates[] = { "32kHz", "44.1kHz", "48kHz", "88.2kHz", "96kHz", "176.4kHz", "192kHz" }, *const channels[] = { "2", "8" },
+        *const depths[] = { "24bit", "30bit", "36bit" }, *const repetitions[] = { "once", "twice", "four-times" };
     char sound[40] = "", matrix[120];
     uint32_t mode = any(c, (uint32_t)number_of_modes), family = any(c, 4) == 0, encoding = any(c, 3), wire = any(c, 5) == 0;
     uint32_t range = any(c, 3) == 0, silent = any(c, 3) == 0, rate = any(c, 7), channel = any(c, 2), by = any(c, 2);
+    uint32_t deep = any(c, 2), depth = any(c, 3), repeated = any(c, 2), repetition = any(c, 3);
+    if (!deep) depth = 0;
+    if (!repeated) repetition = 0;
     if (!silent) snprintf(sound, sizeof sound, "audio %s %s %s", rates[rate], channels[channel], coherent[by]);
     any_matrix(c, matrix, sizeof matrix);
-    return request_of_text("vic %u %s %s %s %s %s %s", (unsigned)modes[mode].vic, families[family], encodings[encoding], wires[wire],
-                           ranges[range], sound, matrix);
+    return request_of_text("vic %u %s %s %s %s %s %s %s %s", (unsigned)modes[mode].vic, families[family], encodings[encoding],
+                           wires[wire], ranges[range], depths[depth], repetitions[repetition], sound, matrix);
 }
 
 static struct station_count plan(const struct request *q, const struct chip *c, uint8_t *list) {
