@@ -28,12 +28,13 @@ static int fake_lock(int bus, int how);
 
 /* ---- The fake bus. */
 
-enum { BUS = 7, NOT_TAKEN = 1, NOT_HEARD = 2 };
+enum { BUS = 7, NOT_TAKEN = 1, NOT_HEARD = 2, COLOUR_DEPTH = 0x4C };
 static struct chip chip;
 static struct {
     long sent, fails, resets;                           /* writes of a list sent; the one that fails or meets a reset, from 1; 0: none */
     int how, for_good, dead, locked;                    /* how it fails, and whether all after it do; no read either; the lock is held */
     int no_flags;                                       /* no read of the flags, and no write of them */
+    int turning;                                        /* the packing phase, 0x4C[7:4], is another at each read */
 } bus;
 static long wrong;                                      /* messages that a real chip would not understand, and writes without the lock */
 static long opened_early;                               /* times that the picture was opened while a change of the coefficients waited */
@@ -108,6 +109,7 @@ static int fake_ioctl(int b, unsigned long what, void *data) {
     if (d->nmsgs == 1 && m[0].flags == 0 && m[0].len == 2) return fake_write(m[0].buf);
     if (d->nmsgs == 2 && m[0].flags == 0 && m[0].len == 1 && m[1].flags == I2C_M_RD && m[0].buf[0] + m[1].len <= STATION_IMAGE) {
         if (bus.dead || (bus.no_flags && m[1].len == 1)) return -1;
+        if (bus.turning) chip.image[COLOUR_DEPTH] = (uint8_t)(chip.image[COLOUR_DEPTH] + 0x10);
         chip.image[FLAGS] = (uint8_t)((chip.image[FLAGS] & ~VSYNC_FLAG) | (video.flag || video.stuck ? VSYNC_FLAG : 0));
         memcpy(m[1].buf, chip.image + m[0].buf[0], m[1].len);
         return 2;
@@ -226,16 +228,17 @@ static void without_vsync(void) {
     tell(again(asked) == ACCEPTED && bus.sent == 0, "flags that are off, and nothing to write", 0);
 }
 
-/* Refusals, holds left up, a bus that cannot be read, another family. */
+/* Refusals, holds left up, a bus that cannot be read, another family, deep colour. */
 static void on_states(void) {
     struct request bad = request_of_text("vic 16 ycbcr422 hdmi"), none = request_of_text("vic 4 /1.001 rgb hdmi audio 32kHz 2 coherent");
+    struct request above = request_of_text("vic 16 rgb hdmi twice"), deep = request_of_text("vic 4 rgb hdmi 36bit twice");
     struct request family_0 = request_of_text("vic 16 rgb hdmi audio 48kHz 2 coherent");
     struct request family_1 = request_of_text("vic 16 /1.001 rgb hdmi audio 48kHz 2 coherent");
     uint8_t back[STATION_REQUEST], other[STATION_WRITES];
     heal();
     chip = start;
     chip.image[0x4A] |= 0x10;
-    tell(again(bad) == REFUSED && again(none) == REFUSED && bus.sent == 0, "a refused request", 0);
+    tell(again(bad) == REFUSED && again(none) == REFUSED && again(above) == REFUSED && bus.sent == 0, "a refused request", 0);
     tell(again(asked) == ACCEPTED && bus.sent == writes + 1 && ended(), "the GC hold left up", 0);
     for (int holds = 0x30; holds <= 0x70; holds += 0x10) {
         if (holds == 0x40) continue;
@@ -253,6 +256,12 @@ static void on_states(void) {
     tell(again(family_1) == ACCEPTED && bus.sent == few &&
          station_decode(chip.image, STATION_IMAGE, back, sizeof back).count == family_0.length &&
          !memcmp(back, family_0.bytes, family_0.length), "another family", 1);
+    /* The chip's packing phase is read-only: that it turns makes no write, and no end of rounds. */
+    bus.turning = 1;
+    tell(again(deep) == ACCEPTED && bus.sent > 0 && (chip.image[COLOUR_DEPTH] & 0x0F) == 6, "deep colour", 1);
+    tell(again(deep) == ACCEPTED && bus.sent == 0, "deep colour, on show", 1);
+    tell(again(family_0) == ACCEPTED && (chip.image[COLOUR_DEPTH] & 0x0F) == 0, "24 bits again", 0);
+    bus.turning = 0;
 }
 
 /* A host that goes on past one lost write: at how many places a group in use is torn at some moment, at how many at the end, open. */
