@@ -88,7 +88,7 @@ const struct model_class model_classes[256] = {
 /* 49 */ FREE,                          /* "all other settings are invalid" is no order */
 /* 4A */ ROW(00, 00, E0, 1F, 00),       /* auto checksum [7], AVI hold [6], audio hold [5]; the GC hold [4] is not in the named list */
 /* 4B */ ROW(00, 00, C0, 3F, 00),       /* AV mute: clear [7], set [6] */
-/* 4C */ READ,                          /* the whole address is typed RO */
+/* 4C */ ROW(F0, 00, 0F, 00, 00),       /* [7:4] RO; color depth [3:0] named by document 02, request 06, though the map types it RO */
 /* 4D */ FREE,                          /* GC bytes: "reserved in CEA 861D", no order to set */
 /* 4E */ FREE,
 /* 4F */ FREE,

@@ -9,6 +9,12 @@ static int rate_of_code(int code) {
     return NO_VALUE;
 }
 
+static int depth_of_code(int code) {
+    for (int d = 0; d < DEPTHS; d++)
+        if (model_depth_codes[d] == code) return d;
+    return NO_VALUE;
+}
+
 /* Of RGB, 1 is limited and 2 is full; YCbCr has 0, and its range is 0. */
 static int range_of_q(int encoding, int q) {
     if (encoding != 0) return q == 0 ? 0 : NO_VALUE;

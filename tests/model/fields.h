@@ -11,6 +11,8 @@
     FIELD(OF_VIDEO, 2, 0, 8, encoding, BELOW(3), image[0x55] >> 5 & 3) \
     FIELD(OF_VIDEO, 3, 0, 8, link, BELOW(2), image[0xAF] >> 1 & 1) \
     FIELD(OF_VIDEO, 4, 0, 8, range, BELOW(2), range_of_q(image[0x55] >> 5 & 3, image[0x57] >> 2 & 3)) \
+    FIELD(OF_VIDEO, 5, 0, 4, depth, BELOW(3), depth_of_code(image[0x4C] & 15)) \
+    FIELD(OF_VIDEO, 5, 4, 4, repetition, BELOW(3), image[0x3B] >> 3 & 3) \
     FIELD(OF_SOUND, 0, 0, 8, rate, BELOW(RATES), rate_of_code(image[0x15] >> 4)) \
     FIELD(OF_SOUND, 1, 0, 8, channels, ONE_OF(two_or_eight), (image[0x73] & 7) + 1) \
     FIELD(OF_SOUND, 2, 0, 8, coherent, BELOW(2), image[0x0A] >> 7) \

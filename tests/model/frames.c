@@ -20,6 +20,7 @@ static int one_of(int vic, const int *list, int n) {
 
 void model_avi(const struct fields *f, uint8_t *registers) {
     static const int narrow[] = { 1, 2, 17 }, itu601[] = { 1, 2, 3, 17, 18 };
+    static const int repeats[REPETITIONS] = { 0, 1, 3 };      /* document 02, request 06: PR counts them, and not the pixels */
     int y = f->encoding, a = 1;
     int c = f->encoding == 0 ? 0 : one_of(f->vic, itu601, 5) ? 1 : 2;
     int m = one_of(f->vic, narrow, 3) ? 1 : 2;
@@ -32,6 +33,7 @@ void model_avi(const struct fields *f, uint8_t *registers) {
     registers[4] = (uint8_t)(c * 64 + m * 16 + r);
     registers[5] = (uint8_t)(q * 4);
     registers[6] = (uint8_t)f->vic;
+    registers[7] = (uint8_t)repeats[f->repetition];
     checksum(0x82, registers, AVI_BYTES);
 }
 

@@ -37,7 +37,7 @@ int  model_has(const struct fields *f, enum part s);     /* is this section ther
 int  model_allows(const struct field *row, int value);
 void model_answer(struct fields *f, const uint8_t *image);  /* as decoding answers: a field that no register names is 0 */
 
-/* request.c: refusals 1 to 6, 0 for none; and the bytes of a request. The counts of the sections, each byte counted at the row of its lowest
+/* request.c: refusals 1 to 6 and 17, 0 for none; and the bytes of a request. The counts of the sections, each byte counted at the row of its lowest
  * bit, and with these counts the longest request. */
 #define MODEL_VIDEO(section, byte, low, ...) + (section == OF_VIDEO && low == 0)
 #define MODEL_SOUND(section, byte, low, ...) + (section == OF_SOUND && low == 0)
@@ -50,18 +50,22 @@ enum {
     LONGEST = PARTS + VIDEO_BYTES + SOUND_BYTES + MATRIX_BYTES
 };
 extern const int model_counts[PARTS];
-uint32_t model_read(const uint8_t *request, size_t length, struct fields *f);   /* also sets `f` where it answers 4, 5 or 6 */
+uint32_t model_read(const uint8_t *request, size_t length, struct fields *f);   /* also sets `f` where it answers 4, 5, 6 or 17 */
 size_t   model_bytes(const struct fields *f, uint8_t *request);
 int      model_coefficient(const uint8_t *two);     /* two's complement, high byte first */
 
 /* clock.c: the modes, N and CTS. `exists` is 0 where refusal 9 applies. */
 struct pair { int exists; uint32_t n, cts; };
-enum { VICS = 15, RATES = 7 };
+enum { VICS = 15, RATES = 7, DEPTHS = 3, REPETITIONS = 3 };
 extern const int model_vics[VICS];
-uint32_t    model_hertz(int vic);                   /* at family 0; 0 where the VIC is not listed */
+uint32_t    model_hertz(int vic);                   /* the pixel clock at family 0; 0 where the VIC is not listed */
 uint64_t    model_rate(int rate);                   /* in Hz, of the rates 0 to 6 */
 int         model_offers(int vic, int family);
 struct pair model_pair(const struct fields *f);
+/* The TMDS clock, top / bottom in Hz: the pixel clock times depth times repetition, of a mode that is offered; and refusal 17. */
+struct clock { uint64_t top, bottom; };
+struct clock model_clock(int vic, int family, int depth, int repetition);
+int          model_above_limit(struct clock c);
 
 /* frames.c: the registers of a packet, from its version to its last data byte. */
 enum { AVI_BYTES = 16, AUDIO_BYTES = 13, PACKET_BYTES = 32, COEFFICIENT_BYTES = 24, IMAGE_BYTES = 256, MARK_BYTES = 1 };
@@ -69,8 +73,9 @@ void model_avi(const struct fields *f, uint8_t *registers);
 void model_audio(const struct fields *f, uint8_t *registers);
 
 /* plan.c: the named bits that a request wants; the write list with nothing left out, and the short one, which is planned: without the
- * writes that the image does not need; its count, found without a list; the finished image; the code of each rate in 0x15[7:4]. */
-extern const uint8_t model_rate_codes[RATES];
+ * writes that the image does not need; its count, found without a list; the finished image; the code of each rate in 0x15[7:4], and of
+ * each depth in 0x4C[3:0]. */
+extern const uint8_t model_rate_codes[RATES], model_depth_codes[DEPTHS];
 struct list { uint32_t count; uint8_t pairs[256]; };
 int  model_written(int address);                    /* does the full list write this register? */
 int  model_stays(int address);                      /* the mute register, 0x4A and 0x1A, whose writes all stay */

@@ -2,6 +2,7 @@
 #include "model.h"
 
 const uint8_t model_rate_codes[RATES] = { 0x3, 0x0, 0x2, 0x8, 0xA, 0xC, 0xE };  /* 32 .. 192 kHz; 88.2 kHz is 1000 */
+const uint8_t model_depth_codes[DEPTHS] = { 0x0, 0x5, 0x6 };    /* "not indicated", 30 bits, 36 bits */
 
 /* "R is 8" and the like are frames.c's. Here: every named field, by document 01's sentence; what it gives no value for is at its
  * default. */
@@ -31,12 +32,13 @@ void model_wanted(const struct fields *f, struct pair p, uint8_t *wanted) {
     }
     wanted[0x18] |= (uint8_t)((f->matrix ? 0x80 : 0x00) | mode << 5);
 
-    wanted[0x3B] = 2 << 5;
+    wanted[0x3B] = (uint8_t)(2 << 5 | f->repetition << 3 | f->repetition << 1);     /* the clock's, and what the screen is told */
     wanted[0x3C] = (uint8_t)f->vic;
     wanted[0x40] = f->link ? 0x80 : 0x00;
     wanted[0x44] = (uint8_t)((f->link ? 0x10 : 0x00) | (f->link && f->sound ? 0x68 : 0x00));
     wanted[0x4A] = 0x80;
     wanted[0x4B] = 0x80;                                    /* open: clear 1, set 0 */
+    wanted[0x4C] = model_depth_codes[f->depth];
     model_avi(f, wanted + 0x52);
     model_audio(f, wanted + 0x70);
     wanted[0xAF] = f->link ? 0x02 : 0x00;

@@ -1,4 +1,4 @@
-/* The request: three sections, each after a one-byte count, and refusals 1 to 6. */
+/* The request: three sections, each after a one-byte count, and refusals 1 to 6 and 17. */
 #include "model.h"
 
 const int model_counts[PARTS] = { VIDEO_BYTES, SOUND_BYTES, MATRIX_BYTES };
@@ -42,6 +42,9 @@ uint32_t model_read(const uint8_t *request, size_t length, struct fields *f) {
     if (f->encoding != 0 && !f->matrix) return 6;
     if (f->link == 0 && (f->sound || f->encoding != 0)) return 6;
     if (f->encoding != 0 && f->range != 0) return 6;
+    if (f->depth != 0 && (f->encoding == 1 || f->link == 0)) return 6;
+
+    if (model_above_limit(model_clock(f->vic, f->family, f->depth, f->repetition))) return 17;      /* after 6, before 7 */
     return 0;
 }
 
