@@ -36,9 +36,18 @@ struct slices {
 struct slices slices_of(const struct chip *c);
 struct slices any_lengths(const struct chip *c);        /* with noise after each part, in lengths that are mostly right */
 void any_chip(struct chip *c);                          /* any holds, any mark */
+/* Each lends, calls both, and compares the answer and every lent byte. */
+void check_plan(const uint8_t *request, size_t rl, const uint8_t *image, size_t il, const uint8_t *writes, size_t wl);
+void check_ncts(const uint8_t *request, size_t rl);
+void check_decode(const uint8_t *image, size_t il, const uint8_t *buffer, size_t bl);
 void check_write(const struct slices *s, uint8_t address, uint8_t value);
 void check_vsync(const struct slices *s);
 void check_matrix(const struct slices *s, const uint8_t *matrix, size_t length);
+int left_in(uint8_t address, const uint8_t *image, const uint8_t *writes, struct station_count c);  /* the byte that a list leaves there */
+
+/* depth.c: sections. --------------------------------------------------------------------------------------------------------------- */
+
+void depths(void);
 
 /* turn.c: sections. ---------------------------------------------------------------------------------------------------------------- */
 

@@ -271,7 +271,7 @@ static void names(void) {
 #define VET(length) station_vet(STATE(STATION_PACKET, STATION_COEFFICIENTS), chip.mark, l.bytes, length).refusal
     tell(VET(STATION_LIST) == STATION_ACCEPTED, "a list of STATION_LIST bytes passes");
     tell(VET(STATION_LIST + 2) == STATION_LIST_LENGTH, "STATION_LIST is the longest list");
-    tell(strcmp(station_text(STATION_BAD_END), station_text(STATION_BAD_END + 1)) != 0, "station_text knows its last number");
+    tell(strcmp(station_text(STATION_CLOCK_ABOVE), station_text(STATION_CLOCK_ABOVE + 1)) != 0, "station_text knows its last number");
 }
 
 int facts(void) {

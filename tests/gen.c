@@ -47,12 +47,14 @@ static int permitted(const struct fields *f) {
     return model_read(bytes, model_bytes(f, bytes), &again) == 0;
 }
 
+/* Half of them without depth and repetition, so that 4:2:2 and DVI stay frequent. */
 void any_fields(struct fields *f) {
     do {
         *f = (struct fields){ .sound = any(3) != 0 };
         if (any(2)) any_matrix(f);
         for (const struct field *row = model_fields; row < model_fields + FIELDS; row++)
             if (model_has(f, row->section)) any_value(f, row);
+        if (any(2)) f->depth = f->repetition = 0;
     } while (!permitted(f));
 }
 
@@ -83,6 +85,7 @@ size_t any_request(uint8_t *bytes, size_t room) {
     }
     if (how <= 4) loose_fields(&f);
     else any_fields(&f);
+    if (how == 10) f.depth = (int)any(DEPTHS), f.repetition = 1 + (int)any(2);      /* often a clock above the limit */
     length = model_bytes(&f, bytes);
     if (how == 5) return any((uint32_t)length);         /* cut */
     if (how == 6) {                                     /* bytes after the last section, few or very many */
@@ -227,7 +230,7 @@ void near_image(uint8_t *image, const struct fields *f) {
 }
 
 /* A kind for each combination of values, or for so many of them by chance where there are more than so many. */
-enum { COMBINATIONS = 50000 };
+enum { COMBINATIONS = 70000 };
 static uint64_t combinations(void) {
     uint64_t all = 2 * 2;
     for (int i = 0; i < FIELDS; i++)

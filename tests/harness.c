@@ -68,7 +68,7 @@ static uint32_t counted(const uint8_t *request, size_t length, const uint8_t *im
     return model_short_count(wanted, image);
 }
 
-static void check_plan(const uint8_t *request, size_t rl, const uint8_t *image, size_t il, const uint8_t *writes, size_t wl) {
+void check_plan(const uint8_t *request, size_t rl, const uint8_t *image, size_t il, const uint8_t *writes, size_t wl) {
     run.now->cases++;
     memcpy(expected, writes, wl);
     struct station_count want = model_plan(request, rl, image, il, expected, wl);
@@ -81,7 +81,7 @@ static void check_plan(const uint8_t *request, size_t rl, const uint8_t *image, 
     else if (!holds(REQUEST, request) || !holds(IMAGE, image)) differs("an input was changed");
 }
 
-static void check_ncts(const uint8_t *request, size_t rl) {
+void check_ncts(const uint8_t *request, size_t rl) {
     run.now->cases++;
     struct station_pair want = model_ncts(request, rl), got = run.f->ncts(lend(REQUEST, request, rl, side()), rl);
     if (got.refusal != want.refusal || got.n != want.n || got.cts != want.cts)
@@ -89,7 +89,7 @@ static void check_ncts(const uint8_t *request, size_t rl) {
     else if (!holds(REQUEST, request)) differs("the input was changed");
 }
 
-static void check_decode(const uint8_t *image, size_t il, const uint8_t *buffer, size_t bl) {
+void check_decode(const uint8_t *image, size_t il, const uint8_t *buffer, size_t bl) {
     run.now->cases++;
     memcpy(expected, buffer, bl);
     struct station_count want = model_decode(image, il, expected, bl);
@@ -237,8 +237,7 @@ static void classes(void) {
     }
 }
 
-/* The byte that a list leaves in a register. */
-static int left_in(uint8_t address, const uint8_t *image, const uint8_t *writes, struct station_count c) {
+int left_in(uint8_t address, const uint8_t *image, const uint8_t *writes, struct station_count c) {
     int byte = image[address];
     for (uint32_t w = 0; w < c.count && w < 128; w++)
         if (writes[2 * w] == address) byte = writes[2 * w + 1];
@@ -710,6 +709,11 @@ static void marked_few(void) {
         { 0x3C, 0x10, 8, { 0x3C, 0x10 }, "the VIC" },
         { 0x3C, 0xC0, NO_MORE, { 0 }, "free bits beside the VIC" },
         { 0x03, 0x01, 8, { 0x03, 0x00 }, "N" },
+        { 0x3B, 0x18, 8, { 0x3B, 0xC0 }, "the clock of the repetition" },
+        { 0x3B, 0x06, 8, { 0x3B, 0xC0 }, "the repetition that the screen is told" },
+        { 0x4C, 0x05, 8, { 0x4C, 0x00 }, "the depth" },
+        { 0x4C, 0xF0, NO_MORE, { 0 }, "read-only bits beside the depth" },
+        { 0x4C, 0xA4, 8, { 0x4C, 0xA0 }, "the depth, and read-only bits beside it" },
         { 0xAF, 0x02, 8, { 0xAF, 0x06 }, "HDMI" },
         { 0xAF, 0x04, 8, { 0xAF, 0x06 }, "a mandated bit beside a named one" },
         { 0xAF, 0x90, NO_MORE, { 0 }, "copy protection" },
@@ -717,7 +721,7 @@ static void marked_few(void) {
         { 0xF9, 0x80, 1, { 0xF9, 0x00 }, "a register of Table 14 that is to be 0" },
         { 0x9A, 0x01, NO_MORE, { 0 }, "a free bit of Table 14" },
         { 0x99, 0xFF, NO_MORE, { 0 }, "a register that is fixed by the map and not in Table 14" },
-        { 0x4C, 0xFF, NO_MORE, { 0 }, "a register that is read-only" },
+        { 0x3D, 0xFF, NO_MORE, { 0 }, "a register that is read-only" },
         { 0x30, 0xFF, NO_MORE, { 0 }, "a register that is free" },
         { 0x18, 0x20, 2, { 0x18, 0x28 }, "the matrix mode" },
         { 0x18, 0x80, 2, { 0x18, 0x28 }, "the converter" },
@@ -733,6 +737,7 @@ static void marked_few(void) {
         { 0x4B, 0xC0, NO_MORE, { 0 }, "the mute" },
         { 0x52, 0xF8, NO_MORE, { 0 }, "free bits beside the AVI version" },
         { 0x54, 0x01, 5, { 0x54, 0x23 }, "the AVI checksum" },
+        { 0x59, 0x03, 5, { 0x59, 0x00 }, "PR" },
         { 0x61, 0x01, 5, { 0x61, 0x00 }, "the last AVI register" },
         { 0x62, 0xFF, NO_MORE, { 0 }, "a register after the AVI packet" },
         { 0x72, 0x10, 7, { 0x72, 0x70 }, "the audio checksum" },
@@ -748,6 +753,13 @@ static void marked_few(void) {
         if (cases[i].at != NO_MORE) put_in(&l, cases[i].at, cases[i].pair[0], cases[i].pair[1]);
         is_planned(&example, turned, &l, cases[i].what);
     }
+    /* On registers none of which is right, and no hold up: nothing is left out. */
+    run.now->cases++;
+    for (int a = 0; a < 256; a++) turned[a] = (uint8_t)~image[a];
+    turned[0x4A] = 0;
+    uint8_t bytes[LONGEST], writes[256];
+    uint32_t count = run.f->plan(bytes, model_bytes(&example, bytes), turned, 256, writes, 256).count;
+    if (count != 85) differs("%u writes where each is needed, and not 85", count);
 }
 
 /* "Always made right": on the library's machine its list leaves the registers, and what is in use, as the list with nothing left out does.
@@ -840,7 +852,13 @@ static void marked_lists(void) {
         { 15, 0, 4, { 0x4B, 0xC0, 0x4B, 0x80 }, "set and clear both 1" },
         { 16, 0, 4, { 0x4B, 0x40, 0x3C, 0x10 }, "muted to the end" },
         { 15, 0, 4, { 0x3C, 0x10, 0x4B, 0x40 }, "muted too late, and a bad end" },
-        { 15, 1, 6, { 0x4B, 0x40, 0x4C, 0x00, 0x4B, 0x80 }, "a register that is read-only" },
+        { 15, 1, 6, { 0x4B, 0x40, 0x3D, 0x00, 0x4B, 0x80 }, "a register that is read-only" },
+        { 0, 0, 6, { 0x4B, 0x40, 0x4C, 0x00, 0x4B, 0x80 }, "the depth as it stands" },
+        { 0, 0, 6, { 0x4B, 0x40, 0x4C, 0xF0, 0x4B, 0x80 }, "its read-only bits, which are not looked at" },
+        { 0, 0, 8, { 0x4B, 0x40, 0x4C, 0x05, 0x4C, 0x00, 0x4B, 0x80 }, "a depth that is put right: no group has it" },
+        { 16, 0, 6, { 0x4B, 0x40, 0x4C, 0x05, 0x4B, 0x80 }, "30 bits with the CTS of 24" },
+        { 16, 0, 6, { 0x4B, 0x40, 0x4C, 0x04, 0x4B, 0x80 }, "24 bits by the code that no request has" },
+        { 16, 0, 6, { 0x4B, 0x40, 0x3B, 0xCA, 0x4B, 0x80 }, "a repetition that PR does not say" },
         { 15, 1, 6, { 0x4B, 0x40, 0x62, 0x00, 0x4B, 0x80 }, "a register after the AVI packet" },
         { 15, 1, 6, { 0x4B, 0x40, 0x7D, 0x00, 0x4B, 0x80 }, "a register after the audio packet" },
         { 15, 1, 6, { 0x4B, 0x40, 0x99, 0x02, 0x4B, 0x80 }, "a register that is fixed by the map and not in Table 14" },
@@ -1133,6 +1151,7 @@ static const struct { const char *name; void (*run)(void); } sections[SECTIONS] 
     { "decoding", decode },
     { "every bit of finished images", flips },
     { "range and Q", ranges },
+    { "depth and repetition", depths },
     { "the model's search", search },
     { "machine writes", writes },
     { "Vsync and the mark", turns },

@@ -14,8 +14,8 @@ static uint32_t passed, failed;
 static void expect(int good, const struct fields *f, const char *what) {
     if (good) passed++;
     else if (failed++ < 10)
-        printf("  VIC %d, encoding %d, link %d, range %d, sound %d, channels %d: %s\n", f->vic, f->encoding, f->link, f->range, f->sound,
-               f->channels, what);
+        printf("  VIC %d, encoding %d, link %d, range %d, repetition %d, sound %d, channels %d: %s\n", f->vic, f->encoding, f->link,
+               f->range, f->repetition, f->sound, f->channels, what);
 }
 
 /* One of a short list of VICs, which ends with 0. */
@@ -27,6 +27,7 @@ static int among(int vic, const int *list) {
 static int avi_as_asked(const struct hdmi_avi_infoframe *a, const struct fields *f) {
     static const int narrow[] = { 1, 2, 17, 0 }, itu601[] = { 1, 2, 3, 17, 18, 0 };
     static const enum hdmi_colorspace spaces[] = { HDMI_COLORSPACE_RGB, HDMI_COLORSPACE_YUV422, HDMI_COLORSPACE_YUV444 };
+    static const int repeats[] = { 0, 1, 3 };
     static const enum hdmi_quantization_range ranges[] = { HDMI_QUANTIZATION_RANGE_LIMITED, HDMI_QUANTIZATION_RANGE_FULL };
     enum hdmi_colorimetry c = among(f->vic, itu601) ? HDMI_COLORIMETRY_ITU_601 : HDMI_COLORIMETRY_ITU_709;
     return a->type == HDMI_INFOFRAME_TYPE_AVI && a->version == 2 && a->length == HDMI_AVI_INFOFRAME_SIZE &&
@@ -36,8 +37,8 @@ static int avi_as_asked(const struct hdmi_avi_infoframe *a, const struct fields 
            a->active_aspect == HDMI_ACTIVE_ASPECT_PICTURE && !a->itc && a->extended_colorimetry == 0 &&
            a->quantization_range == (f->encoding ? HDMI_QUANTIZATION_RANGE_DEFAULT : ranges[f->range]) &&
            a->nups == HDMI_NUPS_UNKNOWN && a->video_code == f->vic &&
-           a->ycc_quantization_range == 0 && a->content_type == 0 && a->pixel_repeat == 0 && !a->top_bar && !a->bottom_bar &&
-           !a->left_bar && !a->right_bar;
+           a->ycc_quantization_range == 0 && a->content_type == 0 && a->pixel_repeat == repeats[f->repetition] && !a->top_bar &&
+           !a->bottom_bar && !a->left_bar && !a->right_bar;
 }
 
 /* That reader leaves the channel count as it is coded, one less than the channels. */

@@ -38,7 +38,7 @@ DECODE(by_shorter_list) {
     if (answered(bytes, length, zeros, 256, 256).refusal) return RIGHT;
     full_list_of(bytes, length, zeros, &full);
     for (const uint8_t *pair = full.pairs; pair < full.pairs + 2 * full.count; pair += 2)
-        if (pair[1] == 0 && !model_stays(pair[0])) other[pair[0]] &= model_classes[pair[0]].free;
+        if (pair[1] == 0 && !model_stays(pair[0])) other[pair[0]] &= model_classes[pair[0]].free | model_classes[pair[0]].read_only;
     return model_decode(other, 256, r, rl);
 }
 PUT(decode, by_shorter_list)
@@ -51,7 +51,7 @@ PUT(decode, free_bits_count)
 
 DECODE(read_only_counts) {
     struct station_count c = { 11, 0 };
-    return il == 256 && rl >= LONGEST && (i[0x4C] & 1) ? c : RIGHT;
+    return il == 256 && rl >= LONGEST && (i[0x4C] & 0x10) ? c : RIGHT;
 }
 PUT(decode, read_only_counts)
 

@@ -21,7 +21,7 @@
     FAULT(start_decoded, "the start decoded instead of the end") \
     FAULT(empty_passes, "the empty list passes always") \
     FAULT(empty_refused, "the empty list never passes") \
-    FAULT(read_only_register, "a register that is read-only let through (0x4C)") \
+    FAULT(read_only_register, "a register that is read-only let through (0x3D)") \
     FAULT(free_register, "a register that is free let through (0x30)") \
     FAULT(fixed_register, "a register fixed by the map let through (0x99)") \
     FAULT(avi_to_its_end, "the AVI packet taken to run to 0x6F") \
@@ -95,7 +95,7 @@ static int touches_ours(enum fault fault, uint8_t a) {
     static const uint8_t table_14[] = { 0x98, 0x9A, 0x9C, 0x9D, 0xA2, 0xA3, 0xE0, 0xF9 };
     if (fault == table_14_refused_fault && memchr(table_14, a, sizeof table_14)) return 0;
     if (fault == reserved_refused_fault && a >= 0x78 && a <= 0x7C) return 0;
-    if (fault == read_only_register_fault && a == 0x4C) return 1;
+    if (fault == read_only_register_fault && a == 0x3D) return 1;
     if (fault == free_register_fault && a == 0x30) return 1;
     if (fault == fixed_register_fault && a == 0x99) return 1;
     if (fault == avi_to_its_end_fault && a >= 0x62 && a <= 0x6F) return 1;
