@@ -6,11 +6,12 @@
 
 /* The places of the video section's fields in a request, behind its count, and that of the next count. The bytes of each section and of
  * the longest request, with its three counts; the VICs have six bits. */
-enum { VIC = 1, FAMILY, ENCODING, LINK, RANGE, NEXT };
-enum { VIDEO = NEXT - 1, SOUND = 3, MATRIX = STATION_MATRIX, LONGEST = 3 + VIDEO + SOUND + MATRIX, VICS = 64, RATES = 7 };
+enum { VIC = 1, FAMILY, ENCODING, LINK, RANGE, DEPTH, NEXT };
+enum { VIDEO = NEXT - 1, SOUND = 3, MATRIX = STATION_MATRIX, LONGEST = 3 + VIDEO + SOUND + MATRIX, VICS = 64, RATES = 7, DEPTHS = 3 };
 
-/* For each VIC: the row of `pairs` at family 0 and 1 (0 where it is not offered), 4:3, ITU-R 601, the clock at family 0 in Hz. */
-static const struct { uint8_t row[2], narrow, itu601; uint32_t hertz; } modes[VICS] = {
+/* For each VIC: its pixel clock, a row of `rows`, at family 0 and 1 (0 where it is not offered), 4:3, ITU-R 601, the clock at family 0 in
+ * Hz. */
+static const struct { uint8_t clock[2], narrow, itu601; uint32_t hertz; } modes[VICS] = {
     [1] = { { 1, 2 }, 1, 1, 25200000 },   [2] = { { 3, 4 }, 1, 1, 27027000 },   [3] = { { 3, 4 }, 0, 1, 27027000 },
     [4] = { { 5, 6 }, 0, 0, 74250000 },   [5] = { { 5, 6 }, 0, 0, 74250000 },   [16] = { { 7, 8 }, 0, 0, 148500000 },
     [17] = { { 4, 0 }, 1, 1, 27000000 },  [18] = { { 4, 0 }, 0, 1, 27000000 },  [19] = { { 5, 0 }, 0, 0, 74250000 },
@@ -18,8 +19,18 @@ static const struct { uint8_t row[2], narrow, itu601; uint32_t hertz; } modes[VI
     [34] = { { 5, 6 }, 0, 0, 74250000 },  [60] = { { 9, 10 }, 0, 0, 59400000 }, [62] = { { 5, 6 }, 0, 0, 74250000 },
 };
 
-/* N and CTS for coherent audio, by clock and rate; row 0 is for audio that is not coherent. N 0: no exact pair. */
-static const struct { uint32_t n, cts; } pairs[11][RATES] = {
+/* The row of `pairs` for the TMDS clock, by pixel clock, depth and repetition; 0 above 225 MHz, in both families alike. */
+static const uint8_t rows[][DEPTHS][3] = {
+    { { 0 } },
+    { { 1, 29, 45 }, { 11, 35, 49 }, { 19, 39, 53 } }, { { 2, 30, 46 }, { 12, 36, 50 }, { 20, 40, 54 } },
+    { { 3, 31, 47 }, { 13, 37, 51 }, { 21, 41, 55 } }, { { 4, 32, 48 }, { 14, 38, 52 }, { 22, 42, 56 } },
+    { { 5, 7, 0 }, { 15, 17, 0 }, { 23, 25, 0 } }, { { 6, 8, 0 }, { 16, 18, 0 }, { 24, 26, 0 } },
+    { { 7, 0, 0 }, { 17, 0, 0 }, { 25, 0, 0 } }, { { 8, 0, 0 }, { 18, 0, 0 }, { 26, 0, 0 } },
+    { { 9, 33, 0 }, { 5, 7, 0 }, { 27, 43, 0 } }, { { 10, 34, 0 }, { 6, 8, 0 }, { 28, 44, 0 } },
+};
+
+/* N and CTS for coherent audio, by TMDS clock and rate; row 0 is for audio that is not coherent. N 0: no exact pair. */
+static const struct { uint32_t n, cts; } pairs[][RATES] = {
     { { 4096, 0 }, { 6272, 0 }, { 6144, 0 }, { 12544, 0 }, { 12288, 0 }, { 25088, 0 }, { 24576, 0 } },
     { { 4096, 25200 }, { 6272, 28000 }, { 6144, 25200 }, { 12544, 28000 }, { 12288, 25200 }, { 25088, 28000 }, { 24576, 25200 } },
     { { 4576, 28125 }, { 7007, 31250 }, { 6864, 28125 }, { 14014, 31250 }, { 13728, 28125 }, { 28028, 31250 }, { 27456, 28125 } },
@@ -31,6 +42,52 @@ static const struct { uint32_t n, cts; } pairs[11][RATES] = {
     { { 11648, 421875 }, { 8918, 234375 }, { 5824, 140625 }, { 17836, 234375 }, { 11648, 140625 }, { 35672, 234375 }, { 23296, 140625 } },
     { { 4096, 59400 }, { 5488, 57750 }, { 6144, 59400 }, { 10976, 57750 }, { 12288, 59400 }, { 21952, 57750 }, { 24576, 59400 } },
     { { 5824, 84375 }, { 4459, 46875 }, { 5824, 56250 }, { 8918, 46875 }, { 11648, 56250 }, { 17836, 46875 }, { 23296, 56250 } },
+    { { 4096, 31500 }, { 5600, 31250 }, { 6144, 31500 }, { 11200, 31250 }, { 12288, 31500 }, { 22400, 31250 }, { 24576, 31500 } },
+    { { 0, 0 }, { 14014, 78125 }, { 9152, 46875 }, { 28028, 78125 }, { 18304, 46875 }, { 56056, 78125 }, { 36608, 46875 } },
+    { { 0, 0 }, { 5376, 32175 }, { 8192, 45045 }, { 10752, 32175 }, { 16384, 45045 }, { 21504, 32175 }, { 32768, 45045 } },
+    { { 4096, 33750 }, { 6272, 37500 }, { 6144, 33750 }, { 12544, 37500 }, { 12288, 33750 }, { 25088, 37500 }, { 24576, 33750 } },
+    { { 8192, 185625 }, { 6272, 103125 }, { 4096, 61875 }, { 12544, 103125 }, { 8192, 61875 }, { 25088, 103125 }, { 16384, 61875 } },
+    { { 0, 0 }, { 0, 0 }, { 0, 0 }, { 0, 0 }, { 0, 0 }, { 0, 0 }, { 0, 0 } },
+    { { 4096, 185625 }, { 6272, 206250 }, { 6144, 185625 }, { 12544, 206250 }, { 12288, 185625 }, { 25088, 206250 }, { 24576, 185625 } },
+    { { 0, 0 }, { 0, 0 }, { 0, 0 }, { 0, 0 }, { 0, 0 }, { 0, 0 }, { 0, 0 } },
+    { { 4096, 37800 }, { 5656, 37875 }, { 6144, 37800 }, { 11312, 37875 }, { 12288, 37800 }, { 22624, 37875 }, { 24576, 37800 } },
+    { { 9152, 84375 }, { 7007, 46875 }, { 4576, 28125 }, { 14014, 46875 }, { 9152, 28125 }, { 28028, 46875 }, { 18304, 28125 } },
+    { { 8192, 81081 }, { 5376, 38610 }, { 4096, 27027 }, { 10752, 38610 }, { 8192, 27027 }, { 21504, 38610 }, { 16384, 27027 } },
+    { { 4096, 40500 }, { 5488, 39375 }, { 6144, 40500 }, { 10976, 39375 }, { 12288, 40500 }, { 21952, 39375 }, { 24576, 40500 } },
+    { { 4096, 111375 }, { 6272, 123750 }, { 6144, 111375 }, { 12544, 123750 }, { 12288, 111375 }, { 25088, 123750 }, { 24576, 111375 } },
+    { { 0, 0 }, { 0, 0 }, { 0, 0 }, { 0, 0 }, { 0, 0 }, { 0, 0 }, { 0, 0 } },
+    { { 4096, 222750 }, { 6272, 247500 }, { 6144, 222750 }, { 12544, 247500 }, { 12288, 222750 }, { 25088, 247500 }, { 24576, 222750 } },
+    { { 0, 0 }, { 17836, 703125 }, { 11648, 421875 }, { 35672, 703125 }, { 23296, 421875 }, { 71344, 703125 }, { 46592, 421875 } },
+    { { 4096, 89100 }, { 5488, 86625 }, { 6144, 89100 }, { 10976, 86625 }, { 12288, 89100 }, { 21952, 86625 }, { 24576, 89100 } },
+    { { 11648, 253125 }, { 8918, 140625 }, { 5824, 84375 }, { 17836, 140625 }, { 11648, 84375 }, { 35672, 140625 }, { 23296, 84375 } },
+    { { 4096, 50400 }, { 5642, 50375 }, { 6144, 50400 }, { 11284, 50375 }, { 12288, 50400 }, { 22568, 50375 }, { 24576, 50400 } },
+    { { 4576, 56250 }, { 7007, 62500 }, { 5720, 46875 }, { 14014, 62500 }, { 11440, 46875 }, { 21021, 46875 }, { 22880, 46875 } },
+    { { 4096, 54054 }, { 6272, 60060 }, { 6144, 54054 }, { 12544, 60060 }, { 12288, 54054 }, { 25088, 60060 }, { 24576, 54054 } },
+    { { 4096, 54000 }, { 6272, 60000 }, { 6144, 54000 }, { 12544, 60000 }, { 12288, 54000 }, { 25088, 60000 }, { 24576, 54000 } },
+    { { 4096, 118800 }, { 5684, 119625 }, { 6144, 118800 }, { 11368, 119625 }, { 12288, 118800 }, { 22736, 119625 }, { 24576, 118800 } },
+    { { 2912, 84375 }, { 4459, 93750 }, { 5824, 112500 }, { 13377, 140625 }, { 11648, 112500 }, { 26754, 140625 }, { 23296, 112500 } },
+    { { 4096, 63000 }, { 5656, 63125 }, { 6144, 63000 }, { 11312, 63125 }, { 12288, 63000 }, { 22624, 63125 }, { 24576, 63000 } },
+    { { 9152, 140625 }, { 7007, 78125 }, { 4576, 46875 }, { 14014, 78125 }, { 9152, 46875 }, { 28028, 78125 }, { 18304, 46875 } },
+    { { 8192, 135135 }, { 5376, 64350 }, { 4096, 45045 }, { 10752, 64350 }, { 8192, 45045 }, { 21504, 64350 }, { 16384, 45045 } },
+    { { 4096, 67500 }, { 5488, 65625 }, { 6144, 67500 }, { 10976, 65625 }, { 12288, 67500 }, { 21952, 65625 }, { 24576, 67500 } },
+    { { 4096, 75600 }, { 5656, 75750 }, { 6144, 75600 }, { 11312, 75750 }, { 12288, 75600 }, { 22624, 75750 }, { 24576, 75600 } },
+    { { 4576, 84375 }, { 7007, 93750 }, { 6864, 84375 }, { 14014, 93750 }, { 13728, 84375 }, { 28028, 93750 }, { 27456, 84375 } },
+    { { 4096, 81081 }, { 5824, 83655 }, { 6144, 81081 }, { 11648, 83655 }, { 12288, 81081 }, { 23296, 83655 }, { 24576, 81081 } },
+    { { 4096, 81000 }, { 5488, 78750 }, { 6144, 81000 }, { 10976, 78750 }, { 12288, 81000 }, { 21952, 78750 }, { 24576, 81000 } },
+    { { 4096, 178200 }, { 5488, 173250 }, { 6144, 178200 }, { 10976, 173250 }, { 12288, 178200 }, { 21952, 173250 }, { 24576, 178200 } },
+    { { 5824, 253125 }, { 4459, 140625 }, { 5824, 168750 }, { 8918, 140625 }, { 11648, 168750 }, { 17836, 140625 }, { 23296, 168750 } },
+    { { 4096, 100800 }, { 5642, 100750 }, { 6144, 100800 }, { 11284, 100750 }, { 12288, 100800 }, { 22568, 100750 }, { 24576, 100800 } },
+    { { 4576, 112500 }, { 7007, 125000 }, { 6292, 103125 }, { 14014, 125000 }, { 12584, 103125 }, { 21021, 93750 }, { 25168, 103125 } },
+    { { 4096, 108108 }, { 5600, 107250 }, { 6144, 108108 }, { 11200, 107250 }, { 12288, 108108 }, { 22400, 107250 }, { 24576, 108108 } },
+    { { 4096, 108000 }, { 5684, 108750 }, { 6144, 108000 }, { 11368, 108750 }, { 12288, 108000 }, { 22736, 108750 }, { 24576, 108000 } },
+    { { 4096, 126000 }, { 5656, 126250 }, { 6144, 126000 }, { 11312, 126250 }, { 12288, 126000 }, { 22624, 126250 }, { 24576, 126000 } },
+    { { 4576, 140625 }, { 7007, 156250 }, { 6864, 140625 }, { 14014, 156250 }, { 13728, 140625 }, { 28028, 156250 }, { 27456, 140625 } },
+    { { 4096, 135135 }, { 5824, 139425 }, { 6144, 135135 }, { 11648, 139425 }, { 12288, 135135 }, { 23296, 139425 }, { 24576, 135135 } },
+    { { 4096, 135000 }, { 5488, 131250 }, { 6144, 135000 }, { 10976, 131250 }, { 12288, 135000 }, { 21952, 131250 }, { 24576, 135000 } },
+    { { 4096, 151200 }, { 5642, 151125 }, { 6144, 151200 }, { 11284, 151125 }, { 12288, 151200 }, { 22568, 151125 }, { 24576, 151200 } },
+    { { 4576, 168750 }, { 7007, 187500 }, { 5720, 140625 }, { 14014, 187500 }, { 11440, 140625 }, { 21021, 140625 }, { 22880, 140625 } },
+    { { 4096, 162162 }, { 5600, 160875 }, { 6144, 162162 }, { 11200, 160875 }, { 12288, 162162 }, { 22400, 160875 }, { 24576, 162162 } },
+    { { 4096, 162000 }, { 5684, 163125 }, { 6144, 162000 }, { 11368, 163125 }, { 12288, 162000 }, { 22736, 163125 }, { 24576, 162000 } },
 };
 
 /* By the rule: the recommended pair of Tables 80 to 82 for this clock, top / bottom, where it is exact; else the exact pair whose N is
@@ -45,6 +102,10 @@ static const struct { uint64_t top, bottom; struct { uint32_t n, cts; } pairs[RA
       { { 4096, 27000 }, { 6272, 30000 }, { 6144, 27000 }, { 12544, 30000 }, { 12288, 27000 }, { 25088, 30000 }, { 24576, 27000 } } },
     { 27027000, 1,
       { { 4096, 27027 }, { 6272, 30030 }, { 6144, 27027 }, { 12544, 30030 }, { 12288, 27027 }, { 25088, 30030 }, { 24576, 27027 } } },
+    { 54000000, 1,
+      { { 4096, 54000 }, { 6272, 60000 }, { 6144, 54000 }, { 12544, 60000 }, { 12288, 54000 }, { 25088, 60000 }, { 24576, 54000 } } },
+    { 54054000, 1,
+      { { 4096, 54054 }, { 6272, 60060 }, { 6144, 54054 }, { 12544, 60060 }, { 12288, 54054 }, { 25088, 60060 }, { 24576, 54054 } } },
     { 74250000000, 1001,
       { { 11648, 210937 }, { 17836, 234375 }, { 11648, 140625 }, { 35672, 234375 }, { 23296, 140625 }, { 71344, 234375 },
         { 46592, 140625 } } },
@@ -59,12 +120,13 @@ static const struct { uint64_t top, bottom; struct { uint32_t n, cts; } pairs[RA
 };
 
 static const uint8_t rate_codes[RATES] = { 0x30, 0x00, 0x20, 0x80, 0xA0, 0xC0, 0xE0 };
+static const uint8_t depth_codes[DEPTHS] = { 0, 5, 6 }, repeats[] = { 0, 1, 3 };
 
 /* The registers that a list writes: those of Table 14; those of no group; and all, from which decoding tells whether a request stands. */
 #define FOUR_FROM(a) a, a + 1, a + 2, a + 3
 #define EIGHT_FROM(a) FOUR_FROM(a), FOUR_FROM(a + 4)
 #define TABLE_14 0x98, 0x9A, 0x9C, 0x9D, 0xA2, 0xA3, 0xE0, 0xF9
-#define OTHERS 0x01, 0x02, 0x03, 0x07, 0x08, 0x09, 0x0A, 0x0C, 0x15, 0x16, 0x3B, 0x3C, 0x40, 0x44, 0xAF
+#define OTHERS 0x01, 0x02, 0x03, 0x07, 0x08, 0x09, 0x0A, 0x0C, 0x15, 0x16, 0x3B, 0x3C, 0x40, 0x44, 0x4C, 0xAF
 static const uint8_t table_14[] = { TABLE_14 }, others[] = { OTHERS };
 static const uint8_t all[] = {
     TABLE_14, EIGHT_FROM(0x18), EIGHT_FROM(0x20), EIGHT_FROM(0x28), 0x4A, EIGHT_FROM(0x52), EIGHT_FROM(0x5A), EIGHT_FROM(0x70),
@@ -75,8 +137,8 @@ static const uint8_t all[] = {
 static const uint8_t kept[256] = {
     [0x01] = 0xF0, [0x07] = 0xF0, [0x0A] = 0x03, [0x0C] = 0xC0, [0x16] = 0x3F, [0x1A] = 0xC0, [0x1C] = 0xE0, [0x1E] = 0xE0, [0x20] = 0xE0,
     [0x22] = 0xE0, [0x24] = 0xE0, [0x26] = 0xE0, [0x28] = 0xE0, [0x2A] = 0xE0, [0x2C] = 0xE0, [0x2E] = 0xE0, [0x3C] = 0xC0, [0x40] = 0x7F,
-    [0x44] = 0x01, [0x4A] = 0x1F, [0x4B] = 0x3F, [0x52] = 0xF8, [0x53] = 0xE0, [0x70] = 0xF8, [0x71] = 0xE0, [0x9A] = 0x01, [0x9D] = 0x0C,
-    [0xAF] = 0x90,
+    [0x44] = 0x01, [0x4A] = 0x1F, [0x4B] = 0x3F, [0x4C] = 0xF0, [0x52] = 0xF8, [0x53] = 0xE0, [0x70] = 0xF8, [0x71] = 0xE0, [0x9A] = 0x01,
+    [0x9D] = 0x0C, [0xAF] = 0x90,
 };
 
 /* The finished bytes that no request changes. */
@@ -85,7 +147,10 @@ static const uint8_t always[256] = {
     [0x9A] = 0xE0, [0x9C] = 0x30, [0x9D] = 0x61, [0xA2] = 0xA4, [0xA3] = 0xA4, [0xE0] = 0xD0, [0xAF] = 0x04,
 };
 
-struct asked { uint8_t vic, family, encoding, link, range; const uint8_t *sound, *matrix; };
+/* `row` is that of `pairs`. */
+struct asked { uint8_t vic, family, encoding, link, range, depth, repetition, row; const uint8_t *sound, *matrix; };
+
+static inline uint8_t row_of(const struct asked *q) { return rows[modes[q->vic].clock[q->family]][q->depth][q->repetition]; }
 
 static uint32_t read(const uint8_t *r, size_t length, struct asked *q) {
     size_t at = NEXT;
@@ -108,8 +173,9 @@ static uint32_t read(const uint8_t *r, size_t length, struct asked *q) {
     at++;
     if (length != at) return 3;
     q->vic = r[VIC], q->family = r[FAMILY], q->encoding = r[ENCODING], q->link = r[LINK], q->range = r[RANGE];
-    if (q->vic >= VICS || q->family > 1 || !modes[q->vic].row[q->family]) return 4;
-    if (q->encoding > 2 || q->link > 1 || q->range > 1) return 5;
+    q->depth = r[DEPTH] & 15, q->repetition = r[DEPTH] >> 4;
+    if (q->vic >= VICS || q->family > 1 || !modes[q->vic].clock[q->family]) return 4;
+    if (q->encoding > 2 || q->link > 1 || q->range > 1 || q->depth > 2 || q->repetition > 2) return 5;
     if (q->sound && (q->sound[0] > 6 || (q->sound[1] != 2 && q->sound[1] != 8) || q->sound[2] > 1)) return 5;
     if (q->matrix) {
         if (q->matrix[0] > 2) return 5;
@@ -117,14 +183,16 @@ static uint32_t read(const uint8_t *r, size_t length, struct asked *q) {
             if (q->matrix[k] > 0x0F && q->matrix[k] < 0xF0) return 5;
     }
     if ((q->encoding && (!q->matrix || q->range)) || (!q->link && (q->sound || q->encoding))) return 6;
-    return 0;
+    if (q->depth && (q->encoding == 1 || !q->link)) return 6;
+    q->row = row_of(q);
+    return q->row ? 0 : 17;
 }
 
 /* N and CTS of a request with sound; 0 where no exact pair exists. */
 typedef int find_pair(const struct asked *q, uint32_t *n, uint32_t *cts);
 
 static int looked_up(const struct asked *q, uint32_t *n, uint32_t *cts) {
-    unsigned row = q->sound[2] ? modes[q->vic].row[q->family] : 0;
+    unsigned row = q->sound[2] ? q->row : 0;
     *n = pairs[row][q->sound[0]].n;
     *cts = pairs[row][q->sound[0]].cts;
     return *n != 0;
@@ -140,12 +208,14 @@ static uint64_t divisor(uint64_t a, uint64_t b) {
 
 /* The clock is top / bottom, and N and CTS are exact where 128 fs CTS bottom = top N. */
 static int by_rule(const struct asked *q, uint32_t *n, uint32_t *cts) {
+    static const uint8_t depth_top[DEPTHS] = { 1, 5, 3 }, depth_bottom[DEPTHS] = { 1, 4, 2 };
     unsigned rate = q->sound[0];
     if (!q->sound[2]) {
         *n = pairs[0][rate].n, *cts = 0;
         return 1;
     }
-    uint64_t top = q->family ? 1000ull * modes[q->vic].hertz : modes[q->vic].hertz, bottom = q->family ? 1001 : 1, fs = by_128[rate];
+    uint64_t top = (q->family ? 1000ull : 1) * modes[q->vic].hertz * depth_top[q->depth] << q->repetition, fs = by_128[rate];
+    uint64_t bottom = (q->family ? 1001u : 1u) * depth_bottom[q->depth];
     for (size_t i = 0; i < sizeof recommended / sizeof recommended[0]; i++) {
         if (recommended[i].top * bottom != top * recommended[i].bottom) continue;
         *n = recommended[i].pairs[rate].n, *cts = recommended[i].pairs[rate].cts;
@@ -184,13 +254,16 @@ static inline int want(const struct asked *q, find_pair *find, uint8_t *b) {
         for (int a = 0x18; a < 0x30; a += 2) b[a] &= 0x1F;
         b[0x18] |= (uint8_t)(0x80 | q->matrix[0] << 5);
     } else b[0x18] = 0x28, b[0x22] = 0x08, b[0x2C] = 0x08;
+    b[0x3B] |= (uint8_t)(q->repetition << 3 | q->repetition << 1);
     b[0x3C] = q->vic;
+    b[0x4C] = depth_codes[q->depth];
     if (q->link) b[0x40] = 0x80, b[0x44] = q->sound ? 0x78 : 0x10, b[0xAF] |= 0x02;
     b[0x55] = (uint8_t)(q->encoding << 5 | 0x10);
     b[0x56] = (uint8_t)((q->encoding ? modes[q->vic].itu601 ? 0x40 : 0x80 : 0) | (modes[q->vic].narrow ? 0x18 : 0x28));
     b[0x57] = q->encoding ? 0x00 : q->range ? 0x08 : 0x04;
     b[0x58] = q->vic;
-    sum = 0x82 + 0x02 + 0x0D + b[0x55] + b[0x56] + b[0x57] + b[0x58];
+    b[0x59] = repeats[q->repetition];
+    sum = 0x82 + 0x02 + 0x0D + b[0x55] + b[0x56] + b[0x57] + b[0x58] + b[0x59];
     b[0x54] = (uint8_t)-sum;
     sum = 0x84 + 0x01 + 0x0A + b[0x73] + b[0x76];
     b[0x72] = (uint8_t)-sum;
@@ -260,6 +333,7 @@ static inline int stands(const struct asked *q, const uint8_t *image, find_pair 
 static inline struct station_count decode(const uint8_t *image, size_t image_length, uint8_t *request, size_t request_length,
                                           find_pair *find) {
     static const uint8_t rates[16] = { 1, 9, 2, 0, 9, 9, 9, 9, 3, 9, 4, 9, 5, 9, 6, 9 };
+    static const uint8_t depths[16] = { 0, 9, 9, 9, 9, 1, 2, 9, 9, 9, 9, 9, 9, 9, 9, 9 };
     uint8_t r[LONGEST] = { VIDEO };
     size_t at = NEXT;
     struct asked q;
@@ -269,6 +343,7 @@ static inline struct station_count decode(const uint8_t *image, size_t image_len
     r[ENCODING] = image[0x55] >> 5 & 3;
     r[LINK] = image[0xAF] >> 1 & 1;
     r[RANGE] = image[0x57] >> 3 & 1;
+    r[DEPTH] = (uint8_t)(depths[image[0x4C] & 15] | (image[0x3B] >> 3 & 3) << 4);
     if (image[0x44] & 0x20) {
         r[at++] = SOUND;
         r[at++] = rates[image[0x15] >> 4];
@@ -286,13 +361,14 @@ static inline struct station_count decode(const uint8_t *image, size_t image_len
     if (read(r, at, &q)) return (struct station_count){ 11, 0 };
     if (!stands(&q, image, find)) {
         q.family = 1;
-        if (!q.sound || !q.sound[2] || !modes[q.vic].row[1] || !stands(&q, image, find)) return (struct station_count){ 11, 0 };
+        q.row = row_of(&q);
+        if (!q.sound || !q.sound[2] || !modes[q.vic].clock[1] || !stands(&q, image, find)) return (struct station_count){ 11, 0 };
     }
     memcpy(request, r, at);
     return (struct station_count){ 0, (uint32_t)at };
 }
 
-/* A vendor's list: the registers that it may write, their mandated and free bits. */
+/* A vendor's list: the registers that it may write, their mandated and free bits. Read-only ones, of 0x4C, are not looked at. */
 #define MANDATED(a, mask, value, free) [a] = { 1, mask, value, free }
 #define FIXED(a, value) MANDATED(a, 0xFF, value, 0)
 #define NAMED(a, free) MANDATED(a, 0, 0, free)
@@ -304,7 +380,7 @@ static const struct { uint8_t ours, mandated, value, free; } rules[256] = {
     EIGHT(0x15), MANDATED(0x16, 0x40, 0, 0x3F), EIGHT(0x18), EIGHT(0x19), NAMED(0x1A, 0xC0), EIGHT(0x1B),
     TWO_COEFFICIENTS(0x1C), TWO_COEFFICIENTS(0x20), TWO_COEFFICIENTS(0x24), TWO_COEFFICIENTS(0x28), TWO_COEFFICIENTS(0x2C),
     MANDATED(0x3B, 0x81, 0x80, 0), NAMED(0x3C, 0xC0), NAMED(0x40, 0x7F), MANDATED(0x44, 0x86, 0, 0x01),
-    NAMED(0x4A, 0x1F), NAMED(0x4B, 0x3F),
+    NAMED(0x4A, 0x1F), NAMED(0x4B, 0x3F), EIGHT(0x4C),
     NAMED(0x52, 0xF8), NAMED(0x53, 0xE0), EIGHT(0x54), EIGHT(0x55), FOUR(0x56), FOUR(0x5A), FOUR(0x5E),
     NAMED(0x70, 0xF8), NAMED(0x71, 0xE0), EIGHT(0x72), EIGHT(0x73), FOUR(0x74),
     FIXED(0x78, 0), FIXED(0x79, 0), FIXED(0x7A, 0), FIXED(0x7B, 0), FIXED(0x7C, 0),
@@ -315,8 +391,8 @@ static const struct { uint8_t ours, mandated, value, free; } rules[256] = {
 /* `waits`: a lowered coefficient hold waits for its Vsync. */
 struct machine { uint8_t image[256], packet[STATION_PACKET], matrix[STATION_COEFFICIENTS], waits; };
 
-/* One write. Read-only bits are in registers that no list may write and that no group and no request has: they need not stay. Answers 0,
- * and writes nothing, where two packet holds would be up. */
+/* One write. Read-only bits need not stay: no group and no request has them, and no rule looks at them. Answers 0, and writes nothing,
+ * where two packet holds would be up. */
 static inline int put(struct machine *m, uint8_t address, uint8_t value) {
     if (address == 0x4A) {
         uint8_t up = value & 0x70, rises = value & (uint8_t)~m->image[0x4A];
