@@ -230,7 +230,7 @@ void near_image(uint8_t *image, const struct fields *f) {
 }
 
 /* A kind for each combination of values, or for so many of them by chance where there are more than so many. */
-enum { COMBINATIONS = 70000 };
+enum { COMBINATIONS = 40000 };
 static uint64_t combinations(void) {
     uint64_t all = 2 * 2;
     for (int i = 0; i < FIELDS; i++)
@@ -242,8 +242,9 @@ uint32_t kinds(void) { return (uint32_t)(combinations() < COMBINATIONS ? combina
 
 int kind_of_request(uint32_t kind, struct fields *f) {
     uint64_t number = kind, all = combinations();
-    if (all > COMBINATIONS) number = ((uint64_t)any(1u << 31) << 31 | any(1u << 31)) % all;
-    *f = (struct fields){ .sound = number % 2 };
+    int by_chance = all > COMBINATIONS;
+    if (by_chance) number = ((uint64_t)any(1u << 31) << 31 | any(1u << 31)) % all;
+    *f = (struct fields){ .sound = by_chance ? any(4) != 0 : number % 2 };
     number /= 2;
     if (number % 2) any_matrix(f);
     number /= 2;
@@ -252,7 +253,7 @@ int kind_of_request(uint32_t kind, struct fields *f) {
         uint32_t v = (uint32_t)(number % (uint64_t)row->count);
         number /= (uint64_t)row->count;
         if (model_has(f, row->section)) *model_field(f, row) = row->values[v];
-        else if (v) return 0;                           /* a field that is not there has one value */
+        else if (v && !by_chance) return 0;             /* a field that is not there has one value */
     }
     return permitted(f);
 }

@@ -71,17 +71,14 @@ static int caught(void) {
     }
     for (const struct wrong_set *set = wrong_sets; set->rows; set++)
         for (const struct wrong *w = set->rows; w->fault; w++, all++) {
-            int bad = shown(w, set->first, SECTIONS, SHARE);
+            int by_chains = (w->alone & BY_CHAINS) != 0;    /* these by themselves, with more of them, for what they need is rare */
+            int bad = by_chains ? shown(w, ON_CHAINS, SECTIONS, 10 * SHARE) : shown(w, set->first, SECTIONS, SHARE);
             say(bad, w->fault);
+            chains += bad && by_chains;
             if (bad && (w->alone & BY_CUTS)) {          /* demand 3 must show it too, without the model's list */
                 bad = shown(w, ON_CUTS, ON_CHAINS, SHARE);
                 cuts += bad;
                 say(bad, "  the same, by demand 3 alone");
-            }
-            if (bad && (w->alone & BY_CHAINS)) {        /* and the chains of requests */
-                bad = shown(w, ON_CHAINS, SECTIONS, 10 * SHARE);
-                chains += bad;
-                say(bad, "  the same, by chains of requests alone");
             }
             if (bad && (w->alone & NOT_BY_CUTS)) {      /* which a run of one request, planned again, does not show */
                 bad = !shown(w, ON_CUTS, ON_CHAINS, 10 * SHARE);
