@@ -59,6 +59,7 @@ static void marked_depths(void) {
         { { .vic = 16, .depth = 2, .repetition = 1 }, 6, 0, 0 },        /* 6 before 17 */
         { { .vic = 16, .depth = 3, .repetition = 1 }, 5, 0, 0 },        /* 5 before 6 and 17 */
         { { VIDEO(16, 0, 0, 3) }, 5, 0, 0 },
+        { { VIDEO(16, 0, 0, 1), .range = 2 }, 5, 0, 0 },                /* 5 of another field before 17 */
         { { VIDEO(19, 1, 2, 2) }, 4, 0, 0 },                            /* 4 before 17 */
         { { VIDEO(4, 1, 1, 2), COHERENT(0) }, 17, 0, 0 },               /* 17 before 9 */
         { { VIDEO(1, 0, 1, 0), .encoding = 1, .matrix = 1 }, 6, 0, 0 }, /* 4:2:2 */
@@ -140,6 +141,17 @@ static void every_clock(void) {
                         }
 }
 
+/* A request as it was before the video section had its last byte: that byte is gone, and the count is one less. */
+static void older_request(const struct fields *f) {
+    uint8_t bytes[LONGEST], image[256] = { 0 }, writes[256] = { 0 };
+    size_t length = model_bytes(f, bytes) - 1;
+    bytes[0]--;
+    memmove(bytes + VIDEO_BYTES, bytes + VIDEO_BYTES + 1, length - VIDEO_BYTES);
+    check_ncts(bytes, length);
+    check_plan(bytes, length, image, 256, writes, 256);
+    if (run.f->ncts(bytes, length).refusal != 2) differs("a count of %d is not refused 2", VIDEO_BYTES - 1);
+}
+
 static const struct { int encoding, link; } kinds_of_picture[] = { { 0, 0 }, { 0, 1 }, { 1, 1 }, { 2, 1 } };
 enum { KINDS_OF_PICTURE = sizeof kinds_of_picture / sizeof kinds_of_picture[0] };
 
@@ -156,6 +168,7 @@ static void every_byte(void) {
                 struct fields f = { .vic = vics[v], .encoding = kinds_of_picture[k / 4].encoding, .link = kinds_of_picture[k / 4].link,
                                     .depth = low, .repetition = high, .sound = k & 1, .channels = 2, .matrix = k >> 1 & 1 };
                 size_t length = model_bytes(&f, bytes);
+                if (value == 0) older_request(&f);
                 check_ncts(bytes, length);
                 check_plan(bytes, length, image, 256, writes, 256);
                 uint32_t refusal = run.f->ncts(bytes, length).refusal;
@@ -210,9 +223,12 @@ static void places(void) {
         }
 }
 
-/* The machine: of 0x4C the lower half alone is written, and the GC hold copies 0x4B alone. */
+/* The class of 0x4C; and the machine: its lower half alone is written, and the GC hold copies 0x4B alone. */
 static void written_depth(void) {
+    struct station_masks k = run.f->class_of(0x4C);
     struct chip start, c;
+    run.now->cases++;
+    if (k.read_only != 0xF0 || k.named != 0x0F || k.mandated || k.free_bits || k.value) differs("the class of 0x4C");
     any_start(&start);
     start.image[0x4A] &= 0x8F;
     for (int value = 0; value < 256; value++) {

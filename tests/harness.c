@@ -488,17 +488,6 @@ static void answered_range(const struct fields *f, uint32_t refusal, int q) {
         differs("range %d, encoding %d: Q is %d, not %d", f->range, f->encoding, left_in(0x57, image, writes, c) >> 2 & 3, q);
 }
 
-/* A request as it was before the video section had its last byte: that byte is gone, and the count is one less. */
-static void older_request(const struct fields *f) {
-    uint8_t bytes[LONGEST], image[256] = { 0 }, writes[256] = { 0 };
-    size_t length = model_bytes(f, bytes) - 1;
-    bytes[0]--;
-    memmove(bytes + VIDEO_BYTES, bytes + VIDEO_BYTES + 1, length - VIDEO_BYTES);
-    check_ncts(bytes, length);
-    check_plan(bytes, length, image, 256, writes, 256);
-    if (run.f->ncts(bytes, length).refusal != 2) differs("a count of %d is not refused 2", VIDEO_BYTES - 1);
-}
-
 /* A finished image with each Q in it, the checksum as it was and made right: RGB with 1 or 2 is a request's, and YCbCr with 0; no other is.
  * Planning takes any of them. */
 static void every_q(const struct fields *f, const uint8_t *finished) {
@@ -541,7 +530,6 @@ static void ranges(void) {
                         }
                 for (size_t k = 0; k < sizeof kinds_of_picture / sizeof kinds_of_picture[0]; k++) {
                     f.encoding = kinds_of_picture[k].encoding, f.link = kinds_of_picture[k].link, f.range = 0;
-                    older_request(&f);
                     if ((f.encoding && !matrix) || (!f.link && sound)) continue;
                     answered_range(&f, 0, f.encoding ? 0 : 1);
                     f.range = 1;

@@ -69,7 +69,7 @@ static int exact(struct clock c, uint64_t fs, uint64_t n, uint64_t cts) {
     return cts <= 1048575 && 128 * fs * cts * c.bottom == c.top * n && 1500 * n >= 128 * fs && 300 * n <= 128 * fs;
 }
 
-static struct pair coherent(struct clock c, int rate) {
+struct pair model_coherent(struct clock c, int rate) {
     uint64_t fs = model_rate(rate);
     for (size_t i = 0; i < sizeof recommended / sizeof recommended[0]; i++) {
         uint32_t n = recommended[i].n[rate], cts = recommended[i].cts[rate];
@@ -95,6 +95,6 @@ struct pair model_pair(const struct fields *f) {
     if (!f->sound) return (struct pair){ 1, 6144, 0 };
     if (!f->coherent) return (struct pair){ 1, other[f->rate], 0 };
     struct known *k = &known[f->vic][f->family][f->depth][f->repetition][f->rate];
-    if (!k->asked) *k = (struct known){ 1, coherent(model_clock(f->vic, f->family, f->depth, f->repetition), f->rate) };
+    if (!k->asked) *k = (struct known){ 1, model_coherent(model_clock(f->vic, f->family, f->depth, f->repetition), f->rate) };
     return k->pair;
 }

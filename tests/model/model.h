@@ -37,8 +37,8 @@ int  model_has(const struct fields *f, enum part s);     /* is this section ther
 int  model_allows(const struct field *row, int value);
 void model_answer(struct fields *f, const uint8_t *image);  /* as decoding answers: a field that no register names is 0 */
 
-/* request.c: refusals 1 to 6 and 17, 0 for none; and the bytes of a request. The counts of the sections, each byte counted at the row of its lowest
- * bit, and with these counts the longest request. */
+/* request.c: refusals 1 to 6 and 17, 0 for none; and the bytes of a request. The counts of the sections, each byte counted at the row of
+ * its lowest bit, and with these counts the longest request. */
 #define MODEL_VIDEO(section, byte, low, ...) + (section == OF_VIDEO && low == 0)
 #define MODEL_SOUND(section, byte, low, ...) + (section == OF_SOUND && low == 0)
 #define MODEL_MATRIX(section, byte, low, ...) + (section == OF_MATRIX && low == 0)
@@ -66,6 +66,7 @@ struct pair model_pair(const struct fields *f);
 struct clock { uint64_t top, bottom; };
 struct clock model_clock(int vic, int family, int depth, int repetition);
 int          model_above_limit(struct clock c);
+struct pair  model_coherent(struct clock c, int rate);      /* for coherent audio, by the clock alone; slow */
 
 /* frames.c: the registers of a packet, from its version to its last data byte. */
 enum { AVI_BYTES = 16, AUDIO_BYTES = 13, PACKET_BYTES = 32, COEFFICIENT_BYTES = 24, IMAGE_BYTES = 256, MARK_BYTES = 1 };

@@ -1,6 +1,7 @@
 /* Wrong shorter lists: document 02, request 09. One planner, which leaves writes out of the model's full list, with a place for each fault;
- * a fault is a row of FAULTS. Two kinds are not here, for they show in nothing. No register that a list writes has a read-only bit today,
- * so these may be compared or not. And each register but the three is written once, so for it the running image is the lent one. */
+ * a fault is a row of FAULTS. Two kinds are not here, for they show in nothing. A write carries the image's read-only bits, so these may be
+ * compared or not; wrong/depth.c has faults of them. And each register but the three is written once, so for it the running image is the
+ * lent one. */
 #include "wrong.h"
 
 /* FAULT(name, must demand 3 catch it by itself?, in words) */

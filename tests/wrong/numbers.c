@@ -66,26 +66,15 @@ NCTS(six_before_five) {
 }
 PUT(ncts, six_before_five)
 
-/* The count one less, and no range. */
-NCTS(no_range_byte) {
-    uint8_t whole[LONGEST] = { VIDEO_BYTES };
-    if (rl < VIDEO_BYTES || rl >= LONGEST || r[0] != VIDEO_BYTES - 1) return RIGHT;
-    memcpy(whole + 1, r + 1, VIDEO_BYTES - 1);
-    memcpy(whole + 1 + VIDEO_BYTES, r + VIDEO_BYTES, rl - VIDEO_BYTES);
-    return model_ncts(whole, rl + 1);
-}
-PUT(ncts, no_range_byte)
-
 NCTS(long_request_cut) { return model_ncts(r, rl > LONGEST ? LONGEST : rl); }
 PUT(ncts, long_request_cut)
 
-/* The nearest exact pair by another way than the model's, by multiples of the ratio in lowest terms, with a fault in the ratio or in its
- * quotients. Only where no recommended pair is exact: VIC 60, whose clock the tables do not have, and where there is no pair at all. */
-enum { TWOS_KEPT, STOPS_EARLY, ONE_LESS_AT_MULTIPLES };
-static uint64_t quotient(uint64_t a, uint64_t b, int fault) { return a / b - (fault == ONE_LESS_AT_MULTIPLES && a % b == 0 && a != 0); }
-static struct station_pair by_multiples(const struct fields *f, int fault) {
-    uint64_t reference = 128 * model_rate(f->rate), u = (uint64_t)model_hertz(f->vic) * (f->family ? 1000 : 1), v = reference * (f->family ? 1001 : 1);
-    uint64_t x = u, y = v;
+/* By multiples of the ratio in lowest terms, with a fault in the ratio or in its quotients. */
+static uint64_t quotient(uint64_t a, uint64_t b, enum ratio fault) {
+    return a / b - (fault == ONE_LESS_AT_MULTIPLES && a % b == 0 && a != 0);
+}
+struct station_pair nearest_pair(struct clock c, int rate, enum ratio fault) {
+    uint64_t reference = 128 * model_rate(rate), u = c.top, v = reference * c.bottom, x = u, y = v;
     if (fault == TWOS_KEPT) {
         while (x % 2 == 0) x /= 2;
         while (y % 2 == 0) y /= 2;
@@ -104,11 +93,12 @@ static struct station_pair by_multiples(const struct fields *f, int fault) {
     if (k < least) k = least;
     return (struct station_pair){ 0, (uint32_t)(k * v), (uint32_t)(k * u) };
 }
-static struct station_pair nearest_by(const uint8_t *r, size_t rl, int fault) {
+/* Only where no recommended pair is exact: VIC 60 but for 30 bits, whose clocks the tables do not have, and where there is no pair. */
+static struct station_pair nearest_by(const uint8_t *r, size_t rl, enum ratio fault) {
     struct station_pair p = RIGHT;
     struct fields f = asked(r, rl);
-    if ((p.refusal && p.refusal != 9) || !f.coherent || (f.vic != 60 && !p.refusal)) return p;
-    return by_multiples(&f, fault);
+    if ((p.refusal && p.refusal != 9) || !f.coherent || ((f.vic != 60 || f.depth == 1) && !p.refusal)) return p;
+    return nearest_pair(model_clock(f.vic, f.family, f.depth, f.repetition), f.rate, fault);
 }
 NCTS(twos_kept) { return nearest_by(r, rl, TWOS_KEPT); }
 PUT(ncts, twos_kept)
@@ -166,7 +156,6 @@ const struct wrong wrong_numbers[] = {
     { "refusal 2 for an empty request", put_count_before_end, 0 },
     { "refusal 5 before 4", put_five_before_four, 0 },
     { "refusal 6 before 5", put_six_before_five, 0 },
-    { "a request without its range taken as limited", put_no_range_byte, 0 },
     { "a long request read only as far as the longest", put_long_request_cut, 0 },
     { "the ratio's common power of two forgotten", put_twos_kept, 0 },
     { "the ratio's divisor one step too early", put_stops_early, 0 },

@@ -22,6 +22,8 @@
     FAULT(empty_passes, "the empty list passes always") \
     FAULT(empty_refused, "the empty list never passes") \
     FAULT(read_only_register, "a register that is read-only let through (0x3D)") \
+    FAULT(depth_refused, "0x4C refused, for it has read-only bits") \
+    FAULT(read_only_looked_at, "read-only bits of a value looked at") \
     FAULT(free_register, "a register that is free let through (0x30)") \
     FAULT(fixed_register, "a register fixed by the map let through (0x99)") \
     FAULT(avi_to_its_end, "the AVI packet taken to run to 0x6F") \
@@ -96,6 +98,7 @@ static int touches_ours(enum fault fault, uint8_t a) {
     if (fault == table_14_refused_fault && memchr(table_14, a, sizeof table_14)) return 0;
     if (fault == reserved_refused_fault && a >= 0x78 && a <= 0x7C) return 0;
     if (fault == read_only_register_fault && a == 0x3D) return 1;
+    if (fault == depth_refused_fault && a == 0x4C) return 0;
     if (fault == free_register_fault && a == 0x30) return 1;
     if (fault == fixed_register_fault && a == 0x99) return 1;
     if (fault == avi_to_its_end_fault && a >= 0x62 && a <= 0x6F) return 1;
@@ -108,6 +111,7 @@ static int pair_is_good(enum fault fault, const struct chip *now, uint8_t a, uin
     if (!touches_ours(fault, a)) return 0;
     if (fault == mandated_not_looked_at_fault || (fault == mandated_of_the_map_fault && k.named)) k.mandated = k.bits = 0;
     if (fault == free_not_looked_at_fault || fault == free_at_the_end_fault) k.free = 0;
+    if (fault == read_only_looked_at_fault) k.free |= k.read_only;
     if (fault == gc_hold_raised_fault && a == 0x4A) k.free &= 0xEF;
     if (fault == holds_after_each_other_fault && a == 0x4A && (now->image[a] & 0x60) && (~now->image[a] & v & 0x60)) return 0;
     return (v & k.mandated) == k.bits && ((v ^ kept) & k.free) == 0;
