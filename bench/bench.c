@@ -21,8 +21,8 @@ enum { INPUTS = 64, ROUNDS = 400, CHANGES = 200 };
 /* A list of pairs, its length in bytes. */
 struct pairs { uint8_t bytes[STATION_LIST + 2]; size_t length; };
 
-/* A request in words, part by part. */
-struct parts { unsigned vic, family, encoding, range; char sound[64], matrix[TEXT_OF_A_REQUEST / 2]; };
+/* A request in words, part by part, but for the byte of depth and repetition. */
+struct parts { unsigned vic, family, encoding, range, depth; char sound[64], matrix[TEXT_OF_A_REQUEST / 2]; };
 
 static struct {
     struct parts parts;
@@ -80,9 +80,12 @@ static void draw_matrix(struct parts *p) {
 
 static unsigned draw_vic(void) { return modes[noise() % number_of_modes].vic; }
 
+/* The depth byte is the last one of the video section. */
 static struct request request_of(const struct parts *p) {
-    return request_of_text("vic %u family=%u encoding=%u hdmi range=%u %s %s", p->vic, p->family, p->encoding, p->range, p->sound,
-                           p->matrix);
+    struct request r = request_of_text("vic %u family=%u encoding=%u hdmi range=%u %s %s", p->vic, p->family, p->encoding, p->range,
+                                       p->sound, p->matrix);
+    r.bytes[r.bytes[0]] = (uint8_t)p->depth;
+    return r;
 }
 
 /* The image that a request ends in, from another one. Answers 0 where it is refused. */
@@ -94,8 +97,8 @@ static int finish(const struct request *r, const uint8_t *from, uint8_t *to) {
     return c.refusal == 0;
 }
 
-/* Requests over HDMI that are accepted, half of them with a matrix, half of those with RGB in full range; an image of noise; the image that
- * each ends in; and that image with one mandated bit turned over. */
+/* Requests over HDMI that are accepted, half of them with a matrix, half of those with RGB in full range, one of eight with depth or
+ * repetition; an image of noise; the image that each ends in; and that image with one mandated bit turned over. */
 static void make_inputs(void) {
     for (int i = 0; i < INPUTS; ) {
         struct parts *p = &in[i].parts;
@@ -104,6 +107,7 @@ static void make_inputs(void) {
         p->family = noise() % 2;
         p->encoding = with_matrix ? noise() % 3 : 0;
         p->range = p->encoding ? 0 : noise() % 2;
+        p->depth = i % 8 == 7 ? 1 + noise() % 0x22 : 0;
         draw_sound(p);
         p->matrix[0] = 0;
         if (with_matrix) draw_matrix(p);
