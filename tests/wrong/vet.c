@@ -19,6 +19,8 @@
     FAULT(sixteen_before_fifteen, "refusal 16 before 15") \
     FAULT(end_not_decoded, "the end not decoded") \
     FAULT(start_decoded, "the start decoded instead of the end") \
+    FAULT(end_without_depth, "the end decoded without its depth") \
+    FAULT(depth_not_run, "a vet whose pairs to 0x4C change nothing") \
     FAULT(empty_passes, "the empty list passes always") \
     FAULT(empty_refused, "the empty list never passes") \
     FAULT(read_only_register, "a register that is read-only let through (0x3D)") \
@@ -294,6 +296,8 @@ static struct station_verdict judge(enum fault fault, VET_ARGUMENTS) {
     uint32_t n = (uint32_t)(ll / 2) & (fault == count_in_one_byte_fault ? 0xFF : 0xFFFF);
     struct list_end e = end_of(fault, &start, l, n);
     uint32_t place = bad_place(fault, &start, l, n, &e);
+    if (fault == end_without_depth_fault) e.last.image[0x4C] &= 0xF0;
+    if (fault == depth_not_run_fault) e.last.image[0x4C] = start.image[0x4C];
     int ends = fault == end_not_decoded_fault || model_ends(fault == start_decoded_fault ? start.image : e.last.image, NONE_FREE, &f);
     if (n == 0 && fault == empty_passes_fault) ends = 1;
     if (n == 0 && fault == empty_refused_fault) ends = 0;
