@@ -32,8 +32,11 @@ DECODE(by_shorter_list) {
     if (il != 256 || i[0x18] >> 7) return RIGHT;
     memcpy(other, i, 256);
     f.sound = i[0x44] >> 5 & 1;
-    for (const struct field *row = model_fields; row < model_fields + FIELDS; row++)
-        if (model_has(&f, row->section) && row->shown(i) != NO_REGISTER) *model_field(&f, row) = row->shown(i);
+    for (const struct field *row = model_fields; row < model_fields + FIELDS; row++) {
+        if (!model_has(&f, row->section) || row->shown(i) == NO_REGISTER) continue;
+        if (row->shown(i) == NO_VALUE) return RIGHT;
+        *model_field(&f, row) = row->shown(i);
+    }
     size_t length = model_bytes(&f, bytes);
     if (answered(bytes, length, zeros, 256, 256).refusal) return RIGHT;
     full_list_of(bytes, length, zeros, &full);
