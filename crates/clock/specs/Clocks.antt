@@ -30,11 +30,8 @@ tmdsBottom family = cond (eqb family 0) 1 1001 * 4
 -- "that exact fraction", in lowest terms
 abbrev pub tmdsOf : ℕ → ℕ → ℕ → ℕ → Clock
 tmdsOf hertz family depth repetition =
-    record {
-      refusal = 0;
-      num = topOf (tmdsTop hertz family depth repetition) (tmdsBottom family);
-      den = bottomOf (tmdsTop hertz family depth repetition) (tmdsBottom family);
-    }
+    let top : ℕ = tmdsTop hertz family depth repetition in
+    record { refusal = 0; num = topOf top (tmdsBottom family); den = bottomOf top (tmdsBottom family) }
 
 unfoldable pub tmds : Video → Clock
 tmds video = tmdsOf (modeOf (video .vic) .hertz) (video .family) (depth video) (repetition video)
