@@ -1,10 +1,9 @@
 -- The clock that is found is the one that is asked for, and what is known of it: by one test each over modes, families, depths and
 -- repetitions. Assumes nothing.
-use mathlib.Core.Path.{_≡_, refl, sym, ap, _∙_, subst}
+use mathlib.Core.Path.{_≡_, refl, sym, _∙_}
 use mathlib.Core.Logic.{_↔_, inl, inr}
 use mathlib.Core.Bool.{Bool, true, false, false≢true, cond, not, _&&_, _||_, Bool·beq}
-use mathlib.Core.List.{List}
-use Prim.Native.Nat.{ℕ, _*_, _/_, _%_, _<_, _≤_}
+use Prim.Native.Nat.{ℕ, _*_, _<_, _≤_}
 use native.Mathlib.Nat.{mul-le-mul-left, le-trans}
 use native.Mathlib.Omega.{arith}
 use lib.Dec.{eqb, ltb, leb}
@@ -12,7 +11,7 @@ use borrow.Author.Tests.{ltb-true, ltb-false, lt-ltb, leb-true, eqb-true, eq-eqb
 use Rattle.lists.specs.Find.{every}
 use Rattle.lists.proofs.Find.{found}
 use Rattle.lists.proofs.Both.{both-left, both-right, beq-true}
-use Rattle.lists.proofs.Decides.{Decides, less, refuted}
+use Rattle.lists.proofs.Decides.{less, refuted}
 use Rattle.bits.proofs.Below.{below, at-below}
 use Rattle.refusals.specs.Rows.{lowest}
 use Rattle.refusals.proofs.Tests.{none-at, numbered, answer-none}
@@ -25,7 +24,7 @@ use Rattle.video.specs.Video.{depth, repetition, inFamily, pixelOutside, PixelO
 use Rattle.video.proofs.Fits.{is-pixel-outside}
 use Rattle.clock.specs.declared.Clock.{Clock}
 use Rattle.clock.specs.Clocks.{tmdsTop, tmdsBottom, tmdsOf, tmds, limit, aboveLimit, AboveLimit, clockTests, noClock, clockOf}
-use Rattle.clock.specs.Bounds.{denMost, numMost, WithinBounds}
+use Rattle.clock.specs.Bounds.{denMost, WithinBounds}
 use Rattle.clock.specs.Found.{quarterOf, foundClock}
 use Rattle.clock.specs.Theorems.{ClockRule}
 

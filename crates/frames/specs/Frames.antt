@@ -64,8 +64,14 @@ aviFrame video = frame aviHeader (aviPayload video)
 -- "Family is answered as 0". `NamedBack` ties it to them.
 abbrev pub videoNamed : ℕ → ℕ → List ℕ → Video
 videoNamed link depth bytes =
-    record { vic = getD bytes 3 0; family = 0; encoding = getD bytes 0 0 / 32 % 4; link = link;
-      range = getD bytes 2 0 / 8 % 2; pixel = (getD bytes 4 0 % 16 + 1) / 2 * 16 + depth % 16 }
+    record {
+      vic = getD bytes 3 0;
+      family = 0;
+      encoding = getD bytes 0 0 / 32 % 4;
+      link = link;
+      range = getD bytes 2 0 / 8 % 2;
+      pixel = (getD bytes 4 0 % 16 + 1) / 2 * 16 + depth % 16;
+    }
 
 -- "CC is channels less one; CA is 0x00 for 2 and 0x13 for 8; the rest 0." Byte 1 is CT3 to CT0 0 CC2 to CC0, byte 4 is CA.
 abbrev pub audioPayload : ℕ → ℕ → List ℕ

@@ -24,7 +24,7 @@ use Rattle.decode.specs.Ends.{Ends}
 use Rattle.decode.specs.Decode.{decodeOf}
 use Rattle.decode.specs.Theorems.{decodeRules}
 use Rattle.decode.proofs.Answers.{exactly, refusals}
-use Rattle.promises.specs.Finished.{Place, place, places, Shows, inQ, inCD, Finished}
+use Rattle.promises.specs.Finished.{place, places, Shows, inQ, inCD, Finished}
 use Rattle.promises.specs.Rules.{FieldByField}
 use Rattle.promises.proofs.Filled.{filled, picked}
 

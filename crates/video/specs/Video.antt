@@ -17,8 +17,14 @@ videoCount = 6
 -- what a body asks for, and the body that asks for it
 abbrev pub videoIn : List ℕ → Video
 videoIn body =
-    record { vic = getD body 0 0; family = getD body 1 0; encoding = getD body 2 0; link = getD body 3 0;
-      range = getD body 4 0; pixel = getD body 5 0 }
+    record {
+      vic = getD body 0 0;
+      family = getD body 1 0;
+      encoding = getD body 2 0;
+      link = getD body 3 0;
+      range = getD body 4 0;
+      pixel = getD body 5 0;
+    }
 
 abbrev pub videoBody : Video → List ℕ
 videoBody v = v .vic ∷ v .family ∷ v .encoding ∷ v .link ∷ v .range ∷ v .pixel ∷ []

@@ -1,9 +1,9 @@
 -- `clock::parts` meets its contract. Assumes nothing.
 use mathlib.Core.Path.{_≡_, refl}
-use Prim.Native.Nat.{ℕ, zero, suc, _+_, _*_, _≤_}
+use Prim.Native.Nat.{ℕ, zero, suc, _+_, _≤_}
 use native.Mathlib.Omega.{arith}
 use borrow.Author.Needs.{needs}
-use Rattle.clock.specs.Clocks.{quarters, times}
+use Rattle.clock.specs.Clocks.{quarters}
 use Rattle.clock.proofs.parts.Statement.{statement}
 use Rattle.clock.proofs.parts.Tie as tie
 

@@ -1,6 +1,6 @@
 -- `request::judge` meets its contract: rows 4 to 6 and 17. Assumes nothing.
 use mathlib.Core.Path.{_≡_, sym, ap, _∙_}
-use mathlib.Core.Bool.{Bool, true, false}
+use mathlib.Core.Bool.{true, false}
 use Rattle.lists.proofs.Both.{neither-left}
 use Rattle.refusals.specs.Rows.{lowest}
 use Rattle.video.specs.Modes.{offered}
