@@ -55,6 +55,15 @@ halves video p =
     at-most : {m n : ℕ} → (m < n → ⊥) → n ≤ m
     at-most {m} {n} h = ltb-false m n (refuted (less m n) h)
 
+-- ---- the fraction's bottom
+
+bottom-some : (family : ℕ) → 0 < tmdsBottom family
+bottom-some family = go (eqb family 0)
+  where
+    go : (b : Bool) → 0 < cond b 1 1001 * 4
+    go true = omega arith
+    go false = omega arith
+
 -- ---- the tests
 
 -- the clock that the code finds is the one in lowest terms
@@ -114,6 +123,7 @@ module _ (video : Video) (o : offered video ≡ true) (p : pixelOutside video �
         most = le-trans (ltb-false _ _ a) (mul-le-mul-left limit den);
         part = ltb-true _ _ (both-left _ _ u);
         parts = den;
+        lowest = in-lowest _ _ (bottom-some (video .family)) .lowest;
       }
 
   deep-alone : repetition video ≡ 0 → aboveLimit (tmds video) ≡ false
@@ -189,13 +199,6 @@ not-above true z = absurd (omega arith)
 not-above false z = refl
 
 -- ---- the theorem
-
-bottom-some : (family : ℕ) → 0 < tmdsBottom family
-bottom-some family = go (eqb family 0)
-  where
-    go : (b : Bool) → 0 < cond b 1 1001 * 4
-    go true = omega arith
-    go false = omega arith
 
 exact : (v : Video)
     → Lowest (tmdsTop (modeOf (v .vic) .hertz) (v .family) (depth v) (repetition v)) (tmdsBottom (v .family)) (tmds v .num) (tmds v .den)

@@ -1,5 +1,6 @@
 -- Bounds, so that no product overflows: the one place where the largest numbers stand. Nothing is promised by them.
-use Prim.Native.Nat.{ℕ, _+_, _*_, _/_, _<_, _≤_}
+use mathlib.Core.Path.{_≡_}
+use Prim.Native.Nat.{ℕ, _+_, _*_, _/_, _<_, _≤_, _∣_}
 use Rattle.clock.specs.declared.Clock.{Clock}
 use Rattle.clock.specs.Clocks.{limit, tmdsBottom}
 
@@ -27,9 +28,10 @@ partsMost = denMost * referenceMost
 abbrev pub stepMost : ℕ
 stepMost = referenceMost + partsMost
 
--- a clock that is answered
+-- a clock that is answered; it is in lowest terms too
 pub record WithinBounds (clock : Clock) : Type 0 where
   pub some : 0 < clock .num
   pub most : clock .num ≤ numMost
   pub part : 0 < clock .den
   pub parts : clock .den ≤ denMost
+  pub lowest : (d : ℕ) → d ∣ clock .num → d ∣ clock .den → d ≡ 1

@@ -36,14 +36,15 @@ pub struct NCts {
     pub cts: u32,
 }
 
-// Tables 80 to 82 of source document 000, in the rows of the definition: the clock in Hz as a fraction, and N and CTS at the rates 0 to 6.
+// Tables 80 to 82 of source document 000, in the rows of the definition: the clock in Hz as a fraction in lowest terms, and N and CTS at the
+// rates 0 to 6.
 #[rattlefmt::skip]
 const NUMS: [u64; 10] = [
-    25200000000, 25200000, 27000000, 27027000, 54000000, 54054000, 74250000000, 74250000, 148500000000, 148500000,
+    3600000000, 25200000, 27000000, 27027000, 54000000, 54054000, 6750000000, 74250000, 13500000000, 148500000,
 ];
 
 #[rattlefmt::skip]
-const DENS: [u64; 10] = [1001, 1, 1, 1, 1, 1, 1001, 1, 1001, 1];
+const DENS: [u64; 10] = [143, 1, 1, 1, 1, 1, 91, 1, 91, 1];
 
 #[rattlefmt::skip]
 const NS: [u32; 70] = [
@@ -184,7 +185,7 @@ fn recommended_pair(clock: Clock, rate: u8) -> NCts
     let dens = DENS;
     let mut i: usize = 0;
     while i < 10 {
-        if clock.num * dens[i] == nums[i] * clock.den {
+        if (clock.num == nums[i]) & (clock.den == dens[i]) {
             let place = i * 7 + rate as usize;
             return NCts {
                 n: NS[place],

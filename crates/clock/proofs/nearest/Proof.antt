@@ -1,5 +1,5 @@
 -- `clock::nearest` meets its contract: the lowest terms are those by which the definition computes. Assumes nothing.
-use mathlib.Core.Path.{_≡_, sym, _∙_}
+use mathlib.Core.Path.{_≡_}
 use Prim.Native.Nat.{ℕ, _*_, _≤_, _<_}
 use native.Mathlib.Nat.{mul-le-mul, mul-pos, div-le-self, le-trans}
 use native.Mathlib.Omega.{arith}

@@ -1,19 +1,18 @@
 -- `clock::recommended_pair` meets its contract: the rows not passed hold the answer; the code's tables are the columns. Assumes nothing.
 use mathlib.Core.Path.{_≡_, refl, sym, ap, _∙_}
-use mathlib.Core.Bool.{cond}
+use mathlib.Core.Bool.{cond, _&&_}
 use mathlib.Core.List.{List}
-use Prim.Native.Nat.{ℕ, _+_, _-_, _*_, _≤_, _<_}
-use native.Mathlib.Nat.{mul-le-mul}
+use Prim.Native.Nat.{ℕ, _+_, _-_, _≤_, _<_}
 use native.Mathlib.Omega.{arith}
 use borrow.Author.Needs.{needs}
-use borrow.Author.Tests.{eq-eqb, ne-eqb}
 use lib.Dec.{eqb}
 use lib.ListN.{drop, getD}
 use Rattle.lists.proofs.Find.{next}
 use Rattle.clock.specs.declared.Clock.{Clock}
+use Rattle.clock.specs.Bounds.{WithinBounds}
 use Rattle.clock.specs.Tables.{Recommended, recommended, pair}
 use Rattle.clock.specs.Pairs.{recommendedIn, recommendedOf}
-use Rattle.clock.proofs.Columns.{nums, dens, norow, num-at, den-at, n-at, cts-at, pairAt, num-most, den-most}
+use Rattle.clock.proofs.Columns.{nums, dens, norow, n-at, cts-at, pairAt, at-row}
 use Rattle.clock.proofs.recommended_pair.Statement.{statement}
 use Rattle.clock.proofs.recommended_pair.Tie as tie
 
@@ -24,11 +23,11 @@ abbrev μ-loop : tie.MeasureT-loop
 μ-loop clock rate nums₀ dens₀ i₀ i = 10 - i
 
 -- the row at i, and those after it, by the code's test
-one-more : (clock : Clock) (rate i : ℕ) → i < 10
+one-more : (clock : Clock) (rate i : ℕ) → WithinBounds clock → i < 10
     → recommendedIn (drop i recommended) clock rate
-    ≡ cond (eqb (clock .num * getD dens i 0) (getD nums i 0 * clock .den)) (pairAt i rate) (recommendedIn (drop (i + 1) recommended) clock rate)
-one-more clock rate i h =
-    rw (num-at i, den-at i) (ap (λ (l : List Recommended). recommendedIn l clock rate) (next recommended i norow h))
+    ≡ cond (eqb (clock .num) (getD nums i 0) && eqb (clock .den) (getD dens i 0)) (pairAt i rate) (recommendedIn (drop (i + 1) recommended) clock rate)
+one-more clock rate i w h =
+    rw (← at-row clock (w .lowest) i h) (ap (λ (l : List Recommended). recommendedIn l clock rate) (next recommended i norow h))
 
 loop-holds : tie.Need-loop-holds Inv-loop μ-loop
 unfolding recommendedOf
@@ -41,20 +40,10 @@ array-read-if1 : tie.Need-array-read-if1 Inv-loop μ-loop
 array-read-if1 c = search needs
 
 mul-if1-2 : tie.Need-mul-if1-2 Inv-loop μ-loop
-mul-if1-2 c =
-    let l = c .before .before .loop in
-    omega (arith, mul-le-mul (c .before .before .before .pre .1 .most) (den-most (l .i)))
-
-mul-if1-3 : tie.Need-mul-if1-3 Inv-loop μ-loop
-mul-if1-3 c = search needs
+mul-if1-2 c = search needs
 
 array-read-if1-2 : tie.Need-array-read-if1-2 Inv-loop μ-loop
 array-read-if1-2 c = search needs
-
-mul-if1-4 : tie.Need-mul-if1-4 Inv-loop μ-loop
-mul-if1-4 c =
-    let l = c .before .before .before .loop in
-    omega (arith, mul-le-mul (num-most (l .i)) (c .before .before .before .before .pre .1 .parts))
 
 mul-place : tie.Need-mul-place Inv-loop μ-loop
 mul-place c = search needs
@@ -82,7 +71,7 @@ returns c =
     let h : l .i < 10 = search needs in
     let n = n-at (l .i) (a .rate) h (s .before .pre .0) in
     let cts = cts-at (l .i) (a .rate) h (s .before .pre .0) in
-    (λ j. pair (n j) (cts j)) ∙ sym (l .inv .1 ∙ one-more (a .clock) (a .rate) (l .i) h ∙ rw (eq-eqb _ _ (c .if1 .taken)))
+    (λ j. pair (n j) (cts j)) ∙ sym (l .inv .1 ∙ one-more (a .clock) (a .rate) (l .i) (s .before .pre .1) h ∙ rw (c .if1 .taken))
 
 add-i : tie.Need-add-i Inv-loop μ-loop
 add-i c = search needs
@@ -95,7 +84,7 @@ loop-again c =
     let s = c .before .before .before .before in
     let l = s .loop in
     let a = s .before .args in
-    (search needs, l .inv .1 ∙ one-more (a .clock) (a .rate) (l .i) (search needs) ∙ rw (ne-eqb _ _ (c .if1 .left)))
+    (search needs, l .inv .1 ∙ one-more (a .clock) (a .rate) (l .i) (s .before .pre .1) (search needs) ∙ rw (c .if1 .left))
 
 returns-2 : tie.Need-returns-2 Inv-loop μ-loop
 returns-2 c =
@@ -113,9 +102,7 @@ recommended-pair-spec =
     mul-if1
     array-read-if1
     mul-if1-2
-    mul-if1-3
     array-read-if1-2
-    mul-if1-4
     mul-place
     add-place
     mul-t19
