@@ -4,7 +4,7 @@ use Prim.Native.Nat.{ℕ, _+_, _*_, _/_, _<_, _≤_, _∣_}
 use Rattle.clock.specs.declared.Clock.{Clock}
 use Rattle.clock.specs.Clocks.{limit, tmdsBottom}
 
--- a clock's two numbers: what divides it divides the fraction's bottom, and it is at most the limit
+-- a clock's two numbers: what divides it is at most the fraction's bottom, and the clock is at most the limit
 abbrev pub denMost : ℕ
 denMost = tmdsBottom 1
 

@@ -27,7 +27,7 @@ tmdsTop hertz family depth repetition = hertz * cond (eqb family 0) 1 1000 * qua
 abbrev pub tmdsBottom : ℕ → ℕ
 tmdsBottom family = cond (eqb family 0) 1 1001 * 4
 
--- "that exact fraction", in lowest terms
+-- "that exact fraction"; we give it in lowest terms
 abbrev pub tmdsOf : ℕ → ℕ → ℕ → ℕ → Clock
 tmdsOf hertz family depth repetition =
     let top : ℕ = tmdsTop hertz family depth repetition in

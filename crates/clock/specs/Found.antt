@@ -17,7 +17,7 @@ use Rattle.clock.specs.declared.Quarter.{Quarter}
 use Rattle.clock.specs.Clocks.{quarters, times, tmds, aboveLimit, clockOf}
 use Rattle.clock.specs.Pairs.{reference, recommendedOf, thePair, noPair, other}
 
--- a quarter of a mode's clock in lowest terms, in each family, by the clock at family 0
+-- a quarter of a mode's clock in lowest terms, in each family, by the clock at family 0: a row for each clock of the modes that offer family 1
 abbrev pub quarter : ℕ → ℕ → Quarter
 quarter num den = record { num = num; den = den }
 

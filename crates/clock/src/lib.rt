@@ -89,7 +89,8 @@ fn fraction(num: u32, den: u32) -> Quarter
     Quarter { num: num, den: den }
 }
 
-// A quarter of a mode's clock in family 1, in lowest terms, by its clock in family 0.
+// A quarter of a mode's clock in family 1, in lowest terms, by its clock in family 0. A mode with another clock wants a row here; without it
+// the proof fails.
 fn slow_quarter(hertz: u32) -> Quarter
     ensures { λ r. ⌜ r ≡ slowQuarter hertz ⌝ }
 {

@@ -34,7 +34,7 @@ colorimetry mode encoding = cond (eqb encoding 0) 0 (mode .colorimetry)
 abbrev pub quantisation : Video → ℕ
 quantisation v = cond (eqb (v .encoding) 0) (cond (eqb (v .range) 0) 1 2) 0
 
--- request 06: "PR follow[s]" the repetition, none, 2 or 4: how often a pixel is repeated after it was sent
+-- request 06: "0x3B[4:1] and PR follow" the repetition: how often a pixel is sent again
 abbrev pub repeats : Video → ℕ
 repeats v = getD (0 ∷ 1 ∷ 3 ∷ []) (repetition v) 0
 

@@ -80,7 +80,8 @@ fn quantised(video: Video) -> u8
 fn repeated(video: Video) -> u8
     ensures { λ r. ⌜ r ≡ repeats video ⌝ }
 {
-    match video.pixel / 16 {
+    let repetition = video::repetition(video);
+    match repetition {
         1 => 1,
         2 => 3,
         _ => 0,

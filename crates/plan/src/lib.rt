@@ -204,7 +204,7 @@ fn repetition_byte(video: Video) -> u8
     requires { ⌜ repetition video ≤ 2 ⌝ }
     ensures { λ r. ⌜ r ≡ repetitionByte video ⌝ }
 {
-    let repetition = video.pixel / 16;
+    let repetition = video::repetition(video);
     2 * (1 << Map::PR_MODE_SHIFT)
         + repetition * (1 << Map::PR_PLL_MANUAL_SHIFT)
         + repetition * (1 << Map::PR_VALUE_MANUAL_SHIFT)
@@ -214,7 +214,8 @@ fn repetition_byte(video: Video) -> u8
 fn depth_code(video: Video) -> u8
     ensures { λ r. ⌜ r ≡ depthCode video ⌝ }
 {
-    match video.pixel % 16 {
+    let depth = video::depth(video);
+    match depth {
         1 => 5,
         2 => 6,
         _ => 0,

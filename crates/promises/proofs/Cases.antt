@@ -26,7 +26,7 @@ use Rattle.writes.specs.Steps.{middle}
 use Rattle.writes.specs.List.{decided, byte, written, isWritten, finished, column, flat, alreadyThere}
 use Rattle.plan.specs.Wanted.{wantedImage, wanted}
 use Rattle.plan.specs.Plan.{laterRefusal, planWith, bufferWith, planOf, planBuffer}
-use Rattle.promises.specs.Worked.{Few}
+use Rattle.promises.specs.Worked.{Few, FewDeep}
 use Rattle.promises.specs.Cases.{rgbOverHdmi, MarkedCases}
 
 multiple : (n cts : ℕ) → reference 0 * cts * clockOf (rgbOverHdmi 4 1) .den ≡ clockOf (rgbOverHdmi 4 1) .num * n → 23296 ∣ n
@@ -36,6 +36,10 @@ multiple n cts e = divides 6750000000 372736000 (lit< tt) n cts (omega arith)
 few : Few
 unfolding flatMap steps divisorOf modeOf tmds clockOf reference recommendedOf nearestK nearestIn nearestOf exactly coherentOf pairOf total aviFrame audioFrame fields inRange isAllowed walk walked videoOutside videoCombined outside combined judged readOf pairFor merge classAt decided byte written middle isWritten finished column flat alreadyThere wantedImage wanted laterRefusal planWith bufferWith planOf planBuffer
 few = (refl, refl)
+
+few-deep : FewDeep
+unfolding flatMap steps divisorOf modeOf tmds clockOf reference recommendedOf nearestK nearestIn nearestOf exactly coherentOf pairOf total aviFrame audioFrame audioOffFrame fields inRange isAllowed walk walked videoOutside videoCombined outside combined judged readOf pairFor merge classAt decided byte written middle isWritten finished column flat alreadyThere wantedImage wanted laterRefusal planWith bufferWith planOf planBuffer
+few-deep = (refl, refl)
 
 pub cases : MarkedCases
 unfolding flatMap steps divisorOf modeOf tmds clockOf reference recommendedOf nearestK nearestIn nearestOf exactly coherentOf pairOf total aviFrame aviOf audioFrame audioOf audioOffFrame fields inRange isAllowed codeOf previewOf walk walked videoOutside videoCombined outside combined judged readOf pairFor nctsOf lineOf digits acceptedText refusedText planOf
@@ -81,11 +85,18 @@ cases =
       nineDeep = refl;
       oneFamily = (refl, refl);
       depths = (refl, refl);
-      depthsAlone = (refl, refl);
+      depthsAlone = (refl, refl, refl);
+      rates = refl;
       deepWith422 = refl;
       deepWith444 = refl;
       deepOverDvi = (refl, refl);
       fourTimes = refl;
+      factors = refl;
+      bothRow = refl;
+      repeated422 = refl;
+      deepest422 = refl;
+      aviAlone = refl;
+      fewDeep = few-deep;
       few = few;
       encodings = refl;
       links = refl;

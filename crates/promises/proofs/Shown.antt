@@ -1,5 +1,6 @@
 -- An image in which a request ends shows the request's numbers. Assumes nothing.
 use mathlib.Core.Path.{_≡_, refl, sym, ap, subst, _∙_}
+use mathlib.Core.Logic.{⊎-elim}
 use mathlib.Core.Bool.{Bool, true, false, false≢true, cond}
 use mathlib.Core.List.{List, [], _∷_}
 use Prim.Native.Nat.{ℕ, zero, suc, _<_, _≤_}
@@ -9,8 +10,8 @@ use lib.ListN.{length, getD}
 use Rattle.lists.specs.Among.{among}
 use Rattle.bits.specs.Merge.{bitsIn}
 use Rattle.refusals.specs.Rows.{number, at, First}
-use Rattle.video.specs.Video.{depth}
-use Rattle.video.proofs.Fits.{range-fits, depth-fits}
+use Rattle.video.specs.Video.{depth, repetition}
+use Rattle.video.proofs.Fits.{range-fits, depth-fits, repetition-fits}
 use Rattle.request.specs.declared.Request.{Request}
 use Rattle.request.specs.declared.Checked.{Checked}
 use Rattle.request.specs.Sections.{longest}
@@ -24,7 +25,7 @@ use Rattle.decode.specs.Ends.{Ends}
 use Rattle.decode.specs.Decode.{decodeOf}
 use Rattle.decode.specs.Theorems.{decodeRules}
 use Rattle.decode.proofs.Answers.{exactly, refusals}
-use Rattle.promises.specs.Finished.{place, places, Shows, inQ, inCD, Finished}
+use Rattle.promises.specs.Finished.{place, places, Shows, inQ, inPR, depthNumbers, inCD, Finished}
 use Rattle.promises.specs.Rules.{FieldByField}
 use Rattle.promises.proofs.Filled.{filled, picked}
 
@@ -44,11 +45,14 @@ is-allowed encoding range h = go (eqb encoding 0)
     go true = two range h
     go false = refl
 
--- the codes of a depth
-abbrev codes : List ℕ
-codes = 0b0000 ∷ 0b0101 ∷ 0b0110 ∷ []
+-- the codes of a depth, and PR
+is-pr : (repetition : ℕ) → repetition ≤ 2 → among (inPR repetition) (0 ∷ 1 ∷ 3 ∷ []) ≡ true
+is-pr zero h = refl
+is-pr (suc zero) h = refl
+is-pr (suc (suc zero)) h = refl
+is-pr (suc (suc (suc n))) h = absurd (omega arith)
 
-is-code : (depth : ℕ) → depth ≤ 2 → among (inCD depth) codes ≡ true
+is-code : (depth : ℕ) → depth ≤ 2 → among (inCD depth) depthNumbers ≡ true
 is-code zero h = refl
 is-code (suc zero) h = refl
 is-code (suc (suc zero)) h = refl
@@ -82,11 +86,25 @@ module _ (image : List ℕ) (sized : length image ≡ 256) where
         rw (x, y) (is-allowed (r .video .encoding) (r .video .range) (range-fits (q .video) (fitting .video)))
 
     -- the depth
-    in-depth : among (bitsIn 3 0 (getD image 0x4C 0)) codes ≡ true
+    in-depth : among (bitsIn 3 0 (getD image 0x4C 0)) depthNumbers ≡ true
     in-depth =
         let at = picked (Shows image) (places q (nctsOf (asBytes q))) (in-fields .fields) in
         let x : bitsIn 3 0 (getD image 0x4C 0) ≡ inCD (depth (r .video)) = at 0x4C 3 refl in
         rw x (is-code (depth (r .video)) (depth-fits (q .video) (fitting .video)))
+
+    -- the repetition
+    in-pr : among (bitsIn 3 0 (getD image 0x59 0)) (0 ∷ 1 ∷ 3 ∷ []) ≡ true
+    in-pr =
+        let at = picked (Shows image) (places q (nctsOf (asBytes q))) (in-fields .fields) in
+        let x : bitsIn 3 0 (getD image 0x59 0) ≡ inPR (repetition (r .video)) = at 0x59 3 refl in
+        rw x (is-pr (repetition (r .video)) (repetition-fits (q .video) (fitting .video)))
+
+    in-both : bitsIn 4 3 (getD image 0x3B 0) ≡ bitsIn 2 1 (getD image 0x3B 0)
+    in-both =
+        let at = picked (Shows image) (places q (nctsOf (asBytes q))) (in-fields .fields) in
+        let x : bitsIn 4 3 (getD image 0x3B 0) ≡ repetition (r .video) = at 0x3B 4 refl in
+        let y : bitsIn 2 1 (getD image 0x3B 0) ≡ repetition (r .video) = at 0x3B 2 refl in
+        x ∙ sym y
 
 -- neither 7 nor 10 applies
 eleven : (image room : List ℕ) → length image ≡ 256 → longest ≤ length room → First (decodeRules image room) (decodeOf image room .refusal)
@@ -109,4 +127,8 @@ shown image = record {
   noDepth = λ sized none room long.
       eleven image room sized long (refusals image room .given .some (λ z.
       let a = exactly image room .only z in false≢true (sym none ∙ in-depth image sized (a .request) (a .ends))));
+  noRepetition = λ sized none room long.
+      eleven image room sized long (refusals image room .given .some (λ z.
+      let a = exactly image room .only z in
+      ⊎-elim (λ n. false≢true (sym n ∙ in-pr image sized (a .request) (a .ends))) (λ n. n (in-both image sized (a .request) (a .ends))) none));
 }

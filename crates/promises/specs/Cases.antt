@@ -3,7 +3,7 @@
 -- request 09.
 use mathlib.Core.Path.{_≡_}
 use mathlib.Core.Bool.{true, false}
-use mathlib.Core.List.{List, [], _∷_}
+use mathlib.Core.List.{List, [], _∷_, map}
 use Prim.Native.Nat.{ℕ, _*_, _∣_}
 use lib.Dec.{eqb}
 use lib.IntN.{negsuc}
@@ -23,7 +23,7 @@ use Rattle.request.specs.Sections.{lengths, longest}
 use Rattle.request.specs.Read.{readOf}
 use Rattle.plan.specs.Plan.{planOf}
 use Rattle.line.specs.Words.{ascii, lineText}
-use Rattle.promises.specs.Worked.{example, Few}
+use Rattle.promises.specs.Worked.{example, Few, FewDeep}
 
 -- Table 39 as a request has it: mode 1, A 3155, 2048, 0, -1578; B -938, 2048, -376, 657; C -1, 2048, 3717, -1858
 abbrev table39 : List ℕ
@@ -117,17 +117,22 @@ pub record MarkedCases : Type 0 where
   pub fullWithVic1 : lineText (0x06 ∷ 0x01 ∷ 0x00 ∷ 0x00 ∷ 0x01 ∷ 0x01 ∷ 0x00 ∷ 0x00 ∷ 0x00 ∷ [])
       ≡ ascii "accepted vic 1 n 6144 cts 0 avi 3e audio 71\n"
   pub limitedWithYCbCr : readOf (0x06 ∷ 0x10 ∷ 0x00 ∷ 0x02 ∷ 0x01 ∷ 0x00 ∷ 0x00 ∷ 0x00 ∷ 0x19 ∷ table39) .refusal ≡ 0
-  -- request 06: VIC 16, 36 bits, 48 kHz, coherent: 222.75 MHz, within the limit
+  -- request 06: every depth and every repetition, "under the same fraction": the clocks of VIC 1
+  pub factors : map (λ pixel. clockOf (deepRgb 1 0 pixel)) (0x00 ∷ 0x01 ∷ 0x02 ∷ 0x10 ∷ 0x11 ∷ 0x12 ∷ 0x20 ∷ 0x21 ∷ 0x22 ∷ [])
+      ≡ map hertz (25200000 ∷ 31500000 ∷ 37800000 ∷ 50400000 ∷ 63000000 ∷ 75600000 ∷ 100800000 ∷ 126000000 ∷ 151200000 ∷ [])
+  -- VIC 16, 36 bits, 48 kHz, coherent: 222.75 MHz, within the limit
   pub deep : (clockOf (deepRgb 16 0 0x02) ≡ hertz 222750000) × (pairOf (deepRgb 16 0 0x02) 2 1 ≡ thePair 6144 222750)
-  -- the recommended row is that of the clock: VIC 60 at 30 bits takes that of 74.25 MHz, VIC 17 twice that of 54 MHz; at 44.1 kHz
+  -- the recommended row is that of the clock: VIC 60 at 30 bits takes that of 74.25 MHz, and twice that of 148.5 MHz, where 5488, 144375 is
+  -- nearer; VIC 17 twice takes that of 54 MHz; at 44.1 kHz
   pub deepRow : (clockOf (deepRgb 60 0 0x01) ≡ hertz 74250000) × (pairOf (deepRgb 60 0 0x01) 1 1 ≡ thePair 6272 82500)
+  pub bothRow : pairOf (deepRgb 60 0 0x11) 1 1 ≡ thePair 6272 165000
   pub twiceRow : (clockOf (deepRgb 17 0 0x10) ≡ hertz 54000000) × (pairOf (deepRgb 17 0 0x10) 1 1 ≡ thePair 6272 60000)
   -- in lowest terms: VIC 2, family 1, is 27 MHz, and 33.75 MHz at 30 bits
   pub lowest : (clockOf (deepRgb 2 1 0x00) ≡ hertz 27000000) × (clockOf (deepRgb 2 1 0x01) ≡ hertz 33750000)
   -- "a clock above the limit is 17": VIC 16 twice; of 1 Hz too much, and not of the limit itself
   pub twice : (clockOf (deepRgb 16 0 0x10) .refusal ≡ 17) × (pairOf (deepRgb 16 0 0x10) 2 1 .refusal ≡ 17)
   pub limits : (aboveLimit (hertz 225000000) ≡ false) × (aboveLimit (hertz 225000001) ≡ true)
-  -- "after 6 and before 7": on no image, and with DVI and 30 bits
+  -- "after 6 and before 7": with no image at all; and where DVI has 30 bits too
   pub beforeSeven : planOf (asked16 0 1 0x10) [] [] .refusal ≡ 17
   pub afterSix : planOf (asked16 0 0 0x11) [] [] .refusal ≡ 6
   -- VIC 4, family 1, 30 bits, coherent: refused 9 at every rate
@@ -136,13 +141,20 @@ pub record MarkedCases : Type 0 where
   pub oneFamily : (pairOf (deepRgb 2 0 0x01) 0 1 .refusal ≡ 9) × (pairOf (deepRgb 2 1 0x01) 0 1 ≡ thePair 4096 33750)
   -- "a value outside its range is 5": the next number of each half, the repetition's in the AVI call too
   pub depths : (readOf (asked16 0 1 0x03) .refusal ≡ 5) × (readOf (asked16 0 1 0x30) .refusal ≡ 5)
-  pub depthsAlone : (clockOf (deepRgb 16 0 0x03) .refusal ≡ 5) × (aviOf (deepRgb 16 0 0x30) .refusal ≡ 5)
-  -- "more than 24 bits with 4:2:2 or DVI is 6"; not with 4:4:4, and repetition with neither; VIC 2 over DVI, four times, shows PR 3
+  pub depthsAlone : (clockOf (deepRgb 16 0 0x03) .refusal ≡ 5) × (clockOf (deepRgb 16 0 0x30) .refusal ≡ 5) × (aviOf (deepRgb 16 0 0x30) .refusal ≡ 5)
+  pub rates : pairOf (deepRgb 16 0 0x10) 7 1 .refusal ≡ 5
+  -- "more than 24 bits with 4:2:2 or DVI is 6", and not with 4:4:4; repetition is refused with neither. VIC 2 over DVI, four times, shows PR 3
   pub deepWith422 : readOf (0x06 ∷ 0x10 ∷ 0x00 ∷ 0x01 ∷ 0x01 ∷ 0x00 ∷ 0x01 ∷ 0x00 ∷ 0x19 ∷ table39) .refusal ≡ 6
+  pub deepest422 : readOf (0x06 ∷ 0x10 ∷ 0x00 ∷ 0x01 ∷ 0x01 ∷ 0x00 ∷ 0x02 ∷ 0x00 ∷ 0x19 ∷ table39) .refusal ≡ 6
+  pub repeated422 : readOf (0x06 ∷ 0x02 ∷ 0x00 ∷ 0x01 ∷ 0x01 ∷ 0x00 ∷ 0x20 ∷ 0x00 ∷ 0x19 ∷ table39) .refusal ≡ 0
   pub deepWith444 : readOf (0x06 ∷ 0x10 ∷ 0x00 ∷ 0x02 ∷ 0x01 ∷ 0x00 ∷ 0x02 ∷ 0x00 ∷ 0x19 ∷ table39) .refusal ≡ 0
   pub deepOverDvi : (readOf (asked16 0 0 0x01) .refusal ≡ 6) × (readOf (asked16 0 0 0x02) .refusal ≡ 6)
   pub fourTimes : lineText (0x06 ∷ 0x02 ∷ 0x00 ∷ 0x00 ∷ 0x00 ∷ 0x00 ∷ 0x20 ∷ 0x00 ∷ 0x00 ∷ [])
       ≡ ascii "accepted vic 2 n 6144 cts 0 avi 3e audio 71\n"
+  -- the AVI call looks neither at the depth nor at the clock
+  pub aviAlone : aviOf (deepRgb 16 0 0x13) .refusal ≡ 0
+  -- its lists in bare bytes
+  pub fewDeep : FewDeep
   -- request 09
   pub few : Few
   -- Lengths follow from the counts: document 01 had 7, 10, 32, 35, and each has two bytes more

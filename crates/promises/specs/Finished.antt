@@ -1,5 +1,5 @@
 -- Demand 2, "the finished image", field by field: the number that stands in each named field, in document 01's notation and in the order of
--- its sentence "Named: N, CTS, ..", with document 02's. No number of `places` comes from writes, from steps or from wanted bytes; `ordered` asks which
+-- its sentence "Named: N, CTS, ..", with the fields of document 02 last. No number of `places` comes from writes, from steps or from wanted bytes; `ordered` asks which
 -- registers are written, and `NeverThree` is about the writes.
 use mathlib.Core.Path.{_≡_}
 use mathlib.Core.Logic.{_≢_}
@@ -65,12 +65,16 @@ inM vic = cond (among vic (1 ∷ 2 ∷ 17 ∷ [])) 1 2
 abbrev pub inQ : ℕ → ℕ → ℕ
 inQ encoding range = cond (eqb encoding 0) (getD (1 ∷ 2 ∷ []) range 0) 0
 
--- request 06: "PR follow[s]" the repetition, "none, 2, 4", and counts the repeats, so it is one less; the general control field for the depth
+-- request 06: "0x3B[4:1] and PR follow" the repetition, "none, 2, 4"; PR counts the repeats, so it is one less. And "The general control
+-- fields for depth", at 24, 30 and 36 bits
 abbrev pub inPR : ℕ → ℕ
 inPR repetition = times repetition - 1
 
+abbrev pub depthNumbers : List ℕ
+depthNumbers = 0b0000 ∷ 0b0101 ∷ 0b0110 ∷ []
+
 abbrev pub inCD : ℕ → ℕ
-inCD depth = getD (0b0000 ∷ 0b0101 ∷ 0b0110 ∷ []) depth 0
+inCD depth = getD depthNumbers depth 0
 
 -- "CC is channels less one; CA is 0x00 for 2 and 0x13 for 8; the rest 0." "Audio off: payload all 0."
 abbrev pub inCC : Sound → ℕ

@@ -1,6 +1,6 @@
 -- Demand 2, of the planning and the decoding entry.
 use mathlib.Core.Path.{_≡_}
-use mathlib.Core.Logic.{_↔_}
+use mathlib.Core.Logic.{_↔_, _≢_, _⊎_}
 use mathlib.Core.Bool.{false, cond}
 use mathlib.Core.List.{List, [], _∷_, _++_}
 use Prim.Native.Nat.{ℕ, _+_, _<_, _≤_}
@@ -26,7 +26,7 @@ use Rattle.decode.specs.Theorems.{Answered}
 use Rattle.cut.specs.Run.{Event, run, writesOf}
 use Rattle.writes.specs.Order.{Order}
 use Rattle.writes.specs.Carried.{Entries}
-use Rattle.promises.specs.Finished.{Finished, Paired, NeverThree}
+use Rattle.promises.specs.Finished.{depthNumbers, Finished, Paired, NeverThree}
 use Rattle.promises.specs.LentBytes.{pairsLeft}
 
 -- what the request wants in each register
@@ -91,6 +91,9 @@ pub record FieldByField (image : List ℕ) : Type 0 where
   pub noRange : length image ≡ 256
       → among (bitsIn 3 2 (getD image 0x57 0)) (cond (eqb (bitsIn 6 5 (getD image 0x55 0)) 0) (1 ∷ 2 ∷ []) (0 ∷ [])) ≡ false
       → (room : List ℕ) → longest ≤ length room → decodeOf image room .refusal ≡ 11
-  -- and so does a depth other than that of 24, 30 or 36 bits
-  pub noDepth : length image ≡ 256 → among (bitsIn 3 0 (getD image 0x4C 0)) (0b0000 ∷ 0b0101 ∷ 0b0110 ∷ []) ≡ false
+  -- and so do a depth other than that of 24, 30 or 36 bits, a PR of no repetition, and two fields of 0x3B that differ
+  pub noDepth : length image ≡ 256 → among (bitsIn 3 0 (getD image 0x4C 0)) depthNumbers ≡ false
+      → (room : List ℕ) → longest ≤ length room → decodeOf image room .refusal ≡ 11
+  pub noRepetition : length image ≡ 256
+      → (among (bitsIn 3 0 (getD image 0x59 0)) (0 ∷ 1 ∷ 3 ∷ []) ≡ false) ⊎ (bitsIn 4 3 (getD image 0x3B 0) ≢ bitsIn 2 1 (getD image 0x3B 0))
       → (room : List ℕ) → longest ≤ length room → decodeOf image room .refusal ≡ 11

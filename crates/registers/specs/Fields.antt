@@ -43,7 +43,7 @@ namedFields =
     -- "CSC with its hold"
     field csc cscEnableMask ∷ field csc cscScalingFactorMask ∷ field coefficientUpdate coefficientUpdateMask ∷ [] ++
     coefficients csc 12 ++
-    -- "0x3B[6:5] = 2 with [4:1]"
+    -- "0x3B[6:5] = 2 with [4:1] = 0"; since request 06 [4:1] follows the repetition
     field pixelRepetition prModeMask ∷ field pixelRepetition prPllManualMask ∷ field pixelRepetition prValueManualMask ∷
     -- "VIC in 0x3C[5:0], the GC enable 0x40[7]"
     field vicManual vicManualMask ∷ field packetEnable0 gcPacketEnableMask ∷

@@ -52,7 +52,7 @@ readOnlyFields =
     ro 0x42 3 3 ∷  -- I2S 32 Bit Mode Detect
     ro 0x42 2 2 ∷  -- Fixed
     ro 0x4C 7 4 ∷  -- Pixel Packing
-    ro 0x4C 3 0 ∷  -- Color Depth
+    ro 0x4C 3 0 ∷  -- Color Depth; named by request 06
     ro 0x9E 4 4 ∷  -- PLL Lock Status
     ro 0x9E 3 0 ∷  -- Fixed
     ro 0xA0 7 0 ∷  -- Fixed

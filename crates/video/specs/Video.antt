@@ -14,7 +14,7 @@ use Rattle.video.specs.declared.Video.{Video}
 abbrev pub videoCount : ℕ
 videoCount = 6
 
--- what a body asks for, and the body that asks for it
+-- what a body asks for, and the body that asks for it; `pixel` is the depth byte whole
 abbrev pub videoIn : List ℕ → Video
 videoIn body =
     record {
@@ -36,6 +36,10 @@ depth v = v .pixel % 16
 
 abbrev pub repetition : Video → ℕ
 repetition v = v .pixel / 16
+
+-- the largest number of either half
+abbrev pub halfMost : ℕ
+halfMost = 2
 
 -- what stands beside a refusal: each field 0
 abbrev pub noVideo : Video
@@ -59,14 +63,14 @@ pub record Body : Type 0 where
 -- row 5, of this section: "any other field outside its range"; request 01: "range above 1 is refusal 5"; request 06: "a value outside its
 -- range is 5". First of the fields that the AVI InfoFrame shows, then of all; the VIC and the family are row 4's (`offered`, Modes).
 abbrev pub ShownOutside : Video → Type 0
-ShownOutside v = (2 < v .encoding) ⊎ (1 < v .range) ⊎ (2 < repetition v)
+ShownOutside v = (2 < v .encoding) ⊎ (1 < v .range) ⊎ (halfMost < repetition v)
 
 abbrev pub VideoOutside : Video → Type 0
-VideoOutside v = (1 < v .link) ⊎ (2 < depth v) ⊎ ShownOutside v
+VideoOutside v = (1 < v .link) ⊎ (halfMost < depth v) ⊎ ShownOutside v
 
 -- and of the fields from which the clock is made
 abbrev pub PixelOutside : Video → Type 0
-PixelOutside v = (2 < depth v) ⊎ (2 < repetition v)
+PixelOutside v = (halfMost < depth v) ⊎ (halfMost < repetition v)
 
 -- row 6, of this section alone: request 01, "range 1 with YCbCr is refusal 6"; request 06, "more than 24 bits with 4:2:2 or DVI is 6";
 -- "DVI .. with encoding not 0"
@@ -81,13 +85,13 @@ VideoCombined v = ((v .link ≡ 0) × (v .encoding ≢ 0)) ⊎ FullYCbCr v ⊎ D
 
 -- the tests that decide them, as `request::rows`, `frames::frame_refusals` and `clock::clock_refusals` say
 abbrev pub shownOutside : Video → Bool
-shownOutside v = ltb 2 (v .encoding) || (ltb 1 (v .range) || ltb 2 (repetition v))
+shownOutside v = ltb 2 (v .encoding) || (ltb 1 (v .range) || ltb halfMost (repetition v))
 
 unfoldable pub videoOutside : Video → Bool
-videoOutside v = ltb 1 (v .link) || (ltb 2 (depth v) || shownOutside v)
+videoOutside v = ltb 1 (v .link) || (ltb halfMost (depth v) || shownOutside v)
 
 abbrev pub pixelOutside : Video → Bool
-pixelOutside v = ltb 2 (depth v) || ltb 2 (repetition v)
+pixelOutside v = ltb halfMost (depth v) || ltb halfMost (repetition v)
 
 abbrev pub fullYCbCr : Video → Bool
 fullYCbCr v = eqb (v .range) 1 && not (eqb (v .encoding) 0)
