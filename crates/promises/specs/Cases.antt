@@ -42,6 +42,10 @@ rgbOverHdmi vic family = deepRgb vic family 0x00
 abbrev asked16 : ℕ → ℕ → ℕ → List ℕ
 asked16 encoding link pixel = 0x06 ∷ 0x10 ∷ 0x00 ∷ encoding ∷ link ∷ 0x00 ∷ pixel ∷ 0x00 ∷ 0x00 ∷ []
 
+-- a request for VIC 2, family 0, over HDMI with that matrix: the encoding and the depth byte
+abbrev converted2 : ℕ → ℕ → List ℕ
+converted2 encoding pixel = 0x06 ∷ 0x02 ∷ 0x00 ∷ encoding ∷ 0x01 ∷ 0x00 ∷ pixel ∷ 0x00 ∷ 0x19 ∷ table39
+
 -- a clock of so many Hz
 abbrev hertz : ℕ → Clock
 hertz n = record { refusal = 0; num = n; den = 1 }
@@ -144,13 +148,16 @@ pub record MarkedCases : Type 0 where
   pub depthsAlone : (clockOf (deepRgb 16 0 0x03) .refusal ≡ 5) × (clockOf (deepRgb 16 0 0x30) .refusal ≡ 5) × (aviOf (deepRgb 16 0 0x30) .refusal ≡ 5)
   pub rates : pairOf (deepRgb 16 0 0x10) 7 1 .refusal ≡ 5
   -- "more than 24 bits with 4:2:2 or DVI is 6", and not with 4:4:4; repetition is refused with neither. VIC 2 over DVI, four times, shows PR 3
-  pub deepWith422 : readOf (0x06 ∷ 0x10 ∷ 0x00 ∷ 0x01 ∷ 0x01 ∷ 0x00 ∷ 0x01 ∷ 0x00 ∷ 0x19 ∷ table39) .refusal ≡ 6
-  pub deepest422 : readOf (0x06 ∷ 0x10 ∷ 0x00 ∷ 0x01 ∷ 0x01 ∷ 0x00 ∷ 0x02 ∷ 0x00 ∷ 0x19 ∷ table39) .refusal ≡ 6
-  pub repeated422 : readOf (0x06 ∷ 0x02 ∷ 0x00 ∷ 0x01 ∷ 0x01 ∷ 0x00 ∷ 0x20 ∷ 0x00 ∷ 0x19 ∷ table39) .refusal ≡ 0
-  pub deepWith444 : readOf (0x06 ∷ 0x10 ∷ 0x00 ∷ 0x02 ∷ 0x01 ∷ 0x00 ∷ 0x02 ∷ 0x00 ∷ 0x19 ∷ table39) .refusal ≡ 0
+  pub deepWith422 : (readOf (converted2 1 0x01) .refusal ≡ 6) × (readOf (converted2 1 0x02) .refusal ≡ 6)
+  pub deepWith444 : (readOf (converted2 2 0x01) .refusal ≡ 0) × (readOf (converted2 2 0x02) .refusal ≡ 0)
+  pub repeatedYCbCr : (readOf (converted2 1 0x20) .refusal ≡ 0) × (readOf (converted2 2 0x21) .refusal ≡ 0)
   pub deepOverDvi : (readOf (asked16 0 0 0x01) .refusal ≡ 6) × (readOf (asked16 0 0 0x02) .refusal ≡ 6)
   pub fourTimes : lineText (0x06 ∷ 0x02 ∷ 0x00 ∷ 0x00 ∷ 0x00 ∷ 0x00 ∷ 0x20 ∷ 0x00 ∷ 0x00 ∷ [])
       ≡ ascii "accepted vic 2 n 6144 cts 0 avi 3e audio 71\n"
+  -- RGB at 30 bits; and in both halves, VIC 2, family 1, 36 bits, four times, 48 kHz, coherent: 162 MHz
+  pub deepRgb30 : readOf (asked16 0 1 0x01) .refusal ≡ 0
+  pub bothHalves : lineText (0x06 ∷ 0x02 ∷ 0x01 ∷ 0x00 ∷ 0x01 ∷ 0x00 ∷ 0x22 ∷ 0x03 ∷ 0x02 ∷ 0x02 ∷ 0x01 ∷ 0x00 ∷ [])
+      ≡ ascii "accepted vic 2 n 6144 cts 162000 avi 3e audio 70\n"
   -- the AVI call looks neither at the depth nor at the clock
   pub aviAlone : aviOf (deepRgb 16 0 0x13) .refusal ≡ 0
   -- its lists in bare bytes
