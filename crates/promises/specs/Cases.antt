@@ -143,7 +143,7 @@ pub record MarkedCases : Type 0 where
   pub nineDeep : every (λ rate. eqb (pairOf (deepRgb 4 1 0x01) rate 1 .refusal) 9) (0 ∷ 1 ∷ 2 ∷ 3 ∷ 4 ∷ 5 ∷ 6 ∷ []) ≡ true
   -- "Family is answered as 0", and that may be refused 9 where family 1 is accepted: VIC 2, 30 bits, 32 kHz, coherent
   pub oneFamily : (pairOf (deepRgb 2 0 0x01) 0 1 .refusal ≡ 9) × (pairOf (deepRgb 2 1 0x01) 0 1 ≡ thePair 4096 33750)
-  -- "a value outside its range is 5": the next number of each half, the repetition's in the AVI call too
+  -- "a value outside its range is 5": the next number of each half, the repetition's in the AVI call too; and before 17, a rate of 7
   pub depths : (readOf (asked16 0 1 0x03) .refusal ≡ 5) × (readOf (asked16 0 1 0x30) .refusal ≡ 5)
   pub depthsAlone : (clockOf (deepRgb 16 0 0x03) .refusal ≡ 5) × (clockOf (deepRgb 16 0 0x30) .refusal ≡ 5) × (aviOf (deepRgb 16 0 0x30) .refusal ≡ 5)
   pub rates : pairOf (deepRgb 16 0 0x10) 7 1 .refusal ≡ 5
