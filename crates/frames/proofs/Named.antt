@@ -2,11 +2,12 @@
 use mathlib.Core.Path.{_≡_, refl, sym}
 use mathlib.Core.Bool.{Bool, true, false, cond}
 use mathlib.Core.List.{[], _∷_}
-use Prim.Native.Nat.{ℕ, zero, suc, _+_, _*_, _/_, _%_, _≤_}
+use Prim.Native.Nat.{ℕ, _+_, _*_, _/_, _%_, _≤_}
 use native.Mathlib.Omega.{arith}
 use lib.Dec.{eqb}
 use lib.ListN.{getD}
 use borrow.Author.Tests.{eqb-true, eqb-false}
+use Rattle.bits.proofs.Below.{at-below}
 use Rattle.video.specs.declared.Video.{Video}
 use Rattle.video.specs.Fits.{VideoFits}
 use Rattle.video.specs.Video.{depth, repetition}
@@ -25,10 +26,7 @@ range-back v f = go (eqb (v .encoding) 0) refl (eqb (v .range) 0) refl
 
 -- the repetition by PR
 repetition-back : (n : ℕ) → n ≤ 2 → (getD (0 ∷ 1 ∷ 3 ∷ []) n 0 % 16 + 1) / 2 ≡ n
-repetition-back zero h = refl
-repetition-back (suc zero) h = refl
-repetition-back (suc (suc zero)) h = refl
-repetition-back (suc (suc (suc n))) h = absurd (omega arith)
+repetition-back n h = eqb-true _ _ (at-below (λ n. eqb ((getD (0 ∷ 1 ∷ 3 ∷ []) n 0 % 16 + 1) / 2) n) 3 n refl (omega arith))
 
 pixel-back : (v : Video) → VideoFits v → (repeats v % 16 + 1) / 2 * 16 + depth v % 16 ≡ v .pixel
 pixel-back v f = rw (repetition-back (repetition v) (repetition-fits v f)) (omega arith)

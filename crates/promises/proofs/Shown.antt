@@ -9,6 +9,7 @@ use lib.Dec.{eqb}
 use lib.ListN.{length, getD}
 use Rattle.lists.specs.Among.{among}
 use Rattle.bits.specs.Merge.{bitsIn}
+use Rattle.bits.proofs.Below.{at-below}
 use Rattle.refusals.specs.Rows.{number, at, First}
 use Rattle.video.specs.Video.{depth, repetition}
 use Rattle.video.proofs.Fits.{range-fits, depth-fits, repetition-fits}
@@ -47,16 +48,10 @@ is-allowed encoding range h = go (eqb encoding 0)
 
 -- the codes of a depth, and PR
 is-pr : (repetition : ℕ) → repetition ≤ 2 → among (inPR repetition) (0 ∷ 1 ∷ 3 ∷ []) ≡ true
-is-pr zero h = refl
-is-pr (suc zero) h = refl
-is-pr (suc (suc zero)) h = refl
-is-pr (suc (suc (suc n))) h = absurd (omega arith)
+is-pr repetition h = at-below (λ n. among (inPR n) (0 ∷ 1 ∷ 3 ∷ [])) 3 repetition refl (omega arith)
 
 is-code : (depth : ℕ) → depth ≤ 2 → among (inCD depth) depthNumbers ≡ true
-is-code zero h = refl
-is-code (suc zero) h = refl
-is-code (suc (suc zero)) h = refl
-is-code (suc (suc (suc n))) h = absurd (omega arith)
+is-code depth h = at-below (λ n. among (inCD n) depthNumbers) 3 depth refl (omega arith)
 
 module _ (image : List ℕ) (sized : length image ≡ 256) where
   module _ (r : Request) (e : Ends r image) where

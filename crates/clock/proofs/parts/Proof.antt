@@ -1,23 +1,21 @@
 -- `clock::parts` meets its contract. Assumes nothing.
 use mathlib.Core.Path.{_≡_, refl}
-use Prim.Native.Nat.{ℕ, zero, suc, _+_, _≤_}
+use mathlib.Core.Logic.{_≢_}
+use Prim.Native.Nat.{ℕ, _+_, _≤_}
 use native.Mathlib.Omega.{arith}
+use lib.Dec.{eqb}
 use borrow.Author.Needs.{needs}
+use borrow.Author.Tests.{eqb-true}
+use Rattle.bits.proofs.Below.{at-below}
 use Rattle.clock.specs.Clocks.{quarters}
 use Rattle.clock.proofs.parts.Statement.{statement}
 use Rattle.clock.proofs.parts.Tie as tie
 
 in-quarters : (depth : ℕ) → depth ≤ 2 → quarters depth ≡ 4 + depth
-in-quarters zero h = refl
-in-quarters (suc zero) h = refl
-in-quarters (suc (suc zero)) h = refl
-in-quarters (suc (suc (suc d))) h = absurd (omega arith)
+in-quarters depth h = eqb-true _ _ (at-below (λ d. eqb (quarters d) (4 + d)) 3 depth refl (omega arith))
 
-two : (r : ℕ) → r ≤ 2 → (r ≡ 0 → ⊥) → (r ≡ 1 → ⊥) → r ≡ 2
-two zero h a b = absurd (a refl)
-two (suc zero) h a b = absurd (b refl)
-two (suc (suc zero)) h a b = refl
-two (suc (suc (suc r))) h a b = absurd (omega arith)
+two : (r : ℕ) → r ≤ 2 → r ≢ 0 → r ≢ 1 → r ≡ 2
+two r h a b = omega (arith, a, b)
 
 add-quarters : tie.Need-add-quarters
 add-quarters c = search needs
