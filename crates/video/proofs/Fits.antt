@@ -3,7 +3,7 @@ use mathlib.Core.Path.{_≡_, refl}
 use mathlib.Core.Logic.{_≢_, inl, inr, ⊎-elim}
 use mathlib.Core.Bool.{Bool, true, false, cond, _&&_}
 use mathlib.Core.List.{List, [], _∷_}
-use Prim.Native.Nat.{ℕ, _<_, _≤_}
+use Prim.Native.Nat.{ℕ, _/_, _<_, _≤_}
 use native.Mathlib.Omega.{arith}
 use lib.Dec.{eqb, ltb, leb}
 use borrow.Author.Tests.{eqb-true, eqb-false, ltb-true, ltb-false, leb-true}
@@ -13,12 +13,17 @@ use Rattle.lists.proofs.Decides.{Decides, equal, less, opposite, either, togeth
 use Rattle.video.specs.declared.Mode.{Mode}
 use Rattle.video.specs.declared.Video.{Video}
 use Rattle.video.specs.Modes.{modes, rowOf, modeOf, offered}
-use Rattle.video.specs.Video.{depth, repetition, ShownOutside, VideoOutside, PixelOutside, FullYCbCr, DeepApart, VideoCombined}
-use Rattle.video.specs.Video.{shownOutside, videoOutside, pixelOutside, fullYCbCr, deepApart, videoCombined}
+use Rattle.video.specs.Video.{depth, repetition, edition, yccQuantisation, contentType, AsksE, EditionOutside, ShownOutside, VideoOutside, PixelOutside}
+use Rattle.video.specs.Video.{FullYCbCr, DeepApart, AskedUnderD, ShownCombined, VideoCombined, editionOutside, shownOutside, videoOutside, pixelOutside}
+use Rattle.video.specs.Video.{fullYCbCr, deepApart, askedUnderD, shownCombined, videoCombined}
 use Rattle.video.specs.Fits.{VideoFits}
 
+is-edition-outside : (v : Video) → Decides (editionOutside v) (EditionOutside v)
+is-edition-outside v = either (less 1 (edition v)) (either (less 1 (yccQuantisation v)) (less 0 (v .infoframe / 64)))
+
 pub is-shown-outside : (v : Video) → Decides (shownOutside v) (ShownOutside v)
-is-shown-outside v = either (less 2 (v .encoding)) (either (less 1 (v .range)) (less 2 (repetition v)))
+unfolding shownOutside
+is-shown-outside v = either (less 2 (v .encoding)) (either (less 1 (v .range)) (either (less 2 (repetition v)) (is-edition-outside v)))
 
 pub is-outside : (v : Video) → Decides (videoOutside v) (VideoOutside v)
 unfolding videoOutside
@@ -27,19 +32,26 @@ is-outside v = either (less 1 (v .link)) (either (less 2 (depth v)) (is-shown-ou
 pub is-pixel-outside : (v : Video) → Decides (pixelOutside v) (PixelOutside v)
 is-pixel-outside v = either (less 2 (depth v)) (less 2 (repetition v))
 
-pub is-full : (v : Video) → Decides (fullYCbCr v) (FullYCbCr v)
+is-full : (v : Video) → Decides (fullYCbCr v) (FullYCbCr v)
 is-full v = together (equal (v .range) 1) (opposite (equal (v .encoding) 0))
 
 -- what is outside for the clock is outside
 pub pixel-inside : (v : Video) → videoOutside v ≡ false → pixelOutside v ≡ false
-pixel-inside v e = refuted (is-pixel-outside v) (λ h. is-outside v .fails e (⊎-elim (λ d. inr (inl d)) (λ r. inr (inr (inr (inr r)))) h))
+pixel-inside v e = refuted (is-pixel-outside v) (λ h. is-outside v .fails e (⊎-elim (λ d. inr (inl d)) (λ r. inr (inr (inr (inr (inl r))))) h))
 
 pub is-deep : (v : Video) → Decides (deepApart v) (DeepApart v)
 is-deep v = together (opposite (equal (depth v) 0)) (either (equal (v .encoding) 1) (equal (v .link) 0))
 
+is-under-d : (v : Video) → Decides (askedUnderD v) (AskedUnderD v)
+is-under-d v = together (equal (edition v) 0) (either (opposite (equal (yccQuantisation v) 0)) (opposite (equal (contentType v) 0)))
+
+pub is-shown-combined : (v : Video) → Decides (shownCombined v) (ShownCombined v)
+unfolding shownCombined
+is-shown-combined v = either (is-full v) (is-under-d v)
+
 pub is-combined : (v : Video) → Decides (videoCombined v) (VideoCombined v)
 unfolding videoCombined
-is-combined v = either (together (equal (v .link) 0) (opposite (equal (v .encoding) 0))) (either (is-full v) (is-deep v))
+is-combined v = either (together (equal (v .link) 0) (opposite (equal (v .encoding) 0))) (either (is-deep v) (is-shown-combined v))
 
 -- ---- a mode that is offered is one of the table's
 
@@ -95,11 +107,26 @@ module _ (v : Video) (f : VideoFits v) where
   depth-fits = at-most 2 (depth v) (λ h. f .inside (inr (inl h)))
 
   pub repetition-fits : repetition v ≤ 2
-  repetition-fits = at-most 2 (repetition v) (λ h. f .inside (inr (inr (inr (inr h)))))
+  repetition-fits = at-most 2 (repetition v) (λ h. f .inside (inr (inr (inr (inr (inl h))))))
+
+  edition-inside : EditionOutside v → ⊥
+  edition-inside h = f .inside (inr (inr (inr (inr (inr h)))))
+
+  pub edition-fits : edition v ≤ 1
+  edition-fits = at-most 1 (edition v) (λ h. edition-inside (inl h))
+
+  pub ycc-fits : yccQuantisation v ≤ 1
+  ycc-fits = at-most 1 (yccQuantisation v) (λ h. edition-inside (inr (inl h)))
+
+  pub no-more : v .infoframe / 64 ≤ 0
+  no-more = at-most 0 (v .infoframe / 64) (λ h. edition-inside (inr (inr h)))
+
+  pub asked-under-e : AsksE v → edition v ≢ 0
+  asked-under-e asks e = f .apart (inr (inr (inr (e, asks))))
 
   pub range-limited : v .encoding ≢ 0 → v .range ≡ 0
   range-limited h = go (eqb (v .range) 1) refl
     where
       go : (b : Bool) → eqb (v .range) 1 ≡ b → v .range ≡ 0
-      go true e = absurd (f .apart (inr (inl (eqb-true (v .range) 1 e, h))))
+      go true e = absurd (f .apart (inr (inr (inl (eqb-true (v .range) 1 e, h)))))
       go false e = omega (arith, range-fits, eqb-false (v .range) 1 e)

@@ -1,3 +1,4 @@
 pub mod Listed
 pub mod Bodies
 pub mod Fits
+pub mod Alike

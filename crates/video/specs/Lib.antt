@@ -1,3 +1,4 @@
 pub mod Modes
 pub mod Video
 pub mod Fits
+pub mod Exception

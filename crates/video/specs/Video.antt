@@ -1,8 +1,8 @@
--- Document 01, "The request": the video section, with the range byte of document 02, request 01, and the depth byte of request 06. A later
--- byte of it is a field here.
+-- Document 01, "The request": the video section, with the range byte of document 02, request 01, the depth byte of request 06, and the
+-- edition byte of request 11. A later byte of it is a field here.
 use mathlib.Core.Path.{_≡_}
 use mathlib.Core.Logic.{_≢_, _⊎_}
-use mathlib.Core.Bool.{Bool, not, _&&_, _||_}
+use mathlib.Core.Bool.{Bool, cond, not, _&&_, _||_}
 use mathlib.Core.List.{List, [], _∷_}
 use Prim.Native.Nat.{ℕ, _/_, _%_, _<_}
 use lib.Dec.{eqb, ltb}
@@ -10,11 +10,11 @@ use lib.ListN.{getD, length}
 use Rattle.video.specs.declared.Video.{Video}
 
 -- "Video, count ..: VIC; family ..; encoding ..; link .."; request 01: "The video section gains a range byte (0 limited, 1 full; count 5)";
--- request 06: "Depth is a byte at the end of the video section"
+-- request 06: "Depth is a byte at the end of the video section"; request 11: "One byte at the end of the video section"
 abbrev pub videoCount : ℕ
-videoCount = 6
+videoCount = 7
 
--- what a body asks for, and the body that asks for it; `pixel` is the depth byte whole
+-- what a body asks for, and the body that asks for it; `pixel` is the depth byte whole, `infoframe` the edition byte whole
 abbrev pub videoIn : List ℕ → Video
 videoIn body =
     record {
@@ -24,10 +24,11 @@ videoIn body =
       link = getD body 3 0;
       range = getD body 4 0;
       pixel = getD body 5 0;
+      infoframe = getD body 6 0;
     }
 
 abbrev pub videoBody : Video → List ℕ
-videoBody v = v .vic ∷ v .family ∷ v .encoding ∷ v .link ∷ v .range ∷ v .pixel ∷ []
+videoBody v = v .vic ∷ v .family ∷ v .encoding ∷ v .link ∷ v .range ∷ v .pixel ∷ v .infoframe ∷ []
 
 -- request 06: the depth is the byte's "lower half", 0, 1 or 2 for 24, 30 and 36 bits; "Pixel repetition (none, 2, 4)" is 0, 1 or 2 "in that
 -- byte's upper half"
@@ -41,6 +42,21 @@ repetition v = v .pixel / 16
 abbrev pub halfMost : ℕ
 halfMost = 2
 
+-- request 11: the edition byte "names the edition in bits 1:0, the quantisation in 3:2 and the content type in 5:4"; an edition is 0 for
+-- 861-D and 1 for 861-E
+abbrev pub edition : Video → ℕ
+edition v = v .infoframe % 4
+
+abbrev pub yccQuantisation : Video → ℕ
+yccQuantisation v = v .infoframe / 4 % 4
+
+abbrev pub contentType : Video → ℕ
+contentType v = v .infoframe / 16 % 4
+
+-- E's bits: it asks for either of the two
+abbrev pub AsksE : Video → Type 0
+AsksE v = (yccQuantisation v ≢ 0) ⊎ (contentType v ≢ 0)
+
 -- what stands beside a refusal: each field 0
 abbrev pub noVideo : Video
 noVideo = videoIn []
@@ -48,11 +64,32 @@ noVideo = videoIn []
 -- the same in another family
 abbrev pub inFamily : ℕ → Video → Video
 inFamily family v =
-    record { vic = v .vic; family = family; encoding = v .encoding; link = v .link; range = v .range; pixel = v .pixel }
+    record {
+      vic = v .vic;
+      family = family;
+      encoding = v .encoding;
+      link = v .link;
+      range = v .range;
+      pixel = v .pixel;
+      infoframe = v .infoframe;
+    }
 
--- "the same request, but for the frame-rate family": "Family is answered as 0"
+-- "the same request, but for the frame-rate family": "Family is answered as 0"; and request 11's one exception more: "an E request that
+-- asks for none of them reads back as D". That byte is 0x01, and D's 0x00. `Exception` says that nothing else is lost.
+abbrev pub answeredEdition : ℕ → ℕ
+answeredEdition byte = cond (eqb byte 0x01) 0x00 byte
+
 abbrev pub answered : Video → Video
-answered = inFamily 0
+answered v =
+    record {
+      vic = v .vic;
+      family = 0;
+      encoding = v .encoding;
+      link = v .link;
+      range = v .range;
+      pixel = v .pixel;
+      infoframe = answeredEdition (v .infoframe);
+    }
 
 -- a body of that count and what it asks for say the same
 pub record Body : Type 0 where
@@ -61,9 +98,13 @@ pub record Body : Type 0 where
   pub whole : (body : List ℕ) → length body ≡ videoCount → videoBody (videoIn body) ≡ body
 
 -- row 5, of this section: "any other field outside its range"; request 01: "range above 1 is refusal 5"; request 06: "a value outside its
--- range is 5". First of the fields that the AVI InfoFrame shows, then of all; the VIC and the family are row 4's (`offered`, Modes).
+-- range is 5"; request 11: "edition or quantisation above 1, or bits 7:6, is 5". First of the edition byte and of the fields that the AVI
+-- InfoFrame shows, then of all; the VIC and the family are row 4's (`offered`, Modes).
+abbrev pub EditionOutside : Video → Type 0
+EditionOutside v = (1 < edition v) ⊎ (1 < yccQuantisation v) ⊎ (0 < v .infoframe / 64)
+
 abbrev pub ShownOutside : Video → Type 0
-ShownOutside v = (2 < v .encoding) ⊎ (1 < v .range) ⊎ (halfMost < repetition v)
+ShownOutside v = (2 < v .encoding) ⊎ (1 < v .range) ⊎ (halfMost < repetition v) ⊎ EditionOutside v
 
 abbrev pub VideoOutside : Video → Type 0
 VideoOutside v = (1 < v .link) ⊎ (halfMost < depth v) ⊎ ShownOutside v
@@ -73,19 +114,28 @@ abbrev pub PixelOutside : Video → Type 0
 PixelOutside v = (halfMost < depth v) ⊎ (halfMost < repetition v)
 
 -- row 6, of this section alone: request 01, "range 1 with YCbCr is refusal 6"; request 06, "more than 24 bits with 4:2:2 or DVI is 6";
--- "DVI .. with encoding not 0"
+-- request 11, "E's bits under D are 6"; "DVI .. with encoding not 0". Of what the AVI InfoFrame shows, then of all
 abbrev pub FullYCbCr : Video → Type 0
 FullYCbCr v = (v .range ≡ 1) × (v .encoding ≢ 0)
 
 abbrev pub DeepApart : Video → Type 0
 DeepApart v = (depth v ≢ 0) × ((v .encoding ≡ 1) ⊎ (v .link ≡ 0))
 
+abbrev pub AskedUnderD : Video → Type 0
+AskedUnderD v = (edition v ≡ 0) × AsksE v
+
+abbrev pub ShownCombined : Video → Type 0
+ShownCombined v = FullYCbCr v ⊎ AskedUnderD v
+
 abbrev pub VideoCombined : Video → Type 0
-VideoCombined v = ((v .link ≡ 0) × (v .encoding ≢ 0)) ⊎ FullYCbCr v ⊎ DeepApart v
+VideoCombined v = ((v .link ≡ 0) × (v .encoding ≢ 0)) ⊎ DeepApart v ⊎ ShownCombined v
 
 -- the tests that decide them, as `request::rows`, `frames::frame_refusals` and `clock::clock_refusals` say
-abbrev pub shownOutside : Video → Bool
-shownOutside v = ltb 2 (v .encoding) || (ltb 1 (v .range) || ltb halfMost (repetition v))
+abbrev pub editionOutside : Video → Bool
+editionOutside v = ltb 1 (edition v) || (ltb 1 (yccQuantisation v) || ltb 0 (v .infoframe / 64))
+
+unfoldable pub shownOutside : Video → Bool
+shownOutside v = ltb 2 (v .encoding) || (ltb 1 (v .range) || (ltb halfMost (repetition v) || editionOutside v))
 
 unfoldable pub videoOutside : Video → Bool
 videoOutside v = ltb 1 (v .link) || (ltb halfMost (depth v) || shownOutside v)
@@ -99,5 +149,11 @@ fullYCbCr v = eqb (v .range) 1 && not (eqb (v .encoding) 0)
 abbrev pub deepApart : Video → Bool
 deepApart v = not (eqb (depth v) 0) && (eqb (v .encoding) 1 || eqb (v .link) 0)
 
+abbrev pub askedUnderD : Video → Bool
+askedUnderD v = eqb (edition v) 0 && (not (eqb (yccQuantisation v) 0) || not (eqb (contentType v) 0))
+
+unfoldable pub shownCombined : Video → Bool
+shownCombined v = fullYCbCr v || askedUnderD v
+
 unfoldable pub videoCombined : Video → Bool
-videoCombined v = (eqb (v .link) 0 && not (eqb (v .encoding) 0)) || (fullYCbCr v || deepApart v)
+videoCombined v = (eqb (v .link) 0 && not (eqb (v .encoding) 0)) || (deepApart v || shownCombined v)

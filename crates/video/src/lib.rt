@@ -1,14 +1,17 @@
-// The video section of a request and the listed modes: document 01, "The request" and "Modes and clocks"; document 02, requests 01 and
-// 06.
+// The video section of a request and the listed modes: document 01, "The request" and "Modes and clocks"; document 02, requests 01,
+// 06 and 11.
 ghost use mathlib.Core.Path.{_≡_};
 ghost use Rattle.video.specs.Modes.{mode, modeOf, ModeTable};
 ghost use Rattle.video.specs.Video.{videoIn, videoBody, depth, repetition, noVideo, inFamily, Body};
-ghost use Rattle.video.specs.Video.{shownOutside, videoOutside, pixelOutside, fullYCbCr, deepApart, videoCombined};
+ghost use Rattle.video.specs.Video.{yccQuantisation, contentType, editionOutside, shownOutside, videoOutside, pixelOutside};
+ghost use Rattle.video.specs.Video.{fullYCbCr, deepApart, askedUnderD, shownCombined, videoCombined};
+ghost use Rattle.video.specs.Exception.{Exception};
 
 // The count of the video section.
-pub const VIDEO_COUNT: u8 = 6;
+pub const VIDEO_COUNT: u8 = 7;
 
-// What the video section asks for. `pixel` is the depth byte, with the repetition in its upper half.
+// What the video section asks for. `pixel` is the depth byte, with the repetition in its upper half; `infoframe` is the edition byte, with
+// the quantisation and the content type.
 pub struct Video {
     pub vic: u8,
     pub family: u8,
@@ -16,6 +19,7 @@ pub struct Video {
     pub link: u8,
     pub range: u8,
     pub pixel: u8,
+    pub infoframe: u8,
 }
 
 // A listed mode. A VIC that is not listed offers no family.
@@ -74,6 +78,7 @@ pub fn video_in(body: &[u8]) -> Video
     let link = lists::byte_at(body, 3);
     let range = lists::byte_at(body, 4);
     let pixel = lists::byte_at(body, 5);
+    let infoframe = lists::byte_at(body, 6);
     Video {
         vic: vic,
         family: family,
@@ -81,6 +86,7 @@ pub fn video_in(body: &[u8]) -> Video
         link: link,
         range: range,
         pixel: pixel,
+        infoframe: infoframe,
     }
 }
 
@@ -88,7 +94,7 @@ pub fn video_in(body: &[u8]) -> Video
 pub fn video_body(v: Video) -> [u8; VIDEO_COUNT as usize]
     ensures { λ r. ⌜ r ≡ videoBody v ⌝ }
 {
-    [v.vic, v.family, v.encoding, v.link, v.range, v.pixel]
+    [v.vic, v.family, v.encoding, v.link, v.range, v.pixel, v.infoframe]
 }
 
 // The depth, and the repetition.
@@ -104,6 +110,19 @@ pub fn repetition(v: Video) -> u8
     v.pixel / 16
 }
 
+// The quantisation of E, and its content type.
+pub fn ycc_quantisation(v: Video) -> u8
+    ensures { λ r. ⌜ r ≡ yccQuantisation v ⌝ }
+{
+    v.infoframe / 4 % 4
+}
+
+pub fn content_type(v: Video) -> u8
+    ensures { λ r. ⌜ r ≡ contentType v ⌝ }
+{
+    v.infoframe / 16 % 4
+}
+
 // What stands beside a refusal.
 pub fn no_video() -> Video
     ensures { λ r. ⌜ r ≡ noVideo ⌝ }
@@ -115,6 +134,7 @@ pub fn no_video() -> Video
         link: 0,
         range: 0,
         pixel: 0,
+        infoframe: 0,
     }
 }
 
@@ -129,14 +149,23 @@ pub fn in_family(v: Video, family: u8) -> Video
         link: v.link,
         range: v.range,
         pixel: v.pixel,
+        infoframe: v.infoframe,
     }
+}
+
+// Row 5, of the edition byte.
+pub fn edition_outside(v: Video) -> bool
+    ensures { λ r. ⌜ r ≡ editionOutside v ⌝ }
+{
+    (1 < v.infoframe % 4) | ((1 < v.infoframe / 4 % 4) | (0 < v.infoframe / 64))
 }
 
 // Row 5, of the fields that the AVI InfoFrame shows.
 pub fn shown_outside(v: Video) -> bool
     ensures { λ r. ⌜ r ≡ shownOutside v ⌝ }
 {
-    (2 < v.encoding) | ((1 < v.range) | (2 < v.pixel / 16))
+    let edition = edition_outside(v);
+    (2 < v.encoding) | ((1 < v.range) | ((2 < v.pixel / 16) | edition))
 }
 
 // Row 5, of this section.
@@ -168,18 +197,39 @@ pub fn deep_apart(v: Video) -> bool
     (v.pixel % 16 != 0) & ((v.encoding == 1) | (v.link == 0))
 }
 
+// Row 6: E's bits under D.
+pub fn asked_under_d(v: Video) -> bool
+    ensures { λ r. ⌜ r ≡ askedUnderD v ⌝ }
+{
+    (v.infoframe % 4 == 0) & ((v.infoframe / 4 % 4 != 0) | (v.infoframe / 16 % 4 != 0))
+}
+
+// Row 6, of the fields that the AVI InfoFrame shows.
+pub fn shown_combined(v: Video) -> bool
+    ensures { λ r. ⌜ r ≡ shownCombined v ⌝ }
+{
+    let full = full_ycbcr(v);
+    let under = asked_under_d(v);
+    full | under
+}
+
 // Row 6, of this section alone.
 pub fn combined(v: Video) -> bool
     ensures { λ r. ⌜ r ≡ videoCombined v ⌝ }
 {
-    let full = full_ycbcr(v);
     let deep = deep_apart(v);
-    ((v.link == 0) & (v.encoding != 0)) | (full | deep)
+    let shown = shown_combined(v);
+    ((v.link == 0) & (v.encoding != 0)) | (deep | shown)
 }
 
 // The mode of each VIC is the table's.
 pub fn mode_table()
     ensures { λ _. ⌜ ModeTable ⌝ }
+{}
+
+// What is answered of a video leaves out the family, and an E that asks for nothing.
+pub fn exception()
+    ensures { λ _. ⌜ Exception ⌝ }
 {}
 
 // A body and what it asks for say the same.

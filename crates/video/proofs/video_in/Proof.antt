@@ -21,16 +21,28 @@ byte-at-requires-5 c κs = search needs
 byte-at-requires-6 : tie.Need-byte-at-requires-6
 byte-at-requires-6 c κs = search needs
 
+byte-at-requires-7 : tie.Need-byte-at-requires-7
+byte-at-requires-7 c κs = search needs
+
 returns : tie.Need-returns
 returns c =
-    let o = c .before in
+    let n = c .before in
+    let o = n .before in
     let p = o .before in
     let q = p .before in
     let s = q .before in
-    simp
-    (s .before .byte-at .ensures, s .byte-at2 .ensures, q .byte-at3 .ensures, p .byte-at4 .ensures, o .byte-at5 .ensures, c .byte-at6 .ensures)
+    simp (
+      s .before .byte-at .ensures,
+      s .byte-at2 .ensures,
+      q .byte-at3 .ensures,
+      p .byte-at4 .ensures,
+      o .byte-at5 .ensures,
+      n .byte-at6 .ensures,
+      c .byte-at7 .ensures,
+    )
 
 pub video-in-spec : {M : Type 1} → statement M
 video-in-spec =
     tie.close
-    (tie.spec byte-at-requires byte-at-requires-2 byte-at-requires-3 byte-at-requires-4 byte-at-requires-5 byte-at-requires-6 returns)
+    (tie.spec byte-at-requires byte-at-requires-2 byte-at-requires-3 byte-at-requires-4 byte-at-requires-5 byte-at-requires-6 byte-at-requires-7
+    returns)
