@@ -13,7 +13,7 @@ use lib.ListN.{getD, replicate}
 use Rattle.video.specs.declared.Video.{Video}
 use Rattle.video.specs.Modes.{modeOf}
 use Rattle.video.specs.Fits.{VideoFits}
-use Rattle.video.proofs.Fits.{vic-small, encoding-fits}
+use Rattle.video.proofs.Fits.{vic-small, encoding-fits, ycc-fits}
 use Rattle.frames.specs.Frames.{checksumOf, frame, aviHeader, aviPayload, aviFrame, audioCount, audioHeader, audioPayload, allocation, audioFrame, audioOffFrame}
 use Rattle.frames.proofs.Small.{mode-small, colour-small, quantisation-small, repeats-small}
 use Rattle.frames.proofs.Sealed.{holds}
@@ -40,7 +40,7 @@ avi-each v f =
     let s = mode-small (v .vic) in
     let c = colour-small (modeOf (v .vic)) (v .encoding) s in
     let q = quantisation-small v in
-    (omega (arith, encoding-fits v f), (omega (arith, c, s .aspect), (omega (arith, q), (omega (arith, vic-small v f), (omega (arith, repeats-small v), zeros 8)))))
+    (omega (arith, encoding-fits v f), (omega (arith, c, s .aspect), (omega (arith, q), (omega (arith, vic-small v f), (omega (arith, repeats-small v, ycc-fits v f), zeros 8)))))
 
 pub payload-bytes : (v : Video) → VideoFits v → Bytes (aviPayload v)
 payload-bytes v f = at-each (aviPayload v) (avi-each v f)

@@ -4,3 +4,4 @@ pub mod Small
 pub mod Refused
 pub mod Named
 pub mod Bytes
+pub mod Readers

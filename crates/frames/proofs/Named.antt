@@ -1,5 +1,6 @@
 -- An AVI frame names the video that it was made for. Assumes nothing.
-use mathlib.Core.Path.{_≡_, refl, sym}
+use mathlib.Core.Path.{_≡_, refl, sym, _∙_}
+use mathlib.Core.Logic.{inl, inr}
 use mathlib.Core.Bool.{Bool, true, false, cond}
 use mathlib.Core.List.{[], _∷_}
 use Prim.Native.Nat.{ℕ, _+_, _*_, _/_, _%_, _≤_}
@@ -10,10 +11,12 @@ use borrow.Author.Tests.{eqb-true, eqb-false}
 use Rattle.bits.proofs.Below.{at-below}
 use Rattle.video.specs.declared.Video.{Video}
 use Rattle.video.specs.Fits.{VideoFits}
-use Rattle.video.specs.Video.{depth, repetition}
-use Rattle.video.proofs.Fits.{encoding-fits, range-fits, range-limited, repetition-fits}
-use Rattle.frames.specs.Frames.{quantisation, repeats, aviPayload, videoNamed}
+use Rattle.video.specs.Video.{depth, repetition, yccQuantisation, contentType, AsksE, answeredEdition}
+use Rattle.video.proofs.Fits.{encoding-fits, range-fits, range-limited, repetition-fits, ycc-fits, no-more}
+use Rattle.video.proofs.Alike.{parts, exceptions}
+use Rattle.frames.specs.Frames.{quantisation, repeats, aviPayload, editionNamed, videoNamed}
 use Rattle.frames.specs.Theorems.{NamedBack}
+use Rattle.frames.proofs.Small.{repeats-small}
 
 -- the high bit of Q
 range-back : (v : Video) → VideoFits v → quantisation v * 4 / 8 % 2 ≡ v .range
@@ -25,11 +28,43 @@ range-back v f = go (eqb (v .encoding) 0) refl (eqb (v .range) 0) refl
     go false e c h = sym (range-limited v f (eqb-false (v .encoding) 0 e))
 
 -- the repetition by PR
-repetition-back : (n : ℕ) → n ≤ 2 → (getD (0 ∷ 1 ∷ 3 ∷ []) n 0 % 16 + 1) / 2 ≡ n
-repetition-back n h = eqb-true _ _ (at-below (λ n. eqb ((getD (0 ∷ 1 ∷ 3 ∷ []) n 0 % 16 + 1) / 2) n) 3 n refl (omega arith))
+repetition-back : (n : ℕ) → n ≤ 2 → (getD (0 ∷ 1 ∷ 3 ∷ []) n 0 + 1) / 2 ≡ n
+repetition-back n h = eqb-true _ _ (at-below (λ n. eqb ((getD (0 ∷ 1 ∷ 3 ∷ []) n 0 + 1) / 2) n) 3 n refl (omega arith))
 
-pixel-back : (v : Video) → VideoFits v → (repeats v % 16 + 1) / 2 * 16 + depth v % 16 ≡ v .pixel
-pixel-back v f = rw (repetition-back (repetition v) (repetition-fits v f)) (omega arith)
+-- data byte 5, whose lower half is PR
+module _ (v : Video) (f : VideoFits v) where
+  abbrev fifth : ℕ
+  fifth = yccQuantisation v * 64 + contentType v * 16 + repeats v
+
+  low : fifth % 16 ≡ repeats v
+  low = omega (arith, repeats-small v)
+
+  pub pixel-back : (fifth % 16 + 1) / 2 * 16 + depth v % 16 ≡ v .pixel
+  pixel-back = rw (low, repetition-back (repetition v) (repetition-fits v f)) (omega arith)
+
+  -- and its upper half, E's bits: they are 0 where nothing of E is asked for
+  pub edition-back : editionNamed fifth ≡ answeredEdition (v .infoframe)
+  edition-back = go (eqb (fifth / 16) 0) refl
+    where
+      go : (b : Bool) → eqb (fifth / 16) 0 ≡ b → cond b 0 (1 + fifth / 64 % 4 * 4 + fifth / 16 % 4 * 16) ≡ answeredEdition (v .infoframe)
+      go true e = sym (exceptions .asD v f none)
+        where
+          none : AsksE v → ⊥
+          none (inl q) = q (omega (arith, eqb-true (fifth / 16) 0 e))
+          none (inr t) = t (omega (arith, eqb-true (fifth / 16) 0 e))
+      go false e = sym (exceptions .asE v f asks .1 ∙ whole)
+        where
+          asks : AsksE v
+          asks = which (eqb (yccQuantisation v) 0) refl
+            where
+              which : (b : Bool) → eqb (yccQuantisation v) 0 ≡ b → AsksE v
+              which true q = inr (λ t. eqb-false (fifth / 16) 0 e (omega (arith, repeats-small v, eqb-true (yccQuantisation v) 0 q, t)))
+              which false q = inl (eqb-false (yccQuantisation v) 0 q)
+          whole : v .infoframe ≡ 1 + fifth / 64 % 4 * 4 + fifth / 16 % 4 * 16
+          whole =
+              let high : fifth / 64 % 4 ≡ yccQuantisation v = omega (arith, repeats-small v, ycc-fits v f) in
+              let next : fifth / 16 % 4 ≡ contentType v = omega (arith, repeats-small v, ycc-fits v f) in
+              rw (high, next) (omega (arith, parts (v .infoframe), no-more v f, exceptions .asE v f asks .0))
 
 pub named : NamedBack
 named v f =
@@ -37,4 +72,13 @@ named v f =
     let encoding : w .encoding ≡ v .encoding = omega (arith, encoding-fits v f) in
     let range = range-back v f in
     let pixel = pixel-back v f in
-    λ i. record { vic = v .vic; family = 0; encoding = encoding i; link = v .link; range = range i; pixel = pixel i }
+    let infoframe = edition-back v f in
+    λ i. record {
+      vic = v .vic;
+      family = 0;
+      encoding = encoding i;
+      link = v .link;
+      range = range i;
+      pixel = pixel i;
+      infoframe = infoframe i;
+    }

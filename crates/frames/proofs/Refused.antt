@@ -9,7 +9,7 @@ use Rattle.refusals.proofs.Tests.{Decided, lowest-given, answer-given, answer-b
 use Rattle.video.specs.declared.Video.{Video}
 use Rattle.video.specs.Fits.{VideoFits}
 use Rattle.video.proofs.Listed.{not-listed}
-use Rattle.video.proofs.Fits.{is-shown-outside, is-full, is-listed}
+use Rattle.video.proofs.Fits.{is-shown-outside, is-shown-combined, is-listed}
 use Rattle.frames.specs.declared.Avi.{Avi}
 use Rattle.frames.specs.declared.Audio.{Audio}
 use Rattle.frames.specs.Frames.{aviFrame}
@@ -25,7 +25,7 @@ audioNumber a = a .refusal
 
 avi-decided : (video : Video) → Decided (aviTests video) (aviRules video)
 avi-decided video =
-    (refl, not-listed (video .vic), λ _. (refl, is-shown-outside video, λ _. (refl, is-full video, λ _. tt)))
+    (refl, not-listed (video .vic), λ _. (refl, is-shown-outside video, λ _. (refl, is-shown-combined video, λ _. tt)))
 
 audio-decided : (channels : ℕ) → Decided (channelsTests channels) (audioRules channels)
 audio-decided channels = (refl, together (opposite (equal channels 2)) (opposite (equal channels 8)), λ _. tt)
@@ -36,7 +36,7 @@ avi-given video f =
     rw (
       ne-eqb _ _ (is-listed video f),
       refuted (is-shown-outside video) (λ h. f .inside (inr (inr h))),
-      refuted (is-full video) (λ h. f .apart (inr (inl h))),
+      refuted (is-shown-combined video) (λ h. f .apart (inr (inr h))),
     )
 
 pub refusals : FrameRefusals

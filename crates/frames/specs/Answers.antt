@@ -8,7 +8,7 @@ use lib.ListN.{replicate}
 use Rattle.refusals.specs.Rows.{modeNotOffered, fieldOutOfRange, combination, Test, _if_, lowest, answer}
 use Rattle.video.specs.declared.Video.{Video}
 use Rattle.video.specs.Modes.{modeOf}
-use Rattle.video.specs.Video.{shownOutside, fullYCbCr}
+use Rattle.video.specs.Video.{shownOutside, shownCombined}
 use Rattle.frames.specs.declared.Avi.{Avi}
 use Rattle.frames.specs.declared.Audio.{Audio}
 use Rattle.frames.specs.Frames.{framed, aviCount, aviFrame, audioCount, audioFrame}
@@ -25,7 +25,7 @@ abbrev pub aviTests : Video → List Test
 aviTests video =
     modeNotOffered if eqb (modeOf (video .vic) .families) 0 ∷
     fieldOutOfRange if shownOutside video ∷
-    combination if fullYCbCr video ∷ []
+    combination if shownCombined video ∷ []
 
 unfoldable pub aviOf : Video → Avi
 aviOf video = answer (lowest (aviTests video)) noAvi (record { refusal = 0; bytes = aviFrame video })

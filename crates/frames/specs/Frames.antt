@@ -1,4 +1,5 @@
--- Document 01, "InfoFrames": the checksum, the AVI and the audio frame; Q is document 02's, request 01, and PR request 06's.
+-- Document 01, "InfoFrames": the checksum, the AVI and the audio frame; Q is document 02's, request 01, PR request 06's, and the
+-- bits above PR request 11's.
 use mathlib.Core.Bool.{cond}
 use mathlib.Core.List.{List, [], _∷_, _++_}
 use Prim.Native.Nat.{ℕ, _+_, _-_, _*_, _/_, _%_}
@@ -7,7 +8,7 @@ use lib.ListN.{getD, replicate}
 use Rattle.video.specs.declared.Mode.{Mode}
 use Rattle.video.specs.declared.Video.{Video}
 use Rattle.video.specs.Modes.{modeOf}
-use Rattle.video.specs.Video.{repetition}
+use Rattle.video.specs.Video.{repetition, yccQuantisation, contentType}
 
 -- "the sum of all bytes"
 unfoldable pub total : List ℕ → ℕ
@@ -46,7 +47,8 @@ abbrev pub aviHeader : List ℕ
 aviHeader = 0x82 ∷ 0x02 ∷ aviCount ∷ []
 
 -- "Y is the encoding; A is 1; B, S, ITC, EC, SC, .. and bars are 0; C ..; M from the aspect; R is 8; VIC as asked"
--- Byte 1 is 0 Y1 Y0 A B1 B0 S1 S0, byte 2 C1 C0 M1 M0 R3 to R0, byte 3 ITC EC Q SC, byte 4 the VIC, byte 5 PR, bytes 6 to 13 the bars.
+-- Byte 1 is 0 Y1 Y0 A B1 B0 S1 S0, byte 2 C1 C0 M1 M0 R3 to R0, byte 3 ITC EC Q SC, byte 4 the VIC, bytes 6 to 13 the bars. Byte 5 is PR
+-- in [3:0]; request 11: "the YCC quantisation and content type bits in AVI data byte 5", [7:6] and [5:4], 0 in D.
 abbrev pub aviPayload : Video → List ℕ
 aviPayload v =
     let mode : Mode = modeOf (v .vic) in
@@ -54,14 +56,18 @@ aviPayload v =
     (colorimetry mode (v .encoding) * 64 + mode .aspect * 16 + 8) ∷
     (quantisation v * 4) ∷
     v .vic ∷
-    repeats v ∷
+    (yccQuantisation v * 64 + contentType v * 16 + repeats v) ∷
     replicate 8 0
 
 unfoldable pub aviFrame : Video → List ℕ
 aviFrame video = frame aviHeader (aviPayload video)
 
--- what the data bytes of an AVI frame name, over a link and at a depth: Y of byte 1, the high bit of Q in byte 3, byte 4, and PR in byte 5.
--- "Family is answered as 0". `NamedBack` ties it to them.
+-- request 11, "Decoding answers D when the bits are 0": the edition byte, by data byte 5
+abbrev pub editionNamed : ℕ → ℕ
+editionNamed fifth = cond (eqb (fifth / 16) 0) 0 (1 + fifth / 64 % 4 * 4 + fifth / 16 % 4 * 16)
+
+-- what the data bytes of an AVI frame name, over a link and at a depth: Y of byte 1, the high bit of Q in byte 3, byte 4, PR in byte 5 and
+-- the bits above it. "Family is answered as 0". `NamedBack` ties it to them.
 abbrev pub videoNamed : ℕ → ℕ → List ℕ → Video
 videoNamed link depth bytes =
     record {
@@ -71,6 +77,7 @@ videoNamed link depth bytes =
       link = link;
       range = getD bytes 2 0 / 8 % 2;
       pixel = (getD bytes 4 0 % 16 + 1) / 2 * 16 + depth % 16;
+      infoframe = editionNamed (getD bytes 4 0);
     }
 
 -- "CC is channels less one; CA is 0x00 for 2 and 0x13 for 8; the rest 0." Byte 1 is CT3 to CT0 0 CC2 to CC0, byte 4 is CA.

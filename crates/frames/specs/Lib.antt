@@ -1,3 +1,4 @@
 pub mod Frames
 pub mod Answers
 pub mod Theorems
+pub mod Editions

@@ -10,18 +10,18 @@ use Rattle.lists.specs.Among.{among}
 use Rattle.refusals.specs.Rows.{modeNotOffered, fieldOutOfRange, combination, Condition, _when_, Given}
 use Rattle.video.specs.declared.Video.{Video}
 use Rattle.video.specs.Modes.{listed}
-use Rattle.video.specs.Video.{depth, answered, ShownOutside, FullYCbCr}
+use Rattle.video.specs.Video.{depth, answered, ShownOutside, ShownCombined}
 use Rattle.video.specs.Fits.{VideoFits}
 use Rattle.frames.specs.Frames.{total, checksumOf, frame, framed, aviCount, aviPayload, aviFrame, videoNamed, audioCount, audioFrame}
 use Rattle.frames.specs.Answers.{aviOf, audioOf}
 
 -- "A call on single fields checks those .. whose fields it takes": the AVI frame row 4, "VIC not listed below", row 5, "any other field
--- outside its range", and of row 6 "range 1 with YCbCr"; the audio frame row 5: the channels are 2 or 8
+-- outside its range", and of row 6 "range 1 with YCbCr" and "E's bits under D"; the audio frame row 5: the channels are 2 or 8
 abbrev pub aviRules : Video → List Condition
 aviRules video =
     modeNotOffered when (among (video .vic) listed ≡ false) ∷
     fieldOutOfRange when ShownOutside video ∷
-    combination when FullYCbCr video ∷ []
+    combination when ShownCombined video ∷ []
 
 abbrev pub audioRules : ℕ → List Condition
 audioRules channels = fieldOutOfRange when ((channels ≢ 2) × (channels ≢ 8)) ∷ []
@@ -42,7 +42,7 @@ pub record Checksum : Type 0 where
   pub only : (bytes : List ℕ) (c : ℕ) → c < 256 → (c + total bytes) % 256 ≡ 0 → c ≡ checksumOf bytes
   pub already : (bytes : List ℕ) → total bytes % 256 ≡ 0 → checksumOf bytes ≡ 0
 
--- "the finished image reads back as the same request, but for the frame-rate family", of the AVI packet alone: its data bytes name the
--- video that it was made for. Which link it goes over, and at what depth, no byte of it says.
+-- "the finished image reads back as the same request, but for the frame-rate family", and but for an E that asks for nothing, of the AVI
+-- packet alone: its data bytes name the video that it was made for. Which link it goes over, and at what depth, no byte of it says.
 abbrev pub NamedBack : Type 0
 NamedBack = (v : Video) → VideoFits v → videoNamed (v .link) (depth v) (aviPayload v) ≡ answered v

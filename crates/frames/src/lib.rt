@@ -1,13 +1,14 @@
-// The checksum, and the AVI and audio InfoFrames: document 01, "InfoFrames"; document 02, requests 01 and 06.
+// The checksum, and the AVI and audio InfoFrames: document 01, "InfoFrames"; document 02, requests 01, 06 and 11.
 ghost use mathlib.Core.Path.{_≡_};
 ghost use mathlib.Core.Bool.{false};
 ghost use Prim.Native.Nat.{_%_};
 ghost use Rattle.video.specs.Modes.{modeOf};
 ghost use Rattle.video.specs.Video.{shownOutside};
 ghost use Rattle.frames.specs.Frames.{total, checksumOf, frame, colorimetry, quantisation, repeats};
-ghost use Rattle.frames.specs.Frames.{aviFrame, videoNamed, audioHeader, audioPayload, audioOffFrame};
+ghost use Rattle.frames.specs.Frames.{aviFrame, editionNamed, videoNamed, audioHeader, audioPayload, audioOffFrame};
 ghost use Rattle.frames.specs.Answers.{noAvi, GivesAvi, GivesAudio};
 ghost use Rattle.frames.specs.Theorems.{Checksum, FrameRefusals, NamedBack};
+ghost use Rattle.frames.specs.Editions.{BothEditions};
 use refusals::Refusal;
 use video::Mode;
 use video::Video;
@@ -98,10 +99,13 @@ fn avi_frame(video: Video, mode: Mode) -> [u8; AVI_FRAME]
     let colour = colour(mode, encoding);
     let q = quantised(video);
     let repeats = repeated(video);
+    let ycc = video::ycc_quantisation(video);
+    let content = video::content_type(video);
     let aspect = mode.aspect;
     let first = encoding * 32 + 16;
     let second = colour * 64 + aspect * 16 + 8;
     let third = q * 4;
+    let fifth = ycc * 64 + content * 16 + repeats;
     let mut bytes = [
         0x82,
         0x02,
@@ -111,7 +115,7 @@ fn avi_frame(video: Video, mode: Mode) -> [u8; AVI_FRAME]
         second,
         third,
         vic,
-        repeats,
+        fifth,
         0,
         0,
         0,
@@ -148,7 +152,7 @@ pub fn avi_of(video: Video) -> Avi
     if video::shown_outside(video) {
         return no_avi(Refusal::FIELD_OUT_OF_RANGE);
     }
-    if video::full_ycbcr(video) {
+    if video::shown_combined(video) {
         return no_avi(Refusal::COMBINATION);
     }
     let bytes = avi_frame(video, mode);
@@ -156,6 +160,18 @@ pub fn avi_of(video: Video) -> Avi
         refusal: Refusal::NONE,
         bytes: bytes,
     }
+}
+
+// The edition byte, by data byte 5: D where its upper half is 0.
+fn edition_named(fifth: u8) -> u8
+    ensures { λ r. ⌜ r ≡ editionNamed fifth ⌝ }
+{
+    if fifth / 16 == 0 {
+        return 0;
+    }
+    let ycc = fifth / 64 % 4 * 4;
+    let content = fifth / 16 % 4 * 16;
+    1 + ycc + content
 }
 
 // What the data bytes of an AVI InfoFrame name, over a link and at a depth, in family 0.
@@ -166,13 +182,16 @@ pub fn video_named(link: u8, depth: u8, bytes: &[u8]) -> Video
     let third = lists::byte_at(bytes, 2);
     let vic = lists::byte_at(bytes, 3);
     let fifth = lists::byte_at(bytes, 4);
+    let pixel = (fifth % 16 + 1) / 2 * 16 + depth % 16;
+    let infoframe = edition_named(fifth);
     Video {
         vic: vic,
         family: 0,
         encoding: first / 32 % 4,
         link: link,
         range: third / 8 % 2,
-        pixel: (fifth % 16 + 1) / 2 * 16 + depth % 16,
+        pixel: pixel,
+        infoframe: infoframe,
     }
 }
 
@@ -242,7 +261,12 @@ pub fn frame_refusals()
     ensures { λ _. ⌜ FrameRefusals ⌝ }
 {}
 
-// An AVI InfoFrame names the video that it was made for, but for the family.
+// A packet of E, shown to a reader that knows only D, and to one that knows E.
+pub fn both_editions()
+    ensures { λ _. ⌜ BothEditions ⌝ }
+{}
+
+// An AVI InfoFrame names the video that it was made for, but for the family and for an E that asks for nothing.
 pub fn named_back()
     ensures { λ _. ⌜ NamedBack ⌝ }
 {}

@@ -73,7 +73,7 @@ row-small vic family (m ∷ ms) t h =
     go false e s l ih = ih l
 
 -- not above is at most
-at-most : (m n : ℕ) → (m < n → ⊥) → n ≤ m
+pub at-most : (m n : ℕ) → (m < n → ⊥) → n ≤ m
 at-most m n h = go (ltb m n) refl
   where
     go : (b : Bool) → ltb m n ≡ b → n ≤ m

@@ -1,13 +1,11 @@
 -- `frames::avi_frame` meets its contract: the place of the checksum is 0 while the sum is taken. Assumes nothing.
-use mathlib.Core.Bool.{_||_}
+use mathlib.Core.Logic.{inl}
 use Prim.Native.Nat.{_≤_}
-use Rattle.video.specs.Video.{repetition}
-use lib.Dec.{ltb}
-use borrow.Author.Tests.{ltb-false}
-use Rattle.lists.proofs.Both.{neither-left}
+use native.Mathlib.Omega.{arith}
+use Rattle.video.proofs.Fits.{at-most, is-shown-outside}
 use Rattle.frames.specs.Frames.{aviHeader, aviPayload, aviFrame}
 use Rattle.frames.proofs.Total.{kept}
-use Rattle.frames.proofs.Small.{Small, mode-small, colour-small, quantisation-small}
+use Rattle.frames.proofs.Small.{Small, mode-small, colour-small, quantisation-small, repeats-small}
 use borrow.Author.Needs.{needs}
 use Rattle.frames.proofs.avi_frame.Statement.{statement}
 use Rattle.frames.proofs.avi_frame.Tie as tie
@@ -21,24 +19,37 @@ quantised-requires c κs = search needs
 repeated-requires : tie.Need-repeated-requires
 repeated-requires c κs = search needs
 
--- Y, C, M and Q have two bits
-record Small-fields (c : tie.After-repeated) : Type 0 where
-  encoding : c .before .before .before .args .video .encoding ≤ 2
-  colour : c .before .before .colour .result ≤ 2
-  aspect : c .before .before .before .args .mode .aspect ≤ 2
-  q : c .before .quantised .result ≤ 2
+ycc-quantisation-requires : tie.Need-ycc-quantisation-requires
+ycc-quantisation-requires c κs = search needs
 
-small : (c : tie.After-repeated) → Small-fields c
+content-type-requires : tie.Need-content-type-requires
+content-type-requires c κs = search needs
+
+-- Y, C, M, Q, PR, YQ and CN have two bits
+record Small-fields (c : tie.After-content-type) : Type 0 where
+  encoding : c .before .before .before .before .before .args .video .encoding ≤ 2
+  colour : c .before .before .before .before .colour .result ≤ 2
+  aspect : c .before .before .before .before .before .args .mode .aspect ≤ 2
+  q : c .before .before .before .quantised .result ≤ 2
+  repeats : c .before .before .repeated .result ≤ 3
+  ycc : c .before .ycc-quantisation .result ≤ 3
+  content : c .content-type .result ≤ 3
+
+small : (c : tie.After-content-type) → Small-fields c
 small c =
-    let q = c .before in
+    let r = c .before .before in
+    let q = r .before in
     let p = q .before .before in
     let v = p .args .video in
     let m : Small (p .args .mode) = rw (p .pre .0) (mode-small (v .vic)) in
     record {
-      encoding = ltb-false 2 (v .encoding) (neither-left (ltb 2 (v .encoding)) (ltb 1 (v .range) || ltb 2 (repetition v)) (p .pre .1));
+      encoding = at-most 2 (v .encoding) (λ h. is-shown-outside v .fails (p .pre .1) (inl h));
       colour = rw (q .before .colour .ensures) (colour-small (p .args .mode) (v .encoding) m);
       aspect = m .aspect;
       q = rw (q .quantised .ensures) (quantisation-small v);
+      repeats = rw (r .repeated .ensures) (repeats-small v);
+      ycc = rw (c .before .ycc-quantisation .ensures) (omega arith);
+      content = rw (c .content-type .ensures) (omega arith);
     }
 
 mul-first : tie.Need-mul-first
@@ -62,6 +73,18 @@ add-second-2 c = let s = small c in search needs
 mul-third : tie.Need-mul-third
 mul-third c = let s = small c in search needs
 
+mul-fifth : tie.Need-mul-fifth
+mul-fifth c = let s = small c in search needs
+
+mul-fifth-2 : tie.Need-mul-fifth-2
+mul-fifth-2 c = let s = small c in search needs
+
+add-fifth : tie.Need-add-fifth
+add-fifth c = let s = small c in search needs
+
+add-fifth-2 : tie.Need-add-fifth-2
+add-fifth-2 c = let s = small c in search needs
+
 slice-aggregate-checksum : tie.Need-slice-aggregate-checksum
 slice-aggregate-checksum c = search needs
 
@@ -74,7 +97,9 @@ array-write-bytes c = search needs
 returns : tie.Need-returns
 unfolding aviFrame
 returns c =
-    let r = c .before .before in
+    let t = c .before .before in
+    let y = t .before in
+    let r = y .before in
     let q = r .before in
     let p = q .before in
     simp (
@@ -83,6 +108,8 @@ returns c =
       p .colour .ensures,
       q .quantised .ensures,
       r .repeated .ensures,
+      y .ycc-quantisation .ensures,
+      t .content-type .ensures,
       p .before .pre .0,
     )
 
@@ -93,6 +120,8 @@ avi-frame-spec =
     colour-requires
     quantised-requires
     repeated-requires
+    ycc-quantisation-requires
+    content-type-requires
     mul-first
     add-first
     mul-second
@@ -100,6 +129,10 @@ avi-frame-spec =
     add-second
     add-second-2
     mul-third
+    mul-fifth
+    mul-fifth-2
+    add-fifth
+    add-fifth-2
     slice-aggregate-checksum
     checksum-requires
     array-write-bytes

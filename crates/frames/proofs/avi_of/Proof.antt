@@ -30,15 +30,15 @@ returns-2 c =
     let p = c .before .before in
     rw (← p .before .before .before .mode-of .ensures, ne-eqb _ _ (p .before .if1 .left), ← p .shown-outside .ensures, c .before .if2 .taken) (c .no-avi2 .ensures)
 
-full-ycbcr-requires : tie.Need-full-ycbcr-requires
-full-ycbcr-requires c κs = search needs
+shown-combined-requires : tie.Need-shown-combined-requires
+shown-combined-requires c κs = search needs
 
 no-avi-requires-3 : tie.Need-no-avi-requires-3
 no-avi-requires-3 c κs = search needs
 
 -- where neither of the first two rows applies, row 6 decides
-sixth : (c : tie.After-full-ycbcr)
-    → lowest (aviTests (c .before .before .before .before .before .before .args .video)) ≡ cond (c .full-ycbcr .result) 6 0
+sixth : (c : tie.After-shown-combined)
+    → lowest (aviTests (c .before .before .before .before .before .before .args .video)) ≡ cond (c .shown-combined .result) 6 0
 sixth c =
     let o = c .before in
     let p = o .before in
@@ -47,7 +47,7 @@ sixth c =
       ne-eqb _ _ (p .before .if1 .left),
       ← p .shown-outside .ensures,
       o .if2 .left,
-      ← c .full-ycbcr .ensures,
+      ← c .shown-combined .ensures,
     )
 
 returns-3 : tie.Need-returns-3
@@ -73,7 +73,7 @@ avi-of-spec =
     shown-outside-requires
     no-avi-requires-2
     returns-2
-    full-ycbcr-requires
+    shown-combined-requires
     no-avi-requires-3
     returns-3
     avi-frame-requires

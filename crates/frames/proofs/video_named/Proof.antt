@@ -15,20 +15,24 @@ byte-at-requires-3 c κs = search needs
 byte-at-requires-4 : tie.Need-byte-at-requires-4
 byte-at-requires-4 c κs = search needs
 
-add-t13 : tie.Need-add-t13
-add-t13 c = search needs
+add-pixel : tie.Need-add-pixel
+add-pixel c = search needs
 
-mul-t15 : tie.Need-mul-t15
-mul-t15 c = search needs
+mul-pixel : tie.Need-mul-pixel
+mul-pixel c = search needs
 
-add-t17 : tie.Need-add-t17
-add-t17 c = search needs
+add-pixel-2 : tie.Need-add-pixel-2
+add-pixel-2 c = search needs
+
+edition-named-requires : tie.Need-edition-named-requires
+edition-named-requires c κs = search needs
 
 returns : tie.Need-returns
 returns c =
-    let q = c .before in
+    let r = c .before in
+    let q = r .before in
     let p = q .before in
-    simp (p .before .byte-at .ensures, p .byte-at2 .ensures, q .byte-at3 .ensures, c .byte-at4 .ensures)
+    simp (p .before .byte-at .ensures, p .byte-at2 .ensures, q .byte-at3 .ensures, r .byte-at4 .ensures, c .edition-named .ensures)
 
 pub video-named-spec : {M : Type 1} → statement M
 video-named-spec =
@@ -38,7 +42,8 @@ video-named-spec =
     byte-at-requires-2
     byte-at-requires-3
     byte-at-requires-4
-    add-t13
-    mul-t15
-    add-t17
+    add-pixel
+    mul-pixel
+    add-pixel-2
+    edition-named-requires
     returns)

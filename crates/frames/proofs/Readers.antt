@@ -1,0 +1,114 @@
+-- A packet of E, shown to a reader that knows only D, and to one that knows E. Assumes nothing.
+use mathlib.Core.Path.{_≡_, sym, _∙_}
+use mathlib.Core.Logic.{inl, inr}
+use Prim.Native.Nat.{ℕ, _+_, _*_, _/_, _%_}
+use native.Mathlib.Omega.{arith}
+use Rattle.video.specs.declared.Mode.{Mode}
+use Rattle.video.specs.declared.Video.{Video}
+use Rattle.video.specs.Modes.{modeOf}
+use Rattle.video.specs.Video.{yccQuantisation, contentType, EditionOutside, ShownOutside, VideoOutside, AskedUnderD, ShownCombined, VideoCombined}
+use Rattle.video.specs.Fits.{VideoFits}
+use Rattle.video.proofs.Fits.{vic-small, encoding-fits, ycc-fits}
+use Rattle.frames.specs.Frames.{total, colorimetry, quantisation, repeats, aviHeader, aviPayload, aviFrame}
+use Rattle.frames.specs.Editions.{ByD, readByD, readByE, aviPacket, underD, Editions, BothEditions}
+use Rattle.frames.proofs.Small.{Small, mode-small, colour-small, quantisation-small, repeats-small}
+use Rattle.frames.proofs.Sealed.{holds}
+
+-- what a reader that knows only D finds in the packet of a video
+abbrev found : Video → ByD
+found v =
+    record {
+      y = v .encoding;
+      c = colorimetry (modeOf (v .vic)) (v .encoding);
+      ec = 0;
+      q = quantisation v;
+      m = modeOf (v .vic) .aspect;
+      r = 8;
+      vic = v .vic;
+      pr = repeats v;
+    }
+
+module _ (v : Video) (f : VideoFits v) where
+  abbrev mode : Mode
+  mode = modeOf (v .vic)
+
+  small : Small mode
+  small = mode-small (v .vic)
+
+  abbrev first : ℕ
+  first = v .encoding * 32 + 16
+
+  abbrev second : ℕ
+  second = colorimetry mode (v .encoding) * 64 + mode .aspect * 16 + 8
+
+  abbrev third : ℕ
+  third = quantisation v * 4
+
+  abbrev fifth : ℕ
+  fifth = yccQuantisation v * 64 + contentType v * 16 + repeats v
+
+  by-d : readByD (aviPacket v) ≡ found v
+  unfolding aviFrame
+  by-d =
+      let colour = colour-small mode (v .encoding) small in
+      let y : first / 32 % 4 ≡ v .encoding = omega (arith, encoding-fits v f) in
+      let c : second / 64 % 4 ≡ colorimetry mode (v .encoding) = omega (arith, colour, small .aspect) in
+      let ec : third / 16 % 8 ≡ 0 = omega (arith, quantisation-small v) in
+      let q : third / 4 % 4 ≡ quantisation v = omega (arith, quantisation-small v) in
+      let m : second / 16 % 4 ≡ mode .aspect = omega (arith, colour, small .aspect) in
+      let r : second / 1 % 16 ≡ 8 = omega (arith, colour, small .aspect) in
+      let vic : v .vic / 1 % 128 ≡ v .vic = omega (arith, vic-small v f) in
+      let pr : fifth / 1 % 16 ≡ repeats v = omega (arith, repeats-small v) in
+      λ i. record { y = y i; c = c i; ec = ec i; q = q i; m = m i; r = r i; vic = vic i; pr = pr i }
+
+  yq : readByE (aviPacket v) .yq ≡ yccQuantisation v
+  unfolding aviFrame
+  yq = let e : fifth / 64 % 4 ≡ yccQuantisation v = omega (arith, repeats-small v, ycc-fits v f) in e
+
+  cn : readByE (aviPacket v) .cn ≡ contentType v
+  unfolding aviFrame
+  cn = let e : fifth / 16 % 4 ≡ contentType v = omega (arith, repeats-small v, ycc-fits v f) in e
+
+  under-fits : VideoFits (underD v)
+  under-fits = record { offered = f .offered; inside = inside; apart = apart }
+    where
+      edition : EditionOutside (underD v) → ⊥
+      edition (inl e) = omega (arith, e)
+      edition (inr (inl q)) = omega (arith, q)
+      edition (inr (inr h)) = omega (arith, h)
+
+      shown : ShownOutside (underD v) → ShownOutside v
+      shown (inl e) = inl e
+      shown (inr (inl g)) = inr (inl g)
+      shown (inr (inr (inl p))) = inr (inr (inl p))
+      shown (inr (inr (inr h))) = absurd (edition h)
+
+      inside : VideoOutside (underD v) → ⊥
+      inside (inl l) = f .inside (inl l)
+      inside (inr (inl d)) = f .inside (inr (inl d))
+      inside (inr (inr s)) = f .inside (inr (inr (shown s)))
+
+      under : AskedUnderD (underD v) → ⊥
+      under (e, inl q) = q (omega arith)
+      under (e, inr t) = t (omega arith)
+
+      apart : VideoCombined (underD v) → ⊥
+      apart (inl l) = f .apart (inl l)
+      apart (inr (inl d)) = f .apart (inr (inl d))
+      apart (inr (inr (inl g))) = f .apart (inr (inr (inl g)))
+      apart (inr (inr (inr u))) = under u
+
+sums : (v : Video) → total (aviFrame v) % 256 ≡ 0
+unfolding aviFrame
+sums v = holds .zero aviHeader (aviPayload v)
+
+pub editions : BothEditions
+editions v f =
+    record {
+      same = by-d v f ∙ sym (by-d (underD v) (under-fits v f));
+      fits = under-fits v f;
+      asked = by-d v f;
+      yq = yq v f;
+      cn = cn v f;
+      summed = (sums v, sums (underD v));
+    }
