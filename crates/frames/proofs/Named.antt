@@ -1,5 +1,5 @@
 -- An AVI frame names the video that it was made for. Assumes nothing.
-use mathlib.Core.Path.{_≡_, refl, sym, _∙_}
+use mathlib.Core.Path.{_≡_, refl, sym, ap, _∙_}
 use mathlib.Core.Logic.{inl, inr}
 use mathlib.Core.Bool.{Bool, true, false, cond}
 use mathlib.Core.List.{[], _∷_}
@@ -42,29 +42,31 @@ module _ (v : Video) (f : VideoFits v) where
   pub pixel-back : (fifth % 16 + 1) / 2 * 16 + depth v % 16 ≡ v .pixel
   pixel-back = rw (low, repetition-back (repetition v) (repetition-fits v f)) (omega arith)
 
-  -- and its upper half, E's bits: they are 0 where nothing of E is asked for
+  -- and its upper half, E's bits: with them the byte is E's, unless it is D's, where nothing of E is asked for
   pub edition-back : editionNamed fifth ≡ answeredEdition (v .infoframe)
-  edition-back = go (eqb (fifth / 16) 0) refl
+  edition-back =
+      let high : fifth / 64 % 4 ≡ yccQuantisation v = omega (arith, repeats-small v, ycc-fits v f) in
+      let next : fifth / 16 % 4 ≡ contentType v = omega (arith, repeats-small v, ycc-fits v f) in
+      rw (high, next) (go (eqb (yccQuantisation v) 0) refl (eqb (contentType v) 0) refl)
     where
-      go : (b : Bool) → eqb (fifth / 16) 0 ≡ b → cond b 0 (1 + fifth / 64 % 4 * 4 + fifth / 16 % 4 * 16) ≡ answeredEdition (v .infoframe)
-      go true e = sym (exceptions .asD v f none)
+      e : ℕ
+      e = 1 + yccQuantisation v * 4 + contentType v * 16
+
+      as-asked : AsksE v → answeredEdition e ≡ answeredEdition (v .infoframe)
+      as-asked asks =
+          let whole : e ≡ v .infoframe = omega (arith, parts (v .infoframe), no-more v f, exceptions .asE v f asks .0) in
+          ap answeredEdition whole
+
+      go : (b : Bool) → eqb (yccQuantisation v) 0 ≡ b → (c : Bool) → eqb (contentType v) 0 ≡ c → answeredEdition e ≡ answeredEdition (v .infoframe)
+      go false q c t = as-asked (inl (eqb-false _ _ q))
+      go true q false t = as-asked (inr (eqb-false _ _ t))
+      go true q true t =
+          let one : e ≡ 1 = omega (arith, eqb-true (yccQuantisation v) 0 q, eqb-true (contentType v) 0 t) in
+          ap answeredEdition one ∙ sym (exceptions .asD v f none)
         where
           none : AsksE v → ⊥
-          none (inl q) = q (omega (arith, eqb-true (fifth / 16) 0 e))
-          none (inr t) = t (omega (arith, eqb-true (fifth / 16) 0 e))
-      go false e = sym (exceptions .asE v f asks .1 ∙ whole)
-        where
-          asks : AsksE v
-          asks = which (eqb (yccQuantisation v) 0) refl
-            where
-              which : (b : Bool) → eqb (yccQuantisation v) 0 ≡ b → AsksE v
-              which true q = inr (λ t. eqb-false (fifth / 16) 0 e (omega (arith, repeats-small v, eqb-true (yccQuantisation v) 0 q, t)))
-              which false q = inl (eqb-false (yccQuantisation v) 0 q)
-          whole : v .infoframe ≡ 1 + fifth / 64 % 4 * 4 + fifth / 16 % 4 * 16
-          whole =
-              let high : fifth / 64 % 4 ≡ yccQuantisation v = omega (arith, repeats-small v, ycc-fits v f) in
-              let next : fifth / 16 % 4 ≡ contentType v = omega (arith, repeats-small v, ycc-fits v f) in
-              rw (high, next) (omega (arith, parts (v .infoframe), no-more v f, exceptions .asE v f asks .0))
+          none (inl n) = n (eqb-true _ _ q)
+          none (inr n) = n (eqb-true _ _ t)
 
 pub named : NamedBack
 named v f =

@@ -8,7 +8,7 @@ use lib.ListN.{getD, replicate}
 use Rattle.video.specs.declared.Mode.{Mode}
 use Rattle.video.specs.declared.Video.{Video}
 use Rattle.video.specs.Modes.{modeOf}
-use Rattle.video.specs.Video.{repetition, yccQuantisation, contentType}
+use Rattle.video.specs.Video.{repetition, yccQuantisation, contentType, answeredEdition}
 
 -- "the sum of all bytes"
 unfoldable pub total : List ℕ → ℕ
@@ -62,9 +62,9 @@ aviPayload v =
 unfoldable pub aviFrame : Video → List ℕ
 aviFrame video = frame aviHeader (aviPayload video)
 
--- request 11, "Decoding answers D when the bits are 0": the edition byte, by data byte 5
+-- request 11: the edition byte, by data byte 5: E's, with those bits, as it is answered ("Decoding answers D when the bits are 0")
 abbrev pub editionNamed : ℕ → ℕ
-editionNamed fifth = cond (eqb (fifth / 16) 0) 0 (1 + fifth / 64 % 4 * 4 + fifth / 16 % 4 * 16)
+editionNamed fifth = answeredEdition (1 + fifth / 64 % 4 * 4 + fifth / 16 % 4 * 16)
 
 -- what the data bytes of an AVI frame name, over a link and at a depth: Y of byte 1, the high bit of Q in byte 3, byte 4, PR in byte 5 and
 -- the bits above it. "Family is answered as 0". `NamedBack` ties it to them.

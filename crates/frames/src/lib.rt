@@ -162,16 +162,13 @@ pub fn avi_of(video: Video) -> Avi
     }
 }
 
-// The edition byte, by data byte 5: D where its upper half is 0.
+// The edition byte, by data byte 5.
 fn edition_named(fifth: u8) -> u8
     ensures { λ r. ⌜ r ≡ editionNamed fifth ⌝ }
 {
-    if fifth / 16 == 0 {
-        return 0;
-    }
     let ycc = fifth / 64 % 4 * 4;
     let content = fifth / 16 % 4 * 16;
-    1 + ycc + content
+    video::answered_edition(1 + ycc + content)
 }
 
 // What the data bytes of an AVI InfoFrame name, over a link and at a depth, in family 0.

@@ -6,7 +6,7 @@ use mathlib.Core.List.{List, [], _∷_, _++_}
 use Prim.Native.Nat.{ℕ, zero, suc, _+_, _/_, _%_, _<_, _≤_}
 use native.Mathlib.Omega.{arith}
 use lib.Dec.{eqb, leb, ltb, lit<}
-use lib.ListN.{length, getD, drop, set, length-drop}
+use lib.ListN.{length, getD, drop, length-drop}
 use lib.Seq.{getD-append-add, getD-drop, drop-cons}
 use borrow.Author.Tests.{eqb-true, leb-true, ltb-true, lt-ltb, le-ltb, not-false}
 use Rattle.lists.proofs.Both.{both-left, both-right, neither-right}
@@ -23,7 +23,7 @@ use Rattle.request.specs.declared.Checked.{Checked}
 use Rattle.request.specs.Sections.{audioCount, matrixCount, Walk, ends, notAllowed, whole, walked, audioSection, matrixSection, laid, Sectioned}
 use Rattle.request.specs.Request.{present, videoOf, soundOf, requestIn}
 use Rattle.request.specs.Read.{audioOutside, outside, emptied, judged, checked, readOf}
-use Rattle.request.specs.Bytes.{audioBody, matrixBody, bodiesOf, asBytes, answeredAs, answeredBytes}
+use Rattle.request.specs.Bytes.{audioBody, matrixBody, bodiesOf, asBytes, answeredAs, answeredBytes, asReadBack}
 use Rattle.request.specs.Theorems.{ThereAndBack}
 use Rattle.request.proofs.Opened.{sectioned, request-walks}
 use Rattle.request.proofs.Ordered.{Judged, passed}
@@ -124,14 +124,14 @@ module _ (input : List ℕ) (b : Bytes input) where
   unfolding readOf
   back z = found (walked input) refl z (passed (walked input) z)
 
-family-zero : (r : Request) → asBytes (answeredAs r) ≡ set (asBytes r) 2 0
+reads-back : (r : Request) → asBytes (answeredAs r) ≡ asReadBack (asBytes r)
 unfolding asBytes
-family-zero r = refl
+reads-back r = refl
 
 pub there-and-back : ThereAndBack
 there-and-back =
     record {
       there = λ r s z. ap (λ (c : Checked). c .request) (said r s z);
       back = back;
-      answered = λ input b z. family-zero (readOf input .request) ∙ ap (λ (l : List ℕ). set l 2 0) (back input b z);
+      answered = λ input b z. reads-back (readOf input .request) ∙ ap asReadBack (back input b z);
     }

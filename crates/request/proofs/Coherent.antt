@@ -13,6 +13,7 @@ use Rattle.refusals.proofs.Tests.{lowest-given, answer-beside, in-stages, later
 use Rattle.clock.specs.declared.Pair.{Pair}
 use Rattle.video.specs.declared.Video.{Video}
 use Rattle.video.specs.Video.{noVideo, PixelOutside}
+use Rattle.video.proofs.Fits.{outside-too}
 use Rattle.clock.specs.Pairs.{noPair}
 use Rattle.clock.proofs.Rows.{refusals, is-above}
 use Rattle.request.specs.declared.Sound.the-variants.{Off, On}
@@ -26,8 +27,7 @@ use Rattle.request.proofs.Ordered.{read-given, Judged, passed, full, is
 
 -- where row 5 does not apply, the depth byte, the rate and the coherent byte of an audio section are in range
 in-range : (v : Video) (a m : List ℕ) → (Outside v a m → ⊥) → Present a → PixelOutside v ⊎ (6 < rate a) ⊎ (1 < coherent a) → ⊥
-in-range v a m o p (inl (inl h)) = o (inl (inr (inl h)))
-in-range v a m o p (inl (inr h)) = o (inl (inr (inr (inr (inr h)))))
+in-range v a m o p (inl h) = o (inl (outside-too v h))
 in-range v a m o p (inr (inl h)) = o (inr (inl (p, inl h)))
 in-range v a m o p (inr (inr h)) = o (inr (inl (p, inr (inr h))))
 

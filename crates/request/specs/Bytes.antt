@@ -4,7 +4,8 @@ use mathlib.Core.Bool.{cond}
 use mathlib.Core.List.{List, [], _∷_}
 use Prim.Native.Nat.{ℕ}
 use lib.Dec.{eqb}
-use Rattle.video.specs.Video.{videoBody, answered}
+use lib.ListN.{getD, set}
+use Rattle.video.specs.Video.{videoBody, answeredEdition, answered}
 use Rattle.video.specs.Video as video
 use Rattle.matrix.specs.declared.Matrix.{Matrix}
 use Rattle.matrix.specs.Coefficient.{coefficientBytes}
@@ -36,9 +37,13 @@ asBytes r = laid (bodiesOf r) []
 abbrev pub inFamily : ℕ → Request → Request
 inFamily family r = record { video = video.inFamily family (r .video); sound = r .sound; matrix = r .matrix }
 
--- "the same request, but for the frame-rate family": a request as decoding answers it, and the bytes of an accepted input
+-- "the same request, but for the frame-rate family", and for an E that asks for nothing: a request as decoding answers it, and the bytes of
+-- an accepted input. Of an input byte 2 is the family and byte 7 the edition; `ThereAndBack` says that these bytes are the same.
 abbrev pub answeredAs : Request → Request
 answeredAs r = record { video = answered (r .video); sound = r .sound; matrix = r .matrix }
 
 abbrev pub answeredBytes : List ℕ → List ℕ
 answeredBytes input = asBytes (answeredAs (readOf input .request))
+
+abbrev pub asReadBack : List ℕ → List ℕ
+asReadBack input = set (set input 2 0) 7 (answeredEdition (getD input 7 0))

@@ -4,7 +4,7 @@ use mathlib.Core.Logic.{_≢_, _⊎_}
 use mathlib.Core.Bool.{true}
 use mathlib.Core.List.{List, [], _∷_}
 use Prim.Native.Nat.{ℕ, _<_}
-use lib.ListN.{length, getD, take, set}
+use lib.ListN.{length, getD, take}
 use Rattle.lists.specs.Among.{among}
 use Rattle.refusals.specs.Rows.{Given}
 use Rattle.video.specs.Video.{noVideo}
@@ -15,7 +15,7 @@ use Rattle.request.specs.declared.Request.{Request}
 use Rattle.request.specs.Sections.{walk, whole, lengthsOf, lengths, longest, walked, audioSection, matrixSection}
 use Rattle.request.specs.Request.{videoOf, requestIn, readRules, nctsRules}
 use Rattle.request.specs.Read.{readOf, nctsOf}
-use Rattle.request.specs.Bytes.{asBytes, answeredBytes}
+use Rattle.request.specs.Bytes.{asBytes, answeredBytes, asReadBack}
 
 pub record Rows (input : List ℕ) : Type 0 where
   -- of the rows that a call checks, the lowest that applies is given, and none is given otherwise
@@ -51,5 +51,5 @@ pub record ThereAndBack : Type 0 where
   pub there : (r : Request) → Shaped (r .matrix) → readOf (asBytes r) .refusal ≡ 0 → readOf (asBytes r) .request ≡ r
   -- the bytes of the request that is read from an input are the input
   pub back : (input : List ℕ) → Bytes input → readOf input .refusal ≡ 0 → asBytes (readOf input .request) ≡ input
-  -- the bytes that are answered for an input are the input's, its family 0
-  pub answered : (input : List ℕ) → Bytes input → readOf input .refusal ≡ 0 → answeredBytes input ≡ set input 2 0
+  -- the bytes that are answered for an input are the input's, but for its family and its edition byte
+  pub answered : (input : List ℕ) → Bytes input → readOf input .refusal ≡ 0 → answeredBytes input ≡ asReadBack input

@@ -1,4 +1,4 @@
-// The request: document 01, "The request" and "Refusal numbers"; document 02, requests 01 and 06.
+// The request: document 01, "The request" and "Refusal numbers"; document 02, requests 01, 06 and 11.
 ghost use mathlib.Core.Path.{_≡_};
 ghost use mathlib.Core.Bool.{not, _&&_};
 ghost use Prim.Native.Nat.{ℕ, _%_};

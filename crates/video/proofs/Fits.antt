@@ -1,6 +1,6 @@
 -- What the tests of a video decide, and what they say of each field of one that is accepted. Assumes nothing.
 use mathlib.Core.Path.{_≡_, refl}
-use mathlib.Core.Logic.{_≢_, inl, inr, ⊎-elim}
+use mathlib.Core.Logic.{_≢_, inl, inr}
 use mathlib.Core.Bool.{Bool, true, false, cond, _&&_}
 use mathlib.Core.List.{List, [], _∷_}
 use Prim.Native.Nat.{ℕ, _/_, _<_, _≤_}
@@ -36,8 +36,12 @@ is-full : (v : Video) → Decides (fullYCbCr v) (FullYCbCr v)
 is-full v = together (equal (v .range) 1) (opposite (equal (v .encoding) 0))
 
 -- what is outside for the clock is outside
+pub outside-too : (v : Video) → PixelOutside v → VideoOutside v
+outside-too v (inl depth) = inr (inl depth)
+outside-too v (inr repetition) = inr (inr (inr (inr (inl repetition))))
+
 pub pixel-inside : (v : Video) → videoOutside v ≡ false → pixelOutside v ≡ false
-pixel-inside v e = refuted (is-pixel-outside v) (λ h. is-outside v .fails e (⊎-elim (λ d. inr (inl d)) (λ r. inr (inr (inr (inr (inl r))))) h))
+pixel-inside v e = refuted (is-pixel-outside v) (λ h. is-outside v .fails e (outside-too v h))
 
 pub is-deep : (v : Video) → Decides (deepApart v) (DeepApart v)
 is-deep v = together (opposite (equal (depth v) 0)) (either (equal (v .encoding) 1) (equal (v .link) 0))

@@ -2,8 +2,8 @@
 // 06 and 11.
 ghost use mathlib.Core.Path.{_≡_};
 ghost use Rattle.video.specs.Modes.{mode, modeOf, ModeTable};
-ghost use Rattle.video.specs.Video.{videoIn, videoBody, depth, repetition, noVideo, inFamily, Body};
-ghost use Rattle.video.specs.Video.{yccQuantisation, contentType, editionOutside, shownOutside, videoOutside, pixelOutside};
+ghost use Rattle.video.specs.Video.{videoIn, videoBody, depth, repetition, yccQuantisation, contentType, noVideo, inFamily};
+ghost use Rattle.video.specs.Video.{answeredEdition, Body, editionOutside, shownOutside, videoOutside, pixelOutside};
 ghost use Rattle.video.specs.Video.{fullYCbCr, deepApart, askedUnderD, shownCombined, videoCombined};
 ghost use Rattle.video.specs.Exception.{Exception};
 
@@ -151,6 +151,16 @@ pub fn in_family(v: Video, family: u8) -> Video
         pixel: v.pixel,
         infoframe: v.infoframe,
     }
+}
+
+// The edition byte as it is answered: D's for an E that asks for nothing.
+pub fn answered_edition(byte: u8) -> u8
+    ensures { λ r. ⌜ r ≡ answeredEdition byte ⌝ }
+{
+    if byte == 1 {
+        return 0;
+    }
+    byte
 }
 
 // Row 5, of the edition byte.

@@ -1,11 +1,7 @@
 -- `frames::edition_named` meets its contract. Assumes nothing.
 use borrow.Author.Needs.{needs}
-use borrow.Author.Tests.{eq-eqb, ne-eqb}
 use Rattle.frames.proofs.edition_named.Statement.{statement}
 use Rattle.frames.proofs.edition_named.Tie as tie
-
-returns : tie.Need-returns
-returns c = simp (eq-eqb _ _ (c .if1 .taken))
 
 mul-ycc : tie.Need-mul-ycc
 mul-ycc c = search needs
@@ -13,14 +9,18 @@ mul-ycc c = search needs
 mul-content : tie.Need-mul-content
 mul-content c = search needs
 
-add-result : tie.Need-add-result
-add-result c = search needs
+add-answered-edition : tie.Need-add-answered-edition
+add-answered-edition c = search needs
 
-add-result-2 : tie.Need-add-result-2
-add-result-2 c = search needs
+add-answered-edition-2 : tie.Need-add-answered-edition-2
+add-answered-edition-2 c = search needs
 
-returns-2 : tie.Need-returns-2
-returns-2 c = simp (ne-eqb _ _ (c .if1 .left))
+answered-edition-requires : tie.Need-answered-edition-requires
+answered-edition-requires c κs = search needs
+
+returns : tie.Need-returns
+returns c = c .answered-edition .ensures
 
 pub edition-named-spec : {M : Type 1} → statement M
-edition-named-spec = tie.close (tie.spec returns mul-ycc mul-content add-result add-result-2 returns-2)
+edition-named-spec =
+    tie.close (tie.spec mul-ycc mul-content add-answered-edition add-answered-edition-2 answered-edition-requires returns)
