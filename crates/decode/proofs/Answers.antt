@@ -3,7 +3,7 @@ use mathlib.Core.Path.{_≡_, refl, sym, ap, _∙_, subst}
 use mathlib.Core.Logic.{_≢_, _⊎_, inl, inr}
 use mathlib.Core.Bool.{Bool, true, false, false≢true, cond, not, _&&_, _||_}
 use mathlib.Core.List.{List, [], _∷_}
-use Prim.Native.Nat.{ℕ, zero, suc, _/_, _%_, _<_, _≤_}
+use Prim.Native.Nat.{ℕ, zero, suc, _+_, _*_, _/_, _%_, _<_, _≤_}
 use native.Mathlib.Nat.{eq-or-lt-of-le, le-of-suc-le-suc, not-suc-le-zero}
 use native.Mathlib.Omega.{arith}
 use lib.Dec.{eqb, ltb}
@@ -17,6 +17,7 @@ use Rattle.bits.specs.Merge.{merge}
 use Rattle.bits.proofs.Truth.{E, var, by, law}
 use Rattle.registers.specs.Classes.{readOnly, free, named, bits}
 use Rattle.map.specs.Map as reg
+use Rattle.video.specs.Video.{answeredEdition}
 use Rattle.video.proofs.Fits.{family-small}
 use Rattle.matrix.specs.Matrix.{fields, noMatrix}
 use Rattle.matrix.proofs.Pairs.{fields-small, length-fields}
@@ -31,7 +32,7 @@ use Rattle.plan.specs.Wanted.{wanted}
 use Rattle.writes.specs.List.{byte, decided, written, isWritten, finished}
 use Rattle.decode.specs.declared.Decoded.{Decoded}
 use Rattle.decode.specs.Ends.{Acceptable, Stands, Ends}
-use Rattle.decode.specs.Extract.{byteIn, matrixIn, extract}
+use Rattle.decode.specs.Extract.{byteIn, matrixIn, dataIn, extract}
 use Rattle.writes.specs.List.{standsBelow}
 use Rattle.decode.specs.Decode.{endsIn, someEnds, decodeTests, decodeRefusal, notDecoded, decodeOf, decodedBuffer}
 use Rattle.decode.specs.Theorems.{Answered, ExactlyWhen, AtMostOne, decodeRules, Refusals, Ran, ReadBack}
@@ -39,6 +40,7 @@ use Rattle.request.proofs.Fits.{fits}
 use Rattle.request.proofs.Said.{said}
 use Rattle.request.proofs.Back.{back}
 use Rattle.decode.proofs.Extracted.{extracted}
+use Rattle.decode.proofs.Unasked.{unasked}
 
 -- ---- the test of `Stands`
 
@@ -86,6 +88,17 @@ test-ends r f image h e t =
       stands = test-stands q image 256 (both-right (eqb (readOf (asBytes q) .refusal) 0 && eqb (pairFor q .refusal) 0) _ t);
     }
 
+-- what is answered is answered as it is
+edition-twice : (byte : ℕ) → answeredEdition (answeredEdition byte) ≡ answeredEdition byte
+edition-twice byte = go (eqb byte 1) refl
+  where
+    go : (b : Bool) → eqb byte 1 ≡ b → answeredEdition (cond b 0 byte) ≡ cond b 0 byte
+    go true e = refl
+    go false e = rw e
+
+twice : (r : Request) → answeredAs (answeredAs r) ≡ answeredAs r
+twice r = rw (edition-twice (r .video .infoframe))
+
 -- ---- an image of 256 bytes
 
 module _ (image : List ℕ) (long : length image ≡ 256) where
@@ -107,13 +120,19 @@ module _ (image : List ℕ) (long : length image ≡ 256) where
         small = fields-small (take reg.cscCount (drop reg.csc image));
       })
 
+  named-as : answeredAs (extract image) ≡ extract image
+  unfolding extract
+  named-as =
+      let fifth : ℕ = getD (dataIn image) 4 0 in
+      rw (edition-twice (1 + fifth / 64 % 4 * 4 + fifth / 16 % 4 * 16))
+
   pub found-ends : someEnds image ≡ true → Ends (extract image) image
   unfolding someEnds extract
   found-ends t = go (endsIn (extract image) 0 image) refl t
     where
       go : (b : Bool) → endsIn (extract image) 0 image ≡ b → (b || endsIn (extract image) 1 image) ≡ true → Ends (extract image) image
-      go true e t = test-ends (extract image) 0 image shaped refl e
-      go false e t = test-ends (extract image) 1 image shaped refl t
+      go true e t = test-ends (extract image) 0 image shaped named-as e
+      go false e t = test-ends (extract image) 1 image shaped named-as t
 
   is-extracted : (r : Request) → Ends r image → extract image ≡ r
   is-extracted r e =
@@ -132,8 +151,24 @@ module _ (image : List ℕ) (long : length image ≡ 256) where
       go (suc zero) h t = rw t (right (endsIn r 0 image))
       go (suc (suc f)) h t = absurd (omega arith)
 
+  -- any request that is accepted and stands there ends there, as it is answered
+  pub standing-ends : (r : Request) → Acceptable r → Stands r image → Ends (answeredAs r) image
+  standing-ends r t st =
+      let u = unasked r (acceptable-fits r t .matrix) t in
+      record {
+        family = r .video .family;
+        answered = twice r;
+        acceptable = u .0;
+        stands = λ a h. rw (u .1) (st a h);
+      }
+
 pub at-most-one : (image : List ℕ) → AtMostOne image
-at-most-one image long r q e f = sym (is-extracted image long r e) ∙ is-extracted image long q f
+at-most-one image =
+    record {
+      ends = λ long r q e f. sym (is-extracted image long r e) ∙ is-extracted image long q f;
+      stands = λ long r q t s u f.
+          sym (is-extracted image long (answeredAs r) (standing-ends image long r t s)) ∙ is-extracted image long (answeredAs q) (standing-ends image long q u f);
+    }
 
 -- ---- the refusals
 
@@ -178,11 +213,15 @@ module _ (image buffer : List ℕ) where
   unfolding decodeRefusal
   none l h f = rw (eq-eqb (length image) 256 l, le-ltb (length buffer) longest h, f)
 
+  each : length image ≡ 256 → longest ≤ length buffer → (r : Request) → Ends r image → Answered (asBytes r) image buffer
+  each l h r e = subst (λ (q : Request). Answered (asBytes q) image buffer) (is-extracted image l r e) (answers (none l h (ends-found image l r e)))
+
   pub exactly : ExactlyWhen image buffer
   exactly = record {
     only = λ z. let y : decodeRefusal image buffer ≡ 0 = sym number-given ∙ z in let p = accepted y in
         record { request = extract image; ends = found-ends image (p .0) (p .1); answered = answers y };
-    each = λ l h r e. subst (λ (q : Request). Answered (asBytes q) image buffer) (is-extracted image l r e) (answers (none l h (ends-found image l r e)));
+    each = each;
+    standing = λ l h r t st. each l h (answeredAs r) (standing-ends image l r t st);
   }
 
 -- ---- the finished image
@@ -212,15 +251,13 @@ module _ (input before image : List ℕ) where
   r = readOf input .request
 
   ends : Ran input before image → Ends (answeredAs r) image
-  ends ran = record {
-    family = r .video .family;
-    answered = refl;
-    acceptable = record {
-      read = ap readOf (back input (ran .bytes) (ran .read)) ∙ ap (λ (n : ℕ). asked n) (ran .read);
-      paired = ran .paired;
-    };
-    stands = λ a h. finished-again (wanted r) before image a (ran .registers a h);
-  }
+  ends ran =
+      standing-ends image (ran .sized) r
+      (record {
+        read = ap readOf (back input (ran .bytes) (ran .read)) ∙ ap (λ (n : ℕ). asked n) (ran .read);
+        paired = ran .paired;
+      })
+      (λ a h. finished-again (wanted r) before image a (ran .registers a h))
     where
       asked : ℕ → Checked
       asked n = record { refusal = n; request = r }

@@ -11,7 +11,7 @@ use Rattle.lists.proofs.Both.{both-left, both-right, neither-left}
 use Rattle.lists.proofs.Decides.{refuted}
 use Rattle.map.specs.Map as reg
 use Rattle.video.specs.declared.Video.{Video}
-use Rattle.video.specs.Video.{videoOutside, videoCombined}
+use Rattle.video.specs.Video.{shownOutside, videoOutside, shownCombined, videoCombined}
 use Rattle.video.proofs.Fits.{is-pixel-outside, pixel-inside}
 use Rattle.video.specs.Video as video
 use Rattle.video.specs.Modes.{modeOf, offered}
@@ -49,7 +49,7 @@ first-within v o x w =
     (λ h. is-above (video.inFamily 1 v) .fails w (families v o (is-pixel-outside v .fails (pixel-inside v x)) .0 h))
 
 judged-first : (v : Video) (a m : List ℕ) → judged (video.inFamily 1 v) a m .refusal ≡ 0 → judged (video.inFamily 0 v) a m .refusal ≡ 0
-unfolding judged outside combined videoOutside videoCombined
+unfolding judged outside combined videoOutside shownOutside videoCombined shownCombined
 judged-first v a m z =
     let j = accepted (video.inFamily 1 v) a m z in
     let x : outside (video.inFamily 0 v) a m ≡ false = j .inside in

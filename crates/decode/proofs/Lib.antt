@@ -3,6 +3,7 @@ pub mod Standing
 pub mod BitByBit
 pub mod Groups
 pub mod Extracted
+pub mod Unasked
 pub mod Answers
 pub mod Families
 pub mod Found

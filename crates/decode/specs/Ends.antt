@@ -21,7 +21,7 @@ abbrev pub Stands : Request → List ℕ → Type 0
 Stands r image = (a : ℕ) → a < 256 → finished (wanted r) image a ≡ getD image a 0
 
 -- "Decoding answers a request exactly when, for that request in one of its families, accepted on some image, .."; and the request itself
--- is as it is answered ("Family is answered as 0")
+-- is as it is answered ("Family is answered as 0"; request 11, "Decoding answers D when the bits are 0")
 pub record Ends (r : Request) (image : List ℕ) : Type 0 where
   pub family : ℕ
   pub answered : answeredAs r ≡ r

@@ -17,7 +17,7 @@ use Rattle.plan.specs.Wanted.{wanted}
 use Rattle.lists.specs.Among.{among}
 use Rattle.writes.specs.List.{fullList, finished}
 use Rattle.writes.specs.Order.{addresses}
-use Rattle.decode.specs.Ends.{Stands, Ends}
+use Rattle.decode.specs.Ends.{Acceptable, Stands, Ends}
 use Rattle.decode.specs.Decode.{decodeOf, decodedBuffer}
 
 -- a request, by its bytes, is answered: their count, and the bytes at the buffer's front; "Buffer bytes after the request stay"
@@ -36,6 +36,9 @@ pub record ExactlyWhen (image buffer : List ℕ) : Type 0 where
   pub only : decodeOf image buffer .refusal ≡ 0 → Answer image buffer
   -- a request that ends in the image is answered
   pub each : length image ≡ 256 → longest ≤ length buffer → (r : Request) → Ends r image → Answered (asBytes r) image buffer
+  -- and so is any request, in its own family and edition, that is accepted and stands there: as it is answered
+  pub standing : length image ≡ 256 → longest ≤ length buffer → (r : Request) → Acceptable r → Stands r image
+      → Answered (asBytes (answeredAs r)) image buffer
 
 -- the bits that count: "named and mandated"; "free and read-only bits do not count"
 abbrev pub Counts : ℕ → ℕ → Type 0
@@ -52,9 +55,11 @@ AsLeft r before image =
 abbrev pub BitByBit : Request → List ℕ → List ℕ → Type 0
 BitByBit r before image = Bytes image → Stands r image ↔ AsLeft r before image
 
--- no two requests end in an image
-abbrev pub AtMostOne : List ℕ → Type 0
-AtMostOne image = length image ≡ 256 → (r q : Request) → Ends r image → Ends q image → r ≡ q
+-- no two requests end in an image; and any two that are accepted and stand there are answered alike: they are the same, but for the family
+-- and for an E that asks for nothing (`Exception`, video)
+pub record AtMostOne (image : List ℕ) : Type 0 where
+  pub ends : length image ≡ 256 → (r q : Request) → Ends r image → Ends q image → r ≡ q
+  pub stands : length image ≡ 256 → (r q : Request) → Acceptable r → Stands r image → Acceptable q → Stands q image → answeredAs r ≡ answeredAs q
 
 -- "decoding 7, 10 and 11": when each applies
 abbrev pub decodeRules : List ℕ → List ℕ → List Condition
@@ -76,7 +81,8 @@ pub record Ran (input before image : List ℕ) : Type 0 where
   pub sized : length image ≡ 256
   pub registers : (a : ℕ) → a < 256 → getD image a 0 ≡ finished (wanted (readOf input .request)) before a
 
--- "the finished image reads back as the same request, but for the frame-rate family, which no register names"
+-- "the finished image reads back as the same request, but for the frame-rate family, which no register names", and for an E that asks for
+-- nothing
 pub record ReadBack (input before image : List ℕ) : Type 0 where
   pub ends : Ran input before image → Ends (answeredAs (readOf input .request)) image
   pub answered : Ran input before image → (buffer : List ℕ) → longest ≤ length buffer → Answered (answeredBytes input) image buffer

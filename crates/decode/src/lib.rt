@@ -84,7 +84,7 @@ fn matrix_in(image: &[u8]) -> Matrix
     }
 }
 
-// The request that the image's registers name, in family 0.
+// The request that the image's registers name, in family 0, and under D where nothing of E is asked for.
 fn extract(image: &[u8]) -> Request
     requires { ⌜ length (now image) ≡ 256 ⌝ }
     ensures { λ r. ⌜ r ≡ extract (now (image .entry)) ⌝ }
@@ -278,7 +278,7 @@ pub fn bit_by_bit()
     ensures { λ _. ⌜ ((r : Request) (before image : List ℕ) → BitByBit r before image) ⌝ }
 {}
 
-// No two requests end in an image: the family is answered as 0, and every other field has its register.
+// No two requests end in an image: the family is answered as 0, E that asks for nothing as D, and every other field has its register.
 pub fn at_most_one()
     ensures { λ _. ⌜ ((image : List ℕ) → AtMostOne image) ⌝ }
 {}
@@ -288,7 +288,7 @@ pub fn refusals_of_decoding()
     ensures { λ _. ⌜ ((image buffer : List ℕ) → Refusals image buffer) ⌝ }
 {}
 
-// Demand 2: "the finished image reads back as the same request, but for the frame-rate family".
+// Demand 2: "the finished image reads back as the same request, but for the frame-rate family", and for an E that asks for nothing.
 pub fn read_back()
     ensures { λ _. ⌜ ((input before image : List ℕ) → ReadBack input before image) ⌝ }
 {}
