@@ -40,6 +40,9 @@ use Rattle.decode.specs.Theorems.{Answered, Ran}
 use Rattle.decode.proofs.Groups.{avi-in, audio-in, matrix-in}
 use Rattle.decode.proofs.Answers.{finished-again, read-back}
 use Rattle.promises.specs.Rules.{asked, Listed, Demand2, Accepted, OnSomeImage}
+use Rattle.frames.specs.Editions.{ByE}
+use Rattle.frames.proofs.Readers.{editions}
+use Rattle.promises.proofs.Only.{same-but-two, shown-alike}
 use Rattle.promises.proofs.Ended.{avi-head, audio-head, enable-in, mode-in}
 use Rattle.promises.proofs.Filled.{filled, paired, never-three}
 use Rattle.promises.proofs.Places.{audio-frame}
@@ -153,6 +156,8 @@ any-cut input buffer s z =
           let y : Fine input (e .image) room = again-fine input (s .image) buffer f (e .image) room sized clear long in
           reported input (e .image) room y ∙ ap (λ (n : ℕ). n + 9) (none-differ (asked input) (e .image) stands);
       newAvi = newAvi;
+      shownToD = ap (λ (b : ByE). b .known) (shown-alike (inUse packets avi e) (q .video) newAvi) ∙ editions (q .video) (g .video) .same;
+      shownToE = shown-alike (inUse packets avi e) (q .video) newAvi;
       newAudio = newAudio;
       newMatrix = newMatrix;
       headAvi = headAvi;
@@ -196,21 +201,24 @@ rules input buffer s = record {
   neverThree = λ z. let f = fits z in never-three input (s .image) (f .read) (eqb-true _ _ (f .paired));
   readBack = λ b z room h.
       subst (λ (bytes : List ℕ). Answered bytes (finishedImage (asked input) (s .image)) room) (there-and-back .answered input b (fits z .read))
-      (read-back input (s .image) (finishedImage (asked input) (s .image)) .answered (ran b z) room h);
+      (read-back input (s .image) (finishedImage (asked input) (s .image)) .answered (ran input b z) room h);
+  only = λ b z other c y e.
+      same-but-two input other (finishedImage (asked input) (s .image)) (s .image) (ran input b z)
+      (subst (Ran other (s .image)) e (ran other c y));
 }
   where
     fits : planOf input (s .image) buffer .refusal ≡ 0 → Fine input (s .image) buffer
     fits = fine input (s .image) buffer
 
-    ran : Bytes input → planOf input (s .image) buffer .refusal ≡ 0 → Ran input (s .image) (finishedImage (asked input) (s .image))
-    ran b z =
-        let f = fits z in
+    ran : (l : List ℕ) → Bytes l → planOf l (s .image) buffer .refusal ≡ 0 → Ran l (s .image) (finishedImage (asked l) (s .image))
+    ran l b z =
+        let f = fine l (s .image) buffer z in
         record {
           bytes = b;
           read = f .read;
           paired = eqb-true _ _ (f .paired);
-          sized = image-length (asked input) (s .image);
-          registers = image-at (asked input) (s .image);
+          sized = image-length (asked l) (s .image);
+          registers = image-at (asked l) (s .image);
         }
 
 -- ---- accepted on some image: on zeros

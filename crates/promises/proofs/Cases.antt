@@ -1,19 +1,26 @@
 -- The marked cases: each computes, but for the reason of case 9, which is a law of the clock. Assumes nothing.
-use mathlib.Core.Path.{_≡_, refl}
-use mathlib.Core.List.{flatMap}
-use Prim.Native.Nat.{ℕ, _*_, _∣_}
+use mathlib.Core.Path.{_≡_, refl, subst}
+use mathlib.Core.Bool.{true}
+use mathlib.Core.List.{List, [], _∷_, flatMap}
+use Prim.Native.Nat.{ℕ, zero, suc, _*_, _<_, _≤_, _∣_}
 use native.Mathlib.Omega.{arith}
-use lib.Dec.{lit<}
+use lib.Dec.{eqb, ltb, lit<}
+use lib.ListN.{length}
+use borrow.Author.Tests.{eqb-true, ltb-true}
+use Rattle.lists.specs.Find.{every}
+use Rattle.lists.proofs.Both.{both-left, both-right}
+use Rattle.bits.proofs.Below.{at-below}
+use Rattle.video.specs.declared.Video.{Video}
 use Rattle.ratio.specs.Lowest.{steps, divisorOf}
 use Rattle.video.specs.Modes.{modeOf}
-use Rattle.video.specs.Video.{videoOutside, videoCombined}
+use Rattle.video.specs.Video.{videoIn, shownOutside, videoOutside, shownCombined, videoCombined}
 use Rattle.clock.specs.Clocks.{tmds, clockOf}
 use Rattle.clock.specs.Pairs.{reference, recommendedOf}
 use Rattle.clock.specs.Found.{nearestK, nearestIn, nearestOf, exactly, coherentOf, pairOf}
 use Rattle.ratio.proofs.Multiples.{divides}
 use Rattle.frames.specs.Frames.{total, aviFrame, audioFrame, audioOffFrame}
 use Rattle.frames.specs.Answers.{aviOf, audioOf}
-use Rattle.matrix.specs.Matrix.{fields}
+use Rattle.matrix.specs.Matrix.{fields, Bytes}
 use Rattle.matrix.specs.Tests.{inRange, isAllowed}
 use Rattle.matrix.specs.Preview.{codeOf, previewOf}
 use Rattle.request.specs.Sections.{walk, walked}
@@ -26,23 +33,63 @@ use Rattle.writes.specs.Steps.{middle}
 use Rattle.writes.specs.List.{decided, byte, written, isWritten, finished, column, flat, alreadyThere}
 use Rattle.plan.specs.Wanted.{wantedImage, wanted}
 use Rattle.plan.specs.Plan.{laterRefusal, planWith, bufferWith, planOf, planBuffer}
-use Rattle.promises.specs.Worked.{Few, FewDeep}
-use Rattle.promises.specs.Cases.{rgbOverHdmi, MarkedCases}
+use Rattle.request.specs.Bytes.{asReadBack}
+use Rattle.request.proofs.Back.{there-and-back}
+use Rattle.writes.proofs.Image.{image-length, image-at}
+use Rattle.decode.specs.Theorems.{Answered}
+use Rattle.decode.proofs.Answers.{read-back}
+use Rattle.promises.specs.Rules.{asked}
+use Rattle.promises.specs.Worked.{zeros, Few, FewDeep, FewEditions}
+use Rattle.promises.specs.Cases.{rgbOverHdmi, asked16, withEdition, editionRefusal, done16, MarkedCases}
 
 multiple : (n cts : ℕ) → reference 0 * cts * clockOf (rgbOverHdmi 4 1) .den ≡ clockOf (rgbOverHdmi 4 1) .num * n → 23296 ∣ n
 unfolding reference tmds clockOf modeOf divisorOf steps
 multiple n cts e = divides 6750000000 372736000 (lit< tt) n cts (omega arith)
 
 few : Few
-unfolding flatMap steps divisorOf modeOf tmds clockOf reference recommendedOf nearestK nearestIn nearestOf exactly coherentOf pairOf total aviFrame audioFrame fields inRange isAllowed walk walked videoOutside videoCombined outside combined judged readOf pairFor merge classAt decided byte written middle isWritten finished column flat alreadyThere wantedImage wanted laterRefusal planWith bufferWith planOf planBuffer
+unfolding flatMap steps divisorOf modeOf tmds clockOf reference recommendedOf nearestK nearestIn nearestOf exactly coherentOf pairOf total aviFrame audioFrame fields inRange isAllowed walk walked videoOutside shownOutside videoCombined shownCombined outside combined judged readOf pairFor merge classAt decided byte written middle isWritten finished column flat alreadyThere wantedImage wanted laterRefusal planWith bufferWith planOf planBuffer
 few = (refl, refl)
 
 few-deep : FewDeep
-unfolding flatMap steps divisorOf modeOf tmds clockOf reference recommendedOf nearestK nearestIn nearestOf exactly coherentOf pairOf total aviFrame audioFrame audioOffFrame fields inRange isAllowed walk walked videoOutside videoCombined outside combined judged readOf pairFor merge classAt decided byte written middle isWritten finished column flat alreadyThere wantedImage wanted laterRefusal planWith bufferWith planOf planBuffer
+unfolding flatMap steps divisorOf modeOf tmds clockOf reference recommendedOf nearestK nearestIn nearestOf exactly coherentOf pairOf total aviFrame audioFrame audioOffFrame fields inRange isAllowed walk walked videoOutside shownOutside videoCombined shownCombined outside combined judged readOf pairFor merge classAt decided byte written middle isWritten finished column flat alreadyThere wantedImage wanted laterRefusal planWith bufferWith planOf planBuffer
 few-deep = (refl, refl)
 
+few-editions : FewEditions
+unfolding flatMap steps divisorOf modeOf tmds clockOf reference recommendedOf nearestK nearestIn nearestOf exactly coherentOf pairOf total aviFrame audioFrame audioOffFrame fields inRange isAllowed walk walked videoOutside shownOutside videoCombined shownCombined outside combined judged readOf pairFor merge classAt decided byte written middle isWritten finished column flat alreadyThere wantedImage wanted laterRefusal planWith bufferWith planOf planBuffer
+few-editions = (refl, refl, refl)
+
+-- each edition byte
+editions : (edition : ℕ) → edition < 256 → readOf (withEdition edition (asked16 0 1 0x00)) .refusal ≡ editionRefusal edition
+unfolding steps divisorOf modeOf tmds fields inRange isAllowed walk walked videoOutside shownOutside videoCombined shownCombined outside combined judged readOf
+editions edition h =
+    eqb-true _ _ (at-below (λ e. eqb (readOf (withEdition e (asked16 0 1 0x00)) .refusal) (editionRefusal e)) 256 edition refl h)
+
+abbrev shown16 : ℕ → Video
+shown16 edition = videoIn (0x10 ∷ 0x00 ∷ 0x00 ∷ 0x01 ∷ 0x00 ∷ 0x00 ∷ edition ∷ [])
+
+editions-avi : (edition : ℕ) → edition < 256 → aviOf (shown16 edition) .refusal ≡ editionRefusal edition
+unfolding modeOf shownOutside shownCombined aviOf
+editions-avi edition h = eqb-true _ _ (at-below (λ e. eqb (aviOf (shown16 e) .refusal) (editionRefusal e)) 256 edition refl h)
+
+-- a list of bytes
+bytes : (l : List ℕ) → every (λ b. ltb b 256) l ≡ true → Bytes l
+bytes [] t i = lit< tt
+bytes (x ∷ l) t zero = ltb-true _ _ (both-left _ (every (λ b. ltb b 256) l) t)
+bytes (x ∷ l) t (suc i) = bytes l (both-right (ltb x 256) _ t) i
+
+-- the finished image of an accepted request reads back
+reads : (edition : ℕ) → let input : List ℕ = withEdition edition (asked16 0 1 0x00) in
+    every (λ b. ltb b 256) input ≡ true → readOf input .refusal ≡ 0 → pairFor (readOf input .request) .refusal ≡ 0
+    → (room : List ℕ) → 38 ≤ length room → Answered (asReadBack input) (done16 edition) room
+reads edition t z y room h =
+    let input : List ℕ = withEdition edition (asked16 0 1 0x00) in
+    let b : Bytes input = bytes input t in
+    subst (λ (l : List ℕ). Answered l (done16 edition) room) (there-and-back .answered input b z)
+    (read-back input zeros (done16 edition) .answered
+    (record { bytes = b; read = z; paired = y; sized = image-length (asked input) zeros; registers = image-at (asked input) zeros }) room h)
+
 pub cases : MarkedCases
-unfolding flatMap steps divisorOf modeOf tmds clockOf reference recommendedOf nearestK nearestIn nearestOf exactly coherentOf pairOf total aviFrame aviOf audioFrame audioOf audioOffFrame fields inRange isAllowed codeOf previewOf walk walked videoOutside videoCombined outside combined judged readOf pairFor nctsOf lineOf digits acceptedText refusedText planOf
+unfolding flatMap steps divisorOf modeOf tmds clockOf reference recommendedOf nearestK nearestIn nearestOf exactly coherentOf pairOf total aviFrame aviOf audioFrame audioOf audioOffFrame fields inRange isAllowed codeOf previewOf walk walked videoOutside shownOutside videoCombined shownCombined outside combined judged readOf pairFor nctsOf lineOf digits acceptedText refusedText planOf
 cases =
     record {
       line = refl;
@@ -51,6 +98,7 @@ cases =
       case1 = refl;
       case2 = refl;
       case2Four = refl;
+      case2Six = refl;
       case3 = refl;
       case4 = (refl, refl);
       case5 = refl;
@@ -98,6 +146,16 @@ cases =
       bothRow = refl;
       aviAlone = refl;
       fewDeep = few-deep;
+      editions = editions;
+      editionsAvi = editions-avi;
+      editionsElsewhere = refl;
+      typeOne = refl;
+      nothing = refl;
+      bothAsked = refl;
+      fewEditions = few-editions;
+      readers = refl;
+      readsAsD = reads 0x01 refl refl refl;
+      readsAsE = reads 0x11 refl refl refl;
       few = few;
       encodings = refl;
       links = refl;

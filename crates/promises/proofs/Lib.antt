@@ -1,6 +1,7 @@
 pub mod Cases
 pub mod Ended
 pub mod LentBytes
+pub mod Only
 pub mod AnyCut
 pub mod AnyInput
 pub mod Outcomes

@@ -1,18 +1,21 @@
 -- An image in which a request ends shows the request's numbers. Assumes nothing.
 use mathlib.Core.Path.{_≡_, refl, sym, ap, subst, _∙_}
-use mathlib.Core.Logic.{⊎-elim}
+use mathlib.Core.Logic.{inl, inr, ⊎-elim}
 use mathlib.Core.Bool.{Bool, true, false, false≢true, cond}
 use mathlib.Core.List.{List, [], _∷_}
-use Prim.Native.Nat.{ℕ, zero, suc, _<_, _≤_}
+use Prim.Native.Nat.{ℕ, zero, suc, _+_, _*_, _/_, _%_, _<_, _≤_}
 use native.Mathlib.Omega.{arith}
 use lib.Dec.{eqb}
 use lib.ListN.{length, getD}
+use borrow.Author.Tests.{eqb-true, eqb-false}
 use Rattle.lists.specs.Among.{among}
 use Rattle.bits.specs.Merge.{bitsIn}
 use Rattle.bits.proofs.Below.{at-below}
 use Rattle.refusals.specs.Rows.{number, at, First}
-use Rattle.video.specs.Video.{depth, repetition}
-use Rattle.video.proofs.Fits.{range-fits, depth-fits, repetition-fits}
+use Rattle.video.specs.declared.Video.{Video}
+use Rattle.video.specs.Video.{depth, repetition, edition, yccQuantisation, contentType, AsksE, answered}
+use Rattle.video.proofs.Fits.{range-fits, depth-fits, repetition-fits, ycc-fits}
+use Rattle.video.proofs.Alike.{exceptions}
 use Rattle.request.specs.declared.Request.{Request}
 use Rattle.request.specs.declared.Checked.{Checked}
 use Rattle.request.specs.Sections.{longest}
@@ -52,6 +55,18 @@ is-pr repetition h = at-below (λ n. among (inPR n) (0 ∷ 1 ∷ 3 ∷ [])) 3 re
 
 is-code : (depth : ℕ) → depth ≤ 2 → among (inCD depth) depthNumbers ≡ true
 is-code depth h = at-below (λ n. among (inCD n) depthNumbers) 3 depth refl (omega arith)
+
+-- one of E's bits is asked for
+asked-one : (v : Video) → (yccQuantisation v * 4 + contentType v ≡ 0 → ⊥) → AsksE v
+asked-one v h = go (eqb (yccQuantisation v) 0) refl
+  where
+    go : (b : Bool) → eqb (yccQuantisation v) 0 ≡ b → AsksE v
+    go true e = inr (λ t. h (omega (arith, eqb-true (yccQuantisation v) 0 e, t)))
+    go false e = inl (eqb-false (yccQuantisation v) 0 e)
+
+-- the edition byte is answered as it is
+abbrev exact : Video → Type 0
+exact v = answered v .infoframe ≡ v .infoframe
 
 module _ (image : List ℕ) (sized : length image ≡ 256) where
   module _ (r : Request) (e : Ends r image) where
@@ -101,6 +116,38 @@ module _ (image : List ℕ) (sized : length image ≡ 256) where
         let y : bitsIn 2 1 (getD image 0x3B 0) ≡ repetition (r .video) = at 0x3B 2 refl in
         x ∙ sym y
 
+    -- YQ and CN
+    in-yq : bitsIn 7 6 (getD image 0x59 0) ≡ yccQuantisation (r .video)
+    in-yq = picked (Shows image) (places q (nctsOf (asBytes q))) (in-fields .fields) 0x59 7 refl
+
+    in-cn : bitsIn 5 4 (getD image 0x59 0) ≡ contentType (r .video)
+    in-cn = picked (Shows image) (places q (nctsOf (asBytes q))) (in-fields .fields) 0x59 5 refl
+
+    yq-small : bitsIn 7 6 (getD image 0x59 0) ≤ 1
+    yq-small = rw in-yq (ycc-fits (q .video) (fitting .video))
+
+    in-edition : edition (r .video) ≡ cond (eqb (bitsIn 7 4 (getD image 0x59 0)) 0) 0 1
+    in-edition = go (eqb (bitsIn 7 4 (getD image 0x59 0)) 0) refl
+      where
+        fifth : ℕ
+        fifth = getD image 0x59 0
+
+        halves : bitsIn 7 4 fifth ≡ yccQuantisation (r .video) * 4 + contentType (r .video)
+        halves =
+            let quarter : fifth / 16 / 4 ≡ fifth / 64 = omega arith in
+            let whole : fifth / 16 % 16 ≡ fifth / 16 / 4 % 4 * 4 + fifth / 16 % 4 = omega arith in
+            whole ∙ rw (quarter, in-yq, in-cn)
+
+        byte : exact (q .video)
+        byte = ap (λ (x : Request). x .video .infoframe) (e .answered)
+
+        go : (b : Bool) → eqb (bitsIn 7 4 fifth) 0 ≡ b → edition (r .video) ≡ cond b 0 1
+        go true z =
+            let zero : yccQuantisation (r .video) * 4 + contentType (r .video) ≡ 0 = sym halves ∙ eqb-true _ _ z in
+            let none : AsksE (q .video) → ⊥ = ⊎-elim (λ n. n (omega (arith, zero))) (λ n. n (omega (arith, zero))) in
+            omega (arith, exceptions .asD (q .video) (fitting .video) none, byte)
+        go false z = exceptions .asE (q .video) (fitting .video) (asked-one (q .video) (λ h. eqb-false _ _ z (halves ∙ h))) .0
+
 -- neither 7 nor 10 applies
 eleven : (image room : List ℕ) → length image ≡ 256 → longest ≤ length room → First (decodeRules image room) (decodeOf image room .refusal)
     → decodeOf image room .refusal ≡ 11
@@ -126,4 +173,8 @@ shown image = record {
       eleven image room sized long (refusals image room .given .some (λ z.
       let a = exactly image room .only z in
       ⊎-elim (λ n. false≢true (sym n ∙ in-pr image sized (a .request) (a .ends))) (λ n. n (in-both image sized (a .request) (a .ends))) none));
+  noQuantisation = λ sized above room long.
+      eleven image room sized long (refusals image room .given .some (λ z.
+      let a = exactly image room .only z in omega (arith, above, yq-small image sized (a .request) (a .ends))));
+  edition = in-edition image;
 }

@@ -4,6 +4,7 @@ use mathlib.Core.List.{List}
 use Prim.Native.Nat.{ℕ, _≤_}
 use lib.ListN.{length, drop}
 use Rattle.frames.specs.Frames.{aviFrame}
+use Rattle.frames.specs.Editions.{readByD, readByE, aviPacket, underD}
 use Rattle.request.specs.Read.{readOf}
 use Rattle.chip.specs.declared.Chip.{Chip}
 use Rattle.chip.specs.Machine.{Write, avi, audio, packets, inUse, coefficients, enableInUse, modeInUse}
@@ -43,6 +44,10 @@ pub record AnyCut (input buffer : List ℕ) (s : Chip) : Type 0 where
   pub headAvi : Headed 0x02 0x0D (inUse packets avi (toItsEnd (listOf input) s))
   pub headAudio : Headed 0x01 0x0A (inUse packets audio (toItsEnd (listOf input) s))
   pub newAvi : drop 2 (inUse packets avi (toItsEnd (listOf input) s)) ≡ drop 3 (aviFrame (readOf input .request .video))
+  -- request 11: "Shown to a reader that knows only D, an E packet yields the same colour, aspect and VIC", the packet that is in use; and a
+  -- reader that knows E finds what was asked (`Editions`, frames)
+  pub shownToD : readByD (inUse packets avi (toItsEnd (listOf input) s)) ≡ readByD (aviPacket (underD (readOf input .request .video)))
+  pub shownToE : readByE (inUse packets avi (toItsEnd (listOf input) s)) ≡ readByE (aviPacket (readOf input .request .video))
   pub newAudio : drop 2 (inUse packets audio (toItsEnd (listOf input) s)) ≡ drop 3 (audioPacket (readOf input .request .sound))
   pub newMatrix : coefficients (toItsEnd (listOf input) s) ≡ readOf input .request .matrix .coefficients
   -- "Enable and mode in 0x18[7:5] act at once." "With a matrix: converter on. No matrix: converter off, mode 1"

@@ -1,13 +1,14 @@
 -- Document 01, "Marked cases, proved together as one table", the worked example of "What the station's library does", and the lengths that
--- "The request" says in numbers; with request 01 in: "Count 4 is no longer allowed, cases and example follow"; those of request 06, and two of
--- request 09.
+-- "The request" says in numbers; with request 01 in: "Count 4 is no longer allowed, cases and example follow"; those of requests 06 and
+-- 11, and two of request 09.
 use mathlib.Core.Path.{_≡_}
-use mathlib.Core.Bool.{true, false}
+use mathlib.Core.Bool.{true, false, cond}
 use mathlib.Core.List.{List, [], _∷_, map}
-use Prim.Native.Nat.{ℕ, _*_, _∣_}
+use Prim.Native.Nat.{ℕ, _*_, _<_, _≤_, _∣_}
 use lib.Dec.{eqb}
 use lib.IntN.{negsuc}
-use lib.ListN.{getD, set}
+use lib.ListN.{getD, length, set}
+use Rattle.lists.specs.Among.{among}
 use Rattle.lists.specs.Find.{every}
 use Rattle.video.specs.declared.Video.{Video}
 use Rattle.video.specs.Video.{videoIn}
@@ -17,13 +18,17 @@ use Rattle.clock.specs.Pairs.{reference, thePair, noPair}
 use Rattle.clock.specs.Found.{coherentOf, pairOf}
 use Rattle.frames.specs.Frames.{audioOffFrame}
 use Rattle.frames.specs.Answers.{aviOf, audioOf}
+use Rattle.frames.specs.Editions.{readByE}
 use Rattle.matrix.specs.Coefficient.{word, field, valueOf}
 use Rattle.matrix.specs.Preview.{previewOf}
 use Rattle.request.specs.Sections.{lengths, longest}
 use Rattle.request.specs.Read.{readOf}
+use Rattle.writes.specs.List.{finishedImage}
 use Rattle.plan.specs.Plan.{planOf}
+use Rattle.decode.specs.Theorems.{Answered}
 use Rattle.line.specs.Words.{ascii, lineText}
-use Rattle.promises.specs.Worked.{example, Few, FewDeep}
+use Rattle.promises.specs.Rules.{asked}
+use Rattle.promises.specs.Worked.{example, zeros, Few, FewDeep, FewEditions}
 
 -- Table 39 as a request has it: mode 1, A 3155, 2048, 0, -1578; B -938, 2048, -376, 657; C -1, 2048, 3717, -1858
 abbrev table39 : List ℕ
@@ -33,18 +38,33 @@ table39 =
 
 -- a VIC in a family, RGB over HDMI, limited, with a depth byte; and with 24 bits and no repetition
 abbrev pub deepRgb : ℕ → ℕ → ℕ → Video
-deepRgb vic family pixel = videoIn (vic ∷ family ∷ 0 ∷ 1 ∷ 0 ∷ pixel ∷ [])
+deepRgb vic family pixel = videoIn (vic ∷ family ∷ 0 ∷ 1 ∷ 0 ∷ pixel ∷ 0x00 ∷ [])
 
 abbrev pub rgbOverHdmi : ℕ → ℕ → Video
 rgbOverHdmi vic family = deepRgb vic family 0x00
 
 -- a request for VIC 16, family 0, without sound or matrix: the encoding, the link and the depth byte
-abbrev asked16 : ℕ → ℕ → ℕ → List ℕ
-asked16 encoding link pixel = 0x06 ∷ 0x10 ∷ 0x00 ∷ encoding ∷ link ∷ 0x00 ∷ pixel ∷ 0x00 ∷ 0x00 ∷ []
+abbrev pub asked16 : ℕ → ℕ → ℕ → List ℕ
+asked16 encoding link pixel = 0x07 ∷ 0x10 ∷ 0x00 ∷ encoding ∷ link ∷ 0x00 ∷ pixel ∷ 0x00 ∷ 0x00 ∷ 0x00 ∷ []
 
 -- a request for VIC 2, family 0, over HDMI with that matrix: the encoding and the depth byte
 abbrev converted2 : ℕ → ℕ → List ℕ
-converted2 encoding pixel = 0x06 ∷ 0x02 ∷ 0x00 ∷ encoding ∷ 0x01 ∷ 0x00 ∷ pixel ∷ 0x00 ∷ 0x19 ∷ table39
+converted2 encoding pixel = 0x07 ∷ 0x02 ∷ 0x00 ∷ encoding ∷ 0x01 ∷ 0x00 ∷ pixel ∷ 0x00 ∷ 0x00 ∷ 0x19 ∷ table39
+
+-- the same with an edition byte; and what is answered for each: D, and E with any of its bits; E's bits under D; the others
+abbrev pub withEdition : ℕ → List ℕ → List ℕ
+withEdition edition input = set input 7 edition
+
+abbrev takenEditions : List ℕ
+takenEditions = 0x00 ∷ 0x01 ∷ 0x05 ∷ 0x11 ∷ 0x15 ∷ 0x21 ∷ 0x25 ∷ 0x31 ∷ 0x35 ∷ []
+
+abbrev pub editionRefusal : ℕ → ℕ
+editionRefusal edition =
+    cond (among edition takenEditions) 0 (cond (among edition (0x04 ∷ 0x10 ∷ 0x14 ∷ 0x20 ∷ 0x24 ∷ 0x30 ∷ 0x34 ∷ [])) 6 5)
+
+-- the image that it ends in, from zeros
+abbrev pub done16 : ℕ → List ℕ
+done16 edition = finishedImage (asked (withEdition edition (asked16 0 1 0x00))) zeros
 
 -- a clock of so many Hz
 abbrev hertz : ℕ → Clock
@@ -58,16 +78,17 @@ pub record MarkedCases : Type 0 where
   -- "and for an empty input `refused 1`"
   pub empty : lineText [] ≡ ascii "refused 1\n"
   -- 1. The first count alone: refused 1
-  pub case1 : readOf (0x06 ∷ []) .refusal ≡ 1
-  -- 2. A count that is not allowed: refused 2; request 01: "Count 4 is no longer allowed"; nor is 5 now
+  pub case1 : readOf (0x07 ∷ []) .refusal ≡ 1
+  -- 2. A count that is not allowed: refused 2; request 01: "Count 4 is no longer allowed"; nor are 5 and 6 now
   pub case2 : readOf (0x05 ∷ 0x10 ∷ 0x00 ∷ 0x00 ∷ 0x01 ∷ []) .refusal ≡ 2
   pub case2Four : readOf (0x04 ∷ 0x10 ∷ 0x00 ∷ 0x00 ∷ 0x01 ∷ []) .refusal ≡ 2
+  pub case2Six : readOf (0x06 ∷ 0x10 ∷ 0x00 ∷ 0x00 ∷ 0x01 ∷ 0x00 ∷ 0x00 ∷ 0x00 ∷ 0x00 ∷ []) .refusal ≡ 2
   -- 3. One byte too many: refused 3
-  pub case3 : readOf (0x06 ∷ 0x10 ∷ 0x00 ∷ 0x00 ∷ 0x01 ∷ 0x00 ∷ 0x00 ∷ 0x00 ∷ 0x00 ∷ 0x00 ∷ []) .refusal ≡ 3
+  pub case3 : readOf (0x07 ∷ 0x10 ∷ 0x00 ∷ 0x00 ∷ 0x01 ∷ 0x00 ∷ 0x00 ∷ 0x00 ∷ 0x00 ∷ 0x00 ∷ 0x00 ∷ []) .refusal ≡ 3
   -- 4. VIC 19, family 1: refused 4
-  pub case4 : (clockOf (rgbOverHdmi 19 1) .refusal ≡ 4) × (readOf (0x06 ∷ 19 ∷ 1 ∷ 0x00 ∷ 0x01 ∷ 0x00 ∷ 0x00 ∷ 0x00 ∷ 0x00 ∷ []) .refusal ≡ 4)
+  pub case4 : (clockOf (rgbOverHdmi 19 1) .refusal ≡ 4) × (readOf (0x07 ∷ 19 ∷ 1 ∷ 0x00 ∷ 0x01 ∷ 0x00 ∷ 0x00 ∷ 0x00 ∷ 0x00 ∷ 0x00 ∷ []) .refusal ≡ 4)
   -- 5. YCbCr 4:2:2 without a matrix: refused 6
-  pub case5 : readOf (0x06 ∷ 0x10 ∷ 0x00 ∷ 0x01 ∷ 0x01 ∷ 0x00 ∷ 0x00 ∷ 0x00 ∷ 0x00 ∷ []) .refusal ≡ 6
+  pub case5 : readOf (0x07 ∷ 0x10 ∷ 0x00 ∷ 0x01 ∷ 0x01 ∷ 0x00 ∷ 0x00 ∷ 0x00 ∷ 0x00 ∷ 0x00 ∷ []) .refusal ≡ 6
   -- 6. VIC 16, family 0, 48 kHz, coherent (so are 7 and 8): 6144, 148500. (Rates 0, 1, 2 are 32, 44.1 and 48 kHz.)
   pub case6 : pairOf (rgbOverHdmi 16 0) 2 1 ≡ thePair 6144 148500
   -- 7. VIC 60, family 0, 44.1 kHz: 5488, 57750
@@ -91,9 +112,9 @@ pub record MarkedCases : Type 0 where
   pub nearer : coherentOf (record { refusal = 0; num = reference 2; den = 2457 }) 2 ≡ thePair 7371 3
   -- 10. AVI, VIC 16, RGB: checksum; request 01: "case 10 becomes 0x23 when limited"; and in full range
   pub case10 : getD (aviOf (rgbOverHdmi 16 0) .bytes) 3 0 ≡ 0x23
-  pub case10Full : getD (aviOf (videoIn (0x10 ∷ 0x00 ∷ 0x00 ∷ 0x01 ∷ 0x01 ∷ 0x00 ∷ [])) .bytes) 3 0 ≡ 0x1F
+  pub case10Full : getD (aviOf (videoIn (0x10 ∷ 0x00 ∷ 0x00 ∷ 0x01 ∷ 0x01 ∷ 0x00 ∷ 0x00 ∷ [])) .bytes) 3 0 ≡ 0x1F
   -- and YCbCr 4:4:4, whose Q "stays 0"
-  pub case10YCbCr : getD (aviOf (videoIn (0x10 ∷ 0x00 ∷ 0x02 ∷ 0x01 ∷ 0x00 ∷ 0x00 ∷ [])) .bytes) 3 0 ≡ 0x67
+  pub case10YCbCr : getD (aviOf (videoIn (0x10 ∷ 0x00 ∷ 0x02 ∷ 0x01 ∷ 0x00 ∷ 0x00 ∷ 0x00 ∷ [])) .bytes) 3 0 ≡ 0x67
   -- 11. Audio InfoFrame, 8 channels: 0x57; off: 0x71
   pub case11 : (getD (audioOf 8 .bytes) 3 0 ≡ 0x57) × (getD audioOffFrame 3 0 ≡ 0x71)
   -- 12. Table 39's A4 bytes 0x19, 0xD6: -1578; C1 0x1F, 0xFF: -1
@@ -102,25 +123,25 @@ pub record MarkedCases : Type 0 where
   pub case13 : previewOf table39 2048 3760 2048 ≡ record { refusal = 0; a = 3759; b = 3760; c = 3760 }
   -- "encoding (0 RGB, 1 YCbCr 4:2:2, 2 YCbCr 4:4:4); link (0 DVI, 1 HDMI)"; "range above 1": the next number of each is refused 5, the
   -- range's with RGB and, before 6, with YCbCr, and in the AVI call
-  pub encodings : readOf (0x06 ∷ 0x10 ∷ 0x00 ∷ 0x03 ∷ 0x01 ∷ 0x00 ∷ 0x00 ∷ 0x00 ∷ 0x00 ∷ []) .refusal ≡ 5
-  pub links : readOf (0x06 ∷ 0x10 ∷ 0x00 ∷ 0x00 ∷ 0x02 ∷ 0x00 ∷ 0x00 ∷ 0x00 ∷ 0x00 ∷ []) .refusal ≡ 5
-  pub ranges : readOf (0x06 ∷ 0x10 ∷ 0x00 ∷ 0x00 ∷ 0x01 ∷ 0x02 ∷ 0x00 ∷ 0x00 ∷ 0x00 ∷ []) .refusal ≡ 5
-  pub rangesOfYCbCr : readOf (0x06 ∷ 0x10 ∷ 0x00 ∷ 0x02 ∷ 0x01 ∷ 0x02 ∷ 0x00 ∷ 0x00 ∷ 0x00 ∷ []) .refusal ≡ 5
-  pub rangesAvi : aviOf (videoIn (0x10 ∷ 0x00 ∷ 0x00 ∷ 0x01 ∷ 0x02 ∷ 0x00 ∷ [])) .refusal ≡ 5
+  pub encodings : readOf (0x07 ∷ 0x10 ∷ 0x00 ∷ 0x03 ∷ 0x01 ∷ 0x00 ∷ 0x00 ∷ 0x00 ∷ 0x00 ∷ 0x00 ∷ []) .refusal ≡ 5
+  pub links : readOf (0x07 ∷ 0x10 ∷ 0x00 ∷ 0x00 ∷ 0x02 ∷ 0x00 ∷ 0x00 ∷ 0x00 ∷ 0x00 ∷ 0x00 ∷ []) .refusal ≡ 5
+  pub ranges : readOf (0x07 ∷ 0x10 ∷ 0x00 ∷ 0x00 ∷ 0x01 ∷ 0x02 ∷ 0x00 ∷ 0x00 ∷ 0x00 ∷ 0x00 ∷ []) .refusal ≡ 5
+  pub rangesOfYCbCr : readOf (0x07 ∷ 0x10 ∷ 0x00 ∷ 0x02 ∷ 0x01 ∷ 0x02 ∷ 0x00 ∷ 0x00 ∷ 0x00 ∷ 0x00 ∷ []) .refusal ≡ 5
+  pub rangesAvi : aviOf (videoIn (0x10 ∷ 0x00 ∷ 0x00 ∷ 0x01 ∷ 0x02 ∷ 0x00 ∷ 0x00 ∷ [])) .refusal ≡ 5
   -- "DVI with audio or with encoding not 0", "range 1 with YCbCr": refused 6, with a matrix too
-  pub dviWithAudio : readOf (0x06 ∷ 0x10 ∷ 0x00 ∷ 0x00 ∷ 0x00 ∷ 0x00 ∷ 0x00 ∷ 0x03 ∷ 0x02 ∷ 0x02 ∷ 0x01 ∷ 0x00 ∷ []) .refusal ≡ 6
-  pub dviWithEncoding : readOf (0x06 ∷ 0x10 ∷ 0x00 ∷ 0x02 ∷ 0x00 ∷ 0x00 ∷ 0x00 ∷ 0x00 ∷ 0x19 ∷ table39) .refusal ≡ 6
-  pub fullWithYCbCr : readOf (0x06 ∷ 0x10 ∷ 0x00 ∷ 0x02 ∷ 0x01 ∷ 0x01 ∷ 0x00 ∷ 0x00 ∷ 0x19 ∷ table39) .refusal ≡ 6
-  pub fullWithYCbCr422 : readOf (0x06 ∷ 0x10 ∷ 0x00 ∷ 0x01 ∷ 0x01 ∷ 0x01 ∷ 0x00 ∷ 0x00 ∷ 0x19 ∷ table39) .refusal ≡ 6
-  pub fullWithYCbCrAvi : aviOf (videoIn (0x10 ∷ 0x00 ∷ 0x02 ∷ 0x01 ∷ 0x01 ∷ 0x00 ∷ [])) .refusal ≡ 6
+  pub dviWithAudio : readOf (0x07 ∷ 0x10 ∷ 0x00 ∷ 0x00 ∷ 0x00 ∷ 0x00 ∷ 0x00 ∷ 0x00 ∷ 0x03 ∷ 0x02 ∷ 0x02 ∷ 0x01 ∷ 0x00 ∷ []) .refusal ≡ 6
+  pub dviWithEncoding : readOf (0x07 ∷ 0x10 ∷ 0x00 ∷ 0x02 ∷ 0x00 ∷ 0x00 ∷ 0x00 ∷ 0x00 ∷ 0x00 ∷ 0x19 ∷ table39) .refusal ≡ 6
+  pub fullWithYCbCr : readOf (0x07 ∷ 0x10 ∷ 0x00 ∷ 0x02 ∷ 0x01 ∷ 0x01 ∷ 0x00 ∷ 0x00 ∷ 0x00 ∷ 0x19 ∷ table39) .refusal ≡ 6
+  pub fullWithYCbCr422 : readOf (0x07 ∷ 0x10 ∷ 0x00 ∷ 0x01 ∷ 0x01 ∷ 0x01 ∷ 0x00 ∷ 0x00 ∷ 0x00 ∷ 0x19 ∷ table39) .refusal ≡ 6
+  pub fullWithYCbCrAvi : aviOf (videoIn (0x10 ∷ 0x00 ∷ 0x02 ∷ 0x01 ∷ 0x01 ∷ 0x00 ∷ 0x00 ∷ [])) .refusal ≡ 6
   -- full range is accepted with RGB: with a matrix ("our matrix gives full-range RGB"), and over DVI and with VIC 1, with Q 2; and YCbCr,
   -- limited
-  pub fullWithMatrix : readOf (0x06 ∷ 0x10 ∷ 0x00 ∷ 0x00 ∷ 0x01 ∷ 0x01 ∷ 0x00 ∷ 0x00 ∷ 0x19 ∷ table39) .refusal ≡ 0
-  pub fullOverDvi : lineText (0x06 ∷ 0x10 ∷ 0x00 ∷ 0x00 ∷ 0x00 ∷ 0x01 ∷ 0x00 ∷ 0x00 ∷ 0x00 ∷ [])
+  pub fullWithMatrix : readOf (0x07 ∷ 0x10 ∷ 0x00 ∷ 0x00 ∷ 0x01 ∷ 0x01 ∷ 0x00 ∷ 0x00 ∷ 0x00 ∷ 0x19 ∷ table39) .refusal ≡ 0
+  pub fullOverDvi : lineText (0x07 ∷ 0x10 ∷ 0x00 ∷ 0x00 ∷ 0x00 ∷ 0x01 ∷ 0x00 ∷ 0x00 ∷ 0x00 ∷ 0x00 ∷ [])
       ≡ ascii "accepted vic 16 n 6144 cts 0 avi 1f audio 71\n"
-  pub fullWithVic1 : lineText (0x06 ∷ 0x01 ∷ 0x00 ∷ 0x00 ∷ 0x01 ∷ 0x01 ∷ 0x00 ∷ 0x00 ∷ 0x00 ∷ [])
+  pub fullWithVic1 : lineText (0x07 ∷ 0x01 ∷ 0x00 ∷ 0x00 ∷ 0x01 ∷ 0x01 ∷ 0x00 ∷ 0x00 ∷ 0x00 ∷ 0x00 ∷ [])
       ≡ ascii "accepted vic 1 n 6144 cts 0 avi 3e audio 71\n"
-  pub limitedWithYCbCr : readOf (0x06 ∷ 0x10 ∷ 0x00 ∷ 0x02 ∷ 0x01 ∷ 0x00 ∷ 0x00 ∷ 0x00 ∷ 0x19 ∷ table39) .refusal ≡ 0
+  pub limitedWithYCbCr : readOf (0x07 ∷ 0x10 ∷ 0x00 ∷ 0x02 ∷ 0x01 ∷ 0x00 ∷ 0x00 ∷ 0x00 ∷ 0x00 ∷ 0x19 ∷ table39) .refusal ≡ 0
   -- request 06: every depth and every repetition, "under the same fraction": the clocks of VIC 1
   pub factors : map (λ pixel. clockOf (deepRgb 1 0 pixel)) (0x00 ∷ 0x01 ∷ 0x02 ∷ 0x10 ∷ 0x11 ∷ 0x12 ∷ 0x20 ∷ 0x21 ∷ 0x22 ∷ [])
       ≡ map hertz (25200000 ∷ 31500000 ∷ 37800000 ∷ 50400000 ∷ 63000000 ∷ 75600000 ∷ 100800000 ∷ 126000000 ∷ 151200000 ∷ [])
@@ -152,19 +173,38 @@ pub record MarkedCases : Type 0 where
   pub deepWith444 : (readOf (converted2 2 0x01) .refusal ≡ 0) × (readOf (converted2 2 0x02) .refusal ≡ 0)
   pub repeatedYCbCr : (readOf (converted2 1 0x20) .refusal ≡ 0) × (readOf (converted2 2 0x21) .refusal ≡ 0)
   pub deepOverDvi : (readOf (asked16 0 0 0x01) .refusal ≡ 6) × (readOf (asked16 0 0 0x02) .refusal ≡ 6)
-  pub fourTimes : lineText (0x06 ∷ 0x02 ∷ 0x00 ∷ 0x00 ∷ 0x00 ∷ 0x00 ∷ 0x20 ∷ 0x00 ∷ 0x00 ∷ [])
+  pub fourTimes : lineText (0x07 ∷ 0x02 ∷ 0x00 ∷ 0x00 ∷ 0x00 ∷ 0x00 ∷ 0x20 ∷ 0x00 ∷ 0x00 ∷ 0x00 ∷ [])
       ≡ ascii "accepted vic 2 n 6144 cts 0 avi 3e audio 71\n"
   -- RGB at 30 bits; and in both halves, VIC 2, family 1, 36 bits, four times, 48 kHz, coherent: 162 MHz
   pub deepRgb30 : readOf (asked16 0 1 0x01) .refusal ≡ 0
-  pub bothHalves : lineText (0x06 ∷ 0x02 ∷ 0x01 ∷ 0x00 ∷ 0x01 ∷ 0x00 ∷ 0x22 ∷ 0x03 ∷ 0x02 ∷ 0x02 ∷ 0x01 ∷ 0x00 ∷ [])
+  pub bothHalves : lineText (0x07 ∷ 0x02 ∷ 0x01 ∷ 0x00 ∷ 0x01 ∷ 0x00 ∷ 0x22 ∷ 0x00 ∷ 0x03 ∷ 0x02 ∷ 0x02 ∷ 0x01 ∷ 0x00 ∷ [])
       ≡ ascii "accepted vic 2 n 6144 cts 162000 avi 3e audio 70\n"
   -- the AVI call looks neither at the depth nor at the clock
   pub aviAlone : aviOf (deepRgb 16 0 0x13) .refusal ≡ 0
   -- its lists in bare bytes
   pub fewDeep : FewDeep
+  -- request 11: "edition or quantisation above 1, or bits 7:6, is 5; E's bits under D are 6": each edition byte, with RGB over HDMI, and in the
+  -- AVI call; those that are taken are so over DVI, and with YCbCr, deep and repeated
+  pub editions : (edition : ℕ) → edition < 256 → readOf (withEdition edition (asked16 0 1 0x00)) .refusal ≡ editionRefusal edition
+  pub editionsAvi : (edition : ℕ) → edition < 256
+      → aviOf (videoIn (0x10 ∷ 0x00 ∷ 0x00 ∷ 0x01 ∷ 0x00 ∷ 0x00 ∷ edition ∷ [])) .refusal ≡ editionRefusal edition
+  pub editionsElsewhere : every (λ edition.
+      every (λ input. eqb (readOf (withEdition edition input) .refusal) 0) (asked16 0 0 0x00 ∷ converted2 1 0x20 ∷ converted2 2 0x22 ∷ []))
+      takenEditions ≡ true
+  -- "E, RGB, type 1"; E that asks for nothing has D's packet; and with quantisation and type 3
+  pub typeOne : lineText (withEdition 0x11 (asked16 0 1 0x00)) ≡ ascii "accepted vic 16 n 6144 cts 0 avi 13 audio 71\n"
+  pub nothing : lineText (withEdition 0x01 (asked16 0 1 0x00)) ≡ ascii "accepted vic 16 n 6144 cts 0 avi 23 audio 71\n"
+  pub bothAsked : lineText (withEdition 0x35 (asked16 0 1 0x00)) ≡ ascii "accepted vic 16 n 6144 cts 0 avi b3 audio 71\n"
+  -- its lists in bare bytes; the two readers, in a packet with every reserved bit 1: Y 2, C 1, EC 3, Q 2, M 2, R 9, VIC 16, PR 3; YQ 2, CN 1
+  pub fewEditions : FewEditions
+  pub readers : readByE (0x02 ∷ 0x0D ∷ 0x00 ∷ 0xD6 ∷ 0x69 ∷ 0xB9 ∷ 0x90 ∷ 0x93 ∷ [])
+      ≡ record { known = record { y = 2; c = 1; ec = 3; q = 2; m = 2; r = 9; vic = 16; pr = 3 }; yq = 2; cn = 1 }
+  -- the finished image of an E that asks for nothing reads back as D, and that of E with type 1 as it is
+  pub readsAsD : (room : List ℕ) → 38 ≤ length room → Answered (asked16 0 1 0x00) (done16 0x01) room
+  pub readsAsE : (room : List ℕ) → 38 ≤ length room → Answered (withEdition 0x11 (asked16 0 1 0x00)) (done16 0x11) room
   -- request 09
   pub few : Few
-  -- Lengths follow from the counts: document 01 had 7, 10, 32, 35, and each has two bytes more
-  pub lengths : lengths ≡ 9 ∷ 12 ∷ 34 ∷ 37 ∷ []
+  -- Lengths follow from the counts: document 01 had 7, 10, 32, 35, and each has three bytes more
+  pub lengths : lengths ≡ 10 ∷ 13 ∷ 35 ∷ 38 ∷ []
   -- "the longest request"
-  pub longest : longest ≡ 37
+  pub longest : longest ≡ 38

@@ -1,6 +1,6 @@
 -- Demand 2, "the finished image", field by field: the number that stands in each named field, in document 01's notation and in the order of
--- its sentence "Named: N, CTS, ..", with the fields of document 02 last. No number of `places` comes from writes, from steps or from wanted bytes; `ordered` asks which
--- registers are written, and `NeverThree` is about the writes.
+-- its sentence "Named: N, CTS, ..", with the field that document 02 adds last. No number of `places` comes from writes, from steps or from
+-- wanted bytes; `ordered` asks which registers are written, and `NeverThree` is about the writes.
 use mathlib.Core.Path.{_≡_}
 use mathlib.Core.Logic.{_≢_}
 use mathlib.Core.Bool.{true, cond}
@@ -13,7 +13,7 @@ use Rattle.bits.specs.Merge.{under, bitsIn}
 use Rattle.map.specs.Map.{audioSelectDefault, audioModeDefault, i2sFormatDefault, inputIdDefault}
 use Rattle.registers.specs.Classes.{mandated, named, bits}
 use Rattle.video.specs.declared.Video.{Video}
-use Rattle.video.specs.Video.{depth, repetition}
+use Rattle.video.specs.Video.{depth, repetition, yccQuantisation, contentType}
 use Rattle.clock.specs.declared.Pair.{Pair}
 use Rattle.clock.specs.Clocks.{times, clockOf}
 use Rattle.clock.specs.Tables.{otherRow}
@@ -126,13 +126,14 @@ places r p =
     place 0x44 4 4 (r .video .link) ∷
     -- "0x4A[7:5]": "0x4A[7] is 1", the holds are down; "AV mute": "Open: set 0, clear 1"; "HDMI/DVI"
     place 0x4A 7 7 1 ∷ place 0x4A 6 5 0 ∷ place 0x4B 7 7 1 ∷ place 0x4B 6 6 0 ∷ place 0xAF 1 1 (r .video .link) ∷
-    -- "the AVI version, length, checksum and data bytes 1 to 13": byte 1 is 0 Y A B S, byte 2 C M R, byte 3 ITC EC Q SC, byte 4 the VIC, byte 5 PR
+    -- "the AVI version, length, checksum and data bytes 1 to 13": byte 1 is 0 Y A B S, byte 2 C M R, byte 3 ITC EC Q SC, byte 4 the VIC, byte 5
+    -- YQ CN PR; request 11: "the YCC quantisation and content type bits in AVI data byte 5"
     place 0x52 2 0 0x02 ∷ place 0x53 4 0 0x0D ∷ place 0x54 7 0 (getD (aviFrame (r .video)) 3 0) ∷
     place 0x55 7 7 0 ∷ place 0x55 6 5 (r .video .encoding) ∷ place 0x55 4 4 1 ∷ place 0x55 3 0 0 ∷
     place 0x56 7 6 (inC (r .video .vic) (r .video .encoding)) ∷ place 0x56 5 4 (inM (r .video .vic)) ∷ place 0x56 3 0 8 ∷
     place 0x57 7 4 0 ∷ place 0x57 3 2 (inQ (r .video .encoding) (r .video .range)) ∷ place 0x57 1 0 0 ∷
     place 0x58 7 0 (r .video .vic) ∷
-    place 0x59 7 4 0 ∷ place 0x59 3 0 (inPR (repetition (r .video))) ∷ [] ++
+    place 0x59 7 6 (yccQuantisation (r .video)) ∷ place 0x59 5 4 (contentType (r .video)) ∷ place 0x59 3 0 (inPR (repetition (r .video))) ∷ [] ++
     zeroPlaces 0x5A 8 ++
     -- "the audio InfoFrame": byte 1 is CT 0 CC, byte 4 CA
     place 0x70 2 0 0x01 ∷ place 0x71 4 0 0x0A ∷ place 0x72 7 0 (getD (audioPacket (r .sound)) 3 0) ∷

@@ -5,7 +5,7 @@ use mathlib.Core.Bool.{false, cond}
 use mathlib.Core.List.{List, [], _∷_, _++_}
 use Prim.Native.Nat.{ℕ, _+_, _<_, _≤_}
 use lib.Dec.{eqb}
-use lib.ListN.{length, getD, drop, set}
+use lib.ListN.{length, getD, drop}
 use Rattle.lists.specs.Among.{among}
 use Rattle.refusals.specs.Rows.{Condition, at}
 use Rattle.bits.specs.Merge.{bitsIn}
@@ -14,7 +14,8 @@ use Rattle.chip.specs.declared.Chip.{Chip}
 use Rattle.request.specs.declared.Request.{Request}
 use Rattle.request.specs.Sections.{longest}
 use Rattle.request.specs.Read.{readOf, nctsOf}
-use Rattle.request.specs.Bytes.{asBytes, inFamily}
+use Rattle.video.specs.Video.{edition}
+use Rattle.request.specs.Bytes.{asBytes, inFamily, asReadBack}
 use Rattle.plan.specs.Wanted.{wanted}
 use Rattle.writes.specs.List.{writeList, flat, finishedImage}
 use Rattle.writes.specs.Fewer.{differing, Fewer}
@@ -45,6 +46,12 @@ pub record Listed (input image buffer : List ℕ) : Type 0 where
   -- so the pairs in it, by that count, are the list
   pub pairs : pairsLeft input image buffer ≡ writeList (asked input) image
 
+-- two requests with the same bytes, but for byte 2, and for byte 7 where each of the two is 0x00 or 0x01
+pub record SameButTwo (input other : List ℕ) : Type 0 where
+  pub long : length input ≡ length other
+  pub bytes : (i : ℕ) → i ≢ 2 → i ≢ 7 → getD input i 0 ≡ getD other i 0
+  pub edition : (getD input 7 0 ≡ getD other 7 0) ⊎ ((getD input 7 0 ≤ 0x01) × (getD other 7 0 ≤ 0x01))
+
 pub record Demand2 (input buffer : List ℕ) (s : Chip) : Type 0 where
   -- "A request is accepted exactly when document 01's rules .. permit it."
   pub accepted : Bytes input → (planOf input (s .image) buffer .refusal ≡ 0) ↔ Permitted (planRules input (s .image) buffer)
@@ -67,10 +74,15 @@ pub record Demand2 (input buffer : List ℕ) (s : Chip) : Type 0 where
   pub pair : readOf input .refusal ≡ 0 → Paired (readOf input .request .video) (readOf input .request .sound) (nctsOf input)
   -- "Mode 3 is never written"
   pub neverThree : planOf input (s .image) buffer .refusal ≡ 0 → NeverThree (writeList (asked input) (s .image))
-  -- "and the finished image reads back as the same request, but for the frame-rate family, which no register names": the bytes that were
-  -- asked, byte 2, the family, set to 0
+  -- "and the finished image reads back as the same request, but for the frame-rate family, which no register names"; request 11: "an E
+  -- request that asks for none of them reads back as D; that one exception is added": the bytes that were asked, with byte 2, the family,
+  -- 0, and byte 7, the edition byte, 0x00 where it is 0x01
   pub readBack : Bytes input → planOf input (s .image) buffer .refusal ≡ 0
-      → (room : List ℕ) → longest ≤ length room → Answered (set input 2 0) (finishedImage (asked input) (s .image)) room
+      → (room : List ℕ) → longest ≤ length room → Answered (asReadBack input) (finishedImage (asked input) (s .image)) room
+  -- there is no other: a request that leaves the same finished image is the same, byte for byte, but for these two
+  pub only : Bytes input → planOf input (s .image) buffer .refusal ≡ 0 → (other : List ℕ) → Bytes other
+      → planOf other (s .image) buffer .refusal ≡ 0 → finishedImage (asked other) (s .image) ≡ finishedImage (asked input) (s .image)
+      → SameButTwo input other
 
 -- "accepted on some image", of a request and its bytes
 pub record Accepted (r : Request) : Type 0 where
@@ -97,3 +109,7 @@ pub record FieldByField (image : List ℕ) : Type 0 where
   pub noRepetition : length image ≡ 256
       → (among (bitsIn 3 0 (getD image 0x59 0)) (0 ∷ 1 ∷ 3 ∷ []) ≡ false) ⊎ (bitsIn 4 3 (getD image 0x3B 0) ≢ bitsIn 2 1 (getD image 0x3B 0))
       → (room : List ℕ) → longest ≤ length room → decodeOf image room .refusal ≡ 11
+  -- and a YQ above 1; otherwise the edition that is answered is E exactly where YQ or CN is not 0
+  pub noQuantisation : length image ≡ 256 → 1 < bitsIn 7 6 (getD image 0x59 0)
+      → (room : List ℕ) → longest ≤ length room → decodeOf image room .refusal ≡ 11
+  pub edition : length image ≡ 256 → (r : Request) → Ends r image → edition (r .video) ≡ cond (eqb (bitsIn 7 4 (getD image 0x59 0)) 0) 0 1

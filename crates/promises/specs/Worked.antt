@@ -1,4 +1,5 @@
--- Document 01's worked example, "What the station's library does", and request 09 on it; request 06 in bare bytes.
+-- Document 01's worked example, "What the station's library does", and request 09 on it; requests 06 and 11 in
+-- bare bytes.
 use mathlib.Core.Path.{_≡_}
 use mathlib.Core.List.{List, [], _∷_, _++_}
 use Prim.Native.Nat.{ℕ}
@@ -8,9 +9,9 @@ use Rattle.writes.specs.List.{finishedImage}
 use Rattle.plan.specs.Wanted.{wanted}
 use Rattle.promises.specs.LentBytes.{bytesLeft}
 
--- the bytes `06 10 00 00 01 00 00 03 02 02 01 00`
+-- the bytes `07 10 00 00 01 00 00 00 03 02 02 01 00`
 abbrev pub example : List ℕ
-example = 0x06 ∷ 0x10 ∷ 0x00 ∷ 0x00 ∷ 0x01 ∷ 0x00 ∷ 0x00 ∷ 0x03 ∷ 0x02 ∷ 0x02 ∷ 0x01 ∷ 0x00 ∷ []
+example = 0x07 ∷ 0x10 ∷ 0x00 ∷ 0x00 ∷ 0x01 ∷ 0x00 ∷ 0x00 ∷ 0x00 ∷ 0x03 ∷ 0x02 ∷ 0x02 ∷ 0x01 ∷ 0x00 ∷ []
 
 abbrev pub zeros : List ℕ
 zeros = replicate 256 0
@@ -31,17 +32,25 @@ listWith avi others =
 abbrev pub Few : Type 0
 Few =
     (bytesLeft example exampleDone zeros ≡ listWith [] [])
-    × (bytesLeft (set example 10 0) exampleDone zeros ≡ listWith [] (0x07 ∷ 0x00 ∷ 0x08 ∷ 0x00 ∷ 0x09 ∷ 0x00 ∷ 0x0A ∷ 0x00 ∷ []))
+    × (bytesLeft (set example 11 0) exampleDone zeros ≡ listWith [] (0x07 ∷ 0x00 ∷ 0x08 ∷ 0x00 ∷ 0x09 ∷ 0x00 ∷ 0x0A ∷ 0x00 ∷ []))
 
 -- request 06, of VIC 2, silent, at 24 bits and no repetition, on the image that it ends in, where the read-only bits of 0x4C are 1: 30 bits
 -- twice, and 36 bits four times. The checksum and PR change, 0x3B and 0x4C
-abbrev pub vic2 : ℕ → List ℕ
-vic2 pixel = 0x06 ∷ 0x02 ∷ 0x00 ∷ 0x00 ∷ 0x01 ∷ 0x00 ∷ pixel ∷ 0x00 ∷ 0x00 ∷ []
+abbrev pub vic2 : ℕ → ℕ → List ℕ
+vic2 pixel edition = 0x07 ∷ 0x02 ∷ 0x00 ∷ 0x00 ∷ 0x01 ∷ 0x00 ∷ pixel ∷ edition ∷ 0x00 ∷ 0x00 ∷ []
 
 abbrev pub vic2Done : List ℕ
-vic2Done = set (finishedImage (wanted (readOf (vic2 0x00) .request)) zeros) 0x4C 0xF0
+vic2Done = set (finishedImage (wanted (readOf (vic2 0x00 0x00) .request)) zeros) 0x4C 0xF0
 
 abbrev pub FewDeep : Type 0
 FewDeep =
-    (bytesLeft (vic2 0x11) vic2Done zeros ≡ listWith (0x54 ∷ 0x40 ∷ 0x59 ∷ 0x01 ∷ []) (0x3B ∷ 0xCA ∷ 0x4C ∷ 0xF5 ∷ []))
-    × (bytesLeft (vic2 0x22) vic2Done zeros ≡ listWith (0x54 ∷ 0x3E ∷ 0x59 ∷ 0x03 ∷ []) (0x3B ∷ 0xD4 ∷ 0x4C ∷ 0xF6 ∷ []))
+    (bytesLeft (vic2 0x11 0x00) vic2Done zeros ≡ listWith (0x54 ∷ 0x40 ∷ 0x59 ∷ 0x01 ∷ []) (0x3B ∷ 0xCA ∷ 0x4C ∷ 0xF5 ∷ []))
+    × (bytesLeft (vic2 0x22 0x00) vic2Done zeros ≡ listWith (0x54 ∷ 0x3E ∷ 0x59 ∷ 0x03 ∷ []) (0x3B ∷ 0xD4 ∷ 0x4C ∷ 0xF6 ∷ []))
+
+-- request 11, on that image: E that asks for nothing changes nothing; with quantisation and type 1, the checksum and data byte 5 change; and
+-- so with type 3 beside a PR of 3
+abbrev pub FewEditions : Type 0
+FewEditions =
+    (bytesLeft (vic2 0x00 0x01) vic2Done zeros ≡ listWith [] [])
+    × (bytesLeft (vic2 0x00 0x15) vic2Done zeros ≡ listWith (0x54 ∷ 0xF1 ∷ 0x59 ∷ 0x50 ∷ []) [])
+    × (bytesLeft (vic2 0x22 0x31) vic2Done zeros ≡ listWith (0x54 ∷ 0x0E ∷ 0x59 ∷ 0x33 ∷ []) (0x3B ∷ 0xD4 ∷ 0x4C ∷ 0xF6 ∷ []))

@@ -32,7 +32,7 @@ parts n =
     let b : n / 16 / 4 ≡ n / 64 = omega arith in
     omega (arith, a, b)
 
-none-asked : (v : Video) → VideoFits v → (AsksE v → ⊥) → v .infoframe ≤ 1
+pub none-asked : (v : Video) → VideoFits v → (AsksE v → ⊥) → v .infoframe ≤ 1
 none-asked v f none =
     omega (
       arith,
