@@ -82,7 +82,7 @@ module _ (list : List ℕ) (ending : Request) (u : Chip) (z : vetOf u list .refu
   is-ending : readOf input .request ≡ inFamily (p .ends .ends .family) ending
   is-ending =
       ap (λ (x : Checked). x .request) (p .ends .ends .acceptable .read)
-      ∙ ap (inFamily (p .ends .ends .family)) (at-most-one (last .image) (ap length last-image ∙ image-length (asked input) (u .image))
+      ∙ ap (inFamily (p .ends .ends .family)) (at-most-one (last .image) .ends (ap length last-image ∙ image-length (asked input) (u .image))
       (p .ends .request) ending (p .ends .ends) ends)
 
   ending-new : standing (last .image) ≡ wholeAs (u .image) ending
