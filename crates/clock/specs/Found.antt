@@ -31,7 +31,7 @@ slowQuarter hertz =
 unfoldable pub quarterOf : ℕ → ℕ → Quarter
 quarterOf hertz family = cond (eqb family 0) (quarter (hertz / 4) 1) (slowQuarter hertz)
 
--- so many of these quarters; for a mode that is offered, that is `tmdsOf`
+-- so many of these quarters; for a mode that is offered, that is `tmdsOf`, as the contract of `clock::clock_of` needs it
 abbrev pub foundClock : ℕ → ℕ → ℕ → ℕ → Clock
 foundClock hertz family depth repetition =
     record {

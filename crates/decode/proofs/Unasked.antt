@@ -9,7 +9,7 @@ use lib.ListN.{getD, drop, replicate}
 use borrow.Author.Tests.{eqb-true}
 use Rattle.map.specs.Map as reg
 use Rattle.video.specs.declared.Video.{Video}
-use Rattle.video.specs.Video.{answeredEdition, shownOutside, videoOutside, shownCombined, videoCombined}
+use Rattle.video.specs.Video.{recast, answeredEdition, shownOutside, videoOutside, shownCombined, videoCombined}
 use Rattle.clock.specs.declared.Pair.{Pair}
 use Rattle.clock.specs.Clocks.{tmds, clockOf}
 use Rattle.clock.specs.Found.{pairOf}
@@ -27,19 +27,10 @@ use Rattle.plan.specs.Wanted.{audioBytes, laid, stores, clockBytes, inputBytes,
 use Rattle.decode.specs.Ends.{Acceptable}
 
 -- the same with another edition byte
-abbrev pub with : ℕ → Video → Video
-with byte v =
-    record {
-      vic = v .vic;
-      family = v .family;
-      encoding = v .encoding;
-      link = v .link;
-      range = v .range;
-      pixel = v .pixel;
-      infoframe = byte;
-    }
+abbrev with : ℕ → Video → Video
+with byte v = recast (v .family) byte v
 
-abbrev pub edited : ℕ → Request → Request
+abbrev edited : ℕ → Request → Request
 edited byte r = record { video = with byte (r .video); sound = r .sound; matrix = r .matrix }
 
 judged-d : (v : Video) (a m : List ℕ) → judged (with 1 v) a m .refusal ≡ 0 → judged (with 0 v) a m .refusal ≡ 0

@@ -6,11 +6,11 @@ use native.Mathlib.Omega.{arith}
 use Rattle.video.specs.declared.Mode.{Mode}
 use Rattle.video.specs.declared.Video.{Video}
 use Rattle.video.specs.Modes.{modeOf}
-use Rattle.video.specs.Video.{yccQuantisation, contentType, EditionOutside, ShownOutside, VideoOutside, AskedUnderD, ShownCombined, VideoCombined}
+use Rattle.video.specs.Video.{yccQuantisation, contentType, EditionOutside, ShownOutside, VideoOutside, AskedUnderD, VideoCombined}
 use Rattle.video.specs.Fits.{VideoFits}
 use Rattle.video.proofs.Fits.{vic-small, encoding-fits, ycc-fits}
 use Rattle.frames.specs.Frames.{total, colorimetry, quantisation, repeats, aviHeader, aviPayload, aviFrame}
-use Rattle.frames.specs.Editions.{ByD, readByD, readByE, aviPacket, underD, Editions, BothEditions}
+use Rattle.frames.specs.Editions.{ByD, readByD, readByE, aviPacket, underD, BothEditions}
 use Rattle.frames.proofs.Small.{Small, mode-small, colour-small, quantisation-small, repeats-small}
 use Rattle.frames.proofs.Sealed.{holds}
 

@@ -1,6 +1,6 @@
 -- The two calls on single fields give the first of their rows that applies, and the AVI frame of a video that fits is given. Assumes nothing.
 use mathlib.Core.Path.{_≡_, refl, ap}
-use mathlib.Core.Logic.{inl, inr}
+use mathlib.Core.Logic.{inr}
 use Prim.Native.Nat.{ℕ}
 use borrow.Author.Tests.{ne-eqb}
 use Rattle.lists.proofs.Decides.{equal, opposite, together, refuted}

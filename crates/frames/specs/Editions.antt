@@ -7,7 +7,7 @@ use lib.ListN.{getD, drop}
 use Rattle.bits.specs.Merge.{bitsIn}
 use Rattle.video.specs.declared.Video.{Video}
 use Rattle.video.specs.Modes.{modeOf}
-use Rattle.video.specs.Video.{yccQuantisation, contentType}
+use Rattle.video.specs.Video.{yccQuantisation, contentType, recast}
 use Rattle.video.specs.Fits.{VideoFits}
 use Rattle.frames.specs.Frames.{total, colorimetry, quantisation, repeats, aviFrame}
 
@@ -55,16 +55,7 @@ aviPacket v = drop 1 (aviFrame v)
 
 -- the same under D, with nothing of E asked for
 abbrev pub underD : Video → Video
-underD v =
-    record {
-      vic = v .vic;
-      family = v .family;
-      encoding = v .encoding;
-      link = v .link;
-      range = v .range;
-      pixel = v .pixel;
-      infoframe = 0;
-    }
+underD v = recast (v .family) 0x00 v
 
 -- of a video that fits
 pub record Editions (v : Video) : Type 0 where

@@ -12,7 +12,7 @@ use Rattle.video.specs.Video.{answeredEdition}
 use Rattle.video.specs.Exception.{SameBut}
 use Rattle.video.proofs.Alike.{exceptions, none-asked}
 use Rattle.frames.specs.Frames.{aviFrame}
-use Rattle.frames.specs.Editions.{readByD, readByE, ByD, ByE, aviPacket}
+use Rattle.frames.specs.Editions.{readByE, ByE, aviPacket}
 use Rattle.request.specs.declared.Request.{Request}
 use Rattle.request.specs.Read.{readOf}
 use Rattle.request.specs.Bytes.{asBytes, answeredAs, asReadBack}

@@ -1,12 +1,12 @@
 -- The bytes of the request that is read from an input are the input. Assumes nothing.
 use mathlib.Core.Path.{_≡_, refl, sym, ap, ap₂, _∙_, subst}
 use mathlib.Core.Logic.{_⊎_, inl, inr}
-use mathlib.Core.Bool.{Bool, true, false, false≢true, cond, not, _&&_, _||_}
+use mathlib.Core.Bool.{Bool, true, false, cond, not, _&&_, _||_}
 use mathlib.Core.List.{List, [], _∷_, _++_}
-use Prim.Native.Nat.{ℕ, zero, suc, _+_, _/_, _%_, _<_, _≤_}
+use Prim.Native.Nat.{ℕ, zero, suc, _+_, _%_, _<_, _≤_}
 use native.Mathlib.Omega.{arith}
 use lib.Dec.{eqb, leb, ltb, lit<}
-use lib.ListN.{length, getD, drop, length-drop}
+use lib.ListN.{length, drop, length-drop}
 use lib.Seq.{getD-append-add, getD-drop, drop-cons}
 use borrow.Author.Tests.{eqb-true, leb-true, ltb-true, lt-ltb, le-ltb, not-false}
 use Rattle.lists.proofs.Both.{both-left, both-right, neither-right}
@@ -23,7 +23,7 @@ use Rattle.request.specs.declared.Checked.{Checked}
 use Rattle.request.specs.Sections.{audioCount, matrixCount, Walk, ends, notAllowed, whole, walked, audioSection, matrixSection, laid, Sectioned}
 use Rattle.request.specs.Request.{present, videoOf, soundOf, requestIn}
 use Rattle.request.specs.Read.{audioOutside, outside, emptied, judged, checked, readOf}
-use Rattle.request.specs.Bytes.{audioBody, matrixBody, bodiesOf, asBytes, answeredAs, answeredBytes, asReadBack}
+use Rattle.request.specs.Bytes.{audioBody, matrixBody, asBytes, answeredAs, asReadBack}
 use Rattle.request.specs.Theorems.{ThereAndBack}
 use Rattle.request.proofs.Opened.{sectioned, request-walks}
 use Rattle.request.proofs.Ordered.{Judged, passed}

@@ -80,7 +80,7 @@ same v w p =
 back : (v w : Video) → VideoFits v → VideoFits w → SameBut v w → answered v ≡ answered w
 back v w f g s =
     let infoframe : answeredEdition (v .infoframe) ≡ answeredEdition (w .infoframe) =
-        ⊎-elim (ap answeredEdition) (λ none. as-d v f (none .0) ∙ sym (as-d w g (none .1))) (s .infoframe) in
+    ⊎-elim (ap answeredEdition) (λ none. as-d v f (none .0) ∙ sym (as-d w g (none .1))) (s .infoframe) in
     λ i. record {
       vic = s .vic i;
       family = 0;

@@ -61,9 +61,9 @@ AsksE v = (yccQuantisation v ≢ 0) ⊎ (contentType v ≢ 0)
 abbrev pub noVideo : Video
 noVideo = videoIn []
 
--- the same in another family
-abbrev pub inFamily : ℕ → Video → Video
-inFamily family v =
+-- the same in another family, and with another edition byte
+abbrev pub recast : ℕ → ℕ → Video → Video
+recast family infoframe v =
     record {
       vic = v .vic;
       family = family;
@@ -71,8 +71,11 @@ inFamily family v =
       link = v .link;
       range = v .range;
       pixel = v .pixel;
-      infoframe = v .infoframe;
+      infoframe = infoframe;
     }
+
+abbrev pub inFamily : ℕ → Video → Video
+inFamily family v = recast family (v .infoframe) v
 
 -- "the same request, but for the frame-rate family": "Family is answered as 0"; and request 11's one exception more: "an E request that
 -- asks for none of them reads back as D". That byte is 0x01, and D's 0x00. `Exception` says that nothing else is lost.
@@ -80,16 +83,7 @@ abbrev pub answeredEdition : ℕ → ℕ
 answeredEdition byte = cond (eqb byte 0x01) 0x00 byte
 
 abbrev pub answered : Video → Video
-answered v =
-    record {
-      vic = v .vic;
-      family = 0;
-      encoding = v .encoding;
-      link = v .link;
-      range = v .range;
-      pixel = v .pixel;
-      infoframe = answeredEdition (v .infoframe);
-    }
+answered v = recast 0 (answeredEdition (v .infoframe)) v
 
 -- a body of that count and what it asks for say the same
 pub record Body : Type 0 where

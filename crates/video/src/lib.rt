@@ -94,7 +94,15 @@ pub fn video_in(body: &[u8]) -> Video
 pub fn video_body(v: Video) -> [u8; VIDEO_COUNT as usize]
     ensures { λ r. ⌜ r ≡ videoBody v ⌝ }
 {
-    [v.vic, v.family, v.encoding, v.link, v.range, v.pixel, v.infoframe]
+    [
+        v.vic,
+        v.family,
+        v.encoding,
+        v.link,
+        v.range,
+        v.pixel,
+        v.infoframe,
+    ]
 }
 
 // The depth, and the repetition.
