@@ -6,15 +6,17 @@
  * length 0 was tried and behaves as an empty slice; it is not promised.
  *
  * A request is three sections in this order, each after a byte that counts its bytes:
- *   video   6        VIC (1 to 5, 16 to 20, 31, 32, 34, 60, 62); family (0 whole frame rate, 1 divided by 1.001, which VIC 17 to 20 and 31
+ *   video   7        VIC (1 to 5, 16 to 20, 31, 32, 34, 60, 62); family (0 whole frame rate, 1 divided by 1.001, which VIC 17 to 20 and 31
  *                    do not offer); encoding (0 RGB, 1 YCbCr 4:2:2, 2 YCbCr 4:4:4); link (0 DVI, 1 HDMI); range (0 limited, 1 full: what
  *                    the screen is told of RGB; with YCbCr it is 0); depth and pixel repetition in one byte: in its lower half the depth (0,
- *                    1, 2 for 24, 30, 36 bits a pixel), in its upper half the repetition (0 none, 1 twice, 2 four times)
+ *                    1, 2 for 24, 30, 36 bits a pixel), in its upper half the repetition (0 none, 1 twice, 2 four times); the edition byte:
+ *                    in bits 1:0 the edition of the AVI InfoFrame (0 CEA-861-D, 1 CEA-861-E), in bits 3:2 the YCC quantisation (0 limited,
+ *                    1 full), in bits 5:4 the content type (0 none or graphics, 1 photo, 2 cinema, 3 game), both 0 with D; bits 7:6 are 0
  *   audio   0 or 3   rate (0 to 6 for 32, 44.1, 48, 88.2, 96, 176.4, 192 kHz); channels (2 or 8); coherent (0 or 1)
  *   matrix  0 or 25  mode (0 to 2); coefficients A1 to A4, B1 to B4, C1 to C4, two bytes each, high byte first, two's complement, from
  *                    -4096 to 4095
- * So 06 10 00 00 01 00 00 03 02 02 01 00 is 1080p at 60 Hz, RGB over HDMI, limited range, 24 bits, no repetition, coherent stereo at
- * 48 kHz, no matrix.
+ * So 07 10 00 00 01 00 00 00 03 02 02 01 00 is 1080p at 60 Hz, RGB over HDMI, limited range, 24 bits, no repetition, edition D, coherent
+ * stereo at 48 kHz, no matrix.
  * N and CTS rest on the TMDS clock: the pixel clock times 1, 5/4 or 3/2 by the depth, times 1, 2 or 4 by the repetition. It is 225,000,000 Hz
  * at the most.
  */
@@ -25,8 +27,8 @@
 #include <stdint.h>
 
 /* The version of this header, one for each landing; CHANGELOG.md says what came with it. */
-#define STATION_VERSION "4.0.0"
-#define STATION_MAJOR 4
+#define STATION_VERSION "5.0.0"
+#define STATION_MAJOR 5
 #define STATION_MINOR 0
 #define STATION_PATCH 0
 
@@ -36,7 +38,7 @@
 #define STATION_COEFFICIENTS 24 /* its coefficient buffer */
 #define STATION_MARK 1          /* its waiting mark */
 #define STATION_WRITES 256      /* the least room for a write list */
-#define STATION_REQUEST 37      /* the longest request, and the least room for one */
+#define STATION_REQUEST 38      /* the longest request, and the least room for one */
 #define STATION_MATRIX 25       /* a matrix as a request has it: its mode and twelve coefficients */
 #define STATION_LIST 1024       /* the longest list that a vendor may bring, 512 pairs */
 
@@ -53,8 +55,8 @@ enum station_refusal {
     STATION_COUNT_NOT_ALLOWED = 2,  /* a count the section does not allow */
     STATION_BYTES_AFTER = 3,        /* bytes after the matrix section */
     STATION_MODE_NOT_OFFERED = 4,   /* VIC not listed, or family not offered by it */
-    STATION_FIELD_OUT_OF_RANGE = 5, /* any other field outside its range (matrix mode above 2, range above 1, depth or repetition above 2) */
-    STATION_COMBINATION = 6,        /* encoding not 0 without a matrix or with range 1; DVI with audio or with encoding not 0; more than 24 bits with 4:2:2 or DVI */
+    STATION_FIELD_OUT_OF_RANGE = 5, /* any other field outside its range (matrix mode, depth or repetition above 2; range, edition or quantisation above 1; bits 7:6 of the edition byte) */
+    STATION_COMBINATION = 6,        /* encoding not 0 without a matrix or with range 1; DVI with audio or with encoding not 0; more than 24 bits with 4:2:2 or DVI; quantisation or content type under edition D */
     STATION_IMAGE_LENGTH = 7,       /* image not of 256 bytes; in the machine also packet buffer not of 32, coefficient buffer not of 24, mark not of 1 */
     STATION_HOLDS_UP = 8,           /* GC hold up, or AVI and audio holds both up */
     STATION_NO_EXACT_PAIR = 9,      /* coherent audio, and no exact pair exists */
@@ -87,7 +89,8 @@ struct station_count station_plan(const uint8_t *request, size_t request_length,
 
 /* The request that ends in a register image of 256 bytes: `count` bytes at the front of `request`, which has at least STATION_REQUEST; the
  * bytes after them stay. Its family is answered as 0, for no register names it; where the request was finished in family 1, the one that is
- * answered may itself be refused 9. Refusals 7, 10 and 11. */
+ * answered may itself be refused 9. The edition is answered as D where no bit of E is set, so E that asks for nothing reads back as D.
+ * Refusals 7, 10 and 11. */
 struct station_count station_decode(const uint8_t *image, size_t image_length, uint8_t *request, size_t request_length);
 
 /* N and CTS for a request. Refusals 1 to 6, 17 and 9. */
