@@ -224,11 +224,11 @@ int main(int count, char **words) {
     printf("planned: %u writes, and one Vsync before the last\n", (unsigned)n.count);
     if (!run(&events, list, cut, brief)) return REFUSED;
 
-    /* The finished image reads back as the request; no register names the family, which is answered as 0. */
+    /* The finished image reads back as the request, but for what no register names: its family, and an edition E that asks for nothing. */
     read_back(image);
     shown = station_decode(image, sizeof image, back, sizeof back);
     show_request("reads back:", back, shown.count);
-    asked.bytes[2] = 0;
+    asked = as_read_back(asked);
     int good = shown.count == asked.length && !memcmp(back, asked.bytes, asked.length);
     printf("%s\n", good ? "finished, and the request reads back" : "FAILED: another request reads back");
     return good ? ACCEPTED : REFUSED;

@@ -21,13 +21,15 @@ static uint32_t below(uint32_t bound) {
 static struct request some_request(void) {
     static const char *const encodings[] = { "rgb hdmi", "rgb hdmi full", "rgb dvi", "ycbcr422 hdmi", "ycbcr444 hdmi" };
     static const char *const depths[] = { "", "", "30bit", "36bit" }, *const repetitions[] = { "", "", "twice", "four-times" };
+    static const char *const editions[] = { "", "", "861-e photo", "861-e ycc-full game" };
     static const char *const sounds[] = { "", "audio 48kHz 2", "audio 48kHz 8 coherent", "audio 96kHz 8" };
     static const char *const matrices[] = { "", "matrix table39", "matrix table43", "matrix 0 1 2 3 4 5 6 7 8 9 10 11 -12" };
     struct request q;
     do {
         uint32_t e = below(5), mode = below((uint32_t)number_of_modes), depth = below(4), repetition = below(4), sound = below(4);
-        q = request_of_text("vic %u %s %s %s %s %s", modes[mode].vic, encodings[e], depths[depth], repetitions[repetition],
-                            e == 2 ? "" : sounds[sound], matrices[e > 2 ? 1 + below(3) : below(4)]);
+        uint32_t edition = below(4);
+        q = request_of_text("vic %u %s %s %s %s %s %s", modes[mode].vic, encodings[e], depths[depth], repetitions[repetition],
+                            editions[edition], e == 2 ? "" : sounds[sound], matrices[e > 2 ? 1 + below(3) : below(4)]);
     } while (station_ncts(q.bytes, q.length).refusal);
     return q;
 }

@@ -37,17 +37,22 @@ static struct request any_request(struct chain *c) {
     static const char *const families[] = { "whole", "/1.001" }, *const encodings[] = { "rgb", "ycbcr422", "ycbcr444" },
         *const wires[] = { "hdmi", "dvi" }, *const ranges[] = { "limited", "full" }, *const coherent[] = { "coherent", "not-coherent" },
         *const rates[] = { "32kHz", "44.1kHz", "48kHz", "88.2kHz", "96kHz", "176.4kHz", "192kHz" }, *const channels[] = { "2", "8" },
-        *const depths[] = { "24bit", "30bit", "36bit" }, *const repetitions[] = { "once", "twice", "four-times" };
+        *const depths[] = { "24bit", "30bit", "36bit" }, *const repetitions[] = { "once", "twice", "four-times" },
+        *const editions[] = { "861-d", "861-e" }, *const quantisations[] = { "ycc-limited", "ycc-full" },
+        *const contents[] = { "no-type", "photo", "cinema", "game" };
     char sound[40] = "", matrix[120];
     uint32_t mode = any(c, (uint32_t)number_of_modes), family = any(c, 4) == 0, encoding = any(c, 3), wire = any(c, 5) == 0;
     uint32_t range = any(c, 3) == 0, silent = any(c, 3) == 0, rate = any(c, 7), channel = any(c, 2), by = any(c, 2);
     uint32_t deep = any(c, 2), depth = any(c, 3), repeated = any(c, 2), repetition = any(c, 3);
+    uint32_t edition = any(c, 2), quantisation = any(c, 2), content = any(c, 4);
     if (!deep) depth = 0;
     if (!repeated) repetition = 0;
+    if (!edition) quantisation = content = 0;
     if (!silent) snprintf(sound, sizeof sound, "audio %s %s %s", rates[rate], channels[channel], coherent[by]);
     any_matrix(c, matrix, sizeof matrix);
-    return request_of_text("vic %u %s %s %s %s %s %s %s %s", (unsigned)modes[mode].vic, families[family], encodings[encoding],
-                           wires[wire], ranges[range], depths[depth], repetitions[repetition], sound, matrix);
+    return request_of_text("vic %u %s %s %s %s %s %s %s %s %s %s %s", (unsigned)modes[mode].vic, families[family], encodings[encoding],
+                           wires[wire], ranges[range], depths[depth], repetitions[repetition], editions[edition],
+                           quantisations[quantisation], contents[content], sound, matrix);
 }
 
 static struct station_count plan(const struct request *q, const struct chip *c, uint8_t *list) {
@@ -178,7 +183,7 @@ struct point chain_point(const struct chain *c, const struct chip *now) {
 
 void chain_end(const struct chain *c, const struct chip *now, char fault[TEXT_OF_A_FAULT]) {
     struct point p = chain_point(c, now);
-    struct request last = c->now.asked;
+    struct request last = as_read_back(c->now.asked);
     uint8_t back[STATION_REQUEST];
     *fault = 0;
     tell(fault, "%s", p.fault);
@@ -188,7 +193,6 @@ void chain_end(const struct chain *c, const struct chip *now, char fault[TEXT_OF
     for (int a = 0; a < STATION_IMAGE; a++)
         if (now->image[a] != c->alone.image[a]) tell(fault, "register 0x%02X: not as the last request alone makes it", (unsigned)a);
     struct station_count n = station_decode(now->image, STATION_IMAGE, back, sizeof back);
-    last.bytes[2] = 0;                                          /* no register names the family, which is answered as 0 */
     if (n.refusal || n.count != last.length || memcmp(back, last.bytes, last.length)) tell(fault, "the last request does not read back");
 }
 

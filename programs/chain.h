@@ -51,7 +51,7 @@ struct point { struct sent sent; int whose[GROUPS]; char fault[TEXT_OF_A_FAULT];
 struct point chain_point(const struct chain *c, const struct chip *now);
 
 /* The end, where the last link has finished: what does not hold, empty where all does. Every group is the last request's, the registers are
- * those that it makes alone of the beginning, and it reads back, but for its family. */
+ * those that it makes alone of the beginning, and it reads back (as_read_back of fields.h). */
 void chain_end(const struct chain *c, const struct chip *now, char fault[TEXT_OF_A_FAULT]);
 
 /* For a person: who left the chip, and the holds that are up at the beginning; how many of a link's first events are Vsyncs. */

@@ -40,11 +40,13 @@ static const struct { const char *name; int may_be_left_out; size_t numbers; } s
 };
 
 /* A field: its section, its byte there and its bits in that byte; its name; the word that it has where none is given, or NULL where it must
- * be given; its words. A field with no words is its name and a number. NAME=NUMBER gives any field any number. */
+ * be given; its words, of which the first for a value is the one that is printed. A field with no words is its name and a number.
+ * NAME=NUMBER gives any field any number. */
+struct word { const char *word; uint8_t value; const char *says; };
 static const struct field {
     uint8_t section, at, shift, bits;
     const char *name, *usual;
-    struct { const char *word; uint8_t value; const char *says; } words[8];
+    struct word words[8];
 } fields[] = {
     { IN_VIDEO, 0, 0, 8, "vic", NULL, { { NULL, 0, NULL } } },
     { IN_VIDEO, 1, 0, 8, "family", "whole", { { "whole", 0, "whole frame rate" }, { "/1.001", 1, "frame rate divided by 1.001" } } },
@@ -57,6 +59,13 @@ static const struct field {
         { "36bit", 2, "36 bits a pixel, deep colour" } } },
     { IN_VIDEO, 5, 4, 4, "repetition", "once",
       { { "once", 0, "none, each pixel once" }, { "twice", 1, "each pixel twice" }, { "four-times", 2, "each pixel four times" } } },
+    { IN_VIDEO, 6, 0, 2, "edition", "861-d", { { "861-d", 0, "CEA-861-D" }, { "861-e", 1, "CEA-861-E" } } },
+    { IN_VIDEO, 6, 2, 2, "quantisation", "ycc-limited",
+      { { "ycc-limited", 0, "limited, or nothing said of it" }, { "ycc-full", 1, "full: YCbCr from 0 to 255" } } },
+    { IN_VIDEO, 6, 4, 2, "content", "no-type",                  /* 861-E has 0 for graphics, so that is the same as no type */
+      { { "no-type", 0, "no type; in CEA-861-E 0 is graphics" }, { "photo", 1, "photo" }, { "cinema", 2, "cinema" }, { "game", 3, "game" },
+        { "graphics", 0, "graphics" } } },
+    { IN_VIDEO, 6, 6, 2, "reserved", "reserved=0", { { "reserved=0", 0, "0, as it must be" } } },
     { IN_AUDIO, 0, 0, 8, "rate", NULL,
       { { "32kHz", 0, "32 kHz" }, { "44.1kHz", 1, "44.1 kHz" }, { "48kHz", 2, "48 kHz" }, { "88.2kHz", 3, "88.2 kHz" },
         { "96kHz", 4, "96 kHz" }, { "176.4kHz", 5, "176.4 kHz" }, { "192kHz", 6, "192 kHz" } } },
@@ -84,14 +93,22 @@ static const struct field *field_of(const char *name) {
     return &fields[f];
 }
 
+/* The first word of a field's value, or NULL. */
+static const struct word *row_of(const struct field *f, int value) {
+    for (size_t w = 0; w < WORDS_OF_A_FIELD && f->words[w].word; w++)
+        if (f->words[w].value == value) return &f->words[w];
+    return NULL;
+}
+
 /* ---- Words to bytes. */
 
-/* The words of a field, for a message. */
+/* The words of a field, one for each value, for a message. */
 static const char *words_of_field(const struct field *f, char *text, size_t room) {
     size_t used = 0;
     *text = 0;
     for (size_t w = 0; w < WORDS_OF_A_FIELD && f->words[w].word && used < room; w++)
-        used += (size_t)snprintf(text + used, room - used, "%s%s", w ? ", " : "", f->words[w].word);
+        if (row_of(f, f->words[w].value) == &f->words[w])
+            used += (size_t)snprintf(text + used, room - used, "%s%s", w ? ", " : "", f->words[w].word);
     if (!f->words[0].word) snprintf(text, room, "%s and a number", f->name);
     return text;
 }
@@ -235,6 +252,14 @@ struct request request_of_text(const char *format, ...) {
     return request_of_words(count, words);
 }
 
+struct request as_read_back(struct request q) {
+    uint8_t *video = q.bytes + 1;
+    const struct field *family = field_of("family"), *edition = field_of("edition");
+    video[family->at] = 0;
+    if (video[edition->at] >> edition->bits == 0) video[edition->at] = 0;
+    return q;
+}
+
 /* ---- Bytes to words. */
 
 static int value_in(const struct field *f, const uint8_t *body) { return body[f->at] >> f->shift & ((1 << f->bits) - 1); }
@@ -264,9 +289,8 @@ static void add(char *text, const char *format, ...) {
 
 /* The word of a field's value, or NULL. */
 static const char *word_of(const struct field *f, int value) {
-    for (size_t w = 0; w < WORDS_OF_A_FIELD && f->words[w].word; w++)
-        if (f->words[w].value == value) return f->words[w].word;
-    return NULL;
+    const struct word *w = row_of(f, value);
+    return w ? w->word : NULL;
 }
 
 const char *word_of_value(const char *name, int value) { return word_of(field_of(name), value); }
@@ -309,9 +333,9 @@ void text_of_mode(uint8_t vic, uint8_t family, char *text, size_t room) {
 /* What a field's value means. */
 static void meaning(const struct field *f, const uint8_t *body, size_t there, char *text, size_t room) {
     int value = value_in(f, body);
-    snprintf(text, room, "%d, outside its range", value);
-    for (size_t w = 0; w < WORDS_OF_A_FIELD && f->words[w].word; w++)
-        if (f->words[w].value == value) snprintf(text, room, "%s", f->words[w].says);
+    const struct word *w = row_of(f, value);
+    if (w) snprintf(text, room, "%s", w->says);
+    else snprintf(text, room, "%d, outside its range", value);
     if (f == &fields[0]) {
         char mode[64];
         text_of_mode((uint8_t)value, there > 1 ? body[1] : 0, mode, sizeof mode);
@@ -319,25 +343,36 @@ static void meaning(const struct field *f, const uint8_t *body, size_t there, ch
     }
 }
 
-/* A field's byte in hex; of two fields in one byte each has its digit, and a dot for the other's. */
-static const char *digits_of(const struct field *f, const uint8_t *body, char text[3]) {
-    snprintf(text, 3, "%02x", body[f->at]);
-    if (f->bits < 8) text[f->shift ? 1 : 0] = '.';
+/* The columns of a line: a name, bytes in hex, what they mean. */
+#define NAMED "  %-12s  "
+#define LINE NAMED "%-7s  "
+enum { BYTES = 16 };
+
+/* A field's byte in hex; where it has not the whole byte, with its bits. */
+static const char *digits_of(const struct field *f, const uint8_t *body, char text[BYTES]) {
+    if (f->bits == 8) snprintf(text, BYTES, "%02x", body[f->at]);
+    else snprintf(text, BYTES, "%02x[%d:%d]", body[f->at], f->shift + f->bits - 1, f->shift);
+    return text;
+}
+
+/* A coefficient's name by its place, A1 to C4. */
+static const char *name_of_number(size_t n, char text[3]) {
+    text[0] = "ABC"[n / 4], text[1] = "1234"[n % 4], text[2] = 0;
     return text;
 }
 
 void explain_request(FILE *to, const uint8_t *request, size_t length) {
     size_t at = 0;
-    char text[128], digits[3];
+    char text[128], digits[BYTES], name[3];
     for (int s = 0; s < SECTIONS; s++) {
         if (at == length) {
-            fprintf(to, "  %-10s  --     no count: the bytes end here\n", sections[s].name);
+            fprintf(to, LINE "no count: the bytes end here\n", sections[s].name, "--");
             return;
         }
         size_t count = request[at], want = count_of(s), there = length - at - 1;
         int left_out = count == 0 && sections[s].may_be_left_out;
-        fprintf(to, "  %-10s  %02x     %s\n", sections[s].name, request[at],
-                left_out ? "none" : count == want ? "its count" : "a count that is not allowed");
+        snprintf(digits, sizeof digits, "%02x", request[at]);
+        fprintf(to, LINE "%s\n", sections[s].name, digits, left_out ? "none" : count == want ? "its count" : "a count that is not allowed");
         at++;
         if (left_out) continue;
         if (count != want) return;
@@ -345,13 +380,13 @@ void explain_request(FILE *to, const uint8_t *request, size_t length) {
         for (size_t f = 0; f < FIELDS; f++) {
             if (fields[f].section != s || fields[f].at >= there) continue;
             meaning(&fields[f], request + at, there, text, sizeof text);
-            fprintf(to, "  %-10s  %s     %s\n", fields[f].name, digits_of(&fields[f], request + at, digits), text);
+            fprintf(to, LINE "%s\n", fields[f].name, digits_of(&fields[f], request + at, digits), text);
         }
         for (size_t n = 0, first = bytes_of_fields(s); n < sections[s].numbers && first + 2 * n + 1 < there; n++) {
             const uint8_t *bytes = request + at + first + 2 * n;
             int value = number_in(bytes);
-            fprintf(to, "  %c%u          %02x %02x  %d%s\n", "ABC"[n / 4], (unsigned)n % 4 + 1, bytes[0], bytes[1], value,
-                    value < -4096 || value > 4095 ? ", outside its range" : "");
+            snprintf(digits, sizeof digits, "%02x %02x", bytes[0], bytes[1]);
+            fprintf(to, LINE "%d%s\n", name_of_number(n, name), digits, value, value < -4096 || value > 4095 ? ", outside its range" : "");
         }
         if (there < want) {
             fprintf(to, "  the bytes end inside the %s section: %u of %u\n", sections[s].name, (unsigned)there, (unsigned)want);
@@ -370,7 +405,7 @@ static void short_of(const struct field *f, const uint8_t *section, char *text, 
 }
 
 int explain_changes(FILE *to, const uint8_t *before, const uint8_t *after) {
-    char was[32], is[32];
+    char was[32], is[32], name[3];
     int changes = 0;
     for (int s = 0; s < SECTIONS; before += 1 + before[0], after += 1 + after[0], s++) {
         if (before[0] == 0 && after[0] == 0) continue;
@@ -378,12 +413,12 @@ int explain_changes(FILE *to, const uint8_t *before, const uint8_t *after) {
             if (fields[f].section != s) continue;
             short_of(&fields[f], before, was, sizeof was);
             short_of(&fields[f], after, is, sizeof is);
-            if (strcmp(was, is)) fprintf(to, "  %-10s  %s -> %s\n", fields[f].name, was, is), changes++;
+            if (strcmp(was, is)) fprintf(to, NAMED "%s -> %s\n", fields[f].name, was, is), changes++;
         }
         for (size_t n = 0; n < sections[s].numbers && before[0] && after[0]; n++) {
             size_t at = 1 + bytes_of_fields(s) + 2 * n;
             int old = number_in(before + at), new = number_in(after + at);
-            if (old != new) fprintf(to, "  %c%u          %d -> %d\n", "ABC"[n / 4], (unsigned)n % 4 + 1, old, new), changes++;
+            if (old != new) fprintf(to, NAMED "%d -> %d\n", name_of_number(n, name), old, new), changes++;
         }
     }
     return changes;
@@ -392,7 +427,7 @@ int explain_changes(FILE *to, const uint8_t *before, const uint8_t *after) {
 void explain_words(FILE *to) {
     char text[TEXT_OF_A_REQUEST];
     for (size_t f = 0; f < FIELDS; f++)
-        fprintf(to, "  %-7s %-11s %s%s%s%s\n", f == 0 || fields[f].section != fields[f - 1].section ? sections[fields[f].section].name : "",
+        fprintf(to, "  %-6s %-12s %s%s%s%s\n", f == 0 || fields[f].section != fields[f - 1].section ? sections[fields[f].section].name : "",
                 fields[f].name, words_of_field(&fields[f], text, sizeof text), fields[f].usual ? " (" : "",
                 fields[f].usual ? fields[f].usual : "", fields[f].usual ? " where none is given)" : "");
 }

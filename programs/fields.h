@@ -13,6 +13,10 @@ struct request { uint8_t bytes[STATION_REQUEST]; size_t length; };
 struct request request_of_words(int count, char **words);
 struct request request_of_text(const char *format, ...);
 
+/* An accepted request as decoding answers it once it is finished: in family 0, for no register names it; and in edition D where E asks for
+ * nothing, for then no bit of E is set. */
+struct request as_read_back(struct request q);
+
 /* A request in words, as request_of_words reads them: 0 where its sections are not whole. */
 int words_of_request(const uint8_t *request, size_t length, char text[TEXT_OF_A_REQUEST]);
 

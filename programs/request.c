@@ -24,14 +24,17 @@ static const char help[] =
     "\n",
     more[] =
     "\n"
-    "NAME=NUMBER gives a field any number, also one that is refused. tools/modes\n"
-    "lists the VICs, and their clocks by depth and repetition. The status is 0 for a\n"
-    "request that is accepted, 1 for one that is refused (its bytes are printed, the\n"
-    "rule is said on the error stream), 2 for a command that is not as above.\n"
+    "Quantisation and content are of edition E: 861-e stands beside their words.\n"
+    "'graphics', for which CEA-861-E has 0, is the same as no-type. NAME=NUMBER gives\n"
+    "a field any number, also one that is refused. tools/modes lists the VICs, and\n"
+    "their clocks by depth and repetition. The status is 0 for a request that is\n"
+    "accepted, 1 for one that is refused (its bytes are printed, the rule is said on\n"
+    "the error stream), 2 for a command that is not as above.\n"
     "\n"
     "  tools/request vic 16 rgb hdmi audio 48kHz 2 coherent\n"
     "  tools/request vic 4 /1.001 ycbcr444 hdmi matrix table43\n"
     "  tools/request vic 32 rgb hdmi 36bit audio 48kHz 8 coherent\n"
+    "  tools/request vic 16 rgb hdmi 861-e photo\n"
     "  tools/request vic 1 rgb dvi matrix 1 2048 0 0 0 0 2048 0 0 0 0 2048 0\n"
     "  tools/request --explain " EXAMPLE "\n";
 
@@ -44,17 +47,24 @@ static int tell(FILE *to, struct station_pair p, int of_sound) {
     return ACCEPTED;
 }
 
-/* Where VIC, family and the byte of depth and repetition stand in a request. */
-enum { AT_VIC = 1, AT_FAMILY = 2, AT_DEPTH = 6 };
+/* Where VIC, family, the byte of depth and repetition and that of the edition stand in a request. */
+enum { AT_VIC = 1, AT_FAMILY = 2, AT_DEPTH = 6, AT_EDITION = 7 };
 
 /* The clock of a request of which no rule before that of the clock is broken. */
 static void tell_clock(const uint8_t *request) {
     char factor[48];
     uint8_t vic = request[AT_VIC], family = request[AT_FAMILY];
     int depth = request[AT_DEPTH] & 0x0F, repetition = request[AT_DEPTH] >> 4;
-    printf("  TMDS clock         %.9g MHz: %.9g times %s times %d, at most %d\n",
+    printf("  TMDS clock             %.9g MHz: %.9g times %s times %d, at most %d\n",
            megahertz(tmds_clock(vic, family, depth, repetition)), megahertz(pixel_clock(vic, family)),
            text_of_clock(of_depth(depth), factor, sizeof factor), (int)of_repetition(repetition).over, HIGHEST_CLOCK / 1000000);
+}
+
+/* Words of edition E, and nobody has named it. */
+static void tell_edition(const struct request *q) {
+    enum { EDITION = 0x03, OF_E = 0x3C };
+    uint8_t byte = q->bytes[AT_EDITION];
+    if ((byte & EDITION) == 0 && (byte & OF_E)) fprintf(stderr, "quantisation and content type are of edition E: say 861-e too\n");
 }
 
 int main(int count, char **words) {
@@ -82,5 +92,7 @@ int main(int count, char **words) {
     struct request q = request_of_words(count - 1, words + 1);
     for (size_t i = 0; i < q.length; i++) printf("%s%02x", i ? " " : "", q.bytes[i]);
     printf("\n");
-    return printed(tell(stderr, station_ncts(q.bytes, q.length), 0));
+    int status = tell(stderr, station_ncts(q.bytes, q.length), 0);
+    if (status == REFUSED) tell_edition(&q);
+    return printed(status);
 }

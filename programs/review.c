@@ -163,9 +163,10 @@ static void print_bad_end(const struct chip *c) {
         for (int a = packets[p].first; a <= packets[p].last; a++) sum = (uint8_t)(sum + (c->image[a] & station_class((uint8_t)a).named));
         if (sum) printf("    the sum of the %s InfoFrame is not 0\n", packets[p].name), told++;
     }
-    uint8_t pll = c->image[REPETITION] >> 3 & 3, value = c->image[REPETITION] >> 1 & 3, repeats = c->image[AVI_BYTE_5];
+    uint8_t pll = c->image[REPETITION] >> 3 & 3, value = c->image[REPETITION] >> 1 & 3, repeats = c->image[AVI_BYTE_5] & 0x0F;
     if (pll != value || value > 2 || repeats != (1 << value) - 1)
         printf("    0x3B[4:3], 0x3B[2:1] and PR (0x59[3:0]) are of no one repetition\n"), told++;
+    if (c->image[AVI_BYTE_5] >> 6 > 1) printf("    YQ (0x59[7:6]), the YCC quantisation, is none of 00 and 01\n"), told++;
     uint8_t depth = c->image[COLOUR_DEPTH] & 0x0F;
     if (depth != 0 && depth != 5 && depth != 6) printf("    0x4C[3:0], the colour depth, is none of 0000, 0101 and 0110\n"), told++;
     if (!told) printf("    its fields are those of no request\n");
