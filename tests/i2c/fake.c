@@ -228,17 +228,21 @@ static void without_vsync(void) {
     tell(again(asked) == ACCEPTED && bus.sent == 0, "flags that are off, and nothing to write", 0);
 }
 
-/* Refusals, holds left up, a bus that cannot be read, another family, deep colour. */
+/* Refusals, holds left up, a bus that cannot be read, another family, deep colour, another edition. */
 static void on_states(void) {
     struct request bad = request_of_text("vic 16 ycbcr422 hdmi"), none = request_of_text("vic 4 /1.001 rgb hdmi audio 32kHz 2 coherent");
     struct request above = request_of_text("vic 16 rgb hdmi twice"), deep = request_of_text("vic 4 rgb hdmi 36bit twice");
     struct request family_0 = request_of_text("vic 16 rgb hdmi audio 48kHz 2 coherent");
     struct request family_1 = request_of_text("vic 16 /1.001 rgb hdmi audio 48kHz 2 coherent");
+    struct request asks_nothing = request_of_text("vic 16 rgb hdmi 861-e audio 48kHz 2 coherent");
+    struct request newer = request_of_text("vic 16 rgb hdmi 861-e ycc-full photo audio 48kHz 2 coherent");
+    struct request under_d = request_of_text("vic 16 rgb hdmi 861-d photo");
     uint8_t back[STATION_REQUEST], other[STATION_WRITES];
     heal();
     chip = start;
     chip.image[0x4A] |= 0x10;
-    tell(again(bad) == REFUSED && again(none) == REFUSED && again(above) == REFUSED && bus.sent == 0, "a refused request", 0);
+    tell(again(bad) == REFUSED && again(none) == REFUSED && again(above) == REFUSED && again(under_d) == REFUSED && bus.sent == 0,
+         "a refused request", 0);
     tell(again(asked) == ACCEPTED && bus.sent == writes + 1 && ended(), "the GC hold left up", 0);
     for (int holds = 0x30; holds <= 0x70; holds += 0x10) {
         if (holds == 0x40) continue;
@@ -262,6 +266,15 @@ static void on_states(void) {
     tell(again(deep) == ACCEPTED && bus.sent == 0, "deep colour, on show", 1);
     tell(again(family_0) == ACCEPTED && (chip.image[COLOUR_DEPTH] & 0x0F) == 0, "24 bits again", 0);
     bus.turning = 0;
+    /* Edition E that asks for nothing is on show where D is; what asks for more is sent, and reads back. */
+    tell(again(asks_nothing) == ACCEPTED && bus.sent == 0, "edition E that asks for nothing", 0);
+    tell(again(newer) == ACCEPTED && bus.sent > 0 && chip.image[0x59] == 0x50 &&
+         station_decode(chip.image, STATION_IMAGE, back, sizeof back).count == newer.length && !memcmp(back, newer.bytes, newer.length),
+         "edition E", 0x59);
+    tell(again(newer) == ACCEPTED && bus.sent == 0, "edition E, on show", 0x59);
+    tell(again(asks_nothing) == ACCEPTED && bus.sent > 0 && chip.image[0x59] == 0 &&
+         station_decode(chip.image, STATION_IMAGE, back, sizeof back).count == family_0.length &&
+         !memcmp(back, family_0.bytes, family_0.length), "nothing of edition E again", 0x59);
 }
 
 /* A host that goes on past one lost write: at how many places a group in use is torn at some moment, at how many at the end, open. */
