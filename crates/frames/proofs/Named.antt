@@ -12,11 +12,11 @@ use Rattle.bits.proofs.Below.{at-below}
 use Rattle.video.specs.declared.Video.{Video}
 use Rattle.video.specs.Fits.{VideoFits}
 use Rattle.video.specs.Video.{depth, repetition, yccQuantisation, contentType, AsksE, answeredEdition}
-use Rattle.video.proofs.Fits.{encoding-fits, range-fits, range-limited, repetition-fits, ycc-fits, no-more}
+use Rattle.video.proofs.Fits.{encoding-fits, range-fits, range-limited, repetition-fits, no-more}
 use Rattle.video.proofs.Alike.{parts, exceptions}
-use Rattle.frames.specs.Frames.{quantisation, repeats, aviPayload, editionNamed, videoNamed}
+use Rattle.frames.specs.Frames.{quantisation, aviPayload, editionNamed, videoNamed}
 use Rattle.frames.specs.Theorems.{NamedBack}
-use Rattle.frames.proofs.Small.{repeats-small}
+use Rattle.frames.proofs.Small.{fifth, fields}
 
 -- the high bit of Q
 range-back : (v : Video) → VideoFits v → quantisation v * 4 / 8 % 2 ≡ v .range
@@ -31,23 +31,13 @@ range-back v f = go (eqb (v .encoding) 0) refl (eqb (v .range) 0) refl
 repetition-back : (n : ℕ) → n ≤ 2 → (getD (0 ∷ 1 ∷ 3 ∷ []) n 0 + 1) / 2 ≡ n
 repetition-back n h = eqb-true _ _ (at-below (λ n. eqb ((getD (0 ∷ 1 ∷ 3 ∷ []) n 0 + 1) / 2) n) 3 n refl (omega arith))
 
--- data byte 5, whose lower half is PR
 module _ (v : Video) (f : VideoFits v) where
-  abbrev fifth : ℕ
-  fifth = yccQuantisation v * 64 + contentType v * 16 + repeats v
+  pixel-back : (fifth v % 16 + 1) / 2 * 16 + depth v % 16 ≡ v .pixel
+  pixel-back = rw (fields v .pr, repetition-back (repetition v) (repetition-fits v f)) (omega arith)
 
-  low : fifth % 16 ≡ repeats v
-  low = omega (arith, repeats-small v)
-
-  pub pixel-back : (fifth % 16 + 1) / 2 * 16 + depth v % 16 ≡ v .pixel
-  pixel-back = rw (low, repetition-back (repetition v) (repetition-fits v f)) (omega arith)
-
-  -- and its upper half, E's bits: with them the byte is E's, unless it is D's, where nothing of E is asked for
-  pub edition-back : editionNamed fifth ≡ answeredEdition (v .infoframe)
-  edition-back =
-      let high : fifth / 64 % 4 ≡ yccQuantisation v = omega (arith, repeats-small v, ycc-fits v f) in
-      let next : fifth / 16 % 4 ≡ contentType v = omega (arith, repeats-small v, ycc-fits v f) in
-      rw (high, next) (go (eqb (yccQuantisation v) 0) refl (eqb (contentType v) 0) refl)
+  -- with E's bits the byte is E's, unless it is D's, where nothing of E is asked for
+  edition-back : editionNamed (fifth v) ≡ answeredEdition (v .infoframe)
+  edition-back = rw (fields v .yq, fields v .cn) (go (eqb (yccQuantisation v) 0) refl (eqb (contentType v) 0) refl)
     where
       e : ℕ
       e = 1 + yccQuantisation v * 4 + contentType v * 16

@@ -8,10 +8,10 @@ use Rattle.video.specs.declared.Video.{Video}
 use Rattle.video.specs.Modes.{modeOf}
 use Rattle.video.specs.Video.{yccQuantisation, contentType, EditionOutside, ShownOutside, VideoOutside, AskedUnderD, VideoCombined}
 use Rattle.video.specs.Fits.{VideoFits}
-use Rattle.video.proofs.Fits.{vic-small, encoding-fits, ycc-fits}
+use Rattle.video.proofs.Fits.{vic-small, encoding-fits}
 use Rattle.frames.specs.Frames.{total, colorimetry, quantisation, repeats, aviHeader, aviPayload, aviFrame}
 use Rattle.frames.specs.Editions.{ByD, readByD, readByE, aviPacket, underD, BothEditions}
-use Rattle.frames.proofs.Small.{Small, mode-small, colour-small, quantisation-small, repeats-small}
+use Rattle.frames.proofs.Small.{Small, mode-small, colour-small, quantisation-small, fifth, fields}
 use Rattle.frames.proofs.Sealed.{holds}
 
 -- what a reader that knows only D finds in the packet of a video
@@ -44,9 +44,6 @@ module _ (v : Video) (f : VideoFits v) where
   abbrev third : ℕ
   third = quantisation v * 4
 
-  abbrev fifth : ℕ
-  fifth = yccQuantisation v * 64 + contentType v * 16 + repeats v
-
   by-d : readByD (aviPacket v) ≡ found v
   unfolding aviFrame
   by-d =
@@ -58,16 +55,16 @@ module _ (v : Video) (f : VideoFits v) where
       let m : second / 16 % 4 ≡ mode .aspect = omega (arith, colour, small .aspect) in
       let r : second / 1 % 16 ≡ 8 = omega (arith, colour, small .aspect) in
       let vic : v .vic / 1 % 128 ≡ v .vic = omega (arith, vic-small v f) in
-      let pr : fifth / 1 % 16 ≡ repeats v = omega (arith, repeats-small v) in
+      let pr : fifth v / 1 % 16 ≡ repeats v = omega (arith, fields v .pr) in
       λ i. record { y = y i; c = c i; ec = ec i; q = q i; m = m i; r = r i; vic = vic i; pr = pr i }
 
   yq : readByE (aviPacket v) .yq ≡ yccQuantisation v
   unfolding aviFrame
-  yq = let e : fifth / 64 % 4 ≡ yccQuantisation v = omega (arith, repeats-small v, ycc-fits v f) in e
+  yq = fields v .yq
 
   cn : readByE (aviPacket v) .cn ≡ contentType v
   unfolding aviFrame
-  cn = let e : fifth / 16 % 4 ≡ contentType v = omega (arith, repeats-small v, ycc-fits v f) in e
+  cn = fields v .cn
 
   under-fits : VideoFits (underD v)
   under-fits = record { offered = f .offered; inside = inside; apart = apart }

@@ -1,8 +1,10 @@
--- What every mode's row says of its aspect and its colorimetry: one test over the table; and how large C, Q and PR are. Assumes nothing.
+-- What every mode's row says of its aspect and its colorimetry: one test over the table; how large C, Q and PR are; and the three
+-- fields of data byte 5. Assumes nothing.
 use mathlib.Core.Path.{_≡_, refl}
 use mathlib.Core.Bool.{Bool, true, false, cond, _&&_}
 use mathlib.Core.List.{[], _∷_}
-use Prim.Native.Nat.{ℕ, zero, suc, _≤_}
+use Prim.Native.Nat.{ℕ, zero, suc, _+_, _*_, _/_, _%_, _≤_}
+use native.Mathlib.Omega.{arith}
 use lib.Dec.{eqb, leb, lit≤}
 use lib.ListN.{getD}
 use borrow.Author.Tests.{leb-true}
@@ -11,7 +13,7 @@ use Rattle.lists.proofs.Find.{found}
 use Rattle.video.specs.declared.Mode.{Mode}
 use Rattle.video.specs.declared.Video.{Video}
 use Rattle.video.specs.Modes.{modes, unlisted, modeOf}
-use Rattle.video.specs.Video.{repetition}
+use Rattle.video.specs.Video.{repetition, yccQuantisation, contentType}
 use Rattle.frames.specs.Frames.{colorimetry, quantisation, repeats}
 
 pub record Small (m : Mode) : Type 0 where
@@ -53,3 +55,16 @@ repeats-small v = go (repetition v)
     go (suc zero) = lit≤ tt
     go (suc (suc zero)) = lit≤ tt
     go (suc (suc (suc n))) = lit≤ tt
+
+abbrev pub fifth : Video → ℕ
+fifth v = yccQuantisation v * 64 + contentType v * 16 + repeats v
+
+pub record Fifth (v : Video) : Type 0 where
+  pub yq : fifth v / 64 % 4 ≡ yccQuantisation v
+  pub cn : fifth v / 16 % 4 ≡ contentType v
+  pub pr : fifth v % 16 ≡ repeats v
+
+pub fields : (v : Video) → Fifth v
+fields v =
+    let p = repeats-small v in
+    record { yq = omega (arith, p); cn = omega (arith, p); pr = omega (arith, p) }

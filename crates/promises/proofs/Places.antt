@@ -14,9 +14,11 @@ use Rattle.lists.proofs.Both.{both-left, both-right}
 use Rattle.bits.specs.Merge.{bitsIn}
 use Rattle.bits.proofs.Below.{at-below}
 use Rattle.registers.specs.Classes.{classAt}
+use Rattle.video.specs.declared.Video.{Video}
 use Rattle.video.specs.Modes.{modeOf}
-use Rattle.video.specs.Video.{depth, repetition, contentType}
-use Rattle.video.proofs.Fits.{vic-small, encoding-fits, link-fits, range-fits, repetition-fits, ycc-fits}
+use Rattle.video.specs.Video.{depth, repetition}
+use Rattle.video.proofs.Fits.{vic-small, encoding-fits, link-fits, range-fits, repetition-fits}
+use Rattle.frames.proofs.Small.{fifth, fields}
 use Rattle.clock.specs.declared.Pair.{Pair}
 use Rattle.frames.specs.Frames as F
 use Rattle.frames.specs.Frames.{checksumOf, aviFrame, audioFrame, audioOffFrame}
@@ -184,17 +186,14 @@ repeated (suc zero) h = (refl, refl, refl)
 repeated (suc (suc zero)) h = (refl, refl, refl)
 repeated (suc (suc (suc n))) h = absurd (omega arith)
 
-pr-small : (n : ℕ) → (getD (0 ∷ 1 ∷ 3 ∷ []) n 0 ≡ inPR n) × (getD (0 ∷ 1 ∷ 3 ∷ []) n 0 ≤ 3)
-pr-small zero = (refl, lit≤ tt)
-pr-small (suc zero) = (refl, lit≤ tt)
-pr-small (suc (suc zero)) = (refl, lit≤ tt)
-pr-small (suc (suc (suc n))) = (refl, lit≤ tt)
+repeats-pr : (n : ℕ) → getD (0 ∷ 1 ∷ 3 ∷ []) n 0 ≡ inPR n
+repeats-pr zero = refl
+repeats-pr (suc zero) = refl
+repeats-pr (suc (suc zero)) = refl
+repeats-pr (suc (suc (suc n))) = refl
 
-abbrev Byte5 : ℕ → ℕ → ℕ → ℕ → Type 0
-Byte5 x yq cn pr = (bitsIn 7 6 x ≡ yq) × (bitsIn 5 4 x ≡ cn) × (bitsIn 3 0 x ≡ pr)
-
-byte5 : (yq cn x pr : ℕ) → yq ≤ 1 → cn < 4 → x ≡ pr → x ≤ 3 → Byte5 (yq * 64 + cn * 16 + x) yq cn pr
-byte5 yq cn x pr h k e l = (omega arith, omega arith, omega arith)
+in-pr : (v : Video) → bitsIn 3 0 (fifth v) ≡ inPR (repetition v)
+in-pr v = omega (arith, fields v .pr, repeats-pr (repetition v))
 
 -- the depth
 deep : (n : ℕ) → bitsIn 3 0 (getD depthCodes n 0) ≡ inCD n
@@ -277,8 +276,7 @@ sources r image after ends g =
     let z = byte2 _ _ _ _ (color r (pairFor r) g) (g .shape) (color-small (r .video .vic) (r .video .encoding)) (shape-small (r .video .vic)) in
     let q = byte3 (r .video .encoding) (r .video .range) (range-fits (r .video) (f .video)) in
     let repeat = repeated (repetition (r .video)) (repetition-fits (r .video) (f .video)) in
-    let pr = pr-small (repetition (r .video)) in
-    let five = byte5 _ (contentType (r .video)) _ _ (ycc-fits (r .video) (f .video)) (omega arith) (pr .0) (pr .1) in
+    let five = fields (r .video) in
     let channels : inCC (r .sound) ≤ 7 = cc-small (r .sound) (f .sound) in
     n .0 ▸ n .1 ▸ n .2 ▸ c .0 ▸ c .1 ▸ c .2 ▸
     select .0 ▸ select .1 ▸ select .2 ▸
@@ -305,7 +303,7 @@ sources r image after ends g =
     y .0 ▸ y .1 ▸ y .2 ▸ y .3 ▸
     z .0 ▸ z .1 ▸ z .2 ▸
     q .0 ▸ q .1 ▸ q .2 ▸ byte-whole _ (omega (arith, vic)) ▸
-    five .0 ▸ five .1 ▸ five .2 ▸
+    five .yq ▸ five .cn ▸ in-pr (r .video) ▸
     refl ▸ refl ▸ refl ▸ refl ▸ refl ▸ refl ▸ refl ▸ refl ▸
     refl ▸ refl ▸ byte-whole _ (sum-small _) ▸
     omega arith ▸ omega arith ▸ refl ▸ refl ▸ byte-whole _ (ca-small (r .sound)) ▸ refl ▸
