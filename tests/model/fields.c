@@ -40,7 +40,10 @@ int model_allows(const struct field *row, int value) {
     return 0;
 }
 
+int model_asks_of_e(const struct fields *f) { return f->quantisation != 0 || f->content != 0; }
+
 void model_answer(struct fields *f, const uint8_t *image) {
     for (const struct field *row = model_fields; row < model_fields + FIELDS; row++)
         if (row->shown(image) == NO_REGISTER) *model_field(f, row) = 0;
+    if (!model_asks_of_e(f)) f->edition = 0;
 }

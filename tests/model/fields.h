@@ -13,6 +13,10 @@
     FIELD(OF_VIDEO, 4, 0, 8, range, BELOW(2), range_of_q(image[0x55] >> 5 & 3, image[0x57] >> 2 & 3)) \
     FIELD(OF_VIDEO, 5, 0, 4, depth, BELOW(3), depth_of_code(image[0x4C] & 15)) \
     FIELD(OF_VIDEO, 5, 4, 4, repetition, BELOW(3), image[0x3B] >> 3 & 3) \
+    FIELD(OF_VIDEO, 6, 0, 2, edition, BELOW(2), image[0x59] >> 4 != 0) \
+    FIELD(OF_VIDEO, 6, 2, 2, quantisation, BELOW(2), image[0x59] >> 6) \
+    FIELD(OF_VIDEO, 6, 4, 2, content, BELOW(4), image[0x59] >> 4 & 3) \
+    FIELD(OF_VIDEO, 6, 6, 2, bits_7_6, BELOW(1), NO_REGISTER) \
     FIELD(OF_SOUND, 0, 0, 8, rate, BELOW(RATES), rate_of_code(image[0x15] >> 4)) \
     FIELD(OF_SOUND, 1, 0, 8, channels, ONE_OF(two_or_eight), (image[0x73] & 7) + 1) \
     FIELD(OF_SOUND, 2, 0, 8, coherent, BELOW(2), image[0x0A] >> 7) \

@@ -1,4 +1,5 @@
-/* InfoFrames, CEA-861-D layouts, as they stand in the registers: version, length, checksum, data bytes. */
+/* InfoFrames, CEA-861-D layouts, as they stand in the registers: version, length, checksum, data bytes. In data byte 5 of the AVI InfoFrame
+ * also what CEA-861-E has in bits that are reserved in 861-D: document 02, request 11. */
 #include "model.h"
 
 /* Makes the sum of all bytes zero modulo 256, the packet type included. */
@@ -33,7 +34,7 @@ void model_avi(const struct fields *f, uint8_t *registers) {
     registers[4] = (uint8_t)(c * 64 + m * 16 + r);
     registers[5] = (uint8_t)(q * 4);
     registers[6] = (uint8_t)f->vic;
-    registers[7] = (uint8_t)repeats[f->repetition];
+    registers[7] = (uint8_t)(f->quantisation * 64 + f->content * 16 + repeats[f->repetition]);
     checksum(0x82, registers, AVI_BYTES);
 }
 

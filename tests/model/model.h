@@ -35,7 +35,9 @@ extern const struct field model_fields[FIELDS];
 int *model_field(struct fields *f, const struct field *row);
 int  model_has(const struct fields *f, enum part s);     /* is this section there? The video section always is. */
 int  model_allows(const struct field *row, int value);
-void model_answer(struct fields *f, const uint8_t *image);  /* as decoding answers: a field that no register names is 0 */
+int  model_asks_of_e(const struct fields *f);            /* for bits of data byte 5 that are reserved in 861-D? */
+/* As decoding answers: what no register names is 0, and an E that asks for nothing is D. */
+void model_answer(struct fields *f, const uint8_t *image);
 
 /* request.c: refusals 1 to 6 and 17, 0 for none; and the bytes of a request. The counts of the sections, each byte counted at the row of
  * its lowest bit, and with these counts the longest request. */

@@ -43,6 +43,7 @@ uint32_t model_read(const uint8_t *request, size_t length, struct fields *f) {
     if (f->link == 0 && (f->sound || f->encoding != 0)) return 6;
     if (f->encoding != 0 && f->range != 0) return 6;
     if (f->depth != 0 && (f->encoding == 1 || f->link == 0)) return 6;
+    if (f->edition == 0 && model_asks_of_e(f)) return 6;
 
     if (model_above_limit(model_clock(f->vic, f->family, f->depth, f->repetition))) return 17;      /* after 6, before 7 */
     return 0;
@@ -58,8 +59,10 @@ size_t model_bytes(const struct fields *f, uint8_t *request) {
         body[s] = request + n;
         for (int i = 0; i < count; i++) request[n++] = 0;
     }
-    for (const struct field *row = model_fields; row < model_fields + FIELDS; row++)
-        if (model_has(f, row->section)) body[row->section][row->byte] |= (uint8_t)(*model_field(&g, row) << row->low);
+    for (const struct field *row = model_fields; row < model_fields + FIELDS; row++) {
+        int value = *model_field(&g, row) & ((1 << row->bits) - 1);
+        if (model_has(f, row->section)) body[row->section][row->byte] |= (uint8_t)(value << row->low);
+    }
     for (int i = 0; f->matrix && i < 12; i++) {
         unsigned two = (unsigned)f->coefficient[i];
         body[OF_MATRIX][MODE_BYTES + 2 * i] = (uint8_t)(two >> 8);
