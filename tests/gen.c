@@ -47,9 +47,9 @@ static int permitted(const struct fields *f) {
     return model_read(bytes, model_bytes(f, bytes), &again) == 0;
 }
 
-/* By chance as 861-D has it, for most values of the edition byte's fields are refused beside D. */
-static void often_d(struct fields *f) {
-    if (any(2)) f->edition = f->quantisation = f->content = 0;
+/* What E alone may ask for is drawn for E alone: so half of all are D, and a few are E that asks for nothing. */
+static void none_of_e_under_d(struct fields *f) {
+    if (f->edition == 0) f->quantisation = f->content = 0;
 }
 
 /* Half of them without depth and repetition, so that 4:2:2 and DVI stay frequent. */
@@ -60,7 +60,7 @@ void any_fields(struct fields *f) {
         for (const struct field *row = model_fields; row < model_fields + FIELDS; row++)
             if (model_has(f, row->section)) any_value(f, row);
         if (any(2)) f->depth = f->repetition = 0;
-        often_d(f);
+        none_of_e_under_d(f);
     } while (!permitted(f));
 }
 
@@ -261,6 +261,6 @@ int kind_of_request(uint32_t kind, struct fields *f) {
         if (model_has(f, row->section)) *model_field(f, row) = row->values[v];
         else if (v && !by_chance) return 0;             /* a field that is not there has one value */
     }
-    if (by_chance) often_d(f);
+    if (by_chance) none_of_e_under_d(f);
     return permitted(f);
 }
