@@ -458,7 +458,6 @@ static void any_vendors_list(const struct chip *c, struct pairs *l) {
 static void vendors_link(struct chain *c, struct link *k) {
     struct chip end = c->now;
     struct fields f;
-    uint8_t back[LONGEST], asked[LONGEST];
     any_vendors_list(&c->now, &k->l);
     struct station_verdict v = vetted(c, k);
     for (size_t w = 0; w < count_of(&k->l); w++) model_run(&end, k->l.bytes[2 * w], k->l.bytes[2 * w + 1]);
@@ -477,9 +476,7 @@ static void vendors_link(struct chain *c, struct link *k) {
     meets(VENDORS_CUT, writes > 0 && writes < k->count);
     walked(c, k, writes, UINT32_MAX);
     link_ends(c, k);
-    if (writes < k->count) return;
-    struct station_count d = run.f->decode(c->now.image, 256, back, sizeof back);
-    if (d.refusal || d.count != model_bytes(&f, asked) || memcmp(asked, back, d.count))
+    if (writes == k->count && !reads_back(c->now.image, &f))
         differs("link %d: a vendor's list that was run through decodes otherwise", c->links);
 }
 

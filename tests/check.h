@@ -44,6 +44,9 @@ void check_write(const struct slices *s, uint8_t address, uint8_t value);
 void check_vsync(const struct slices *s);
 void check_matrix(const struct slices *s, const uint8_t *matrix, size_t length);
 int left_in(uint8_t address, const uint8_t *image, const uint8_t *writes, struct station_count c);  /* the byte that a list leaves there */
+/* Demand 2: the request that an image must read back as which this one has finished; and whether it does. */
+struct fields read_back(const struct fields *f);
+int           reads_back(const uint8_t *image, const struct fields *f);
 
 /* depth.c: sections. --------------------------------------------------------------------------------------------------------------- */
 

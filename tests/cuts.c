@@ -61,8 +61,8 @@ int sent_whole(struct chip *c, const uint8_t *list, uint32_t count) {
 
 void finished(const uint8_t *bytes, size_t length, const struct fields *f, const struct chip *start, const struct chip *end,
               const struct groups *new) {
-    uint8_t wanted[256], done[256], avi[AVI_BYTES], audio[AUDIO_BYTES], matrix[24], back[LONGEST], asked[LONGEST];
-    struct fields answer = *f;
+    uint8_t wanted[256], done[256], avi[AVI_BYTES], audio[AUDIO_BYTES], matrix[24];
+    struct fields answer = read_back(f);
     model_wanted(f, model_pair(f), wanted);
     model_finished(wanted, start->image, done);
     model_avi(f, avi);
@@ -75,15 +75,12 @@ void finished(const uint8_t *bytes, size_t length, const struct fields *f, const
     if (memcmp(audio + 2, new->audio + 2, AUDIO_BYTES - 2) || (new->audio[0] & 7) != 1 || (new->audio[1] & 31) != 10)
         differs("the audio group at the end");
     if (memcmp(new->matrix, f->matrix ? bytes + length - 24 : matrix, 24)) differs("the matrix group at the end");
-    model_answer(&answer, end->image);
     for (const struct field *row = model_fields; row < model_fields + FIELDS; row++) {
         int shown = row->shown(end->image);
         if (shown != NO_REGISTER && model_has(f, row->section) && shown != *model_field(&answer, row))
             differs("VIC %d: field %d is shown otherwise", f->vic, (int)(row - model_fields));
     }
-    model_bytes(&answer, asked);
-    struct station_count d = run.f->decode(end->image, 256, back, sizeof back);
-    if (d.refusal || d.count != length || memcmp(asked, back, length)) differs("VIC %d: the finished image decodes otherwise", f->vic);
+    if (!reads_back(end->image, f)) differs("VIC %d: the finished image decodes otherwise", f->vic);
 }
 
 /* What is left out. ----------------------------------------------------------------------------------------------------------------- */

@@ -104,19 +104,16 @@ static void in_the_list(const struct fields *f) {
 /* The image that a request would end in, whether it is accepted or not, is decoded as this request and as nothing else; or, where its own
  * rules refuse it in each family, as none. */
 static void decoded_as(const struct fields *f, int accepted) {
-    uint8_t image[256], back[LONGEST] = { 0 }, asked[LONGEST];
-    struct fields answer = *f;
+    uint8_t image[256], back[LONGEST] = { 0 };
     any_bytes(image, 256);
     finish(image, f);
     image[0x4A] &= 0x8F;
     check_decode(image, 256, back, sizeof back);
-    struct station_count d = run.f->decode(image, 256, back, sizeof back);
-    model_answer(&answer, image);
-    size_t length = model_bytes(&answer, asked);
-    if (accepted && (d.refusal || d.count != length || memcmp(back, asked, length)))
-        differs("VIC %d, family %d, depth %d, repetition %d is decoded as %u", f->vic, f->family, f->depth, f->repetition, d.refusal);
-    if (!accepted && d.refusal != 11)
-        differs("VIC %d, depth %d, repetition %d, refused, is decoded as %u", f->vic, f->depth, f->repetition, d.refusal);
+    uint32_t refusal = run.f->decode(image, 256, back, sizeof back).refusal;
+    if (accepted && !reads_back(image, f))
+        differs("VIC %d, family %d, depth %d, repetition %d is decoded as %u", f->vic, f->family, f->depth, f->repetition, refusal);
+    if (!accepted && refusal != 11)
+        differs("VIC %d, depth %d, repetition %d, refused, is decoded as %u", f->vic, f->depth, f->repetition, refusal);
 }
 
 /* Every mode, family, depth, repetition and rate, coherent or not. */
@@ -204,7 +201,7 @@ static void every_place(const struct fields *f, const uint8_t *finished) {
             check_decode(image, 256, buffer, sizeof buffer);
             struct station_count d = run.f->decode(image, 256, buffer, sizeof buffer);
             if (d.refusal != (taken ? 0u : 11u)) differs("code %x, 0x3B[4:1] %d and %d, PR %d: %u", code, clock, told, pr, d.refusal);
-            else if (taken && buffer[VIDEO_BYTES] != (repetition << 4 | depth)) differs("code %x, PR %d: another byte", code, pr);
+            else if (taken && !reads_back(image, &back)) differs("code %x, PR %d: another request", code, pr);
         }
     }
 }

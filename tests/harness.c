@@ -244,6 +244,23 @@ int left_in(uint8_t address, const uint8_t *image, const uint8_t *writes, struct
     return byte;
 }
 
+/* "The same request, but for the frame-rate family, which no register names", and, by document 02, request 11, but for an E that asks for
+ * nothing, which is D. */
+struct fields read_back(const struct fields *f) {
+    struct fields back = *f;
+    back.family = 0;
+    if (f->edition == 1 && f->quantisation == 0 && f->content == 0) back.edition = 0;
+    return back;
+}
+
+int reads_back(const uint8_t *image, const struct fields *f) {
+    const struct fields back = read_back(f);
+    uint8_t asked[LONGEST], answered[LONGEST];
+    size_t length = model_bytes(&back, asked);
+    struct station_count d = run.f->decode(image, 256, answered, sizeof answered);
+    return d.refusal == 0 && d.count == length && !memcmp(asked, answered, length);
+}
+
 /* Document 01's marked cases, as document 02 changes them: their own numbers, not the model's. */
 static void marked_case(size_t number, const uint8_t *bytes, size_t length, uint32_t refusal, uint32_t n, uint32_t cts) {
     uint8_t image[256] = { 0 }, writes[256];
