@@ -138,17 +138,6 @@ static void every_clock(void) {
                         }
 }
 
-/* A request as it was before the video section had its last byte: that byte is gone, and the count is one less. */
-static void older_request(const struct fields *f) {
-    uint8_t bytes[LONGEST], image[256] = { 0 }, writes[256] = { 0 };
-    size_t length = model_bytes(f, bytes) - 1;
-    bytes[0]--;
-    memmove(bytes + VIDEO_BYTES, bytes + VIDEO_BYTES + 1, length - VIDEO_BYTES);
-    check_ncts(bytes, length);
-    check_plan(bytes, length, image, 256, writes, 256);
-    if (run.f->ncts(bytes, length).refusal != 2) differs("a count of %d is not refused 2", VIDEO_BYTES - 1);
-}
-
 static const struct { int encoding, link; } kinds_of_picture[] = { { 0, 0 }, { 0, 1 }, { 1, 1 }, { 2, 1 } };
 enum { KINDS_OF_PICTURE = sizeof kinds_of_picture / sizeof kinds_of_picture[0] };
 
@@ -165,7 +154,6 @@ static void every_byte(void) {
                 struct fields f = { .vic = vics[v], .encoding = kinds_of_picture[k / 4].encoding, .link = kinds_of_picture[k / 4].link,
                                     .depth = low, .repetition = high, .sound = k & 1, .channels = 2, .matrix = k >> 1 & 1 };
                 size_t length = model_bytes(&f, bytes);
-                if (value == 0) older_request(&f);
                 check_ncts(bytes, length);
                 check_plan(bytes, length, image, 256, writes, 256);
                 uint32_t refusal = run.f->ncts(bytes, length).refusal;

@@ -313,9 +313,11 @@ static void marked(void) {
 }
 
 /* Whether a kind of request is tried: all of them where there are few, and else about so many of them, by chance. Every value of every
- * field comes among them; `met` counts. */
+ * field comes among them, and both editions with all that they may ask for; `met` and `met_editions` count. */
 enum { FREE_COMBINATIONS = 40000 };
-static uint32_t met[FIELDS][VALUES];
+static const char *const editions_asked[] = { "D", "E that asks for nothing", "E with quantisation", "E with a type", "E with both" };
+enum { EDITIONS_ASKED = sizeof editions_asked / sizeof editions_asked[0] };
+static uint32_t met[FIELDS][VALUES], met_editions[EDITIONS_ASKED];
 
 static int is_kind(uint32_t number, struct fields *f) {
     seed(0x100000u + number);
@@ -330,6 +332,7 @@ int tries_kind(uint32_t number, uint32_t tried, struct fields *f) {
     for (int i = 0; i < FIELDS; i++)
         for (int v = 0; v < model_fields[i].count; v++)
             met[i][v] += model_has(f, model_fields[i].section) && *model_field(f, &model_fields[i]) == model_fields[i].values[v];
+    met_editions[f->edition ? 1 + (f->quantisation != 0) + 2 * (f->content != 0) : 0]++;
     return 1;
 }
 
@@ -342,7 +345,10 @@ void every_value_met(void) {
     for (int i = 0; i < FIELDS; i++)
         for (int v = 0; v < model_fields[i].count; v++)
             if (!met[i][v]) differs("value %d of field %d was never tried", model_fields[i].values[v], i);
+    for (int e = 0; e < EDITIONS_ASKED; e++)
+        if (!met_editions[e]) differs("%s was never tried", editions_asked[e]);
     memset(met, 0, sizeof met);
+    memset(met_editions, 0, sizeof met_editions);
 }
 
 /* Every value of every byte, one at a time, in many kinds of request; every cut of each, and one byte more. */
@@ -743,6 +749,8 @@ static void marked_few(void) {
         { 0x52, 0xF8, NO_MORE, { 0 }, "free bits beside the AVI version" },
         { 0x54, 0x01, 5, { 0x54, 0x23 }, "the AVI checksum" },
         { 0x59, 0x03, 5, { 0x59, 0x00 }, "PR" },
+        { 0x59, 0x30, 5, { 0x59, 0x00 }, "the content type" },
+        { 0x59, 0x80, 5, { 0x59, 0x00 }, "the YCC quantisation" },
         { 0x61, 0x01, 5, { 0x61, 0x00 }, "the last AVI register" },
         { 0x62, 0xFF, NO_MORE, { 0 }, "a register after the AVI packet" },
         { 0x72, 0x10, 7, { 0x72, 0x70 }, "the audio checksum" },
@@ -1157,6 +1165,7 @@ static const struct { const char *name; void (*run)(void); } sections[SECTIONS] 
     { "every bit of finished images", flips },
     { "range and Q", ranges },
     { "depth and repetition", depths },
+    { "editions of the InfoFrame", editions },
     { "the model's search", search },
     { "machine writes", writes },
     { "Vsync and the mark", turns },
