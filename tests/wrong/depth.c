@@ -6,7 +6,7 @@
 
 /* FAULT(name, must demand 3 catch it by itself?, in words) */
 #define FAULTS(FAULT) \
-    FAULT(older_count, 0, "a request without its depth byte taken") \
+    FAULT(older_count, 0, "a request of before its depth byte taken") \
     FAULT(depth_in_two_bits, 0, "the depth taken from two bits of its half") \
     FAULT(repetition_in_two_bits, 0, "the repetition taken from two bits of its half") \
     FAULT(upper_half_ignored, 1, "the upper half of the depth byte ignored") \
@@ -169,12 +169,15 @@ static uint32_t ordered(enum fault fault, const struct fields *f, uint32_t refus
     }
 }
 
+/* The depth byte is the last but one. */
+enum { SINCE = 2, OLDER = VIDEO_BYTES - SINCE };
+
 static uint32_t reads(enum fault fault, const uint8_t *r, size_t rl, struct fields *f) {
     uint8_t whole[LONGEST] = { VIDEO_BYTES };
-    if (fault == older_count_fault && rl >= VIDEO_BYTES && rl < LONGEST && r[0] == VIDEO_BYTES - 1) {
-        memcpy(whole + 1, r + 1, VIDEO_BYTES - 1);
-        memcpy(whole + 1 + VIDEO_BYTES, r + VIDEO_BYTES, rl - VIDEO_BYTES);
-        r = whole, rl++;
+    if (fault == older_count_fault && rl > OLDER && rl + SINCE <= LONGEST && r[0] == OLDER) {
+        memcpy(whole + 1, r + 1, OLDER);
+        memcpy(whole + 1 + VIDEO_BYTES, r + 1 + OLDER, rl - 1 - OLDER);
+        r = whole, rl += SINCE;
     }
     uint32_t refusal = model_read(r, rl, f);
     if (refusal > 0 && refusal < 4) return refusal;
@@ -247,15 +250,16 @@ static struct station_pair numbers(enum fault fault, const uint8_t *r, size_t rl
 
 /* Planning. ------------------------------------------------------------------------------------------------------------------------- */
 
-/* PR in the wanted bytes; the checksum with it. */
-static void set_pr(uint8_t *wanted, int byte) {
+/* Data byte 5, and PR in it; the checksum with it. */
+static void set_byte_5(uint8_t *wanted, int byte) {
     wanted[0x54] = (uint8_t)(wanted[0x54] + wanted[0x59] - byte);
     wanted[0x59] = (uint8_t)byte;
 }
+static void set_pr(uint8_t *wanted, int pr) { set_byte_5(wanted, (wanted[0x59] & 0xF0) | pr); }
 
 static void spoil_wanted(enum fault fault, const struct fields *f, uint8_t *wanted) {
     static const uint8_t exchanged[DEPTHS] = { 0x0, 0x6, 0x5 };
-    int pr = wanted[0x59];
+    int pr = wanted[0x59] & 15;
     switch (fault) {
     case code_of_24_bits_fault: if (f->depth == 0) wanted[0x4C] = 4; break;
     case codes_exchanged_fault: wanted[0x4C] = exchanged[f->depth]; break;
@@ -267,7 +271,7 @@ static void spoil_wanted(enum fault fault, const struct fields *f, uint8_t *want
     case pr_2_for_four_fault: set_pr(wanted, f->repetition); break;
     case pr_counts_pixels_fault: set_pr(wanted, pr ? pr + 1 : 0); break;
     case pr_not_set_fault: set_pr(wanted, 0); break;
-    case pr_in_upper_half_fault: set_pr(wanted, pr << 4); break;
+    case pr_in_upper_half_fault: set_byte_5(wanted, (wanted[0x59] & 0xF0) | pr << 4); break;
     case pr_not_summed_fault: wanted[0x54] = (uint8_t)(wanted[0x54] + pr); break;
     case no_pr_with_dvi_fault: if (f->link == 0) set_pr(wanted, 0); break;
     default: break;
