@@ -682,7 +682,7 @@ static void preview(void) {
         do any_fields(&f); while (!f.matrix);
         memcpy(matrix, request + model_bytes(&f, request) - MATRIX_BYTES, MATRIX_BYTES);
         if (any(8) == 0) matrix[any(MATRIX_BYTES)] ^= (uint8_t)(1u << any(8));
-        if (any(16) == 0) matrix[0] = (uint8_t)any(256);
+        if (any(16) == 0) matrix[0] = (uint8_t)(any(2) ? any(5) : any(256));    /* often one above the last mode */
         for (int c = 0; c < 3; c++) in[c] = any(8) ? any(4096) : any(2) ? 4095 + any(2) : any(4) * 0x55555555u + any(3);
         check_preview(matrix, any_length(MATRIX_BYTES, sizeof matrix), in[0], in[1], in[2]);
     }
