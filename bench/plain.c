@@ -6,7 +6,7 @@
 
 /* The places of the video section's fields in a request, behind its count, and that of the next count. The bytes of each section and of
  * the longest request, with its three counts; the VICs have six bits. */
-enum { VIC = 1, FAMILY, ENCODING, LINK, RANGE, DEPTH, NEXT };
+enum { VIC = 1, FAMILY, ENCODING, LINK, RANGE, DEPTH, EDITION, NEXT };
 enum { VIDEO = NEXT - 1, SOUND = 3, MATRIX = STATION_MATRIX, LONGEST = 3 + VIDEO + SOUND + MATRIX, VICS = 64, RATES = 7, DEPTHS = 3 };
 
 /* For each VIC: its pixel clock, a row of `rows`, at family 0 and 1 (0 where it is not offered), 4:3, ITU-R 601, the clock at family 0 in
@@ -147,8 +147,11 @@ static const uint8_t always[256] = {
     [0x9A] = 0xE0, [0x9C] = 0x30, [0x9D] = 0x61, [0xA2] = 0xA4, [0xA3] = 0xA4, [0xE0] = 0xD0, [0xAF] = 0x04,
 };
 
-/* `row` is that of `pairs`. */
-struct asked { uint8_t vic, family, encoding, link, range, depth, repetition, row; const uint8_t *sound, *matrix; };
+/* The edition byte: E alone may ask for the YCC quantisation, 0 or 1, and the content type; the rest of it is 0. */
+enum { IS_E = 0x01, QUANTISATION = 0x04, TYPE = 0x30, ALL_OF_E = IS_E | QUANTISATION | TYPE };
+
+/* `row` is that of `pairs`, `of_e` the upper half of AVI data byte 5, in its place. */
+struct asked { uint8_t vic, family, encoding, link, range, depth, repetition, of_e, row; const uint8_t *sound, *matrix; };
 
 static inline uint8_t row_of(const struct asked *q) { return rows[modes[q->vic].clock[q->family]][q->depth][q->repetition]; }
 
@@ -174,8 +177,9 @@ static uint32_t read(const uint8_t *r, size_t length, struct asked *q) {
     if (length != at) return 3;
     q->vic = r[VIC], q->family = r[FAMILY], q->encoding = r[ENCODING], q->link = r[LINK], q->range = r[RANGE];
     q->depth = r[DEPTH] & 15, q->repetition = r[DEPTH] >> 4;
+    q->of_e = (uint8_t)((r[EDITION] & QUANTISATION) << 4 | (r[EDITION] & TYPE));
     if (q->vic >= VICS || q->family > 1 || !modes[q->vic].clock[q->family]) return 4;
-    if (q->encoding > 2 || q->link > 1 || q->range > 1 || q->depth > 2 || q->repetition > 2) return 5;
+    if (q->encoding > 2 || q->link > 1 || q->range > 1 || q->depth > 2 || q->repetition > 2 || (r[EDITION] & ~ALL_OF_E)) return 5;
     if (q->sound && (q->sound[0] > 6 || (q->sound[1] != 2 && q->sound[1] != 8) || q->sound[2] > 1)) return 5;
     if (q->matrix) {
         if (q->matrix[0] > 2) return 5;
@@ -183,7 +187,7 @@ static uint32_t read(const uint8_t *r, size_t length, struct asked *q) {
             if (q->matrix[k] > 0x0F && q->matrix[k] < 0xF0) return 5;
     }
     if ((q->encoding && (!q->matrix || q->range)) || (!q->link && (q->sound || q->encoding))) return 6;
-    if (q->depth && (q->encoding == 1 || !q->link)) return 6;
+    if ((q->depth && (q->encoding == 1 || !q->link)) || (q->of_e && !(r[EDITION] & IS_E))) return 6;
     q->row = row_of(q);
     return q->row ? 0 : 17;
 }
@@ -262,7 +266,7 @@ static inline int want(const struct asked *q, find_pair *find, uint8_t *b) {
     b[0x56] = (uint8_t)((q->encoding ? modes[q->vic].itu601 ? 0x40 : 0x80 : 0) | (modes[q->vic].narrow ? 0x18 : 0x28));
     b[0x57] = q->encoding ? 0x00 : q->range ? 0x08 : 0x04;
     b[0x58] = q->vic;
-    b[0x59] = repeats[q->repetition];
+    b[0x59] = q->of_e | repeats[q->repetition];
     sum = 0x82 + 0x02 + 0x0D + b[0x55] + b[0x56] + b[0x57] + b[0x58] + b[0x59];
     b[0x54] = (uint8_t)-sum;
     sum = 0x84 + 0x01 + 0x0A + b[0x73] + b[0x76];
@@ -344,6 +348,7 @@ static inline struct station_count decode(const uint8_t *image, size_t image_len
     r[LINK] = image[0xAF] >> 1 & 1;
     r[RANGE] = image[0x57] >> 3 & 1;
     r[DEPTH] = (uint8_t)(depths[image[0x4C] & 15] | (image[0x3B] >> 3 & 3) << 4);
+    r[EDITION] = image[0x59] >> 4 ? (uint8_t)(IS_E | (image[0x59] >> 4 & 0x0C) | (image[0x59] & TYPE)) : 0;
     if (image[0x44] & 0x20) {
         r[at++] = SOUND;
         r[at++] = rates[image[0x15] >> 4];
