@@ -21,8 +21,8 @@ enum { INPUTS = 64, ROUNDS = 400, CHANGES = 200 };
 /* A list of pairs, its length in bytes. */
 struct pairs { uint8_t bytes[STATION_LIST + 2]; size_t length; };
 
-/* A request in words, part by part, but for the byte of depth and repetition. */
-struct parts { unsigned vic, family, encoding, range, depth; char sound[64], matrix[TEXT_OF_A_REQUEST / 2]; };
+/* A request in words, part by part, but for the last two bytes of the video section, the depth byte and the edition byte. */
+struct parts { unsigned vic, family, encoding, range, depth, edition; char sound[64], matrix[TEXT_OF_A_REQUEST / 2]; };
 
 static struct {
     struct parts parts;
@@ -80,11 +80,11 @@ static void draw_matrix(struct parts *p) {
 
 static unsigned draw_vic(void) { return modes[noise() % number_of_modes].vic; }
 
-/* The depth byte is the last one of the video section. */
 static struct request request_of(const struct parts *p) {
     struct request r = request_of_text("vic %u family=%u encoding=%u hdmi range=%u %s %s", p->vic, p->family, p->encoding, p->range,
                                        p->sound, p->matrix);
-    r.bytes[r.bytes[0]] = (uint8_t)p->depth;
+    r.bytes[r.bytes[0] - 1] = (uint8_t)p->depth;
+    r.bytes[r.bytes[0]] = (uint8_t)p->edition;
     return r;
 }
 
@@ -97,8 +97,15 @@ static int finish(const struct request *r, const uint8_t *from, uint8_t *to) {
     return c.refusal == 0;
 }
 
+/* An edition byte of CEA-861-E with a quantisation, a content type or both. */
+static unsigned draw_edition(void) {
+    unsigned bits = 1 + noise() % 7, quantisation = bits & 1, type = bits >> 1;
+    return 1 | quantisation << 2 | type << 4;
+}
+
 /* Requests over HDMI that are accepted, half of them with a matrix, half of those with RGB in full range, one of eight with depth or
- * repetition; an image of noise; the image that each ends in; and that image with one mandated bit turned over. */
+ * repetition, one of eight with what 861-E has; an image of noise; the image that each ends in; and that image with one mandated bit turned
+ * over. */
 static void make_inputs(void) {
     for (int i = 0; i < INPUTS; ) {
         struct parts *p = &in[i].parts;
@@ -108,6 +115,7 @@ static void make_inputs(void) {
         p->encoding = with_matrix ? noise() % 3 : 0;
         p->range = p->encoding ? 0 : noise() % 2;
         p->depth = i % 8 == 7 ? 1 + noise() % 0x22 : 0;
+        p->edition = i % 8 == 3 ? draw_edition() : 0;
         draw_sound(p);
         p->matrix[0] = 0;
         if (with_matrix) draw_matrix(p);
