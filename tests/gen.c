@@ -235,8 +235,7 @@ void near_image(uint8_t *image, const struct fields *f) {
     image[0x4A] &= 0xEF;
 }
 
-/* A kind for each combination of values, or for so many of them by chance where there are more than so many. */
-enum { COMBINATIONS = 40000 };
+/* A kind for each combination of values, or for MOST_KINDS of them by chance where there are more. */
 static uint64_t combinations(void) {
     uint64_t all = 2 * 2;
     for (int i = 0; i < FIELDS; i++)
@@ -244,11 +243,11 @@ static uint64_t combinations(void) {
     return all;
 }
 
-uint32_t kinds(void) { return (uint32_t)(combinations() < COMBINATIONS ? combinations() : COMBINATIONS); }
+uint32_t kinds(void) { return (uint32_t)(combinations() < MOST_KINDS ? combinations() : MOST_KINDS); }
 
 int kind_of_request(uint32_t kind, struct fields *f) {
     uint64_t number = kind, all = combinations();
-    int by_chance = all > COMBINATIONS;
+    int by_chance = all > MOST_KINDS;
     if (by_chance) number = ((uint64_t)any(1u << 31) << 31 | any(1u << 31)) % all;
     *f = (struct fields){ .sound = by_chance ? any(4) != 0 : number % 2 };
     number /= 2;

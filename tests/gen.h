@@ -26,6 +26,7 @@ void     near_image(uint8_t *image, const struct fields *f);    /* one that plan
 /* Every kind of request: each value of each field of the video and the audio section, sound and matrix on or off; where these are too many,
  * a part of them by chance. A kind has a number below `kinds()`; many numbers are of requests that 1 to 6 or 17 refuse, and for these the
  * answer is 0. The matrix is any. */
+enum { MOST_KINDS = 40000 };
 uint32_t kinds(void);
 int      kind_of_request(uint32_t kind, struct fields *f);
 

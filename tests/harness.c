@@ -325,10 +325,13 @@ static int is_kind(uint32_t number, struct fields *f) {
 }
 
 int tries_kind(uint32_t number, uint32_t tried, struct fields *f) {
-    static uint32_t all;
-    if (!all)
+    static uint32_t all, chance[MOST_KINDS];                /* drawn once, for each run draws the same */
+    if (!all) {
         for (uint32_t n = 0; n < kinds(); n++) all += (uint32_t)is_kind(n, f);
-    if (!is_kind(number, f) || any(all) >= tried) return 0;
+        for (uint32_t n = 0; n < kinds(); n++) chance[n] = is_kind(n, f) ? any(all) : UINT32_MAX;
+    }
+    if (chance[number] >= tried) return 0;
+    is_kind(number, f), any(all);                           /* the draws after it are by its own seed */
     for (int i = 0; i < FIELDS; i++)
         for (int v = 0; v < model_fields[i].count; v++)
             met[i][v] += model_has(f, model_fields[i].section) && *model_field(f, &model_fields[i]) == model_fields[i].values[v];
