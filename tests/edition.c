@@ -350,6 +350,13 @@ static void finished_images(void) {
             }
 }
 
+/* All of data byte 5 is named: 0x59[7:4], which is reserved in 861-D, too. */
+static void class_of_byte_5(void) {
+    struct station_masks k = run.f->class_of(BYTE_5);
+    run.now->cases++;
+    if (k.named != 0xFF || k.read_only || k.mandated || k.free_bits || k.value) differs("the class of 0x59");
+}
+
 /* Cuts. ----------------------------------------------------------------------------------------------------------------------------- */
 
 /* From the finished image of one edition byte to that of another, cut after each write: the packet in use is all old or all new, and all
@@ -532,6 +539,7 @@ void editions(void) {
     older_requests();
     every_byte();
     before_7_to_10();
+    class_of_byte_5();
     vendors_bits();
     own_lists();
     packets();
