@@ -14,8 +14,8 @@ static uint32_t passed, failed;
 static void expect(int good, const struct fields *f, const char *what) {
     if (good) passed++;
     else if (failed++ < 10)
-        printf("  VIC %d, encoding %d, link %d, range %d, repetition %d, sound %d, channels %d: %s\n", f->vic, f->encoding, f->link,
-               f->range, f->repetition, f->sound, f->channels, what);
+        printf("  VIC %d, encoding %d, link %d, range %d, repetition %d, edition %d, quantisation %d, type %d, sound %d, channels %d: %s\n",
+               f->vic, f->encoding, f->link, f->range, f->repetition, f->edition, f->quantisation, f->content, f->sound, f->channels, what);
 }
 
 /* One of a short list of VICs, which ends with 0. */
@@ -29,6 +29,10 @@ static int avi_as_asked(const struct hdmi_avi_infoframe *a, const struct fields 
     static const enum hdmi_colorspace spaces[] = { HDMI_COLORSPACE_RGB, HDMI_COLORSPACE_YUV422, HDMI_COLORSPACE_YUV444 };
     static const int repeats[] = { 0, 1, 3 };
     static const enum hdmi_quantization_range ranges[] = { HDMI_QUANTIZATION_RANGE_LIMITED, HDMI_QUANTIZATION_RANGE_FULL };
+    static const enum hdmi_ycc_quantization_range ycc[] = { HDMI_YCC_QUANTIZATION_RANGE_LIMITED, HDMI_YCC_QUANTIZATION_RANGE_FULL };
+    static const enum hdmi_content_type types[] = {
+        HDMI_CONTENT_TYPE_GRAPHICS, HDMI_CONTENT_TYPE_PHOTO, HDMI_CONTENT_TYPE_CINEMA, HDMI_CONTENT_TYPE_GAME,
+    };
     enum hdmi_colorimetry c = among(f->vic, itu601) ? HDMI_COLORIMETRY_ITU_601 : HDMI_COLORIMETRY_ITU_709;
     return a->type == HDMI_INFOFRAME_TYPE_AVI && a->version == 2 && a->length == HDMI_AVI_INFOFRAME_SIZE &&
            a->colorspace == spaces[f->encoding] && a->scan_mode == HDMI_SCAN_MODE_NONE &&
@@ -36,9 +40,9 @@ static int avi_as_asked(const struct hdmi_avi_infoframe *a, const struct fields 
            a->picture_aspect == (among(f->vic, narrow) ? HDMI_PICTURE_ASPECT_4_3 : HDMI_PICTURE_ASPECT_16_9) &&
            a->active_aspect == HDMI_ACTIVE_ASPECT_PICTURE && !a->itc && a->extended_colorimetry == 0 &&
            a->quantization_range == (f->encoding ? HDMI_QUANTIZATION_RANGE_DEFAULT : ranges[f->range]) &&
-           a->nups == HDMI_NUPS_UNKNOWN && a->video_code == f->vic &&
-           a->ycc_quantization_range == 0 && a->content_type == 0 && a->pixel_repeat == repeats[f->repetition] && !a->top_bar &&
-           !a->bottom_bar && !a->left_bar && !a->right_bar;
+           a->nups == HDMI_NUPS_UNKNOWN && a->video_code == f->vic && a->ycc_quantization_range == ycc[f->quantisation] &&
+           a->content_type == types[f->content] && a->pixel_repeat == repeats[f->repetition] && !a->top_bar && !a->bottom_bar &&
+           !a->left_bar && !a->right_bar;
 }
 
 /* That reader leaves the channel count as it is coded, one less than the channels. */
