@@ -57,7 +57,8 @@ enum situation {
     WAITED_IN_USE, BEFORE_FIRST,
     LEFT_IN_MATRIX, LEFT_IN_AVI, LEFT_IN_AUDIO, LEFT_WAITING, LEFT_OPEN, WAITS_OVER_A_LINK, TAKEN_LATER, DROPPED_LATER,
     TWICE_IN_MATRIX, TWICE_IN_AVI, TWICE_IN_AUDIO, THREE_TIMES, RIGHT_IN_MATRIX, RIGHT_IN_AVI, RIGHT_IN_AUDIO, FIRST_AFTER_TWO, OF_EARLIER,
-    OF_THREE, AUDIO_BEFORE_AVI, THROUGH_DVI, AGAIN_AFTER_OTHER, VENDORS, VENDORS_CUT, TORN_WITHIN, TORN_AFTER, TORN_CARRIED, MENDED,
+    OF_THREE, AUDIO_BEFORE_AVI, THROUGH_DVI, FROM_D_TO_E, FROM_E_TO_D, AGAIN_AFTER_OTHER, VENDORS, VENDORS_CUT, TORN_WITHIN, TORN_AFTER,
+    TORN_CARRIED, MENDED,
     SITUATIONS
 };
 static const struct { const char *of, *what; } situations[SITUATIONS] = {
@@ -92,6 +93,8 @@ static const struct { const char *of, *what; } situations[SITUATIONS] = {
     [OF_THREE] = { "points", "the groups in use are of three requests" },
     [AUDIO_BEFORE_AVI] = { "links", "audio before AVI, for the hold that another request left" },
     [THROUGH_DVI] = { "chains", "from HDMI over DVI to HDMI" },
+    [FROM_D_TO_E] = { "links", "of what 861-E alone has, after writes of a request without" },
+    [FROM_E_TO_D] = { "links", "without it, after writes of a request with it" },
     [AGAIN_AFTER_OTHER] = { "links", "a request again, after another one" },
     [VENDORS] = { "links", "a vendor's list that passes" },
     [VENDORS_CUT] = { "links", "a vendor's list that passes, cut" },
@@ -307,6 +310,9 @@ static void link_begins(const struct chain *c) {
     meets(LEFT_OPEN, waits && c->mute == 2);
     meets(WAITS_OVER_A_LINK, waits && c->waits_of < before);
     meets(TORN_CARRIED, c->torn && row_of(c, IN_MATRIX, &g) < 0);
+    int had_e = before > 0 && model_asks_of_e(&c->by[before]), has_e = model_asks_of_e(&c->by[c->links]);
+    meets(FROM_D_TO_E, before > 0 && c->made[before] && !had_e && has_e);
+    meets(FROM_E_TO_D, before > 0 && c->made[before] && had_e && !has_e);
     for (int row = 1; row < before; row++)
         meets(AGAIN_AFTER_OTHER, c->made[row] && c->made[before] && same_request(c, row, c->links) && !same_request(c, before, c->links));
 }

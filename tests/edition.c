@@ -516,12 +516,14 @@ static void one_image(void) {
         for (int p = 0; p < PICTURES; p++) each_clock(with_picture(vics[v], p, 0), image);
     qsort(ended, count_ended, sizeof ended[0], by_image);
     for (size_t i = 0; i < count_ended; i++) {
-        const struct fields *f = &ended[i].f, back = read_back(f);
+        const struct fields *f = &ended[i].f;
+        const struct fields back = read_back(f);
         run.now->cases++;
         if (!reads_back(ended[i].image, f)) differs("VIC %d, edition byte of %d: reads back otherwise", f->vic, f->edition);
         if (i == 0 || by_image(&ended[i - 1], &ended[i])) images++;
         for (size_t k = i; k > 0 && !by_image(&ended[k - 1], &ended[i]); k--) {
-            const struct fields *g = &ended[k - 1].f, other = read_back(g);
+            const struct fields *g = &ended[k - 1].f;
+            const struct fields other = read_back(g);
             if (memcmp(&back, &other, sizeof back)) differs("VIC %d and VIC %d: two requests that end in one image", f->vic, g->vic);
             in_family += f->family != g->family;
             in_edition += f->edition != g->edition;

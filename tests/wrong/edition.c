@@ -288,20 +288,19 @@ static void put_in(struct list *l, uint32_t at, uint8_t address, uint8_t value) 
     l->count++;
 }
 
+static void take_out(struct list *l, uint32_t at) {
+    memmove(l->pairs + 2 * at, l->pairs + 2 * at + 2, 2 * (l->count - at - 1));
+    l->count--;
+}
+
 /* The write to 0x59 elsewhere in the full list, or made twice. The AVI hold's two writes are those around the packet. */
 static void spoil_list(enum fault fault, const struct fields *f, struct list *l) {
     uint32_t at = place(l, 0x59, 0), first = place(l, 0x52, 0), last = place(l, 0x61, 0);
     uint8_t value = l->pairs[2 * at + 1], sum = l->pairs[2 * place(l, 0x54, 0) + 1], down = l->pairs[2 * last + 3];
     uint8_t upper = (uint8_t)(f->quantisation << 6 | f->content << 4);
     switch (fault) {
-    case byte_5_after_hold_fault:
-        put_in(l, last + 2, 0x59, value);
-        memmove(l->pairs + 2 * at, l->pairs + 2 * at + 2, 2 * (l->count - at - 1)), l->count--;
-        break;
-    case byte_5_before_hold_fault:
-        memmove(l->pairs + 2 * at, l->pairs + 2 * at + 2, 2 * (l->count - at - 1)), l->count--;
-        put_in(l, first - 1, 0x59, value);
-        break;
+    case byte_5_after_hold_fault: put_in(l, last + 2, 0x59, value), take_out(l, at); break;
+    case byte_5_before_hold_fault: take_out(l, at), put_in(l, first - 1, 0x59, value); break;
     case two_packets_fault:
         if (!upper) break;
         l->pairs[2 * at + 1] = value & 15;
