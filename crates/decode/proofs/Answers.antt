@@ -38,7 +38,7 @@ use Rattle.decode.specs.Decode.{endsIn, someEnds, decodeTests, decodeRef
 use Rattle.decode.specs.Theorems.{Answered, ExactlyWhen, AtMostOne, decodeRules, Refusals, Ran, ReadBack}
 use Rattle.request.proofs.Fits.{fits}
 use Rattle.request.proofs.Said.{said}
-use Rattle.request.proofs.Back.{back}
+use Rattle.request.proofs.Back.{back, there-and-back}
 use Rattle.decode.proofs.Extracted.{extracted}
 use Rattle.decode.proofs.Unasked.{unasked}
 
@@ -154,7 +154,7 @@ module _ (image : List ℕ) (long : length image ≡ 256) where
   -- any request that is accepted and stands there ends there, as it is answered
   pub standing-ends : (r : Request) → Acceptable r → Stands r image → Ends (answeredAs r) image
   standing-ends r t st =
-      let u = unasked r (acceptable-fits r t .matrix) t in
+      let u = unasked r (acceptable-fits r t) t in
       record {
         family = r .video .family;
         answered = twice r;
@@ -265,5 +265,7 @@ module _ (input before image : List ℕ) where
   pub read-back : ReadBack input before image
   read-back = record {
     ends = ends;
-    answered = λ ran buffer h. exactly image buffer .each (ran .sized) h (answeredAs r) (ends ran);
+    answered = λ ran buffer h.
+        subst (λ (bytes : List ℕ). Answered bytes image buffer) (there-and-back .answered input (ran .bytes) (ran .read))
+        (exactly image buffer .each (ran .sized) h (answeredAs r) (ends ran));
   }

@@ -12,7 +12,7 @@ use Rattle.matrix.specs.Matrix.{Bytes}
 use Rattle.request.specs.declared.Request.{Request}
 use Rattle.request.specs.Sections.{longest}
 use Rattle.request.specs.Read.{readOf, pairFor}
-use Rattle.request.specs.Bytes.{asBytes, answeredAs, answeredBytes}
+use Rattle.request.specs.Bytes.{asBytes, answeredAs, asReadBack}
 use Rattle.plan.specs.Wanted.{wanted}
 use Rattle.lists.specs.Among.{among}
 use Rattle.writes.specs.List.{fullList, finished}
@@ -59,7 +59,8 @@ BitByBit r before image = Bytes image → Stands r image ↔ AsLeft r before ima
 -- and for an E that asks for nothing (`Exception`, video)
 pub record AtMostOne (image : List ℕ) : Type 0 where
   pub ends : length image ≡ 256 → (r q : Request) → Ends r image → Ends q image → r ≡ q
-  pub stands : length image ≡ 256 → (r q : Request) → Acceptable r → Stands r image → Acceptable q → Stands q image → answeredAs r ≡ answeredAs q
+  pub stands : length image ≡ 256 → (r q : Request) → Acceptable r → Stands r image → Acceptable q → Stands q image
+      → answeredAs r ≡ answeredAs q
 
 -- "decoding 7, 10 and 11": when each applies
 abbrev pub decodeRules : List ℕ → List ℕ → List Condition
@@ -85,4 +86,4 @@ pub record Ran (input before image : List ℕ) : Type 0 where
 -- nothing
 pub record ReadBack (input before image : List ℕ) : Type 0 where
   pub ends : Ran input before image → Ends (answeredAs (readOf input .request)) image
-  pub answered : Ran input before image → (buffer : List ℕ) → longest ≤ length buffer → Answered (answeredBytes input) image buffer
+  pub answered : Ran input before image → (buffer : List ℕ) → longest ≤ length buffer → Answered (asReadBack input) image buffer

@@ -9,21 +9,22 @@ use Rattle.video.specs.Modes.{modeOf}
 use Rattle.video.specs.Video.{yccQuantisation, contentType, EditionOutside, ShownOutside, VideoOutside, AskedUnderD, VideoCombined}
 use Rattle.video.specs.Fits.{VideoFits}
 use Rattle.video.proofs.Fits.{vic-small, encoding-fits}
-use Rattle.frames.specs.Frames.{total, colorimetry, quantisation, repeats, aviHeader, aviPayload, aviFrame}
+use Rattle.frames.specs.Frames.{colorimetry, quantisation, repeats, aviHeader, aviPayload, aviFrame}
 use Rattle.frames.specs.Editions.{ByD, readByD, readByE, aviPacket, underD, BothEditions}
 use Rattle.frames.proofs.Small.{Small, mode-small, colour-small, quantisation-small, fifth, fields}
 use Rattle.frames.proofs.Sealed.{holds}
 
--- what a reader that knows only D finds in the packet of a video
+-- what the readers find in the packet of a video
 abbrev found : Video → ByD
 found v =
     record {
       y = v .encoding;
+      a = 1;
       c = colorimetry (modeOf (v .vic)) (v .encoding);
-      ec = 0;
-      q = quantisation v;
       m = modeOf (v .vic) .aspect;
       r = 8;
+      ec = 0;
+      q = quantisation v;
       vic = v .vic;
       pr = repeats v;
     }
@@ -50,21 +51,21 @@ module _ (v : Video) (f : VideoFits v) where
       let colour = colour-small mode (v .encoding) small in
       let y : first / 32 % 4 ≡ v .encoding = omega (arith, encoding-fits v f) in
       let c : second / 64 % 4 ≡ colorimetry mode (v .encoding) = omega (arith, colour, small .aspect) in
-      let ec : third / 16 % 8 ≡ 0 = omega (arith, quantisation-small v) in
-      let q : third / 4 % 4 ≡ quantisation v = omega (arith, quantisation-small v) in
+      let a : first / 16 % 2 ≡ 1 = omega (arith, encoding-fits v f) in
       let m : second / 16 % 4 ≡ mode .aspect = omega (arith, colour, small .aspect) in
       let r : second / 1 % 16 ≡ 8 = omega (arith, colour, small .aspect) in
+      let ec : third / 16 % 8 ≡ 0 = omega (arith, quantisation-small v) in
+      let q : third / 4 % 4 ≡ quantisation v = omega (arith, quantisation-small v) in
       let vic : v .vic / 1 % 128 ≡ v .vic = omega (arith, vic-small v f) in
       let pr : fifth v / 1 % 16 ≡ repeats v = omega (arith, fields v .pr) in
-      λ i. record { y = y i; c = c i; ec = ec i; q = q i; m = m i; r = r i; vic = vic i; pr = pr i }
+      λ i. record { y = y i; a = a i; c = c i; m = m i; r = r i; ec = ec i; q = q i; vic = vic i; pr = pr i }
 
-  yq : readByE (aviPacket v) .yq ≡ yccQuantisation v
+  by-e : readByE (aviPacket v) ≡ record { known = found v; yq = yccQuantisation v; cn = contentType v }
   unfolding aviFrame
-  yq = fields v .yq
-
-  cn : readByE (aviPacket v) .cn ≡ contentType v
-  unfolding aviFrame
-  cn = fields v .cn
+  by-e =
+      let yq : fifth v / 64 % 4 ≡ yccQuantisation v = fields v .yq in
+      let cn : fifth v / 16 % 4 ≡ contentType v = fields v .cn in
+      λ i. record { known = by-d i; yq = yq i; cn = cn i }
 
   under-fits : VideoFits (underD v)
   under-fits = record { offered = f .offered; inside = inside; apart = apart }
@@ -95,17 +96,12 @@ module _ (v : Video) (f : VideoFits v) where
       apart (inr (inr (inl g))) = f .apart (inr (inr (inl g)))
       apart (inr (inr (inr u))) = under u
 
-sums : (v : Video) → total (aviFrame v) % 256 ≡ 0
-unfolding aviFrame
-sums v = holds .zero aviHeader (aviPayload v)
-
 pub editions : BothEditions
+unfolding aviFrame
 editions v f =
     record {
       same = by-d v f ∙ sym (by-d (underD v) (under-fits v f));
       fits = under-fits v f;
-      asked = by-d v f;
-      yq = yq v f;
-      cn = cn v f;
-      summed = (sums v, sums (underD v));
+      asked = by-e v f;
+      summed = holds .zero aviHeader (aviPayload v);
     }

@@ -1,5 +1,5 @@
--- Document 02, request 11: two readers of an AVI packet, out of its sixteen bytes, which are version, length, checksum and data bytes 1 to 13.
--- They have the layouts of CEA-861-D and CEA-861-E, and nothing of how a packet is made.
+-- Document 02, request 11: two readers of an AVI packet, out of its sixteen bytes: version, length, checksum and data bytes 1 to 13. They
+-- have the layouts of CEA-861-D and CEA-861-E, and nothing of how a packet is made.
 use mathlib.Core.Path.{_≡_}
 use mathlib.Core.List.{List}
 use Prim.Native.Nat.{ℕ, _+_, _%_}
@@ -7,7 +7,7 @@ use lib.ListN.{getD, drop}
 use Rattle.bits.specs.Merge.{bitsIn}
 use Rattle.video.specs.declared.Video.{Video}
 use Rattle.video.specs.Modes.{modeOf}
-use Rattle.video.specs.Video.{yccQuantisation, contentType, recast}
+use Rattle.video.specs.Video.{yccQuantisation, contentType, inEdition}
 use Rattle.video.specs.Fits.{VideoFits}
 use Rattle.frames.specs.Frames.{total, colorimetry, quantisation, repeats, aviFrame}
 
@@ -15,15 +15,16 @@ use Rattle.frames.specs.Frames.{total, colorimetry, quantisation, repeat
 abbrev pub inByte : ℕ → ℕ → ℕ → List ℕ → ℕ
 inByte n high low packet = bitsIn high low (getD packet (n + 2) 0)
 
--- "a reader that knows only D": the colour, in Y, C, EC and Q; the aspect, in M and R; the VIC; and PR. It passes over the bits that D
--- reserves, byte 1 [7], byte 4 [7] and byte 5 [7:4].
+-- "a reader that knows only D": the colour, in Y, C, EC and Q; the aspect, in A, M and R; the VIC; and PR. It passes over the bits that D
+-- reserves, byte 1 [7], byte 4 [7] and byte 5 [7:4], and over what is no colour, aspect or VIC: B, S, ITC, SC and the bars.
 pub record ByD : Type 0 where
   pub y : ℕ
+  pub a : ℕ
   pub c : ℕ
-  pub ec : ℕ
-  pub q : ℕ
   pub m : ℕ
   pub r : ℕ
+  pub ec : ℕ
+  pub q : ℕ
   pub vic : ℕ
   pub pr : ℕ
 
@@ -31,11 +32,12 @@ abbrev pub readByD : List ℕ → ByD
 readByD packet =
     record {
       y = inByte 1 6 5 packet;
+      a = inByte 1 4 4 packet;
       c = inByte 2 7 6 packet;
-      ec = inByte 3 6 4 packet;
-      q = inByte 3 3 2 packet;
       m = inByte 2 5 4 packet;
       r = inByte 2 3 0 packet;
+      ec = inByte 3 6 4 packet;
+      q = inByte 3 3 2 packet;
       vic = inByte 4 6 0 packet;
       pr = inByte 5 3 0 packet;
     }
@@ -55,30 +57,32 @@ aviPacket v = drop 1 (aviFrame v)
 
 -- the same under D, with nothing of E asked for
 abbrev pub underD : Video → Video
-underD v = recast (v .family) 0x00 v
+underD = inEdition 0x00
 
 -- of a video that fits
 pub record Editions (v : Video) : Type 0 where
-  -- "Shown to a reader that knows only D, an E packet yields the same colour, aspect and VIC": what the D packet of the same request yields,
-  -- which is accepted where this one is
+  -- "Shown to a reader that knows only D, an E packet yields the same colour, aspect and VIC": what the D packet of the same video yields,
+  -- which fits too. Of the packets that the chip sends for two requests, `AnyCut.shownToD` (promises) says it in bytes.
   pub same : readByD (aviPacket v) ≡ readByD (aviPacket (underD v))
   pub fits : VideoFits (underD v)
-  -- and that is what was asked
-  pub asked : readByD (aviPacket v) ≡ record {
-    y = v .encoding;
-    c = colorimetry (modeOf (v .vic)) (v .encoding);
-    ec = 0;
-    q = quantisation v;
-    m = modeOf (v .vic) .aspect;
-    r = 8;
-    vic = v .vic;
-    pr = repeats v;
+  -- and that is what was asked; a reader that knows E finds the quantisation and the content type too
+  pub asked : readByE (aviPacket v) ≡ record {
+    known = record {
+      y = v .encoding;
+      a = 1;
+      c = colorimetry (modeOf (v .vic)) (v .encoding);
+      m = modeOf (v .vic) .aspect;
+      r = 8;
+      ec = 0;
+      q = quantisation v;
+      vic = v .vic;
+      pr = repeats v;
+    };
+    yq = yccQuantisation v;
+    cn = contentType v;
   }
-  -- a reader that knows E finds the quantisation and the content type too
-  pub yq : readByE (aviPacket v) .yq ≡ yccQuantisation v
-  pub cn : readByE (aviPacket v) .cn ≡ contentType v
-  -- the checksum is right in both editions
-  pub summed : (total (aviFrame v) % 256 ≡ 0) × (total (aviFrame (underD v)) % 256 ≡ 0)
+  -- the checksum is right in either edition
+  pub summed : total (aviFrame v) % 256 ≡ 0
 
 abbrev pub BothEditions : Type 0
 BothEditions = (v : Video) → VideoFits v → Editions v

@@ -63,3 +63,11 @@ refuted {b} {P} d n = go b d
     go : (b : Bool) → Decides b P → b ≡ false
     go true d = absurd (n (d .passes refl))
     go false d = refl
+
+-- and that of one that holds passes
+pub confirmed : {b : Bool} {P : Type 0} → Decides b P → P → b ≡ true
+confirmed {b} {P} d p = go b d
+  where
+    go : (b : Bool) → Decides b P → b ≡ true
+    go true d = refl
+    go false d = absurd (d .fails refl p)

@@ -3,7 +3,8 @@ use mathlib.Core.Path.{_≡_, refl, sym, ap, ap₂, subst, _∙_}
 use mathlib.Core.Bool.{true}
 use mathlib.Core.List.{List, [], _∷_}
 use Prim.Native.Nat.{ℕ, suc, _+_, _≤_}
-use lib.ListN.{length, getD, take, drop, replicate}
+use lib.Dec.{eqb}
+use lib.ListN.{length, getD, take, drop, set, replicate}
 use lib.Seq.{take-length}
 use borrow.Author.Tests.{eqb-true, eq-eqb, le-ltb}
 use Rattle.matrix.specs.Matrix.{Bytes}
@@ -11,11 +12,13 @@ use Rattle.chip.specs.declared.Chip.{Chip}
 use Rattle.chip.specs.Machine.{Write, avi, audio, packets, inUse, coefficients, modeInUse}
 use Rattle.views.specs.Entry.{Lent, stateOf}
 use Rattle.views.specs.Theorems.{LentSized}
+use Rattle.clock.specs.declared.Pair.{Pair}
 use Rattle.request.specs.declared.Request.{Request}
 use Rattle.request.specs.declared.Checked.{Checked}
 use Rattle.request.specs.Read.{readOf, pairFor}
-use Rattle.request.specs.Bytes.{asBytes}
+use Rattle.request.specs.Bytes.{asBytes, inEdition}
 use Rattle.request.proofs.Back.{there-and-back}
+use Rattle.request.proofs.Alone.{accepted-under-d}
 use Rattle.request.specs.Fits.{Fits}
 use Rattle.request.proofs.Fits as request
 use Rattle.plan.specs.Wanted.{wanted}
@@ -36,11 +39,13 @@ use Rattle.writes.proofs.InOrder.{in-order}
 use Rattle.writes.proofs.Fewer.{nine-of-three, fewer, none-differ}
 use Rattle.writes.proofs.Carries.{entries}
 use Rattle.decode.specs.Ends.{Acceptable, Stands}
-use Rattle.decode.specs.Theorems.{Answered, Ran}
+use Rattle.decode.specs.Theorems.{Ran}
 use Rattle.decode.proofs.Groups.{avi-in, audio-in, matrix-in}
+use Rattle.decode.proofs.Unasked.{same-pair}
 use Rattle.decode.proofs.Answers.{finished-again, read-back}
 use Rattle.promises.specs.Rules.{asked, Listed, Demand2, Accepted, OnSomeImage}
-use Rattle.frames.specs.Editions.{ByE}
+use Rattle.frames.specs.Frames.{aviFrame}
+use Rattle.frames.specs.Editions.{ByE, readByD, readByE, aviPacket}
 use Rattle.frames.proofs.Readers.{editions}
 use Rattle.promises.proofs.Only.{same-but-two, shown-alike}
 use Rattle.promises.proofs.Ended.{avi-head, audio-head, enable-in, mode-in}
@@ -124,6 +129,62 @@ module _ (input buffer : List ℕ) (l : Lent) (z : LentSized l) (f : Fine input 
             (subst (λ (ws : List Write). Finished ws fs) (m .pairs ∙ ap (listOf input) image) g))),
       )
 
+-- the end of a run
+record AtEnd (input : List ℕ) (s : Chip) : Type 0 where
+  ended : After (toItsEnd (listOf input) s)
+  sized : length (toItsEnd (listOf input) s .image) ≡ 256
+  stands : Stands (readOf input .request) (toItsEnd (listOf input) s .image)
+
+at-end : (input buffer : List ℕ) (s : Chip) → Fine input (s .image) buffer → AtEnd input s
+at-end input buffer s f =
+    let d : Demand3 (listOf input) (asked input) s = holds (asked input) s (f .whole) (f .clear) in
+    let ws : List Write = listOf input (s .image) in
+    let e : Chip = toItsEnd (listOf input) s in
+    let run-end = d .runs (waited ws) (waited-writes ws) in
+    record {
+      ended = run-end .ended (d .room .waits);
+      sized = ap length (run-end .registers) ∙ image-length (asked input) (s .image);
+      stands =
+          λ a h. finished-again (asked input) (s .image) (e .image) a
+          (ap (λ (l : List ℕ). getD l a 0) (run-end .registers) ∙ image-at (asked input) (s .image) a h);
+    }
+
+-- the AVI packet then in use
+new-avi : (input buffer : List ℕ) (s : Chip) → Fine input (s .image) buffer
+    → drop 2 (inUse packets avi (toItsEnd (listOf input) s)) ≡ drop 3 (aviFrame (readOf input .request .video))
+new-avi input buffer s f =
+    let e = at-end input buffer s f in
+    ap (drop 2) (e .ended .avi) ∙ avi-in (readOf input .request) _ (e .sized) (request.fits input (f .read)) (e .stands)
+
+shown : (input buffer : List ℕ) (s : Chip) → Fine input (s .image) buffer
+    → readByE (inUse packets avi (toItsEnd (listOf input) s)) ≡ readByE (aviPacket (readOf input .request .video))
+shown input buffer s f = shown-alike (inUse packets avi (toItsEnd (listOf input) s)) (readOf input .request .video) (new-avi input buffer s f)
+
+-- the same request under D is accepted, and says the same but for its edition byte
+module _ (input image buffer : List ℕ) (f : Fine input image buffer) (b : Bytes input) where
+  abbrev under : List ℕ
+  under = set input 7 0x00
+
+  read-under : readOf under ≡ record { refusal = 0; request = inEdition 0x00 (readOf input .request) }
+  unfolding asBytes
+  read-under =
+      let r : Request = readOf input .request in
+      let g : Fits r = request.fits input (f .read) in
+      let back : asBytes r ≡ input = there-and-back .back input b (f .read) in
+      ap (λ (l : List ℕ). readOf (set l 7 0x00)) (sym back) ∙ accepted-under-d r (g .matrix) (g .video) (ap (λ (l : List ℕ). readOf l .refusal) back ∙ f .read)
+
+  fine-under : Fine under image buffer
+  fine-under =
+      record {
+        read = ap (λ (c : Checked). c .refusal) read-under;
+        whole = f .whole;
+        clear = f .clear;
+        paired =
+            ap (λ (c : Checked). eqb (pairFor (c .request) .refusal) 0) read-under
+            ∙ ap (λ (p : Pair). eqb (p .refusal) 0) (same-pair (readOf input .request) 0x00) ∙ f .paired;
+        long = f .long;
+      }
+
 pub any-cut : (input buffer : List ℕ) (s : Chip) → planOf input (s .image) buffer .refusal ≡ 0 → AnyCut input buffer s
 any-cut input buffer s z =
     let f = fine input (s .image) buffer z in
@@ -131,14 +192,13 @@ any-cut input buffer s z =
     let q : Request = readOf input .request in
     let ws : List Write = listOf input (s .image) in
     let e : Chip = toItsEnd (listOf input) s in
-    let run-end = d .runs (waited ws) (waited-writes ws) in
-    let ended : After e = run-end .ended (d .room .waits) in
-    let sized : length (e .image) ≡ 256 = ap length (run-end .registers) ∙ image-length (wanted q) (s .image) in
-    let stands : Stands q (e .image) =
-    λ a h. finished-again (wanted q) (s .image) (e .image) a (ap (λ (l : List ℕ). getD l a 0) (run-end .registers) ∙ image-at (wanted q) (s .image) a h) in
+    let end = at-end input buffer s f in
+    let ended : After e = end .ended in
+    let sized : length (e .image) ≡ 256 = end .sized in
+    let stands : Stands q (e .image) = end .stands in
     let g : Fits q = request.fits input (f .read) in
     let l : Listed input (s .image) buffer = listed input (s .image) buffer f in
-    let newAvi = ap (drop 2) (ended .avi) ∙ avi-in q (e .image) sized g stands in
+    let newAvi = new-avi input buffer s f in
     let newAudio = ap (drop 2) (ended .audio) ∙ audio-in q (e .image) sized g stands ∙ ap (drop 3) (audio-frame (q .sound)) in
     let headAvi : Headed 0x02 0x0D (inUse packets avi e) = rw (ended .avi) (avi-head q (e .image) g stands) in
     let headAudio : Headed 0x01 0x0A (inUse packets audio e) = rw (ended .audio) (audio-head q (e .image) g stands) in
@@ -156,8 +216,17 @@ any-cut input buffer s z =
           let y : Fine input (e .image) room = again-fine input (s .image) buffer f (e .image) room sized clear long in
           reported input (e .image) room y ∙ ap (λ (n : ℕ). n + 9) (none-differ (asked input) (e .image) stands);
       newAvi = newAvi;
-      shownToD = ap (λ (b : ByE). b .known) (shown-alike (inUse packets avi e) (q .video) newAvi) ∙ editions (q .video) (g .video) .same;
-      shownToE = shown-alike (inUse packets avi e) (q .video) newAvi;
+      shownToD = λ b.
+          let u : Fine (set input 7 0x00) (s .image) buffer = fine-under input (s .image) buffer f b in (
+            accepted (set input 7 0x00) (s .image) buffer u,
+            ap (λ (x : ByE). x .known) (shown input buffer s f)
+                ∙ editions (q .video) (g .video) .same
+                ∙ ap (λ (c : Checked). readByD (aviPacket (c .request .video))) (sym (read-under input (s .image) buffer f b))
+                ∙ sym (ap (λ (x : ByE). x .known) (shown (set input 7 0x00) buffer s u)),
+          );
+      shownToE =
+          let x = shown input buffer s f ∙ editions (q .video) (g .video) .asked in
+          (ap (λ (y : ByE). y .yq) x, ap (λ (y : ByE). y .cn) x);
       newAudio = newAudio;
       newMatrix = newMatrix;
       headAvi = headAvi;
@@ -199,9 +268,7 @@ rules input buffer s = record {
       (image-at (asked input) (s .image));
   pair = paired input;
   neverThree = λ z. let f = fits z in never-three input (s .image) (f .read) (eqb-true _ _ (f .paired));
-  readBack = λ b z room h.
-      subst (λ (bytes : List ℕ). Answered bytes (finishedImage (asked input) (s .image)) room) (there-and-back .answered input b (fits z .read))
-      (read-back input (s .image) (finishedImage (asked input) (s .image)) .answered (ran input b z) room h);
+  readBack = λ b z room h. read-back input (s .image) (finishedImage (asked input) (s .image)) .answered (ran input b z) room h;
   only = λ b z other c y e.
       same-but-two input other (finishedImage (asked input) (s .image)) (s .image) (ran input b z)
       (subst (Ran other (s .image)) e (ran other c y));

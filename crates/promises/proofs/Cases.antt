@@ -1,6 +1,6 @@
 -- The marked cases: each computes, but for the reason of case 9, which is a law of the clock. Assumes nothing.
-use mathlib.Core.Path.{_≡_, refl, subst}
-use mathlib.Core.Bool.{true}
+use mathlib.Core.Path.{_≡_, refl, _∙_}
+use mathlib.Core.Bool.{true, cond}
 use mathlib.Core.List.{List, [], _∷_, flatMap}
 use Prim.Native.Nat.{ℕ, zero, suc, _*_, _<_, _≤_, _∣_}
 use native.Mathlib.Omega.{arith}
@@ -13,13 +13,14 @@ use Rattle.bits.proofs.Below.{at-below}
 use Rattle.video.specs.declared.Video.{Video}
 use Rattle.ratio.specs.Lowest.{steps, divisorOf}
 use Rattle.video.specs.Modes.{modeOf}
-use Rattle.video.specs.Video.{videoIn, shownOutside, videoOutside, shownCombined, videoCombined}
+use Rattle.video.specs.Video.{noVideo, inEdition, editionOutside, askedUnderD, shownOutside, videoOutside, shownCombined, videoCombined}
 use Rattle.clock.specs.Clocks.{tmds, clockOf}
 use Rattle.clock.specs.Pairs.{reference, recommendedOf}
 use Rattle.clock.specs.Found.{nearestK, nearestIn, nearestOf, exactly, coherentOf, pairOf}
 use Rattle.ratio.proofs.Multiples.{divides}
 use Rattle.frames.specs.Frames.{total, aviFrame, audioFrame, audioOffFrame}
 use Rattle.frames.specs.Answers.{aviOf, audioOf}
+use Rattle.frames.proofs.Refused.{avi-by-edition}
 use Rattle.matrix.specs.Matrix.{fields, Bytes}
 use Rattle.matrix.specs.Tests.{inRange, isAllowed}
 use Rattle.matrix.specs.Preview.{codeOf, previewOf}
@@ -33,8 +34,11 @@ use Rattle.writes.specs.Steps.{middle}
 use Rattle.writes.specs.List.{decided, byte, written, isWritten, finished, column, flat, alreadyThere}
 use Rattle.plan.specs.Wanted.{wantedImage, wanted}
 use Rattle.plan.specs.Plan.{laterRefusal, planWith, bufferWith, planOf, planBuffer}
-use Rattle.request.specs.Bytes.{asReadBack}
-use Rattle.request.proofs.Back.{there-and-back}
+use Rattle.request.specs.declared.Request.{Request}
+use Rattle.request.specs.Bytes.{asBytes, asReadBack}
+use Rattle.request.specs.Bytes as request
+use Rattle.request.specs.Theorems.{Shaped}
+use Rattle.request.proofs.Alone.{answered-by-edition}
 use Rattle.writes.proofs.Image.{image-length, image-at}
 use Rattle.decode.specs.Theorems.{Answered}
 use Rattle.decode.proofs.Answers.{read-back}
@@ -59,17 +63,18 @@ unfolding flatMap steps divisorOf modeOf tmds clockOf reference recommendedOf ne
 few-editions = (refl, refl, refl)
 
 -- each edition byte
-editions : (edition : ℕ) → edition < 256 → readOf (withEdition edition (asked16 0 1 0x00)) .refusal ≡ editionRefusal edition
-unfolding steps divisorOf modeOf tmds fields inRange isAllowed walk walked videoOutside shownOutside videoCombined shownCombined outside combined judged readOf
-editions edition h =
-    eqb-true _ _ (at-below (λ e. eqb (readOf (withEdition e (asked16 0 1 0x00)) .refusal) (editionRefusal e)) 256 edition refl h)
+by-byte : (edition : ℕ) → edition < 256 → let v : Video = inEdition edition noVideo in
+    cond (editionOutside v) 5 (cond (askedUnderD v) 6 0) ≡ editionRefusal edition
+by-byte edition h = eqb-true _ _ (at-below (λ e. let v : Video = inEdition e noVideo in
+    eqb (cond (editionOutside v) 5 (cond (askedUnderD v) 6 0)) (editionRefusal e)) 256 edition refl h)
 
-abbrev shown16 : ℕ → Video
-shown16 edition = videoIn (0x10 ∷ 0x00 ∷ 0x00 ∷ 0x01 ∷ 0x00 ∷ 0x00 ∷ edition ∷ [])
+editions : (r : Request) → Shaped (r .matrix) → readOf (asBytes (request.inEdition 0x00 r)) .refusal ≡ 0
+    → (edition : ℕ) → edition < 256 → readOf (asBytes (request.inEdition edition r)) .refusal ≡ editionRefusal edition
+editions r s z edition h = answered-by-edition (request.inEdition edition r) s z ∙ by-byte edition h
 
-editions-avi : (edition : ℕ) → edition < 256 → aviOf (shown16 edition) .refusal ≡ editionRefusal edition
-unfolding modeOf shownOutside shownCombined aviOf
-editions-avi edition h = eqb-true _ _ (at-below (λ e. eqb (aviOf (shown16 e) .refusal) (editionRefusal e)) 256 edition refl h)
+editions-avi : (v : Video) → aviOf (inEdition 0x00 v) .refusal ≡ 0
+    → (edition : ℕ) → edition < 256 → aviOf (inEdition edition v) .refusal ≡ editionRefusal edition
+editions-avi v z edition h = avi-by-edition (inEdition edition v) z ∙ by-byte edition h
 
 -- a list of bytes
 bytes : (l : List ℕ) → every (λ b. ltb b 256) l ≡ true → Bytes l
@@ -84,9 +89,8 @@ reads : (edition : ℕ) → let input : List ℕ = withEdition edition (asked16 
 reads edition t z y room h =
     let input : List ℕ = withEdition edition (asked16 0 1 0x00) in
     let b : Bytes input = bytes input t in
-    subst (λ (l : List ℕ). Answered l (done16 edition) room) (there-and-back .answered input b z)
-    (read-back input zeros (done16 edition) .answered
-    (record { bytes = b; read = z; paired = y; sized = image-length (asked input) zeros; registers = image-at (asked input) zeros }) room h)
+    read-back input zeros (done16 edition) .answered
+    (record { bytes = b; read = z; paired = y; sized = image-length (asked input) zeros; registers = image-at (asked input) zeros }) room h
 
 pub cases : MarkedCases
 unfolding flatMap steps divisorOf modeOf tmds clockOf reference recommendedOf nearestK nearestIn nearestOf exactly coherentOf pairOf total aviFrame aviOf audioFrame audioOf audioOffFrame fields inRange isAllowed codeOf previewOf walk walked videoOutside shownOutside videoCombined shownCombined outside combined judged readOf pairFor nctsOf lineOf digits acceptedText refusedText planOf
@@ -148,7 +152,8 @@ cases =
       fewDeep = few-deep;
       editions = editions;
       editionsAvi = editions-avi;
-      editionsElsewhere = refl;
+      clockAlone = λ v. refl;
+      plain = refl;
       typeOne = refl;
       nothing = refl;
       bothAsked = refl;

@@ -21,7 +21,7 @@ use Rattle.request.proofs.Fits.{fits}
 use Rattle.request.proofs.Back.{there-and-back}
 use Rattle.decode.specs.Theorems.{Ran}
 use Rattle.decode.proofs.Answers.{at-most-one, read-back}
-use Rattle.promises.specs.Rules.{SameButTwo}
+use Rattle.promises.specs.Rules.{SameBytesBut}
 
 module _ (input other : List ℕ) (image before : List ℕ) (r : Ran input before image) (q : Ran other before image) where
   alike : answeredAs (readOf input .request) ≡ answeredAs (readOf other .request)
@@ -41,7 +41,7 @@ module _ (input other : List ℕ) (image before : List ℕ) (r : Ran input befor
   unfolding asBytes
   seventh l b z = ap (λ (x : List ℕ). getD x 7 0) (there-and-back .back l b z)
 
-  pub same-but-two : SameButTwo input other
+  pub same-but-two : SameBytesBut input other
   same-but-two =
       let v : Fits (readOf input .request) = fits input (r .read) in
       let w : Fits (readOf other .request) = fits other (q .read) in

@@ -176,5 +176,5 @@ shown image = record {
   noQuantisation = λ sized above room long.
       eleven image room sized long (refusals image room .given .some (λ z.
       let a = exactly image room .only z in omega (arith, above, yq-small image sized (a .request) (a .ends))));
-  edition = in-edition image;
+  whichEdition = in-edition image;
 }

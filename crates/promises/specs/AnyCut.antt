@@ -2,9 +2,11 @@
 use mathlib.Core.Path.{_≡_}
 use mathlib.Core.List.{List}
 use Prim.Native.Nat.{ℕ, _≤_}
-use lib.ListN.{length, drop}
+use lib.ListN.{length, drop, set}
+use Rattle.matrix.specs.Matrix.{Bytes}
+use Rattle.video.specs.Video.{yccQuantisation, contentType}
 use Rattle.frames.specs.Frames.{aviFrame}
-use Rattle.frames.specs.Editions.{readByD, readByE, aviPacket, underD}
+use Rattle.frames.specs.Editions.{ByE, readByD, readByE}
 use Rattle.request.specs.Read.{readOf}
 use Rattle.chip.specs.declared.Chip.{Chip}
 use Rattle.chip.specs.Machine.{Write, avi, audio, packets, inUse, coefficients, enableInUse, modeInUse}
@@ -44,10 +46,13 @@ pub record AnyCut (input buffer : List ℕ) (s : Chip) : Type 0 where
   pub headAvi : Headed 0x02 0x0D (inUse packets avi (toItsEnd (listOf input) s))
   pub headAudio : Headed 0x01 0x0A (inUse packets audio (toItsEnd (listOf input) s))
   pub newAvi : drop 2 (inUse packets avi (toItsEnd (listOf input) s)) ≡ drop 3 (aviFrame (readOf input .request .video))
-  -- request 11: "Shown to a reader that knows only D, an E packet yields the same colour, aspect and VIC", the packet that is in use; and a
-  -- reader that knows E finds what was asked (`Editions`, frames)
-  pub shownToD : readByD (inUse packets avi (toItsEnd (listOf input) s)) ≡ readByD (aviPacket (underD (readOf input .request .video)))
-  pub shownToE : readByE (inUse packets avi (toItsEnd (listOf input) s)) ≡ readByE (aviPacket (readOf input .request .video))
+  -- request 11: "Shown to a reader that knows only D, an E packet yields the same colour, aspect and VIC": the packet then in use, and that of
+  -- the same request with edition byte 0x00, which is accepted too; a reader that knows E finds what was asked
+  pub shownToD : Bytes input → let underD : List ℕ = set input 7 0x00 in
+      (planOf underD (s .image) buffer .refusal ≡ 0)
+      × (readByD (inUse packets avi (toItsEnd (listOf input) s)) ≡ readByD (inUse packets avi (toItsEnd (listOf underD) s)))
+  pub shownToE : let found : ByE = readByE (inUse packets avi (toItsEnd (listOf input) s)) in
+      (found .yq ≡ yccQuantisation (readOf input .request .video)) × (found .cn ≡ contentType (readOf input .request .video))
   pub newAudio : drop 2 (inUse packets audio (toItsEnd (listOf input) s)) ≡ drop 3 (audioPacket (readOf input .request .sound))
   pub newMatrix : coefficients (toItsEnd (listOf input) s) ≡ readOf input .request .matrix .coefficients
   -- "Enable and mode in 0x18[7:5] act at once." "With a matrix: converter on. No matrix: converter off, mode 1"

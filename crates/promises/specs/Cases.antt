@@ -12,17 +12,21 @@ use Rattle.lists.specs.Among.{among}
 use Rattle.lists.specs.Find.{every}
 use Rattle.video.specs.declared.Video.{Video}
 use Rattle.video.specs.Video.{videoIn}
+use Rattle.video.specs.Video as video
 use Rattle.clock.specs.declared.Clock.{Clock}
 use Rattle.clock.specs.Clocks.{aboveLimit, clockOf}
 use Rattle.clock.specs.Pairs.{reference, thePair, noPair}
 use Rattle.clock.specs.Found.{coherentOf, pairOf}
 use Rattle.frames.specs.Frames.{audioOffFrame}
 use Rattle.frames.specs.Answers.{aviOf, audioOf}
-use Rattle.frames.specs.Editions.{readByE}
+use Rattle.frames.specs.Editions.{readByE, underD}
 use Rattle.matrix.specs.Coefficient.{word, field, valueOf}
 use Rattle.matrix.specs.Preview.{previewOf}
 use Rattle.request.specs.Sections.{lengths, longest}
+use Rattle.request.specs.declared.Request.{Request}
 use Rattle.request.specs.Read.{readOf}
+use Rattle.request.specs.Bytes.{asBytes, inEdition}
+use Rattle.request.specs.Theorems.{Shaped}
 use Rattle.writes.specs.List.{finishedImage}
 use Rattle.plan.specs.Plan.{planOf}
 use Rattle.decode.specs.Theorems.{Answered}
@@ -51,16 +55,15 @@ asked16 encoding link pixel = 0x07 ∷ 0x10 ∷ 0x00 ∷ encoding ∷ link ∷ 0
 abbrev converted2 : ℕ → ℕ → List ℕ
 converted2 encoding pixel = 0x07 ∷ 0x02 ∷ 0x00 ∷ encoding ∷ 0x01 ∷ 0x00 ∷ pixel ∷ 0x00 ∷ 0x00 ∷ 0x19 ∷ table39
 
--- the same with an edition byte; and what is answered for each: D, and E with any of its bits; E's bits under D; the others
+-- the same with an edition byte
 abbrev pub withEdition : ℕ → List ℕ → List ℕ
 withEdition edition input = set input 7 edition
 
-abbrev takenEditions : List ℕ
-takenEditions = 0x00 ∷ 0x01 ∷ 0x05 ∷ 0x11 ∷ 0x15 ∷ 0x21 ∷ 0x25 ∷ 0x31 ∷ 0x35 ∷ []
-
+-- what is answered for each: D, and E with any of its bits; E's bits under D; the others
 abbrev pub editionRefusal : ℕ → ℕ
 editionRefusal edition =
-    cond (among edition takenEditions) 0 (cond (among edition (0x04 ∷ 0x10 ∷ 0x14 ∷ 0x20 ∷ 0x24 ∷ 0x30 ∷ 0x34 ∷ [])) 6 5)
+    cond (among edition (0x00 ∷ 0x01 ∷ 0x05 ∷ 0x11 ∷ 0x15 ∷ 0x21 ∷ 0x25 ∷ 0x31 ∷ 0x35 ∷ [])) 0
+    (cond (among edition (0x04 ∷ 0x10 ∷ 0x14 ∷ 0x20 ∷ 0x24 ∷ 0x30 ∷ 0x34 ∷ [])) 6 5)
 
 -- the image that it ends in, from zeros
 abbrev pub done16 : ℕ → List ℕ
@@ -86,7 +89,8 @@ pub record MarkedCases : Type 0 where
   -- 3. One byte too many: refused 3
   pub case3 : readOf (0x07 ∷ 0x10 ∷ 0x00 ∷ 0x00 ∷ 0x01 ∷ 0x00 ∷ 0x00 ∷ 0x00 ∷ 0x00 ∷ 0x00 ∷ 0x00 ∷ []) .refusal ≡ 3
   -- 4. VIC 19, family 1: refused 4
-  pub case4 : (clockOf (rgbOverHdmi 19 1) .refusal ≡ 4) × (readOf (0x07 ∷ 19 ∷ 1 ∷ 0x00 ∷ 0x01 ∷ 0x00 ∷ 0x00 ∷ 0x00 ∷ 0x00 ∷ 0x00 ∷ []) .refusal ≡ 4)
+  pub case4 : (clockOf (rgbOverHdmi 19 1) .refusal ≡ 4)
+      × (readOf (0x07 ∷ 19 ∷ 1 ∷ 0x00 ∷ 0x01 ∷ 0x00 ∷ 0x00 ∷ 0x00 ∷ 0x00 ∷ 0x00 ∷ []) .refusal ≡ 4)
   -- 5. YCbCr 4:2:2 without a matrix: refused 6
   pub case5 : readOf (0x07 ∷ 0x10 ∷ 0x00 ∷ 0x01 ∷ 0x01 ∷ 0x00 ∷ 0x00 ∷ 0x00 ∷ 0x00 ∷ 0x00 ∷ []) .refusal ≡ 6
   -- 6. VIC 16, family 0, 48 kHz, coherent (so are 7 and 8): 6144, 148500. (Rates 0, 1, 2 are 32, 44.1 and 48 kHz.)
@@ -183,22 +187,27 @@ pub record MarkedCases : Type 0 where
   pub aviAlone : aviOf (deepRgb 16 0 0x13) .refusal ≡ 0
   -- its lists in bare bytes
   pub fewDeep : FewDeep
-  -- request 11: "edition or quantisation above 1, or bits 7:6, is 5; E's bits under D are 6": each edition byte, with RGB over HDMI, and in the
-  -- AVI call; those that are taken are so over DVI, and with YCbCr, deep and repeated
-  pub editions : (edition : ℕ) → edition < 256 → readOf (withEdition edition (asked16 0 1 0x00)) .refusal ≡ editionRefusal edition
-  pub editionsAvi : (edition : ℕ) → edition < 256
-      → aviOf (videoIn (0x10 ∷ 0x00 ∷ 0x00 ∷ 0x01 ∷ 0x00 ∷ 0x00 ∷ edition ∷ [])) .refusal ≡ editionRefusal edition
-  pub editionsElsewhere : every (λ edition.
-      every (λ input. eqb (readOf (withEdition edition input) .refusal) 0) (asked16 0 0 0x00 ∷ converted2 1 0x20 ∷ converted2 2 0x22 ∷ []))
-      takenEditions ≡ true
-  -- "E, RGB, type 1"; E that asks for nothing has D's packet; and with quantisation and type 3
+  -- request 11: "edition or quantisation above 1, or bits 7:6, is 5; E's bits under D are 6", and nothing else is refused: where a request is
+  -- accepted with 0x00, each edition byte is answered so, whatever else is asked; and in the AVI call. Type 1 under D, 0x10, is 6; edition 2,
+  -- 0x02, is 5
+  pub editions : (r : Request) → Shaped (r .matrix) → readOf (asBytes (inEdition 0x00 r)) .refusal ≡ 0
+      → (edition : ℕ) → edition < 256 → readOf (asBytes (inEdition edition r)) .refusal ≡ editionRefusal edition
+  pub editionsAvi : (v : Video) → aviOf (underD v) .refusal ≡ 0
+      → (edition : ℕ) → edition < 256 → aviOf (video.inEdition edition v) .refusal ≡ editionRefusal edition
+  -- the clock looks at the mode, the family, the depth and the repetition, and at nothing else
+  pub clockAlone : (v : Video) → clockOf v ≡ clockOf (videoIn (v .vic ∷ v .family ∷ 0x00 ∷ 0x00 ∷ 0x00 ∷ v .pixel ∷ 0x00 ∷ []))
+  -- E, RGB, type 1; E that asks for nothing has D's packet; and with quantisation and type 3
   pub typeOne : lineText (withEdition 0x11 (asked16 0 1 0x00)) ≡ ascii "accepted vic 16 n 6144 cts 0 avi 13 audio 71\n"
   pub nothing : lineText (withEdition 0x01 (asked16 0 1 0x00)) ≡ ascii "accepted vic 16 n 6144 cts 0 avi 23 audio 71\n"
   pub bothAsked : lineText (withEdition 0x35 (asked16 0 1 0x00)) ≡ ascii "accepted vic 16 n 6144 cts 0 avi b3 audio 71\n"
-  -- its lists in bare bytes; the two readers, in a packet with every reserved bit 1: Y 2, C 1, EC 3, Q 2, M 2, R 9, VIC 16, PR 3; YQ 2, CN 1
+  -- its lists in bare bytes
   pub fewEditions : FewEditions
-  pub readers : readByE (0x02 ∷ 0x0D ∷ 0x00 ∷ 0xD6 ∷ 0x69 ∷ 0xB9 ∷ 0x90 ∷ 0x93 ∷ [])
-      ≡ record { known = record { y = 2; c = 1; ec = 3; q = 2; m = 2; r = 9; vic = 16; pr = 3 }; yq = 2; cn = 1 }
+  -- the two readers, in a packet with the bits that E reserves 1: Y 2, A 1, C 1, M 2, R 9, EC 5, Q 2, VIC 80, PR 9; YQ 2, CN 1; and what is
+  -- shown to the first, a video under D
+  pub readers : readByE (0x02 ∷ 0x0D ∷ 0x00 ∷ 0xD6 ∷ 0x69 ∷ 0xD9 ∷ 0xD0 ∷ 0x99 ∷ [])
+      ≡ record { known = record { y = 2; a = 1; c = 1; m = 2; r = 9; ec = 5; q = 2; vic = 80; pr = 9 }; yq = 2; cn = 1 }
+  pub plain : underD (videoIn (0x02 ∷ 0x01 ∷ 0x00 ∷ 0x01 ∷ 0x01 ∷ 0x22 ∷ 0x35 ∷ []))
+      ≡ videoIn (0x02 ∷ 0x01 ∷ 0x00 ∷ 0x01 ∷ 0x01 ∷ 0x22 ∷ 0x00 ∷ [])
   -- the finished image of an E that asks for nothing reads back as D, and that of E with type 1 as it is
   pub readsAsD : (room : List ℕ) → 38 ≤ length room → Answered (asked16 0 1 0x00) (done16 0x01) room
   pub readsAsE : (room : List ℕ) → 38 ≤ length room → Answered (withEdition 0x11 (asked16 0 1 0x00)) (done16 0x11) room

@@ -46,8 +46,8 @@ pub record Listed (input image buffer : List ℕ) : Type 0 where
   -- so the pairs in it, by that count, are the list
   pub pairs : pairsLeft input image buffer ≡ writeList (asked input) image
 
--- two requests with the same bytes, but for byte 2, and for byte 7 where each of the two is 0x00 or 0x01
-pub record SameButTwo (input other : List ℕ) : Type 0 where
+-- two requests with the same bytes, but for byte 2, and for byte 7 where each of the two is 0x00 or 0x01: the exception in bare bytes
+pub record SameBytesBut (input other : List ℕ) : Type 0 where
   pub long : length input ≡ length other
   pub bytes : (i : ℕ) → i ≢ 2 → i ≢ 7 → getD input i 0 ≡ getD other i 0
   pub edition : (getD input 7 0 ≡ getD other 7 0) ⊎ ((getD input 7 0 ≤ 0x01) × (getD other 7 0 ≤ 0x01))
@@ -82,7 +82,7 @@ pub record Demand2 (input buffer : List ℕ) (s : Chip) : Type 0 where
   -- there is no other: a request that leaves the same finished image is the same, byte for byte, but for these two
   pub only : Bytes input → planOf input (s .image) buffer .refusal ≡ 0 → (other : List ℕ) → Bytes other
       → planOf other (s .image) buffer .refusal ≡ 0 → finishedImage (asked other) (s .image) ≡ finishedImage (asked input) (s .image)
-      → SameButTwo input other
+      → SameBytesBut input other
 
 -- "accepted on some image", of a request and its bytes
 pub record Accepted (r : Request) : Type 0 where
@@ -112,4 +112,4 @@ pub record FieldByField (image : List ℕ) : Type 0 where
   -- and a YQ above 1; otherwise the edition that is answered is E exactly where YQ or CN is not 0
   pub noQuantisation : length image ≡ 256 → 1 < bitsIn 7 6 (getD image 0x59 0)
       → (room : List ℕ) → longest ≤ length room → decodeOf image room .refusal ≡ 11
-  pub edition : length image ≡ 256 → (r : Request) → Ends r image → edition (r .video) ≡ cond (eqb (bitsIn 7 4 (getD image 0x59 0)) 0) 0 1
+  pub whichEdition : length image ≡ 256 → (r : Request) → Ends r image → edition (r .video) ≡ cond (eqb (bitsIn 7 4 (getD image 0x59 0)) 0) 0 1

@@ -1,5 +1,4 @@
--- Document 01's worked example, "What the station's library does", and request 09 on it; requests 06 and 11 in
--- bare bytes.
+-- Document 01's worked example, "What the station's library does", and request 09 on it; requests 06 and 11 in bare bytes.
 use mathlib.Core.Path.{_≡_}
 use mathlib.Core.List.{List, [], _∷_, _++_}
 use Prim.Native.Nat.{ℕ}

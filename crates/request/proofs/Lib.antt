@@ -9,3 +9,4 @@ pub mod Cut
 pub mod Fits
 pub mod Said
 pub mod Back
+pub mod Alone

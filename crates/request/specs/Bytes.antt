@@ -13,7 +13,6 @@ use Rattle.request.specs.declared.Sound.{Sound}
 use Rattle.request.specs.declared.Sound.the-variants.{Off, On}
 use Rattle.request.specs.declared.Request.{Request}
 use Rattle.request.specs.Sections.{laid}
-use Rattle.request.specs.Read.{readOf}
 
 -- the body of each section: "rate ..; channels ..; coherent .."; "CSC mode, then A1 to A4, B1 to B4, C1 to C4, each two bytes"
 abbrev pub audioBody : Sound → List ℕ
@@ -33,17 +32,17 @@ bodiesOf r =
 unfoldable pub asBytes : Request → List ℕ
 asBytes r = laid (bodiesOf r) []
 
--- "that request in one of its families"
+-- "that request in one of its families"; and with another edition byte
 abbrev pub inFamily : ℕ → Request → Request
 inFamily family r = record { video = video.inFamily family (r .video); sound = r .sound; matrix = r .matrix }
 
--- "the same request, but for the frame-rate family", and for an E that asks for nothing: a request as decoding answers it, and the bytes of
--- an accepted input. Of an input byte 2 is the family and byte 7 the edition; `ThereAndBack` says that these bytes are the same.
+abbrev pub inEdition : ℕ → Request → Request
+inEdition infoframe r = record { video = video.inEdition infoframe (r .video); sound = r .sound; matrix = r .matrix }
+
+-- "the same request, but for the frame-rate family", and for an E that asks for nothing: a request as decoding answers it; and the same of
+-- the bytes of an input, in which byte 2 is the family and byte 7 the edition byte. `ThereAndBack` says that the two agree.
 abbrev pub answeredAs : Request → Request
 answeredAs r = record { video = answered (r .video); sound = r .sound; matrix = r .matrix }
-
-abbrev pub answeredBytes : List ℕ → List ℕ
-answeredBytes input = asBytes (answeredAs (readOf input .request))
 
 abbrev pub asReadBack : List ℕ → List ℕ
 asReadBack input = set (set input 2 0) 7 (answeredEdition (getD input 7 0))

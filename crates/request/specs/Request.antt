@@ -47,7 +47,7 @@ abbrev pub Outside : Video → List ℕ → List ℕ → Type 0
 Outside video audio matrix = VideoOutside video ⊎ (Present audio × AudioOutside audio) ⊎ (Present matrix × (Allowed matrix → ⊥))
 
 -- row 6, "encoding not 0 without a matrix; DVI with audio or with encoding not 0": the last is the video section's,
--- and so is what concerns the range and the depth
+-- and so is what concerns the range, the depth and the edition
 abbrev pub Combined : Video → List ℕ → List ℕ → Type 0
 Combined video audio matrix = ((video .encoding ≢ 0) × (length matrix ≡ 0)) ⊎ ((video .link ≡ 0) × Present audio) ⊎ VideoCombined video
 

@@ -15,7 +15,7 @@ use Rattle.request.specs.declared.Request.{Request}
 use Rattle.request.specs.Sections.{walk, whole, lengthsOf, lengths, longest, walked, audioSection, matrixSection}
 use Rattle.request.specs.Request.{videoOf, requestIn, readRules, nctsRules}
 use Rattle.request.specs.Read.{readOf, nctsOf}
-use Rattle.request.specs.Bytes.{asBytes, answeredBytes, asReadBack}
+use Rattle.request.specs.Bytes.{asBytes, answeredAs, asReadBack}
 
 pub record Rows (input : List ℕ) : Type 0 where
   -- of the rows that a call checks, the lowest that applies is given, and none is given otherwise
@@ -52,4 +52,4 @@ pub record ThereAndBack : Type 0 where
   -- the bytes of the request that is read from an input are the input
   pub back : (input : List ℕ) → Bytes input → readOf input .refusal ≡ 0 → asBytes (readOf input .request) ≡ input
   -- the bytes that are answered for an input are the input's, but for its family and its edition byte
-  pub answered : (input : List ℕ) → Bytes input → readOf input .refusal ≡ 0 → answeredBytes input ≡ asReadBack input
+  pub answered : (input : List ℕ) → Bytes input → readOf input .refusal ≡ 0 → asBytes (answeredAs (readOf input .request)) ≡ asReadBack input

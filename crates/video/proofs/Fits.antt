@@ -18,7 +18,7 @@ use Rattle.video.specs.Video.{FullYCbCr, DeepApart, AskedUnderD, ShownCo
 use Rattle.video.specs.Video.{fullYCbCr, deepApart, askedUnderD, shownCombined, videoCombined}
 use Rattle.video.specs.Fits.{VideoFits}
 
-is-edition-outside : (v : Video) → Decides (editionOutside v) (EditionOutside v)
+pub is-edition-outside : (v : Video) → Decides (editionOutside v) (EditionOutside v)
 is-edition-outside v = either (less 1 (edition v)) (either (less 1 (yccQuantisation v)) (less 0 (v .infoframe / 64)))
 
 pub is-shown-outside : (v : Video) → Decides (shownOutside v) (ShownOutside v)
@@ -46,7 +46,7 @@ pixel-inside v e = refuted (is-pixel-outside v) (λ h. is-outside v .fails e (ou
 pub is-deep : (v : Video) → Decides (deepApart v) (DeepApart v)
 is-deep v = together (opposite (equal (depth v) 0)) (either (equal (v .encoding) 1) (equal (v .link) 0))
 
-is-under-d : (v : Video) → Decides (askedUnderD v) (AskedUnderD v)
+pub is-under-d : (v : Video) → Decides (askedUnderD v) (AskedUnderD v)
 is-under-d v = together (equal (edition v) 0) (either (opposite (equal (yccQuantisation v) 0)) (opposite (equal (contentType v) 0)))
 
 pub is-shown-combined : (v : Video) → Decides (shownCombined v) (ShownCombined v)
@@ -113,7 +113,7 @@ module _ (v : Video) (f : VideoFits v) where
   pub repetition-fits : repetition v ≤ 2
   repetition-fits = at-most 2 (repetition v) (λ h. f .inside (inr (inr (inr (inr (inl h))))))
 
-  edition-inside : EditionOutside v → ⊥
+  pub edition-inside : EditionOutside v → ⊥
   edition-inside h = f .inside (inr (inr (inr (inr (inr h)))))
 
   pub edition-fits : edition v ≤ 1

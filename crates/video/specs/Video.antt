@@ -77,6 +77,9 @@ recast family infoframe v =
 abbrev pub inFamily : ℕ → Video → Video
 inFamily family v = recast family (v .infoframe) v
 
+abbrev pub inEdition : ℕ → Video → Video
+inEdition infoframe v = recast (v .family) infoframe v
+
 -- "the same request, but for the frame-rate family": "Family is answered as 0"; and request 11's one exception more: "an E request that
 -- asks for none of them reads back as D". That byte is 0x01, and D's 0x00. `Exception` says that nothing else is lost.
 abbrev pub answeredEdition : ℕ → ℕ
