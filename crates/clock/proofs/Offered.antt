@@ -20,7 +20,8 @@ use Rattle.ratio.proofs.Divisor.{in-lowest}
 use Rattle.video.specs.declared.Mode.{Mode}
 use Rattle.video.specs.declared.Video.{Video}
 use Rattle.video.specs.Modes.{modes, modeOf, rowOf, unlisted, offered}
-use Rattle.video.specs.Video.{depth, repetition, inFamily, pixelOutside, PixelOutside}
+use Rattle.video.specs.Video.{depth, repetition, inFamily, PixelOutside}
+use Rattle.video.specs.Tests.{pixelOutside}
 use Rattle.video.proofs.Fits.{is-pixel-outside}
 use Rattle.clock.specs.declared.Clock.{Clock}
 use Rattle.clock.specs.Clocks.{tmdsTop, tmdsBottom, tmdsOf, tmds, limit, aboveLimit, AboveLimit, clockTests, noClock, clockOf}

@@ -15,7 +15,7 @@ use Rattle.clock.specs.declared.Clock.{Clock}
 use Rattle.clock.specs.declared.Pair.{Pair}
 use Rattle.video.specs.declared.Video.{Video}
 use Rattle.video.specs.Modes.{offered}
-use Rattle.video.specs.Video.{pixelOutside}
+use Rattle.video.specs.Tests.{pixelOutside}
 use Rattle.video.proofs.Fits.{is-pixel-outside}
 use Rattle.clock.specs.Clocks.{tmds, limit, aboveLimit, clockTests, noClock, clockOf}
 use Rattle.clock.specs.Pairs.{Coherent, noPair, other}

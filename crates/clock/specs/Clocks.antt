@@ -9,7 +9,8 @@ use Rattle.refusals.specs.Rows.{modeNotOffered, fieldOutOfRange, clockAbove, Te
 use Rattle.ratio.specs.Lowest.{topOf, bottomOf}
 use Rattle.video.specs.declared.Video.{Video}
 use Rattle.video.specs.Modes.{modeOf, offered}
-use Rattle.video.specs.Video.{depth, repetition, pixelOutside}
+use Rattle.video.specs.Video.{depth, repetition}
+use Rattle.video.specs.Tests.{pixelOutside}
 use Rattle.clock.specs.declared.Clock.{Clock}
 
 -- "The clock that N and CTS rest on is the TMDS clock, which is the pixel clock times 5/4 or 3/2": so many quarters at 24, 30 and 36 bits

@@ -8,7 +8,7 @@ use lib.Dec.{eqb, leb, ltb}
 use Rattle.refusals.specs.Rows.{modeNotOffered, fieldOutOfRange, clockAbove, noExactPair, number, Test, _if_, lowest, answer}
 use Rattle.video.specs.declared.Video.{Video}
 use Rattle.video.specs.Modes.{offered}
-use Rattle.video.specs.Video.{pixelOutside}
+use Rattle.video.specs.Tests.{pixelOutside}
 use Rattle.ratio.specs.Lowest.{topOf, bottomOf}
 use Rattle.clock.specs.declared.Clock.{Clock}
 use Rattle.clock.specs.declared.NCts.{NCts}

@@ -97,7 +97,7 @@ edition-twice byte = go (eqb byte 1) refl
     go false e = rw e
 
 twice : (r : Request) → answeredAs (answeredAs r) ≡ answeredAs r
-twice r = rw (edition-twice (r .video .infoframe))
+twice r = rw (edition-twice (r .video .edition))
 
 -- ---- an image of 256 bytes
 

@@ -11,7 +11,7 @@ use Rattle.lists.proofs.Both.{both-left, both-right, neither-left}
 use Rattle.lists.proofs.Decides.{refuted}
 use Rattle.map.specs.Map as reg
 use Rattle.video.specs.declared.Video.{Video}
-use Rattle.video.specs.Video.{shownOutside, videoOutside, shownCombined, videoCombined}
+use Rattle.video.specs.Tests.{shownOutside, videoOutside, shownCombined, videoCombined}
 use Rattle.video.proofs.Fits.{is-pixel-outside, pixel-inside}
 use Rattle.video.specs.Video as video
 use Rattle.video.specs.Modes.{modeOf, offered}

@@ -56,11 +56,11 @@ same-wanted r =
 
 -- with the edition byte as it is answered
 pub unasked : (r : Request) → Fits r → Acceptable r
-    → Acceptable (inEdition (answeredEdition (r .video .infoframe)) r) × (wanted (inEdition (answeredEdition (r .video .infoframe)) r) ≡ wanted r)
-unasked r g t = go (eqb (r .video .infoframe) 0x01) refl
+    → Acceptable (inEdition (answeredEdition (r .video .edition)) r) × (wanted (inEdition (answeredEdition (r .video .edition)) r) ≡ wanted r)
+unasked r g t = go (eqb (r .video .edition) 0x01) refl
   where
-    go : (b : Bool) → eqb (r .video .infoframe) 0x01 ≡ b
-        → Acceptable (inEdition (cond b 0x00 (r .video .infoframe)) r) × (wanted (inEdition (cond b 0x00 (r .video .infoframe)) r) ≡ wanted r)
+    go : (b : Bool) → eqb (r .video .edition) 0x01 ≡ b
+        → Acceptable (inEdition (cond b 0x00 (r .video .edition)) r) × (wanted (inEdition (cond b 0x00 (r .video .edition)) r) ≡ wanted r)
     go false e = (t, refl)
     go true e =
         let same : r ≡ inEdition 0x01 r = ap (λ (byte : ℕ). inEdition byte r) (eqb-true _ _ e) in

@@ -36,18 +36,18 @@ module _ (v : Video) (f : VideoFits v) where
   pixel-back = rw (fields v .pr, repetition-back (repetition v) (repetition-fits v f)) (omega arith)
 
   -- with E's bits the byte is E's, unless it is D's, where nothing of E is asked for
-  edition-back : editionNamed (fifth v) ≡ answeredEdition (v .infoframe)
+  edition-back : editionNamed (fifth v) ≡ answeredEdition (v .edition)
   edition-back = rw (fields v .yq, fields v .cn) (go (eqb (yccQuantisation v) 0) refl (eqb (contentType v) 0) refl)
     where
       e : ℕ
       e = 1 + yccQuantisation v * 4 + contentType v * 16
 
-      as-asked : AsksE v → answeredEdition e ≡ answeredEdition (v .infoframe)
+      as-asked : AsksE v → answeredEdition e ≡ answeredEdition (v .edition)
       as-asked asks =
-          let whole : e ≡ v .infoframe = omega (arith, parts (v .infoframe), no-more v f, exceptions .asE v f asks .0) in
+          let whole : e ≡ v .edition = omega (arith, parts (v .edition), no-more v f, exceptions .asE v f asks .0) in
           ap answeredEdition whole
 
-      go : (b : Bool) → eqb (yccQuantisation v) 0 ≡ b → (c : Bool) → eqb (contentType v) 0 ≡ c → answeredEdition e ≡ answeredEdition (v .infoframe)
+      go : (b : Bool) → eqb (yccQuantisation v) 0 ≡ b → (c : Bool) → eqb (contentType v) 0 ≡ c → answeredEdition e ≡ answeredEdition (v .edition)
       go false q c t = as-asked (inl (eqb-false _ _ q))
       go true q false t = as-asked (inr (eqb-false _ _ t))
       go true q true t =
@@ -64,7 +64,7 @@ named v f =
     let encoding : w .encoding ≡ v .encoding = omega (arith, encoding-fits v f) in
     let range = range-back v f in
     let pixel = pixel-back v f in
-    let infoframe = edition-back v f in
+    let edition = edition-back v f in
     λ i. record {
       vic = v .vic;
       family = 0;
@@ -72,5 +72,5 @@ named v f =
       link = v .link;
       range = range i;
       pixel = pixel i;
-      infoframe = infoframe i;
+      edition = edition i;
     }

@@ -13,7 +13,8 @@ use Rattle.video.specs.declared.Video.{Video}
 use Rattle.video.specs.Fits.{VideoFits}
 use Rattle.video.proofs.Listed.{not-listed}
 use Rattle.video.specs.Modes.{modeOf}
-use Rattle.video.specs.Video.{inEdition, editionOutside, shownOutside, askedUnderD, shownCombined}
+use Rattle.video.specs.Video.{inEdition}
+use Rattle.video.specs.Tests.{editionOutside, shownOutside, askedUnderD, shownCombined}
 use Rattle.video.proofs.Fits.{is-edition-outside, is-shown-outside, is-under-d, is-shown-combined, is-listed}
 use Rattle.frames.specs.declared.Avi.{Avi}
 use Rattle.frames.specs.declared.Audio.{Audio}

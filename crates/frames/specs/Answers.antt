@@ -8,7 +8,7 @@ use lib.ListN.{replicate}
 use Rattle.refusals.specs.Rows.{modeNotOffered, fieldOutOfRange, combination, Test, _if_, lowest, answer}
 use Rattle.video.specs.declared.Video.{Video}
 use Rattle.video.specs.Modes.{modeOf}
-use Rattle.video.specs.Video.{shownOutside, shownCombined}
+use Rattle.video.specs.Tests.{shownOutside, shownCombined}
 use Rattle.frames.specs.declared.Avi.{Avi}
 use Rattle.frames.specs.declared.Audio.{Audio}
 use Rattle.frames.specs.Frames.{framed, aviCount, aviFrame, audioCount, audioFrame}

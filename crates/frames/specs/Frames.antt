@@ -77,7 +77,7 @@ videoNamed link depth bytes =
       link = link;
       range = getD bytes 2 0 / 8 % 2;
       pixel = (getD bytes 4 0 % 16 + 1) / 2 * 16 + depth % 16;
-      infoframe = editionNamed (getD bytes 4 0);
+      edition = editionNamed (getD bytes 4 0);
     }
 
 -- "CC is channels less one; CA is 0x00 for 2 and 0x13 for 8; the rest 0." Byte 1 is CT3 to CT0 0 CC2 to CC0, byte 4 is CA.

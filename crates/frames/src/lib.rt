@@ -3,7 +3,7 @@ ghost use mathlib.Core.Path.{_≡_};
 ghost use mathlib.Core.Bool.{false};
 ghost use Prim.Native.Nat.{_%_};
 ghost use Rattle.video.specs.Modes.{modeOf};
-ghost use Rattle.video.specs.Video.{shownOutside};
+ghost use Rattle.video.specs.Tests.{shownOutside};
 ghost use Rattle.frames.specs.Frames.{total, checksumOf, frame, colorimetry, quantisation, repeats};
 ghost use Rattle.frames.specs.Frames.{aviFrame, editionNamed, videoNamed, audioHeader, audioPayload, audioOffFrame};
 ghost use Rattle.frames.specs.Answers.{noAvi, GivesAvi, GivesAudio};
@@ -180,7 +180,7 @@ pub fn video_named(link: u8, depth: u8, bytes: &[u8]) -> Video
     let vic = lists::byte_at(bytes, 3);
     let fifth = lists::byte_at(bytes, 4);
     let pixel = (fifth % 16 + 1) / 2 * 16 + depth % 16;
-    let infoframe = edition_named(fifth);
+    let edition = edition_named(fifth);
     Video {
         vic: vic,
         family: 0,
@@ -188,7 +188,7 @@ pub fn video_named(link: u8, depth: u8, bytes: &[u8]) -> Video
         link: link,
         range: third / 8 % 2,
         pixel: pixel,
-        infoframe: infoframe,
+        edition: edition,
     }
 }
 

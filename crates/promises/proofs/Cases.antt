@@ -13,7 +13,8 @@ use Rattle.bits.proofs.Below.{at-below}
 use Rattle.video.specs.declared.Video.{Video}
 use Rattle.ratio.specs.Lowest.{steps, divisorOf}
 use Rattle.video.specs.Modes.{modeOf}
-use Rattle.video.specs.Video.{noVideo, inEdition, editionOutside, askedUnderD, shownOutside, videoOutside, shownCombined, videoCombined}
+use Rattle.video.specs.Video.{noVideo, inEdition}
+use Rattle.video.specs.Tests.{editionOutside, askedUnderD, shownOutside, videoOutside, shownCombined, videoCombined}
 use Rattle.clock.specs.Clocks.{tmds, clockOf}
 use Rattle.clock.specs.Pairs.{reference, recommendedOf}
 use Rattle.clock.specs.Found.{nearestK, nearestIn, nearestOf, exactly, coherentOf, pairOf}

@@ -7,7 +7,7 @@ use lib.Dec.{eqb}
 use lib.ListN.{length}
 use Rattle.ratio.specs.Lowest.{steps, divisorOf}
 use Rattle.video.specs.Modes.{modeOf}
-use Rattle.video.specs.Video.{shownOutside, videoOutside, shownCombined, videoCombined}
+use Rattle.video.specs.Tests.{shownOutside, videoOutside, shownCombined, videoCombined}
 use Rattle.clock.specs.Clocks.{tmds, clockOf}
 use Rattle.clock.specs.Pairs.{reference, recommendedOf}
 use Rattle.clock.specs.Found.{nearestK, nearestIn, nearestOf, exactly, coherentOf, pairOf}

@@ -37,7 +37,7 @@ module _ (input other : List ℕ) (image before : List ℕ) (r : Ran input befor
   elsewhere l i a b = getD-set-other (set l 2 0) 7 i (answeredEdition (getD l 7 0)) 0 b ∙ getD-set-other l 2 i 0 0 a
 
   -- byte 7 is the edition byte
-  seventh : (l : List ℕ) → Bytes l → readOf l .refusal ≡ 0 → readOf l .request .video .infoframe ≡ getD l 7 0
+  seventh : (l : List ℕ) → Bytes l → readOf l .refusal ≡ 0 → readOf l .request .video .edition ≡ getD l 7 0
   unfolding asBytes
   seventh l b z = ap (λ (x : List ℕ). getD x 7 0) (there-and-back .back l b z)
 
@@ -54,7 +54,7 @@ module _ (input other : List ℕ) (image before : List ℕ) (r : Ran input befor
         bytes = λ i two seven. sym (elsewhere input i two seven) ∙ ap (λ (l : List ℕ). getD l i 0) bytes-alike ∙ elsewhere other i two seven;
         edition = ⊎-elim (λ e. inl (sym a ∙ e ∙ b))
             (λ n. inr (subst (λ (x : ℕ). x ≤ 1) a (none-asked _ (v .video) (n .0)), subst (λ (x : ℕ). x ≤ 1) b (none-asked _ (w .video) (n .1))))
-            (s .infoframe);
+            (s .edition);
       }
 
 -- ---- the readers

@@ -13,7 +13,7 @@ use Rattle.bits.specs.Merge.{bitsIn}
 use Rattle.bits.proofs.Below.{at-below}
 use Rattle.refusals.specs.Rows.{number, at, First}
 use Rattle.video.specs.declared.Video.{Video}
-use Rattle.video.specs.Video.{depth, repetition, edition, yccQuantisation, contentType, AsksE, answered}
+use Rattle.video.specs.Video.{depth, repetition, editionNumber, yccQuantisation, contentType, AsksE, answered}
 use Rattle.video.proofs.Fits.{range-fits, depth-fits, repetition-fits, ycc-fits}
 use Rattle.video.proofs.Alike.{exceptions}
 use Rattle.request.specs.declared.Request.{Request}
@@ -66,7 +66,7 @@ asked-one v h = go (eqb (yccQuantisation v) 0) refl
 
 -- the edition byte is answered as it is
 abbrev exact : Video → Type 0
-exact v = answered v .infoframe ≡ v .infoframe
+exact v = answered v .edition ≡ v .edition
 
 module _ (image : List ℕ) (sized : length image ≡ 256) where
   module _ (r : Request) (e : Ends r image) where
@@ -126,7 +126,7 @@ module _ (image : List ℕ) (sized : length image ≡ 256) where
     yq-small : bitsIn 7 6 (getD image 0x59 0) ≤ 1
     yq-small = rw in-yq (ycc-fits (q .video) (fitting .video))
 
-    in-edition : edition (r .video) ≡ cond (eqb (bitsIn 7 4 (getD image 0x59 0)) 0) 0 1
+    in-edition : editionNumber (r .video) ≡ cond (eqb (bitsIn 7 4 (getD image 0x59 0)) 0) 0 1
     in-edition = go (eqb (bitsIn 7 4 (getD image 0x59 0)) 0) refl
       where
         fifth : ℕ
@@ -139,9 +139,9 @@ module _ (image : List ℕ) (sized : length image ≡ 256) where
             whole ∙ rw (quarter, in-yq, in-cn)
 
         byte : exact (q .video)
-        byte = ap (λ (x : Request). x .video .infoframe) (e .answered)
+        byte = ap (λ (x : Request). x .video .edition) (e .answered)
 
-        go : (b : Bool) → eqb (bitsIn 7 4 fifth) 0 ≡ b → edition (r .video) ≡ cond b 0 1
+        go : (b : Bool) → eqb (bitsIn 7 4 fifth) 0 ≡ b → editionNumber (r .video) ≡ cond b 0 1
         go true z =
             let zero : yccQuantisation (r .video) * 4 + contentType (r .video) ≡ 0 = sym halves ∙ eqb-true _ _ z in
             let none : AsksE (q .video) → ⊥ = ⊎-elim (λ n. n (omega (arith, zero))) (λ n. n (omega (arith, zero))) in

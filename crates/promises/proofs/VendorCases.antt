@@ -4,7 +4,7 @@ use Rattle.bits.specs.Merge.{merge}
 use Rattle.registers.specs.Classes.{classAt}
 use Rattle.matrix.specs.Matrix.{fields}
 use Rattle.video.specs.Modes.{modeOf}
-use Rattle.video.specs.Video.{videoOutside, videoCombined}
+use Rattle.video.specs.Tests.{videoOutside, videoCombined}
 use Rattle.request.specs.Sections.{walk, walked}
 use Rattle.request.specs.Bytes.{asBytes}
 use Rattle.request.specs.Read.{outside, combined, judged, readOf}

@@ -14,7 +14,7 @@ use Rattle.chip.specs.declared.Chip.{Chip}
 use Rattle.request.specs.declared.Request.{Request}
 use Rattle.request.specs.Sections.{longest}
 use Rattle.request.specs.Read.{readOf, nctsOf}
-use Rattle.video.specs.Video.{edition}
+use Rattle.video.specs.Video.{editionNumber}
 use Rattle.request.specs.Bytes.{asBytes, inFamily, asReadBack}
 use Rattle.plan.specs.Wanted.{wanted}
 use Rattle.writes.specs.List.{writeList, flat, finishedImage}
@@ -112,4 +112,4 @@ pub record FieldByField (image : List ℕ) : Type 0 where
   -- and a YQ above 1; otherwise the edition that is answered is E exactly where YQ or CN is not 0
   pub noQuantisation : length image ≡ 256 → 1 < bitsIn 7 6 (getD image 0x59 0)
       → (room : List ℕ) → longest ≤ length room → decodeOf image room .refusal ≡ 11
-  pub whichEdition : length image ≡ 256 → (r : Request) → Ends r image → edition (r .video) ≡ cond (eqb (bitsIn 7 4 (getD image 0x59 0)) 0) 0 1
+  pub whichEdition : length image ≡ 256 → (r : Request) → Ends r image → editionNumber (r .video) ≡ cond (eqb (bitsIn 7 4 (getD image 0x59 0)) 0) 0 1

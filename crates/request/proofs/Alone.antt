@@ -10,7 +10,8 @@ use Rattle.refusals.specs.Rows.{lowest}
 use Rattle.refusals.proofs.Tests.{numbered}
 use Rattle.lists.proofs.Decides.{refuted, confirmed}
 use Rattle.video.specs.declared.Video.{Video}
-use Rattle.video.specs.Video.{inEdition, editionOutside, shownOutside, videoOutside, askedUnderD, shownCombined, videoCombined}
+use Rattle.video.specs.Video.{inEdition}
+use Rattle.video.specs.Tests.{editionOutside, shownOutside, videoOutside, askedUnderD, shownCombined, videoCombined}
 use Rattle.video.specs.Modes.{offered}
 use Rattle.video.specs.Fits.{VideoFits}
 use Rattle.video.proofs.Fits as video

@@ -16,7 +16,8 @@ use Rattle.matrix.specs.Matrix.{fields, matrixOf, noMatrix, Bytes}
 use Rattle.matrix.specs.Tests.{inRange, isAllowed}
 use Rattle.matrix.proofs.Pairs.{ranged}
 use Rattle.refusals.specs.Rows.{answer}
-use Rattle.video.specs.Video.{videoIn, videoOutside}
+use Rattle.video.specs.Video.{videoIn}
+use Rattle.video.specs.Tests.{videoOutside}
 use Rattle.video.proofs.Bodies as video
 use Rattle.request.specs.declared.Request.{Request}
 use Rattle.request.specs.declared.Checked.{Checked}

@@ -10,7 +10,7 @@ use lib.ListN.{length, getD, drop, length-drop}
 use borrow.Author.Tests.{eqb-true, ltb-false}
 use Rattle.lists.proofs.Both.{neither-left, neither-right}
 use Rattle.video.specs.declared.Video.{Video}
-use Rattle.video.specs.Video.{videoOutside, videoCombined}
+use Rattle.video.specs.Tests.{videoOutside, videoCombined}
 use Rattle.video.specs.Modes.{offered}
 use Rattle.video.proofs.Fits.{is-outside, is-combined, pixel-inside}
 use Rattle.clock.specs.Clocks.{tmds, aboveLimit}

@@ -8,7 +8,7 @@ use lib.ListN.{length}
 use borrow.Author.Tests.{eqb-true}
 use Rattle.lists.proofs.Both.{neither-right}
 use Rattle.video.specs.declared.Video.{Video}
-use Rattle.video.specs.Video.{videoOutside}
+use Rattle.video.specs.Tests.{videoOutside}
 use Rattle.matrix.specs.Matrix.{matrixOf, noMatrix}
 use Rattle.matrix.specs.Tests.{isAllowed}
 use Rattle.request.specs.Request.{present}

@@ -37,7 +37,7 @@ abbrev pub inFamily : ℕ → Request → Request
 inFamily family r = record { video = video.inFamily family (r .video); sound = r .sound; matrix = r .matrix }
 
 abbrev pub inEdition : ℕ → Request → Request
-inEdition infoframe r = record { video = video.inEdition infoframe (r .video); sound = r .sound; matrix = r .matrix }
+inEdition edition r = record { video = video.inEdition edition (r .video); sound = r .sound; matrix = r .matrix }
 
 -- "the same request, but for the frame-rate family", and for an E that asks for nothing: a request as decoding answers it; and the same of
 -- the bytes of an input, in which byte 2 is the family and byte 7 the edition byte. `ThereAndBack` says that the two agree.

@@ -7,7 +7,8 @@ use lib.Dec.{eqb, ltb}
 use lib.ListN.{length}
 use Rattle.clock.specs.declared.Pair.{Pair}
 use Rattle.video.specs.declared.Video.{Video}
-use Rattle.video.specs.Video.{noVideo, videoOutside, videoCombined}
+use Rattle.video.specs.Video.{noVideo}
+use Rattle.video.specs.Tests.{videoOutside, videoCombined}
 use Rattle.video.specs.Modes.{offered}
 use Rattle.clock.specs.Clocks.{tmds, aboveLimit}
 use Rattle.clock.specs.Pairs.{noPair, audioOff}

@@ -7,13 +7,13 @@ use native.Mathlib.Omega.{arith}
 use lib.Dec.{eqb}
 use borrow.Author.Tests.{eqb-true, eqb-false, ne-eqb}
 use Rattle.video.specs.declared.Video.{Video}
-use Rattle.video.specs.Video.{edition, yccQuantisation, contentType, AsksE, answeredEdition, answered}
+use Rattle.video.specs.Video.{editionNumber, yccQuantisation, contentType, AsksE, answeredEdition, answered}
 use Rattle.video.specs.Fits.{VideoFits}
 use Rattle.video.specs.Exception.{SameBut, Exception}
 use Rattle.video.proofs.Fits.{edition-fits, no-more, asked-under-e}
 
 -- a byte of 0 or 1 asks for nothing, and where nothing is asked for it is one of them
-asks-none : (v : Video) → v .infoframe ≤ 1 → AsksE v → ⊥
+asks-none : (v : Video) → v .edition ≤ 1 → AsksE v → ⊥
 asks-none v h (inl q) = q (omega arith)
 asks-none v h (inr t) = t (omega arith)
 
@@ -32,38 +32,38 @@ parts n =
     let b : n / 16 / 4 ≡ n / 64 = omega arith in
     omega (arith, a, b)
 
-pub none-asked : (v : Video) → VideoFits v → (AsksE v → ⊥) → v .infoframe ≤ 1
+pub none-asked : (v : Video) → VideoFits v → (AsksE v → ⊥) → v .edition ≤ 1
 none-asked v f none =
     omega (
       arith,
-      parts (v .infoframe),
+      parts (v .edition),
       edition-fits v f,
       no-more v f,
       is-zero (yccQuantisation v) (λ q. none (inl q)),
       is-zero (contentType v) (λ t. none (inr t)),
     )
 
-as-d : (v : Video) → VideoFits v → (AsksE v → ⊥) → answeredEdition (v .infoframe) ≡ 0
-as-d v f none = go (eqb (v .infoframe) 1) refl
+as-d : (v : Video) → VideoFits v → (AsksE v → ⊥) → answeredEdition (v .edition) ≡ 0
+as-d v f none = go (eqb (v .edition) 1) refl
   where
-    go : (b : Bool) → eqb (v .infoframe) 1 ≡ b → cond b 0 (v .infoframe) ≡ 0
+    go : (b : Bool) → eqb (v .edition) 1 ≡ b → cond b 0 (v .edition) ≡ 0
     go true e = refl
-    go false e = omega (arith, none-asked v f none, eqb-false (v .infoframe) 1 e)
+    go false e = omega (arith, none-asked v f none, eqb-false (v .edition) 1 e)
 
-as-e : (v : Video) → VideoFits v → AsksE v → (edition v ≡ 1) × (answeredEdition (v .infoframe) ≡ v .infoframe)
+as-e : (v : Video) → VideoFits v → AsksE v → (editionNumber v ≡ 1) × (answeredEdition (v .edition) ≡ v .edition)
 as-e v f asks =
-    (omega (arith, edition-fits v f, asked-under-e v f asks), rw (ne-eqb (v .infoframe) 1 (λ e. asks-none v (omega (arith, e)) asks)))
+    (omega (arith, edition-fits v f, asked-under-e v f asks), rw (ne-eqb (v .edition) 1 (λ e. asks-none v (omega (arith, e)) asks)))
 
 -- two edition bytes that are answered alike
-alike : (v w : Video) → answeredEdition (v .infoframe) ≡ answeredEdition (w .infoframe)
-    → (v .infoframe ≡ w .infoframe) ⊎ ((AsksE v → ⊥) × (AsksE w → ⊥))
-alike v w = go (eqb (v .infoframe) 1) refl (eqb (w .infoframe) 1) refl
+alike : (v w : Video) → answeredEdition (v .edition) ≡ answeredEdition (w .edition)
+    → (v .edition ≡ w .edition) ⊎ ((AsksE v → ⊥) × (AsksE w → ⊥))
+alike v w = go (eqb (v .edition) 1) refl (eqb (w .edition) 1) refl
   where
-    go : (b : Bool) → eqb (v .infoframe) 1 ≡ b → (c : Bool) → eqb (w .infoframe) 1 ≡ c
-        → cond b 0 (v .infoframe) ≡ cond c 0 (w .infoframe) → (v .infoframe ≡ w .infoframe) ⊎ ((AsksE v → ⊥) × (AsksE w → ⊥))
+    go : (b : Bool) → eqb (v .edition) 1 ≡ b → (c : Bool) → eqb (w .edition) 1 ≡ c
+        → cond b 0 (v .edition) ≡ cond c 0 (w .edition) → (v .edition ≡ w .edition) ⊎ ((AsksE v → ⊥) × (AsksE w → ⊥))
     go true d true e h = inl (eqb-true _ _ d ∙ sym (eqb-true _ _ e))
-    go true d false e h = inr (asks-none v (omega (arith, eqb-true (v .infoframe) 1 d)), asks-none w (omega (arith, h)))
-    go false d true e h = inr (asks-none v (omega (arith, h)), asks-none w (omega (arith, eqb-true (w .infoframe) 1 e)))
+    go true d false e h = inr (asks-none v (omega (arith, eqb-true (v .edition) 1 d)), asks-none w (omega (arith, h)))
+    go false d true e h = inr (asks-none v (omega (arith, h)), asks-none w (omega (arith, eqb-true (w .edition) 1 e)))
     go false d false e h = inl h
 
 same : (v w : Video) → answered v ≡ answered w → SameBut v w
@@ -74,13 +74,13 @@ same v w p =
       link = ap (λ (x : Video). x .link) p;
       range = ap (λ (x : Video). x .range) p;
       pixel = ap (λ (x : Video). x .pixel) p;
-      infoframe = alike v w (ap (λ (x : Video). x .infoframe) p);
+      edition = alike v w (ap (λ (x : Video). x .edition) p);
     }
 
 back : (v w : Video) → VideoFits v → VideoFits w → SameBut v w → answered v ≡ answered w
 back v w f g s =
-    let infoframe : answeredEdition (v .infoframe) ≡ answeredEdition (w .infoframe) =
-    ⊎-elim (ap answeredEdition) (λ none. as-d v f (none .0) ∙ sym (as-d w g (none .1))) (s .infoframe) in
+    let edition : answeredEdition (v .edition) ≡ answeredEdition (w .edition) =
+    ⊎-elim (ap answeredEdition) (λ none. as-d v f (none .0) ∙ sym (as-d w g (none .1))) (s .edition) in
     λ i. record {
       vic = s .vic i;
       family = 0;
@@ -88,7 +88,7 @@ back v w f g s =
       link = s .link i;
       range = s .range i;
       pixel = s .pixel i;
-      infoframe = infoframe i;
+      edition = edition i;
     }
 
 pub exceptions : Exception

@@ -13,13 +13,14 @@ use Rattle.lists.proofs.Decides.{Decides, equal, less, opposite, either, togeth
 use Rattle.video.specs.declared.Mode.{Mode}
 use Rattle.video.specs.declared.Video.{Video}
 use Rattle.video.specs.Modes.{modes, rowOf, modeOf, offered}
-use Rattle.video.specs.Video.{depth, repetition, edition, yccQuantisation, contentType, AsksE, EditionOutside, ShownOutside, VideoOutside, PixelOutside}
-use Rattle.video.specs.Video.{FullYCbCr, DeepApart, AskedUnderD, ShownCombined, VideoCombined, editionOutside, shownOutside, videoOutside, pixelOutside}
-use Rattle.video.specs.Video.{fullYCbCr, deepApart, askedUnderD, shownCombined, videoCombined}
+use Rattle.video.specs.Video.{depth, repetition, editionNumber, yccQuantisation, contentType, AsksE, EditionOutside, ShownOutside, VideoOutside, PixelOutside}
+use Rattle.video.specs.Video.{FullYCbCr, DeepApart, AskedUnderD, ShownCombined, VideoCombined}
+use Rattle.video.specs.Tests.{editionOutside, shownOutside, videoOutside, pixelOutside}
+use Rattle.video.specs.Tests.{fullYCbCr, deepApart, askedUnderD, shownCombined, videoCombined}
 use Rattle.video.specs.Fits.{VideoFits}
 
 pub is-edition-outside : (v : Video) → Decides (editionOutside v) (EditionOutside v)
-is-edition-outside v = either (less 1 (edition v)) (either (less 1 (yccQuantisation v)) (less 0 (v .infoframe / 64)))
+is-edition-outside v = either (less 1 (editionNumber v)) (either (less 1 (yccQuantisation v)) (less 0 (v .edition / 64)))
 
 pub is-shown-outside : (v : Video) → Decides (shownOutside v) (ShownOutside v)
 unfolding shownOutside
@@ -47,7 +48,7 @@ pub is-deep : (v : Video) → Decides (deepApart v) (DeepApart v)
 is-deep v = together (opposite (equal (depth v) 0)) (either (equal (v .encoding) 1) (equal (v .link) 0))
 
 pub is-under-d : (v : Video) → Decides (askedUnderD v) (AskedUnderD v)
-is-under-d v = together (equal (edition v) 0) (either (opposite (equal (yccQuantisation v) 0)) (opposite (equal (contentType v) 0)))
+is-under-d v = together (equal (editionNumber v) 0) (either (opposite (equal (yccQuantisation v) 0)) (opposite (equal (contentType v) 0)))
 
 pub is-shown-combined : (v : Video) → Decides (shownCombined v) (ShownCombined v)
 unfolding shownCombined
@@ -116,16 +117,16 @@ module _ (v : Video) (f : VideoFits v) where
   pub edition-inside : EditionOutside v → ⊥
   edition-inside h = f .inside (inr (inr (inr (inr (inr h)))))
 
-  pub edition-fits : edition v ≤ 1
-  edition-fits = at-most 1 (edition v) (λ h. edition-inside (inl h))
+  pub edition-fits : editionNumber v ≤ 1
+  edition-fits = at-most 1 (editionNumber v) (λ h. edition-inside (inl h))
 
   pub ycc-fits : yccQuantisation v ≤ 1
   ycc-fits = at-most 1 (yccQuantisation v) (λ h. edition-inside (inr (inl h)))
 
-  pub no-more : v .infoframe / 64 ≤ 0
-  no-more = at-most 0 (v .infoframe / 64) (λ h. edition-inside (inr (inr h)))
+  pub no-more : v .edition / 64 ≤ 0
+  no-more = at-most 0 (v .edition / 64) (λ h. edition-inside (inr (inr h)))
 
-  pub asked-under-e : AsksE v → edition v ≢ 0
+  pub asked-under-e : AsksE v → editionNumber v ≢ 0
   asked-under-e asks e = f .apart (inr (inr (inr (e, asks))))
 
   pub range-limited : v .encoding ≢ 0 → v .range ≡ 0

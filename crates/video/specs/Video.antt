@@ -2,10 +2,10 @@
 -- edition byte of request 11. A later byte of it is a field here.
 use mathlib.Core.Path.{_≡_}
 use mathlib.Core.Logic.{_≢_, _⊎_}
-use mathlib.Core.Bool.{Bool, cond, not, _&&_, _||_}
+use mathlib.Core.Bool.{cond}
 use mathlib.Core.List.{List, [], _∷_}
 use Prim.Native.Nat.{ℕ, _/_, _%_, _<_}
-use lib.Dec.{eqb, ltb}
+use lib.Dec.{eqb}
 use lib.ListN.{getD, length}
 use Rattle.video.specs.declared.Video.{Video}
 
@@ -14,7 +14,7 @@ use Rattle.video.specs.declared.Video.{Video}
 abbrev pub videoCount : ℕ
 videoCount = 7
 
--- what a body asks for, and the body that asks for it; `pixel` is the depth byte whole, `infoframe` the edition byte whole
+-- what a body asks for, and the body that asks for it; `pixel` is the depth byte whole, `edition` the edition byte whole
 abbrev pub videoIn : List ℕ → Video
 videoIn body =
     record {
@@ -24,11 +24,11 @@ videoIn body =
       link = getD body 3 0;
       range = getD body 4 0;
       pixel = getD body 5 0;
-      infoframe = getD body 6 0;
+      edition = getD body 6 0;
     }
 
 abbrev pub videoBody : Video → List ℕ
-videoBody v = v .vic ∷ v .family ∷ v .encoding ∷ v .link ∷ v .range ∷ v .pixel ∷ v .infoframe ∷ []
+videoBody v = v .vic ∷ v .family ∷ v .encoding ∷ v .link ∷ v .range ∷ v .pixel ∷ v .edition ∷ []
 
 -- request 06: the depth is the byte's "lower half", 0, 1 or 2 for 24, 30 and 36 bits; "Pixel repetition (none, 2, 4)" is 0, 1 or 2 "in that
 -- byte's upper half"
@@ -44,14 +44,14 @@ halfMost = 2
 
 -- request 11: the edition byte "names the edition in bits 1:0, the quantisation in 3:2 and the content type in 5:4"; an edition is 0 for
 -- 861-D and 1 for 861-E
-abbrev pub edition : Video → ℕ
-edition v = v .infoframe % 4
+abbrev pub editionNumber : Video → ℕ
+editionNumber v = v .edition % 4
 
 abbrev pub yccQuantisation : Video → ℕ
-yccQuantisation v = v .infoframe / 4 % 4
+yccQuantisation v = v .edition / 4 % 4
 
 abbrev pub contentType : Video → ℕ
-contentType v = v .infoframe / 16 % 4
+contentType v = v .edition / 16 % 4
 
 -- E's bits: it asks for either of the two
 abbrev pub AsksE : Video → Type 0
@@ -63,7 +63,7 @@ noVideo = videoIn []
 
 -- the same in another family, and with another edition byte
 abbrev pub recast : ℕ → ℕ → Video → Video
-recast family infoframe v =
+recast family edition v =
     record {
       vic = v .vic;
       family = family;
@@ -71,14 +71,14 @@ recast family infoframe v =
       link = v .link;
       range = v .range;
       pixel = v .pixel;
-      infoframe = infoframe;
+      edition = edition;
     }
 
 abbrev pub inFamily : ℕ → Video → Video
-inFamily family v = recast family (v .infoframe) v
+inFamily family v = recast family (v .edition) v
 
 abbrev pub inEdition : ℕ → Video → Video
-inEdition infoframe v = recast (v .family) infoframe v
+inEdition edition v = recast (v .family) edition v
 
 -- "the same request, but for the frame-rate family": "Family is answered as 0"; and request 11's one exception more: "an E request that
 -- asks for none of them reads back as D". That byte is 0x01, and D's 0x00. `Exception` says that nothing else is lost.
@@ -86,7 +86,7 @@ abbrev pub answeredEdition : ℕ → ℕ
 answeredEdition byte = cond (eqb byte 0x01) 0x00 byte
 
 abbrev pub answered : Video → Video
-answered v = recast 0 (answeredEdition (v .infoframe)) v
+answered v = recast 0 (answeredEdition (v .edition)) v
 
 -- a body of that count and what it asks for say the same
 pub record Body : Type 0 where
@@ -98,7 +98,7 @@ pub record Body : Type 0 where
 -- range is 5"; request 11: "edition or quantisation above 1, or bits 7:6, is 5". First of the edition byte and of the fields that the AVI
 -- InfoFrame shows, then of all; the VIC and the family are row 4's (`offered`, Modes).
 abbrev pub EditionOutside : Video → Type 0
-EditionOutside v = (1 < edition v) ⊎ (1 < yccQuantisation v) ⊎ (0 < v .infoframe / 64)
+EditionOutside v = (1 < editionNumber v) ⊎ (1 < yccQuantisation v) ⊎ (0 < v .edition / 64)
 
 abbrev pub ShownOutside : Video → Type 0
 ShownOutside v = (2 < v .encoding) ⊎ (1 < v .range) ⊎ (halfMost < repetition v) ⊎ EditionOutside v
@@ -119,38 +119,10 @@ abbrev pub DeepApart : Video → Type 0
 DeepApart v = (depth v ≢ 0) × ((v .encoding ≡ 1) ⊎ (v .link ≡ 0))
 
 abbrev pub AskedUnderD : Video → Type 0
-AskedUnderD v = (edition v ≡ 0) × AsksE v
+AskedUnderD v = (editionNumber v ≡ 0) × AsksE v
 
 abbrev pub ShownCombined : Video → Type 0
 ShownCombined v = FullYCbCr v ⊎ AskedUnderD v
 
 abbrev pub VideoCombined : Video → Type 0
 VideoCombined v = ((v .link ≡ 0) × (v .encoding ≢ 0)) ⊎ DeepApart v ⊎ ShownCombined v
-
--- the tests that decide them, as `request::rows`, `frames::frame_refusals` and `clock::clock_refusals` say
-abbrev pub editionOutside : Video → Bool
-editionOutside v = ltb 1 (edition v) || (ltb 1 (yccQuantisation v) || ltb 0 (v .infoframe / 64))
-
-unfoldable pub shownOutside : Video → Bool
-shownOutside v = ltb 2 (v .encoding) || (ltb 1 (v .range) || (ltb halfMost (repetition v) || editionOutside v))
-
-unfoldable pub videoOutside : Video → Bool
-videoOutside v = ltb 1 (v .link) || (ltb halfMost (depth v) || shownOutside v)
-
-abbrev pub pixelOutside : Video → Bool
-pixelOutside v = ltb halfMost (depth v) || ltb halfMost (repetition v)
-
-abbrev pub fullYCbCr : Video → Bool
-fullYCbCr v = eqb (v .range) 1 && not (eqb (v .encoding) 0)
-
-abbrev pub deepApart : Video → Bool
-deepApart v = not (eqb (depth v) 0) && (eqb (v .encoding) 1 || eqb (v .link) 0)
-
-abbrev pub askedUnderD : Video → Bool
-askedUnderD v = eqb (edition v) 0 && (not (eqb (yccQuantisation v) 0) || not (eqb (contentType v) 0))
-
-unfoldable pub shownCombined : Video → Bool
-shownCombined v = fullYCbCr v || askedUnderD v
-
-unfoldable pub videoCombined : Video → Bool
-videoCombined v = (eqb (v .link) 0 && not (eqb (v .encoding) 0)) || (deepApart v || shownCombined v)

@@ -3,14 +3,15 @@
 ghost use mathlib.Core.Path.{_≡_};
 ghost use Rattle.video.specs.Modes.{mode, modeOf, ModeTable};
 ghost use Rattle.video.specs.Video.{videoIn, videoBody, depth, repetition, yccQuantisation, contentType, noVideo, inFamily};
-ghost use Rattle.video.specs.Video.{answeredEdition, Body, editionOutside, shownOutside, videoOutside, pixelOutside};
-ghost use Rattle.video.specs.Video.{fullYCbCr, deepApart, askedUnderD, shownCombined, videoCombined};
+ghost use Rattle.video.specs.Video.{answeredEdition, Body};
+ghost use Rattle.video.specs.Tests.{editionOutside, shownOutside, videoOutside, pixelOutside};
+ghost use Rattle.video.specs.Tests.{fullYCbCr, deepApart, askedUnderD, shownCombined, videoCombined};
 ghost use Rattle.video.specs.Exception.{Exception};
 
 // The count of the video section.
 pub const VIDEO_COUNT: u8 = 7;
 
-// What the video section asks for. `pixel` is the depth byte, with the repetition in its upper half; `infoframe` is the edition byte, with
+// What the video section asks for. `pixel` is the depth byte, with the repetition in its upper half; `edition` is the edition byte, with
 // the quantisation and the content type.
 pub struct Video {
     pub vic: u8,
@@ -19,7 +20,7 @@ pub struct Video {
     pub link: u8,
     pub range: u8,
     pub pixel: u8,
-    pub infoframe: u8,
+    pub edition: u8,
 }
 
 // A listed mode. A VIC that is not listed offers no family.
@@ -78,7 +79,7 @@ pub fn video_in(body: &[u8]) -> Video
     let link = lists::byte_at(body, 3);
     let range = lists::byte_at(body, 4);
     let pixel = lists::byte_at(body, 5);
-    let infoframe = lists::byte_at(body, 6);
+    let edition = lists::byte_at(body, 6);
     Video {
         vic: vic,
         family: family,
@@ -86,7 +87,7 @@ pub fn video_in(body: &[u8]) -> Video
         link: link,
         range: range,
         pixel: pixel,
-        infoframe: infoframe,
+        edition: edition,
     }
 }
 
@@ -101,7 +102,7 @@ pub fn video_body(v: Video) -> [u8; VIDEO_COUNT as usize]
         v.link,
         v.range,
         v.pixel,
-        v.infoframe,
+        v.edition,
     ]
 }
 
@@ -122,13 +123,13 @@ pub fn repetition(v: Video) -> u8
 pub fn ycc_quantisation(v: Video) -> u8
     ensures { λ r. ⌜ r ≡ yccQuantisation v ⌝ }
 {
-    v.infoframe / 4 % 4
+    v.edition / 4 % 4
 }
 
 pub fn content_type(v: Video) -> u8
     ensures { λ r. ⌜ r ≡ contentType v ⌝ }
 {
-    v.infoframe / 16 % 4
+    v.edition / 16 % 4
 }
 
 // What stands beside a refusal.
@@ -142,7 +143,7 @@ pub fn no_video() -> Video
         link: 0,
         range: 0,
         pixel: 0,
-        infoframe: 0,
+        edition: 0,
     }
 }
 
@@ -157,7 +158,7 @@ pub fn in_family(v: Video, family: u8) -> Video
         link: v.link,
         range: v.range,
         pixel: v.pixel,
-        infoframe: v.infoframe,
+        edition: v.edition,
     }
 }
 
@@ -175,7 +176,7 @@ pub fn answered_edition(byte: u8) -> u8
 pub fn edition_outside(v: Video) -> bool
     ensures { λ r. ⌜ r ≡ editionOutside v ⌝ }
 {
-    (1 < v.infoframe % 4) | ((1 < v.infoframe / 4 % 4) | (0 < v.infoframe / 64))
+    (1 < v.edition % 4) | ((1 < v.edition / 4 % 4) | (0 < v.edition / 64))
 }
 
 // Row 5, of the fields that the AVI InfoFrame shows.
@@ -219,7 +220,7 @@ pub fn deep_apart(v: Video) -> bool
 pub fn asked_under_d(v: Video) -> bool
     ensures { λ r. ⌜ r ≡ askedUnderD v ⌝ }
 {
-    (v.infoframe % 4 == 0) & ((v.infoframe / 4 % 4 != 0) | (v.infoframe / 16 % 4 != 0))
+    (v.edition % 4 == 0) & ((v.edition / 4 % 4 != 0) | (v.edition / 16 % 4 != 0))
 }
 
 // Row 6, of the fields that the AVI InfoFrame shows.

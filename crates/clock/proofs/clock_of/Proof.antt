@@ -7,7 +7,7 @@ use native.Mathlib.Omega.{arith}
 use borrow.Author.Needs.{needs}
 use borrow.Author.Tests.{lt-ltb, le-ltb}
 use Rattle.video.specs.Modes.{offered}
-use Rattle.video.specs.Video.{pixelOutside}
+use Rattle.video.specs.Tests.{pixelOutside}
 use Rattle.clock.specs.Clocks.{tmds, clockOf}
 use Rattle.clock.proofs.Offered.{halves, found-clock}
 use Rattle.clock.proofs.clock_of.Statement.{statement}

@@ -7,7 +7,7 @@ use borrow.Author.Needs.{needs}
 use borrow.Author.Tests.{lt-ltb, le-ltb, eq-eqb, ne-eqb}
 use Rattle.refusals.specs.Rows.{lowest, answer}
 use Rattle.video.specs.Modes.{offered}
-use Rattle.video.specs.Video.{pixelOutside}
+use Rattle.video.specs.Tests.{pixelOutside}
 use Rattle.clock.specs.declared.Clock.{Clock}
 use Rattle.clock.specs.declared.Pair.{Pair}
 use Rattle.clock.specs.Clocks.{tmds, aboveLimit, clockTests, clockOf}

@@ -4,7 +4,7 @@ use mathlib.Core.Bool.{true, false}
 use Rattle.lists.proofs.Both.{neither-left}
 use Rattle.refusals.specs.Rows.{lowest}
 use Rattle.video.specs.Modes.{offered}
-use Rattle.video.specs.Video.{pixelOutside, videoOutside}
+use Rattle.video.specs.Tests.{pixelOutside, videoOutside}
 use Rattle.video.proofs.Fits.{pixel-inside}
 use Rattle.clock.specs.declared.Clock.{Clock}
 use Rattle.clock.specs.Clocks.{tmds, aboveLimit, clockTests}

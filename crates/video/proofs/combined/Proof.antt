@@ -1,6 +1,6 @@
 -- `video::combined` meets its contract. Assumes nothing.
 use borrow.Author.Needs.{needs}
-use Rattle.video.specs.Video.{videoCombined}
+use Rattle.video.specs.Tests.{videoCombined}
 use Rattle.video.proofs.combined.Statement.{statement}
 use Rattle.video.proofs.combined.Tie as tie
 

@@ -1,6 +1,6 @@
 -- `video::outside` meets its contract. Assumes nothing.
 use borrow.Author.Needs.{needs}
-use Rattle.video.specs.Video.{videoOutside}
+use Rattle.video.specs.Tests.{videoOutside}
 use Rattle.video.proofs.outside.Statement.{statement}
 use Rattle.video.proofs.outside.Tie as tie
 

@@ -1,6 +1,6 @@
 -- `video::shown_combined` meets its contract. Assumes nothing.
 use borrow.Author.Needs.{needs}
-use Rattle.video.specs.Video.{shownCombined}
+use Rattle.video.specs.Tests.{shownCombined}
 use Rattle.video.proofs.shown_combined.Statement.{statement}
 use Rattle.video.proofs.shown_combined.Tie as tie
 

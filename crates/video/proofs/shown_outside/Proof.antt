@@ -1,6 +1,6 @@
 -- `video::shown_outside` meets its contract. Assumes nothing.
 use borrow.Author.Needs.{needs}
-use Rattle.video.specs.Video.{shownOutside}
+use Rattle.video.specs.Tests.{shownOutside}
 use Rattle.video.proofs.shown_outside.Statement.{statement}
 use Rattle.video.proofs.shown_outside.Tie as tie
 
