@@ -27,9 +27,9 @@
 #include <stdint.h>
 
 /* The version of this header, one for each landing; CHANGELOG.md says what came with it. */
-#define STATION_VERSION "5.0.0"
+#define STATION_VERSION "5.1.0"
 #define STATION_MAJOR 5
-#define STATION_MINOR 0
+#define STATION_MINOR 1
 #define STATION_PATCH 0
 
 /* Lengths in bytes. */
@@ -41,6 +41,9 @@
 #define STATION_REQUEST 38      /* the longest request, and the least room for one */
 #define STATION_MATRIX 25       /* a matrix as a request has it: its mode and twelve coefficients */
 #define STATION_LIST 1024       /* the longest list that a vendor may bring, 512 pairs */
+
+/* And in numbers. */
+#define STATION_METER 12        /* a colour meter's export: nine factors and three offsets */
 
 #ifdef __cplusplus
 extern "C" {
@@ -55,7 +58,7 @@ enum station_refusal {
     STATION_COUNT_NOT_ALLOWED = 2,  /* a count the section does not allow */
     STATION_BYTES_AFTER = 3,        /* bytes after the matrix section */
     STATION_MODE_NOT_OFFERED = 4,   /* VIC not listed, or family not offered by it */
-    STATION_FIELD_OUT_OF_RANGE = 5, /* any other field outside its range (matrix mode, depth or repetition above 2; range, edition or quantisation above 1; bits 7:6 of the edition byte) */
+    STATION_FIELD_OUT_OF_RANGE = 5, /* any other field outside its range (matrix mode, depth or repetition above 2; range, edition or quantisation above 1; bits 7:6 of the edition byte); not twelve numbers of a meter */
     STATION_COMBINATION = 6,        /* encoding not 0 without a matrix or with range 1; DVI with audio or with encoding not 0; more than 24 bits with 4:2:2 or DVI; quantisation or content type under edition D */
     STATION_IMAGE_LENGTH = 7,       /* image not of 256 bytes; in the machine also packet buffer not of 32, coefficient buffer not of 24, mark not of 1 */
     STATION_HOLDS_UP = 8,           /* GC hold up, or AVI and audio holds both up */
@@ -67,7 +70,9 @@ enum station_refusal {
     STATION_LIST_LENGTH = 14,       /* a list of an odd length, or of more than 512 pairs */
     STATION_BAD_PAIR = 15,          /* a bad pair in a list; the first one's place stands beside the number */
     STATION_BAD_END = 16,           /* a list that ends in an image in which no request ends */
-    STATION_CLOCK_ABOVE = 17        /* a TMDS clock above 225,000,000 Hz */
+    STATION_CLOCK_ABOVE = 17,       /* a TMDS clock above 225,000,000 Hz */
+    STATION_NOT_FINITE = 18,        /* a meter's number that is not a number, or infinite */
+    STATION_NO_MODE_FITS = 19       /* a meter's numbers for which there is no mode: with each factor below 2^mode in size, and every rounded field from -4096 to 4095 */
 };
 
 struct station_count { uint32_t refusal, count; };
@@ -99,6 +104,13 @@ struct station_pair station_ncts(const uint8_t *request, size_t length);
 /* Three 12-bit codes through a colour matrix: its mode and twelve coefficients as a request has them, 25 bytes. Refusals 5 (also a
  * length other than 25) and 12. */
 struct station_pixel station_preview(const uint8_t *matrix, size_t length, uint32_t a, uint32_t b, uint32_t c);
+
+/* A colour meter's export as a matrix: twelve floats, the nine factors and three offsets in the order of a request's matrix (A4, B4 and C4
+ * are the offsets, in 12-bit codes), become `count` 25 bytes at the front of `matrix`, as a request and station_preview take them; the bytes
+ * after them stay. The mode is the smallest in which each factor is below 2^mode in size and every rounded field fits. A factor's field is
+ * the whole number nearest to factor * 4096 / 2^mode, an offset's the nearest to offset / 2^mode, the even one on a tie, exactly: no float is
+ * rounded on the way. Refusals 5 (not STATION_METER numbers), 10 (fewer than 25 bytes), 18 and 19. */
+struct station_count station_meter(const float *numbers, size_t count, uint8_t *matrix, size_t matrix_length);
 
 /* The chip machine: a register image of 256 bytes, a packet buffer of 32, a coefficient buffer of 24 and a waiting mark of 1, all four the
  * host's. It stands for the chip in tests and simulations. Planning and decoding need the image alone.

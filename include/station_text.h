@@ -15,7 +15,7 @@ static inline const char *station_text(uint32_t refusal) {
         "a count the section does not allow",
         "bytes after the matrix section",
         "VIC not listed, or family not offered by it",
-        "any other field outside its range (matrix mode, depth or repetition above 2; range, edition or quantisation above 1; bits 7:6 of the edition byte)",
+        "any other field outside its range (matrix mode, depth or repetition above 2; range, edition or quantisation above 1; bits 7:6 of the edition byte); not twelve numbers of a meter",
         "encoding not 0 without a matrix or with range 1; DVI with audio or with encoding not 0; more than 24 bits with 4:2:2 or DVI; quantisation or content type under edition D",
         "image not of 256 bytes; in the machine also packet buffer not of 32, coefficient buffer not of 24, mark not of 1",
         "GC hold up, or AVI and audio holds both up",
@@ -27,7 +27,9 @@ static inline const char *station_text(uint32_t refusal) {
         "a list of an odd length, or of more than 512 pairs",
         "a bad pair in a list; the first one's place stands beside the number",
         "a list that ends in an image in which no request ends",
-        "a TMDS clock above 225,000,000 Hz"
+        "a TMDS clock above 225,000,000 Hz",
+        "a meter's number that is not a number, or infinite",
+        "a meter's numbers for which there is no mode: with each factor below 2^mode in size, and every rounded field from -4096 to 4095"
     };
     return refusal < sizeof texts / sizeof texts[0] ? texts[refusal] : "a number that this header does not know";
 }

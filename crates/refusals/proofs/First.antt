@@ -36,6 +36,8 @@ number-some listLength = omega arith
 number-some badPair = omega arith
 number-some badEnd = omega arith
 number-some clockAbove = omega arith
+number-some notFinite = omega arith
+number-some noModeFits = omega arith
 
 -- what fails at the first and at each of the others fails everywhere
 shift : (r : Condition) (rs : List Condition) (n : ℕ) → (r .When → ⊥) → ((i : ℕ) → i < n → at rs i .When → ⊥) → (i : ℕ) → i < suc n → at (r ∷ rs) i .When → ⊥

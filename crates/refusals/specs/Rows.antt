@@ -1,4 +1,4 @@
--- Document 01, "Refusal numbers", and those of document 02 that have landed (03, 06): the rows of the list, their numbers, their order, and
+-- Document 01, "Refusal numbers", and those of document 02 that have landed (03, 06, 07): the rows of the list, their numbers, their order, and
 -- what it is to give one.
 use mathlib.Core.Path.{_≡_}
 use mathlib.Core.Logic.{_↔_, _≢_}
@@ -11,7 +11,7 @@ use lib.ListN.{length, getD}
 -- a row, named after its "When"
 pub data Row : Type 0 where
   inputEnds countNotAllowed bytesAfter modeNotOffered fieldOutOfRange combination : Row
-  imageLength holdsUp noExactPair bufferShort noRequest inputAbove twoHolds listLength badPair badEnd clockAbove : Row
+  imageLength holdsUp noExactPair bufferShort noRequest inputAbove twoHolds listLength badPair badEnd clockAbove notFinite noModeFits : Row
 
 abbrev pub number : Row → ℕ
 number inputEnds = 1
@@ -31,12 +31,16 @@ number listLength = 14
 number badPair = 15
 number badEnd = 16
 number clockAbove = 17
+number notFinite = 18
+number noModeFits = 19
 
--- "Checked in this order"; 14, 15 and 16 "in that order, after 7 and 8"; 17 "after 6 and before 7"
+-- "Checked in this order"; 14, 15 and 16 "in that order, after 7 and 8"; 17 "after 6 and before 7"; 18 and 19 in the order in which request
+-- 07 names them
 abbrev pub order : List Row
 order =
     inputEnds ∷ countNotAllowed ∷ bytesAfter ∷ modeNotOffered ∷ fieldOutOfRange ∷ combination ∷ clockAbove ∷
-    imageLength ∷ holdsUp ∷ noExactPair ∷ bufferShort ∷ noRequest ∷ inputAbove ∷ twoHolds ∷ listLength ∷ badPair ∷ badEnd ∷ []
+    imageLength ∷ holdsUp ∷ noExactPair ∷ bufferShort ∷ noRequest ∷ inputAbove ∷ twoHolds ∷ listLength ∷ badPair ∷ badEnd ∷
+    notFinite ∷ noModeFits ∷ []
 
 -- a row that a call checks, and when it applies to the call's input
 pub record Condition : Type 1 where

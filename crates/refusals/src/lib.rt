@@ -43,10 +43,14 @@ impl Refusal {
     pub const BAD_END: u8 = 16;
 
     pub const CLOCK_ABOVE: u8 = 17;
+
+    pub const NOT_FINITE: u8 = 18;
+
+    pub const NO_MODE_FITS: u8 = 19;
 }
 
 // The constants are 0 for none, and then the numbers of the rows in the list's order.
-pub fn numbers() -> [u8; 18]
+pub fn numbers() -> [u8; 20]
     ensures { λ r. ⌜ r ≡ 0 ∷ map number order ⌝ }
 {
     [
@@ -68,5 +72,7 @@ pub fn numbers() -> [u8; 18]
         Refusal::LIST_LENGTH,
         Refusal::BAD_PAIR,
         Refusal::BAD_END,
+        Refusal::NOT_FINITE,
+        Refusal::NO_MODE_FITS,
     ]
 }
