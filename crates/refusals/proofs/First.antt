@@ -11,7 +11,7 @@ use lib.Dec.{eqb}
 use lib.ListN.{length}
 use borrow.Author.Tests.{eqb-true, eqb-false}
 use Rattle.refusals.specs.Rows.{Row, inputEnds, countNotAllowed, bytesAfter, modeNotOffered, fieldOutOfRange, combination, number, order, inOrder, Condition, at, First, Given}
-use Rattle.refusals.specs.Rows.{imageLength, holdsUp, noExactPair, bufferShort, noRequest, inputAbove, twoHolds, listLength, badPair, badEnd, clockAbove}
+use Rattle.refusals.specs.Rows.{imageLength, holdsUp, noExactPair, bufferShort, noRequest, inputAbove, twoHolds, listLength, badPair, badEnd, clockAbove, notFinite, noModeFits}
 
 -- the conditions gone through in order
 abbrev pub Tried : List Condition → ℕ → Type 0
