@@ -1,20 +1,19 @@
 -- Bytes stored section by section. `sets d at xs` of lib.Seq is d with xs stored from index at. Assumes nothing.
 --     one-more      a byte more of a body
 --     emitted       sections one after another are the bytes of a request
---     turn-bytes    a coefficient more of a matrix
 use mathlib.Core.Path.{_≡_, refl, sym, ap, ap₂, _∙_}
 use mathlib.Core.Bool.{Bool, true, false, cond}
-use mathlib.Core.List.{List, [], _∷_, _++_, append-nil}
-use Prim.Native.Nat.{ℕ, suc, _+_, _*_, _%_, _≤_, _<_}
+use mathlib.Core.List.{List, [], _∷_}
+use Prim.Native.Nat.{ℕ, suc, _+_, _≤_, _<_}
 use native.Mathlib.Numerals.{add-one}
 use native.Mathlib.Omega.{arith}
 use lib.Dec.{eqb, lit≤}
-use lib.ListN.{length, getD, take, drop, set, replicate, drop-of-length-le, length-append}
-use lib.Seq.{sets, sets-eq, take-suc, take-all, take-at, length-take-le}
-use Rattle.lists.proofs.Emit.{sets-append, sets-two, sets-front}
+use lib.ListN.{length, getD, take, drop, set, length-append}
+use lib.Seq.{sets, take-suc, take-all, take-at, length-take-le}
+use Rattle.lists.proofs.Emit.{sets-append, sets-front}
 use Rattle.video.specs.Video.{videoBody}
 use Rattle.matrix.specs.declared.Matrix.{Matrix}
-use Rattle.matrix.specs.Coefficient.{highByte, coefficientBytes}
+use Rattle.matrix.specs.Coefficient.{coefficientBytes}
 use Rattle.matrix.proofs.Pairs.{length-bytes}
 use Rattle.request.specs.declared.Sound.{Sound}
 use Rattle.request.specs.declared.Sound.the-variants.{Off, On}
@@ -43,30 +42,6 @@ pub emitted : (d : List ℕ) (place : ℕ) (bodies : List (List ℕ)) → inTurn
 emitted d place [] = refl
 emitted d place (b ∷ bs) =
     emitted (sets d place (length b ∷ b)) (place + suc (length b)) bs ∙ sym (sets-append (length b ∷ b) (laid bs []) d place)
-
-bytes-append : (xs ys : List ℕ) → coefficientBytes (xs ++ ys) ≡ coefficientBytes xs ++ coefficientBytes ys
-bytes-append [] ys = refl
-bytes-append (x ∷ xs) ys = ap (λ (l : List ℕ). highByte x ∷ x % 256 ∷ l) (bytes-append xs ys)
-
--- a turn stores the two bytes of one coefficient more
-pub turn-bytes : (cs d : List ℕ) (at i n m a b : ℕ) → i < length cs → at + 2 * i ≡ n → n + 1 ≡ m
-    → a ≡ highByte (getD cs i 0) → b ≡ getD cs i 0 % 256
-    → set (set (sets d at (coefficientBytes (take i cs))) n a) m b ≡ sets d at (coefficientBytes (take (i + 1) cs))
-turn-bytes cs d at i n m a b h e f p q =
-    let l : length (coefficientBytes (take i cs)) ≡ 2 * i = length-bytes (take i cs) ∙ ap (λ (n : ℕ). 2 * n) (length-take-le i cs (omega arith)) in
-    rw (← f) (sets-two (coefficientBytes (take i cs)) d at n a b (omega arith))
-    ∙ ap (sets d at) (ap₂ (λ (x y : ℕ). coefficientBytes (take i cs) ++ (x ∷ y ∷ [])) p q
-    ∙ sym (ap (λ (n : ℕ). coefficientBytes (take n cs)) (add-one i) ∙ ap coefficientBytes (take-suc cs i 0 h) ∙ bytes-append (take i cs) (getD cs i 0 ∷ [])))
-
--- after the last: the body of a matrix section
-pub whole-matrix : (cs : List ℕ) (mode i : ℕ) → length cs ≡ 12 → 12 ≤ i
-    → sets (mode ∷ replicate 24 0) 1 (coefficientBytes (take i cs)) ≡ mode ∷ coefficientBytes cs
-whole-matrix cs mode i l h =
-    let n : length (coefficientBytes cs) ≡ 24 = omega (arith, length-bytes cs) in
-    let past : length (mode ∷ replicate 24 0) ≤ 1 + length (coefficientBytes cs) = omega arith in
-    ap (λ (k : List ℕ). sets (mode ∷ replicate 24 0) 1 (coefficientBytes k)) (take-all i cs (omega arith))
-    ∙ sets-eq (coefficientBytes cs) (mode ∷ replicate 24 0) 1 (omega arith)
-    ∙ rw (drop-of-length-le (mode ∷ replicate 24 0) past, append-nil (coefficientBytes cs))
 
 -- ---- a request
 

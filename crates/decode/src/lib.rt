@@ -5,7 +5,6 @@ ghost use mathlib.Core.List.{List, _∷_};
 ghost use Prim.Native.Nat.{ℕ, suc, _+_, _<_, _≤_};
 ghost use lib.ListN.{getD, length};
 ghost use lib.Seq.{sets};
-ghost use Rattle.matrix.specs.Coefficient.{coefficientBytes};
 ghost use Rattle.request.specs.declared.Request.{Request};
 ghost use Rattle.request.specs.Sections.{audioCount, matrixCount, longest};
 ghost use Rattle.request.specs.Bytes.{audioBody, matrixBody, asBytes, inFamily};
@@ -22,7 +21,6 @@ use request::Request;
 use request::Sound;
 use request::sections::AUDIO_COUNT;
 use request::sections::LONGEST;
-use request::sections::MATRIX_COUNT;
 
 // The number of a refusal, 0 for none, and the count of bytes of the request.
 pub struct Decoded {
@@ -140,29 +138,12 @@ fn audio_section(buffer: &mut [u8], place: usize, sound: Sound) -> usize
     }
 }
 
-// The body of the section of a matrix that is on.
-fn matrix_body(m: Matrix) -> [u8; MATRIX_COUNT as usize]
-    requires { ⌜ ((i : ℕ) → getD (m .coefficients) i 0 < 8192) ⌝ }
-    ensures { λ r. ⌜ r ≡ m .mode ∷ coefficientBytes (m .coefficients) ⌝ }
-{
-    let fields = m.coefficients;
-    let mut out = [0u8; MATRIX_COUNT as usize];
-    out[0] = m.mode;
-    let mut i: usize = 0;
-    while i < 12 {
-        out[1 + 2 * i] = matrix::high_byte(fields[i]);
-        out[2 + 2 * i] = (fields[i] % 256) as u8;
-        i = i + 1;
-    }
-    out
-}
-
 fn matrix_section(buffer: &mut [u8], place: usize, m: Matrix) -> usize
     requires { ⌜ (place + suc matrixCount ≤ length (now buffer)) × ((i : ℕ) → getD (m .coefficients) i 0 < 8192) ⌝ }
     ensures { λ r. ⌜ r ≡ place + suc (length (matrixBody m)) ⌝ }
     ensures { λ _. ⌜ now (buffer .exit) ≡ sets (now (buffer .entry)) place (length (matrixBody m) ∷ matrixBody m) ⌝ }
 {
-    let body = matrix_body(m);
+    let body = matrix::body_of(m);
     if m.on == 0 {
         return section(buffer, place, &body[..0]);
     }

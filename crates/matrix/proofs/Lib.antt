@@ -1,6 +1,7 @@
 pub mod Order
 pub mod Signs
 pub mod Pairs
+pub mod Body
 pub mod Numbers
 pub mod Codes
 pub mod Differences

@@ -8,7 +8,7 @@ ghost use lib.Signed.{shrZ};
 ghost use Rattle.matrix.specs.declared.Matrix.{Matrix};
 ghost use Rattle.matrix.specs.Coefficient.{word, field, TwosComplement, highByte};
 ghost use Rattle.matrix.specs.Tests.{Sent, Said};
-ghost use Rattle.matrix.specs.Matrix.{noMatrix, wordAt, Bytes, Numbers};
+ghost use Rattle.matrix.specs.Matrix.{noMatrix, bodyOf, wordAt, Bytes, Numbers, Whole, BodyBack};
 ghost use Rattle.matrix.specs.Tests.{isAllowed};
 ghost use Rattle.matrix.specs.Read.{twelveOf, allowedMatrix};
 ghost use Rattle.matrix.specs.Preview.{held, codeOf, outputOf, Previews, PreviewRefusals, RoundedDown, Clamped};
@@ -126,6 +126,22 @@ pub fn none() -> Matrix
     }
 }
 
+// A matrix as a request has it, its mode and the two bytes of each coefficient.
+pub fn body_of(m: Matrix) -> [u8; 25]
+    ensures { λ r. ⌜ r ≡ bodyOf m ⌝ }
+{
+    let fields = m.coefficients;
+    let mut out = [0u8; 25];
+    out[0] = m.mode;
+    let mut i: usize = 0;
+    while i < 12 {
+        out[1 + 2 * i] = high_byte(fields[i]);
+        out[2 + 2 * i] = (fields[i] % 256) as u8;
+        i = i + 1;
+    }
+    out
+}
+
 // A field plus 4096: 0 for -4096, 8191 for 4095. The preview counts in natural numbers, and takes away at the end what that adds.
 fn raise(field: u16) -> u64
     requires { ⌜ field < 8192 ⌝ }
@@ -235,6 +251,11 @@ pub fn carried_coefficient()
 // What a body says, number by number.
 pub fn body_rule()
     ensures { λ _. ⌜ ((body : List ℕ) → Bytes body → Numbers body) ⌝ }
+{}
+
+// A matrix and its bytes, there and back.
+pub fn body_back()
+    ensures { λ _. ⌜ ((m : Matrix) → Whole m → BodyBack m) ⌝ }
 {}
 
 // The preview rounds down, and holds within 0 to 4095.

@@ -1,11 +1,16 @@
 -- `decode::matrix_section` meets its contract. Assumes nothing.
+use mathlib.Core.Path.{ap, _∙_}
+use mathlib.Core.List.{List, _∷_}
+use Prim.Native.Nat.{ℕ}
 use borrow.Author.Tests.{eq-eqb, ne-eqb}
 use borrow.Author.Needs.{needs}
+use Rattle.matrix.specs.Coefficient.{coefficientBytes}
+use Rattle.matrix.proofs.Body.{unmoved}
 use Rattle.decode.proofs.matrix_section.Statement.{statement}
 use Rattle.decode.proofs.matrix_section.Tie as tie
 
-matrix-body-requires : tie.Need-matrix-body-requires
-matrix-body-requires c κs = search needs
+body-of-requires : tie.Need-body-of-requires
+body-of-requires c κs = search needs
 
 array-share-prefix-body : tie.Need-array-share-prefix-body
 array-share-prefix-body c = search needs
@@ -35,13 +40,16 @@ returns-2 : tie.Need-returns-2
 returns-2 c =
     let s = c .before .before in
     let e = s .before .before .before in
-    simp (ne-eqb _ _ (e .if1 .left)) (rw (e .before .before .matrix-body .ensures) at (s .section2 .ensures))
+    let start = e .before .before .before .before in
+    let m = start .args .m in
+    let body = e .before .before .body-of .ensures ∙ ap (λ (cs : List ℕ). m .mode ∷ coefficientBytes cs) (unmoved (m .coefficients) (start .pre .1)) in
+    simp (ne-eqb _ _ (e .if1 .left)) (rw body at (s .section2 .ensures))
 
 pub matrix-section-spec : {M : Type 1} → statement M
 matrix-section-spec =
     tie.close
     (tie.spec
-    matrix-body-requires
+    body-of-requires
     array-share-prefix-body
     slice-aggregate-section
     section-requires

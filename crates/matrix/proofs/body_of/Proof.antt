@@ -1,18 +1,19 @@
--- `decode::matrix_body` meets its contract: before turn i the bytes of the first i coefficients are stored. Assumes nothing.
-use mathlib.Core.Path.{_≡_, refl, ap, _∙_}
-use Prim.Native.Nat.{_≤_, _-_}
-use native.Mathlib.Nat.{mod-eq-of-lt}
+-- `matrix::body_of` meets its contract: before turn i the bytes of the first i coefficients are stored. Assumes nothing.
+use mathlib.Core.Path.{_≡_, refl, sym, ap, _∙_}
+use mathlib.Core.List.{map}
+use Prim.Native.Nat.{ℕ, _%_, _≤_, _-_}
 use native.Mathlib.Omega.{arith}
-use lib.ListN.{length, take}
+use lib.ListN.{length, take, length-map}
 use lib.Seq.{sets}
 use borrow.Author.Needs.{needs}
-use Rattle.matrix.specs.Coefficient.{highByte, coefficientBytes}
-use Rattle.decode.proofs.Emitted.{turn-bytes, whole-matrix}
-use Rattle.decode.proofs.matrix_body.Statement.{statement}
-use Rattle.decode.proofs.matrix_body.Tie as tie
+use Rattle.lists.proofs.Emit.{map-at}
+use Rattle.matrix.specs.Coefficient.{field, highByte, coefficientBytes}
+use Rattle.matrix.proofs.Body.{turn-bytes, whole-matrix}
+use Rattle.matrix.proofs.body_of.Statement.{statement}
+use Rattle.matrix.proofs.body_of.Tie as tie
 
 abbrev Inv-loop : tie.InvT-loop
-Inv-loop fields out₀ i₀ out i = (i ≤ 12) × (length fields ≡ 12) × (out ≡ sets out₀ 1 (coefficientBytes (take i fields)))
+Inv-loop fields out₀ i₀ out i = (i ≤ 12) × (length fields ≡ 12) × (out ≡ sets out₀ 1 (coefficientBytes (take i (map field fields))))
 
 abbrev μ-loop : tie.MeasureT-loop
 μ-loop fields out₀ i₀ out i = 12 - i
@@ -68,20 +69,25 @@ loop-less c = search needs
 loop-again : tie.Need-loop-again Inv-loop μ-loop
 loop-again c =
     let l = c .before .before .loop in
-    let s = c .before .before .before .before in
-    let high = c .high-byte .ensures ∙ ap highByte (mod-eq-of-lt (s .pre (l .i))) in (
+    let cs = c .before .before .before .before .args .m .coefficients in
+    let at = map-at field cs (l .i) 0 0 (omega arith) in (
       search needs,
       search needs,
-      rw (l .inv .2) (turn-bytes (s .args .m .coefficients) _ 1 (l .i) _ _ _ _ (omega arith) (omega arith) (omega arith) high refl),
+      rw (l .inv .2)
+          (turn-bytes (map field cs) _ 1 (l .i) _ _ _ _ (rw (length-map cs field) (omega arith)) (omega arith) (omega arith)
+          (c .high-byte .ensures ∙ ap highByte (sym at)) (low _ ∙ ap (λ (n : ℕ). n % 256) (sym at))),
     )
+  where
+    low : (n : ℕ) → n % 256 ≡ n % 8192 % 256
+    low n = omega arith
 
 returns : tie.Need-returns Inv-loop μ-loop
 returns c =
     let l = c .before .loop in
-    l .inv .2 ∙ whole-matrix _ _ (l .i) (l .inv .1) (omega arith)
+    l .inv .2 ∙ whole-matrix _ _ (l .i) (rw (length-map _ field) (l .inv .1)) (omega arith)
 
-pub matrix-body-spec : {M : Type 1} → statement M
-matrix-body-spec =
+pub body-of-spec : {M : Type 1} → statement M
+body-of-spec =
     tie.close
     (tie.spec
     Inv-loop
