@@ -9,7 +9,7 @@ use lib.ListN.{length, getD, length-map, List·getD-map}
 use borrow.Author.Tests.{eq-eqb, ltb-true}
 use Rattle.lists.specs.Among.{among}
 use Rattle.lists.specs.Find.{every}
-use Rattle.lists.proofs.Both.{both-left, both-right}
+use Rattle.lists.proofs.Find.{every-at}
 use Rattle.lists.proofs.Those.{of-those}
 use Rattle.chip.specs.Machine.{Write, _gets_, audio, packets, up, holdsOf}
 use Rattle.writes.specs.List.{fullList, stays, writeList}
@@ -26,11 +26,6 @@ among-at (x ∷ xs) (suc k) h = go (eqb (getD xs k 0) x) (among-at xs k (le-of-s
     go : (b : Bool) {c : Bool} → c ≡ true → (b || c) ≡ true
     go true e = refl
     go false e = e
-
-pub every-at : {A : Type 0} (test : A → Bool) (l : List A) (k : ℕ) (d : A) → every test l ≡ true → k < length l → test (getD l k d) ≡ true
-every-at test [] k d t h = absurd (not-suc-le-zero h)
-every-at test (x ∷ xs) zero d t h = both-left (test x) (every test xs) t
-every-at test (x ∷ xs) (suc k) d t h = every-at test xs k d (both-right (test x) (every test xs) t) (le-of-suc-le-suc h)
 
 pub full-fair : (want : ℕ → ℕ) (image : List ℕ) (k : ℕ) → k < length (fullList want image)
     → Fair image (getD (fullList want image) k (0 gets 0))

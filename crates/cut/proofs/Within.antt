@@ -15,6 +15,7 @@ use Rattle.lists.specs.Find.{every}
 use Rattle.lists.specs.Those.{those}
 use Rattle.lists.proofs.Both.{both-left, both-right, neither-left, neither-right}
 use Rattle.lists.proofs.Emit.{map-at}
+use Rattle.lists.proofs.Find.{every-at}
 use Rattle.bits.specs.Merge.{merge}
 use Rattle.map.specs.Map as reg
 use Rattle.registers.specs.Classes.{readOnly}
@@ -31,7 +32,6 @@ use Rattle.cut.specs.Vsync.{sent}
 use Rattle.cut.specs.Within.{Within, MadeRight}
 use Rattle.cut.proofs.Erased.{alike-write, which}
 use Rattle.cut.proofs.Runs.{alike}
-use Rattle.cut.proofs.Fairness.{every-at}
 use Rattle.cut.proofs.Cut.{Ready, take-map, cut-acts, stand, taken}
 use Rattle.cut.proofs.WriteList.{planned-good}
 use Rattle.cut.proofs.Fewer.{last-there}

@@ -24,7 +24,7 @@ of-sub a b {p} {q} h = go (ltb a b) refl
     go true e = record { apart = omega (arith, ltb-true a b e) }
     go false e = record { apart = omega (arith, ltb-false a b e) }
 
-of-neg : (n : ℕ) {p q : ℕ} → n + p ≡ q → Differs (negℤ (pos n)) p q
+pub of-neg : (n : ℕ) {p q : ℕ} → n + p ≡ q → Differs (negℤ (pos n)) p q
 of-neg zero h = record { apart = omega arith }
 of-neg (suc n) h = record { apart = h }
 

@@ -1,0 +1,7 @@
+pub mod Shifted
+pub mod Apart
+pub mod Twelve
+pub mod Answers
+pub mod Whole
+pub mod Scaled
+pub mod HalfUnit

@@ -1,0 +1,5 @@
+pub mod Nearest
+pub mod Numbers
+pub mod Found
+pub mod Meter
+pub mod Cases

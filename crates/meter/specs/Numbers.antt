@@ -1,0 +1,43 @@
+-- Document 02, request 07: "twelve f32 numbers, nine factors and three offsets in 12-bit codes", and the mode that they take.
+use mathlib.Core.Path.{_≡_}
+use mathlib.Core.Bool.{Bool, false, cond}
+use mathlib.Core.List.{List}
+use Prim.Native.Nat.{ℕ, _*_, _%_, _^_, _<_}
+use lib.Dec.{eqb}
+use lib.IntN.{ℤ, pos, negℤ, natAbs, _*ℤ_}
+use lib.ListN.{getD}
+use lib.Ieee.{Float, nan, inf, fin, up, down}
+use Rattle.matrix.specs.Coefficient.{Spans}
+use Rattle.meter.specs.Nearest.{Nearest}
+
+-- "Each float is an exact fraction": top / bottom. A finite float is ±m·2^e, and 2^e is up e / down e (lib.Ieee)
+abbrev pub top : Float → ℤ
+top nan = pos 0
+top (inf s) = pos 0
+top (fin s m e) = cond s (negℤ (pos (m * up e))) (pos (m * up e))
+
+abbrev pub bottom : Float → ℕ
+bottom nan = 1
+bottom (inf s) = 1
+bottom (fin s m e) = down e
+
+-- number i of the twelve
+abbrev pub numberOf : List Float → ℕ → Float
+numberOf numbers i = getD numbers i nan
+
+-- in the order of a request's matrix, A1 to A4, B1 to B4, C1 to C4: the offsets are A4, B4 and C4, the others are factors
+abbrev pub isOffset : ℕ → Bool
+isOffset i = eqb (i % 4) 3
+
+-- "below 2^mode in size"
+abbrev pub Below : ℕ → Float → Type 0
+Below mode x = natAbs (top x) < 2 ^ mode * bottom x
+
+-- "A factor's field is the whole number nearest to factor·4096/2^mode, an offset's the nearest to offset/2^mode": n is that of number i
+abbrev pub Rounded : ℕ → ℕ → Float → ℤ → Type 0
+Rounded mode i x n = Nearest (top x *ℤ pos (cond (isOffset i) 1 4096)) (bottom x * 2 ^ mode) n
+
+-- a "mode in which each factor is below 2^mode in size and every rounded field fits", in 13 bits
+pub record FitsIn (numbers : List Float) (mode : ℕ) : Type 0 where
+  pub factors : (i : ℕ) → i < 12 → isOffset i ≡ false → Below mode (numberOf numbers i)
+  pub fields : (i : ℕ) → i < 12 → (n : ℤ) → Rounded mode i (numberOf numbers i) n → Spans 12 n
