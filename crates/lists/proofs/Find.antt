@@ -2,7 +2,7 @@
 -- by entry and of a part; a table of three numbers, the first 0.
 -- Assumes nothing.
 use mathlib.Core.Path.{_≡_, refl, ap, _∙_}
-use mathlib.Core.Bool.{Bool, true, false, cond}
+use mathlib.Core.Bool.{Bool, true, false, cond, true≢false, _&&_}
 use mathlib.Core.List.{List, [], _∷_}
 use Prim.Native.Nat.{ℕ, zero, suc, _+_, _<_, suc-le-suc}
 use native.Mathlib.Nat.{not-suc-le-zero, zero-lt-suc, le-of-suc-le-suc}
@@ -31,6 +31,19 @@ every-at test (x ∷ xs) (suc k) d t h = every-at test xs k d (both-right (test 
 pub at-every : {A : Type 0} (test : A → Bool) (l : List A) (d : A) → ((k : ℕ) → k < length l → test (getD l k d) ≡ true) → every test l ≡ true
 at-every test [] d f = refl
 at-every test (x ∷ xs) d f = rw (f 0 (zero-lt-suc _)) (at-every test xs d (λ k h. f (suc k) (suc-le-suc h)))
+
+pub record Failing {A : Type 0} (test : A → Bool) (l : List A) (d : A) : Type 0 where
+  pub place : ℕ
+  pub within : place < length l
+  pub fails : test (getD l place d) ≡ false
+
+pub one-failing : {A : Type 0} (test : A → Bool) (l : List A) (d : A) → every test l ≡ false → Failing test l d
+one-failing test [] d e = absurd (true≢false e)
+one-failing test (x ∷ xs) d e = go (test x) refl (one-failing test xs d) e
+  where
+    go : (b : Bool) → test x ≡ b → (every test xs ≡ false → Failing test xs d) → (b && every test xs) ≡ false → Failing test (x ∷ xs) d
+    go true p more e = let f = more e in record { place = suc (f .place); within = suc-le-suc (f .within); fails = f .fails }
+    go false p more e = record { place = 0; within = zero-lt-suc _; fails = p }
 
 pub every-part : {A : Type 0} (test : A → Bool) (l : List A) (k n : ℕ) → every test l ≡ true → every test (take n (drop k l)) ≡ true
 every-part test l zero zero t = refl

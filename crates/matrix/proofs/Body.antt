@@ -2,13 +2,15 @@
 --     turn-bytes, whole-matrix    a coefficient more, and after the last
 --     unmoved                     fields of 13 bits are their own 13 bits
 --     body-back                   the bytes are allowed, and are read as the matrix
+--     body-bytes                  and they are bytes
 use mathlib.Core.Path.{_≡_, refl, sym, ap, ap₂, _∙_}
-use mathlib.Core.Bool.{true}
+use mathlib.Core.Bool.{Bool, true, false, cond}
 use mathlib.Core.List.{List, [], _∷_, _++_, append-nil, map}
-use Prim.Native.Nat.{ℕ, suc, _+_, _*_, _%_, _≤_, _<_}
+use Prim.Native.Nat.{ℕ, zero, suc, _+_, _*_, _/_, _%_, _≤_, _<_}
 use native.Mathlib.Nat.{mod-eq-of-lt}
 use native.Mathlib.Numerals.{add-one}
 use native.Mathlib.Omega.{arith}
+use lib.Dec.{ltb, lit<}
 use lib.ListN.{length, getD, take, set, replicate, drop-of-length-le}
 use lib.Seq.{sets, sets-eq, take-suc, take-all, length-take-le}
 use borrow.Author.Tests.{le-leb}
@@ -16,7 +18,7 @@ use Rattle.lists.proofs.Emit.{sets-two}
 use Rattle.matrix.specs.declared.Matrix.{Matrix}
 use Rattle.matrix.specs.Coefficient.{field, highByte, coefficientBytes}
 use Rattle.matrix.specs.Tests.{inRange, isAllowed}
-use Rattle.matrix.specs.Matrix.{Whole, BodyBack}
+use Rattle.matrix.specs.Matrix.{Bytes, bodyOf, Whole, BodyBack}
 use Rattle.matrix.proofs.Pairs.{length-bytes, fields-said}
 use Rattle.matrix.proofs.Signs.{carried}
 
@@ -63,3 +65,21 @@ body-back m w =
       allowed = rw e (simp (l, le-leb (m .mode) 2 (w .mode), all-within cs (w .each)));
       back = rw (e, fields-said cs (w .each), ← w .on) refl;
     }
+
+-- each of them is a byte
+high-small : (c : ℕ) → c < 8192 → highByte c < 256
+high-small c h = go (ltb c 4096)
+  where
+    go : (b : Bool) → cond b (c / 256) (c / 256 + 224) < 256
+    go true = omega arith
+    go false = omega arith
+
+bytes-small : (cs : List ℕ) (i : ℕ) → getD (coefficientBytes (map field cs)) i 0 < 256
+bytes-small [] i = lit< tt
+bytes-small (c ∷ cs) zero = high-small (c % 8192) (omega arith)
+bytes-small (c ∷ cs) (suc zero) = omega arith
+bytes-small (c ∷ cs) (suc (suc i)) = bytes-small cs i
+
+pub body-bytes : (m : Matrix) → m .mode < 256 → Bytes (bodyOf m)
+body-bytes m h zero = h
+body-bytes m h (suc i) = bytes-small (m .coefficients) i

@@ -1,7 +1,6 @@
 -- `closest` is the nearest natural number, the even one on a tie, and no other is. Assumes nothing.
 use mathlib.Core.Path.{_≡_, refl, sym, ap, _∙_, subst}
-use mathlib.Core.Logic.{_⊎_, inl, inr}
-use Prim.Native.Nat.{ℕ, zero, suc, _+_, _-_, _*_, _/_, _%_, _^_, _≤_, _<_}
+use Prim.Native.Nat.{ℕ, zero, suc, _+_, _-_, _*_, _/_, _%_, _≤_, _<_}
 use native.Mathlib.Nat.{div-add-mod', mod-lt, add-mul, one-mul, mul-le-mul-right}
 use native.Mathlib.Omega.{arith}
 use mathlib.Core.Bool.{Bool, true, false, not}
@@ -19,10 +18,11 @@ pub record HalfUnit (a b n : ℕ) : Type 0 where
 -- n * b under a name
 of : (a b n v : ℕ) → v ≡ n * b → 2 * v ≤ 2 * a + b → 2 * a ≤ 2 * v + b → (2 * v ≡ 2 * a + b → n % 2 ≡ 0) → (2 * a ≡ 2 * v + b → n % 2 ≡ 0) → HalfUnit a b n
 of a b n v e p q s t = record {
-    above = subst (λ (k : ℕ). 2 * k ≤ 2 * a + b) e p;
-    below = subst (λ (k : ℕ). 2 * a ≤ 2 * k + b) e q;
-    tieUp = subst (λ (k : ℕ). 2 * k ≡ 2 * a + b → n % 2 ≡ 0) e s;
-    tieDown = subst (λ (k : ℕ). 2 * a ≡ 2 * k + b → n % 2 ≡ 0) e t }
+  above = subst (λ (k : ℕ). 2 * k ≤ 2 * a + b) e p;
+  below = subst (λ (k : ℕ). 2 * a ≤ 2 * k + b) e q;
+  tieUp = subst (λ (k : ℕ). 2 * k ≡ 2 * a + b → n % 2 ≡ 0) e s;
+  tieDown = subst (λ (k : ℕ). 2 * a ≡ 2 * k + b → n % 2 ≡ 0) e t;
+}
 
 next : (q b : ℕ) → q * b + b ≡ (q + 1) * b
 next q b = ap (λ (k : ℕ). q * b + k) (sym (one-mul b)) ∙ sym (add-mul q 1 b)
@@ -33,6 +33,7 @@ less a b q r w e s h = of a b q w e (omega arith) (omega arith) (λ t. absurd (x
   where
     x : 2 * w ≡ 2 * a + b → ⊥
     x t = omega arith
+
     y : 2 * a ≡ 2 * w + b → ⊥
     y t = omega arith
 
@@ -41,6 +42,7 @@ more a b q r w e s l h = of a b (q + 1) (w + b) e (omega arith) (omega arith) (�
   where
     x : 2 * (w + b) ≡ 2 * a + b → ⊥
     x t = omega arith
+
     y : 2 * a ≡ 2 * (w + b) + b → ⊥
     y t = omega arith
 
@@ -78,12 +80,16 @@ apart a b n m h p q l = go (ltb (n + 1) m) (ltb→lt (n + 1) m) (nltb→le (n + 
   where
     far : (v w : ℕ) → 0 < b → w + b + b ≤ v → 2 * v ≤ 2 * a + b → 2 * a ≤ 2 * w + b → ⊥
     far v w h y s t = omega arith
+
     level : (v w : ℕ) → w + b ≡ v → 2 * v ≤ 2 * a + b → 2 * a ≤ 2 * w + b → (2 * v ≡ 2 * a + b) × (2 * a ≡ 2 * w + b)
     level v w e s t = (omega arith, omega arith)
+
     even : (n : ℕ) → n % 2 ≡ 0 → (n + 1) % 2 ≡ 0 → ⊥
     even n x y = omega arith
+
     two : n * b + b + b ≡ (n + 1 + 1) * b
     two = ap (λ (k : ℕ). k + b) (next n b) ∙ next (n + 1) b
+
     go : (x : Bool) → (T x → n + 1 < m) → (T (not x) → m ≤ n + 1) → ⊥
     go true f g = far (m * b) (n * b) h (subst (λ (k : ℕ). k ≤ m * b) (sym two) (mul-le-mul-right b (over (f tt)))) (q .above) (p .below)
       where

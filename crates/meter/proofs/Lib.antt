@@ -3,5 +3,8 @@ pub mod Apart
 pub mod Twelve
 pub mod Answers
 pub mod Whole
+pub mod Fields
+pub mod Modes
+pub mod Rule
 pub mod Scaled
 pub mod HalfUnit

@@ -1,13 +1,13 @@
 -- A float's digits, shifted and rounded, are its fraction, scaled and rounded. Assumes nothing.
-use mathlib.Core.Path.{_≡_, refl, sym, ap, _∙_, subst}
-use mathlib.Core.Logic.{_⊎_, inl, inr}
-use Prim.Native.Nat.{ℕ, zero, suc, _+_, _-_, _*_, _/_, _%_, _^_, _≤_, _<_, compare}
+use mathlib.Core.Path.{_≡_, sym, ap, _∙_, subst}
+use mathlib.Core.Logic.{inl, inr}
+use Prim.Native.Nat.{ℕ, suc, _+_, _-_, _*_, _/_, _%_, _^_, _≤_, _<_, compare}
 use native.Mathlib.Nat.{le-trans, le-of-eq, mul-assoc, mul-comm, mul-left-comm, mul-pos, mul-le-mul-right, le-div-iff-mul-le}
 use native.Mathlib.Omega.{arith}
 use mathlib.Core.Bool.{Bool, true, false}
 use borrow.Author.Tests.{lt-leb}
 use lib.Pow.{pow-add, pow-pos, pow-mono}
-use lib.Ieee.{Float, nan, inf, fin, up, down}
+use lib.Ieee.{Float, nan, inf, fin}
 use lib.Ieee.Exact.{HasValue}
 use lib.Ieee.Positive.{num, den, den-pos}
 use lib.Ieee.Nearest.{closest, closest-same, nearest-ge}
@@ -35,6 +35,7 @@ crossed n d q k r m h =
   where
     turned : (n r c m : ℕ) → n * r * (c * m) ≡ n * c * (r * m)
     turned n r c m = simp (mul-assoc, mul-comm, mul-left-comm)
+
     back : (q k d r m : ℕ) → q * k * d * (r * m) ≡ q * (k * r) * (d * m)
     back q k d r m = simp (mul-assoc, mul-comm, mul-left-comm)
 
@@ -64,6 +65,7 @@ far x s q k r m v l h =
   where
     room : 13 + (149 + m) ≤ 23 + (k + r)
     room = omega arith
+
     wide : 8192 * 2 ^ (149 + m) ≤ q * 2 ^ (k + r)
     wide = le-trans (le-of-eq (sym (pow-add 2 13 (149 + m)))) (le-trans (pow-mono room) (le-trans (le-of-eq (pow-add 2 23 (k + r))) (mul-le-mul-right (2 ^ (k + r)) l)))
 

@@ -1,11 +1,11 @@
 -- `closest` by its three cases, and shifts: what `meter::nearest` works out. Assumes nothing.
 use mathlib.Core.Path.{_≡_, refl, sym, ap, _∙_, subst}
-use Prim.Native.Nat.{ℕ, zero, suc, _+_, _-_, _*_, _/_, _%_, _^_, _≤_, _<_, compare, Ordering, Ordering·lt, Ordering·eq, Ordering·gt}
+use Prim.Native.Nat.{ℕ, suc, _+_, _-_, _*_, _/_, _%_, _^_, _≤_, _<_, compare, Ordering, Ordering·lt, Ordering·eq, Ordering·gt}
 use native.Mathlib.Nat.{lt-irrefl, lt-of-le-of-lt, lt-of-lt-of-le, le-trans, le-of-lt, mod-eq-of-lt, div-eq-of-lt, div-mul-le-self, div-add-mod', div-le-self}
 use native.Mathlib.Omega.{arith}
 use mathlib.Core.Bool.{not}
 use lib.Dec.{T, isLe, isEq, leb→le, nleb→lt, eqb→eq, eqb-refl, eqb, lit≤}
-use lib.Pow.{pow-mono, pow-pos}
+use lib.Pow.{pow-mono}
 use lib.Ieee.{nearest}
 use lib.Ieee.Nearest.{closest}
 
@@ -26,6 +26,7 @@ more a b h = go (compare a b) (leb→le a b)
   where
     clash : a ≤ b → ⊥
     clash k = omega arith
+
     go : (o : Ordering) → (T (isLe o) → a ≤ b) → o ≡ Ordering·gt
     go Ordering·lt k = absurd (clash (k tt))
     go Ordering·eq k = absurd (clash (k tt))
@@ -36,8 +37,10 @@ even a b h k = go (compare a b) (nleb→lt a b) (subst (λ (x : ℕ). T (eqb a x
   where
     same : a ≤ b → b ≤ a → a ≡ b
     same h k = omega arith
+
     clash : b < a → ⊥
     clash l = omega arith
+
     go : (o : Ordering) → (T (not (isLe o)) → b < a) → T (isEq o) → o ≡ Ordering·eq
     go Ordering·lt g e = absurd e
     go Ordering·eq g e = refl

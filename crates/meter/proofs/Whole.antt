@@ -1,6 +1,6 @@
 -- The nearest whole number, of any sign: `closest` of the sizes with the sign, and no other. A signed number is a difference of two natural
 -- numbers (`Differs`), and where both fractions are moved up by an even number nothing is below zero. Assumes nothing.
-use mathlib.Core.Path.{_≡_, refl, sym, ap, _∙_, subst}
+use mathlib.Core.Path.{_≡_, refl, sym, ap, _∙_}
 use mathlib.Core.Logic.{_⊎_, inl, inr}
 use mathlib.Core.Bool.{Bool, true, false, cond}
 use Prim.Native.Nat.{ℕ, zero, suc, _+_, _-_, _*_, _%_, _≤_, _<_}
@@ -96,7 +96,7 @@ moved : (a : ℤ) (b : ℕ) (n : ℤ) (k A N : ℕ) → N + under n ≡ 2 * k + 
 moved a b n k A N e f u =
     let d = apart b (own n) (own a) in
     let g : N * b + under n * b ≡ 2 * k * b + above n * b =
-      sym (add-mul N (under n) b) ∙ ap (λ (m : ℕ). m * b) e ∙ add-mul (2 * k) (above n) b
+    sym (add-mul N (under n) b) ∙ ap (λ (m : ℕ). m * b) e ∙ add-mul (2 * k) (above n) b
     in
     record {
       above = omega (arith, d, u .within);

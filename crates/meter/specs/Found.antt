@@ -36,7 +36,7 @@ pub record Normal (digits exponent : ℕ) : Type 0 where
 
 abbrev pub negative : Float → Bool
 negative nan = false
-negative (inf s) = s
+negative (inf s) = false
 negative (fin s m e) = s
 
 -- below 2^mode in size

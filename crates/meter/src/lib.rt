@@ -11,8 +11,21 @@ ghost use lib.Ieee.Nearest.{closest};
 ghost use lib.Ieee.Scale.{finite};
 ghost use Rattle.lists.specs.Find.{every};
 ghost use Rattle.meter.specs.Nearest.{Rounds};
-ghost use Rattle.meter.specs.Found.{numbersOf, Normal, isBelow, signedField, fieldOf, fieldIn, rowIn, fieldsIn, isField, refused,
-    converted, meterRefused, Meters};
+ghost use Rattle.meter.specs.Found.{
+  numbersOf,
+  Normal,
+  isBelow,
+  signedField,
+  fieldOf,
+  fieldIn,
+  rowIn,
+  fieldsIn,
+  isField,
+  refused,
+  converted,
+  meterRefused,
+  Meters,
+};
 ghost use Rattle.meter.specs.Meter.{MeterRule};
 ghost use Rattle.meter.specs.Cases.{MeterCases};
 use matrix::Matrix;
@@ -204,7 +217,20 @@ fn fields_in(m: Meter, mode: u8) -> [u16; 12]
     let a = row_in(m.a1, m.a2, m.a3, m.a4, mode);
     let b = row_in(m.b1, m.b2, m.b3, m.b4, mode);
     let c = row_in(m.c1, m.c2, m.c3, m.c4, mode);
-    [a.k1, a.k2, a.k3, a.k4, b.k1, b.k2, b.k3, b.k4, c.k1, c.k2, c.k3, c.k4]
+    [
+        a.k1,
+        a.k2,
+        a.k3,
+        a.k4,
+        b.k1,
+        b.k2,
+        b.k3,
+        b.k4,
+        c.k1,
+        c.k2,
+        c.k3,
+        c.k4,
+    ]
 }
 
 // Whether each of them is a field.

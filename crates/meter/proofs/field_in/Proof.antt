@@ -1,17 +1,21 @@
 -- `meter::field_in` meets its contract. Assumes nothing.
 use borrow.Author.Needs.{needs}
-use mathlib.Core.Path.{_≡_, sym, ap, _∙_, subst}
+use mathlib.Core.Path.{sym, ap, _∙_}
 use mathlib.Core.Bool.{Bool}
-use Rattle.meter.specs.Found.{fieldIn, fieldOf}
+use Rattle.meter.specs.Found.{fieldIn}
 use Rattle.meter.proofs.field_in.Statement.{statement}
 use Rattle.meter.proofs.field_in.Tie as tie
+
 field-requires : tie.Need-field-requires
 field-requires c κs = search needs
+
 returns : tie.Need-returns
 unfolding fieldIn
 returns c = c .field .ensures ∙ sym (ap (λ (o : Bool). fieldIn (c .before .before .args .mode) o (c .before .before .args .x)) (c .before .if1 .taken))
+
 is-below-requires : tie.Need-is-below-requires
 is-below-requires c κs = search needs
+
 field-requires-2 : tie.Need-field-requires-2
 field-requires-2 c κs = search needs
 

@@ -3,7 +3,7 @@ use Rattle.meter.proofs.is_finite.Statement.{statement}
 use Rattle.meter.proofs.is_finite.Tie as tie
 use borrow.Author.Needs.{needs}
 use mathlib.Core.Path.{_≡_, refl}
-use mathlib.Core.Bool.{Bool, true, false, _&&_}
+use mathlib.Core.Bool.{true, false, _&&_}
 use lib.Ieee.{Float, nan, inf, fin, binary32, lt, neg, ofBits, nanBits}
 use lib.Ieee.Scale.{finite}
 

@@ -1,6 +1,6 @@
 -- `meter::nearest` meets its contract. Assumes nothing.
 use borrow.Author.Needs.{needs}
-use mathlib.Core.Path.{_≡_, sym, ap, _∙_, subst}
+use mathlib.Core.Path.{ap, _∙_, subst}
 use Prim.Native.Nat.{ℕ, _+_, _-_, _*_, _/_, _%_, _^_, _<_, _≤_}
 use native.Mathlib.Nat.{one-mul}
 use native.Mathlib.Omega.{arith}
@@ -13,6 +13,7 @@ returns c = far (c .before .args .digits) (c .before .args .shift) (c .before .p
 
 shr-whole : tie.Need-shr-whole
 shr-whole c = search needs
+
 shl-rest : tie.Need-shl-rest
 shl-rest c = search needs
 
@@ -21,6 +22,7 @@ sub-rest c = fits (c .before .args .digits) (c .before .args .shift) (c .before 
 
 shl-unit : tie.Need-shl-unit
 shl-unit c = search needs
+
 mul-if2 : tie.Need-mul-if2
 mul-if2 c = search needs
 

@@ -1,8 +1,5 @@
 -- `meter::no_matrix` meets its contract. Assumes nothing.
-use mathlib.Core.Path.{ap}
 use borrow.Author.Needs.{needs}
-use Rattle.matrix.specs.declared.Matrix.{Matrix}
-use Rattle.meter.specs.declared.Converted.{Converted}
 use Rattle.meter.proofs.no_matrix.Statement.{statement}
 use Rattle.meter.proofs.no_matrix.Tie as tie
 

@@ -1,5 +1,5 @@
 -- `meter::take_matrix` meets its contract: the tests one after another. Assumes nothing.
-use mathlib.Core.Path.{_≡_, sym, ap, _∙_}
+use mathlib.Core.Path.{sym, ap, _∙_}
 use Rattle.meter.specs.declared.Converted.{Converted}
 use Rattle.meter.specs.Found.{converted, meterRefused}
 use mathlib.Core.List.{List}

@@ -1,13 +1,13 @@
 -- `meter::taken_apart` meets its contract. Assumes nothing.
 use borrow.Author.Needs.{needs}
-use mathlib.Core.Path.{_≡_, refl, sym, ap, _∙_, subst}
+use mathlib.Core.Path.{_≡_, refl, sym, ap, subst}
 use mathlib.Core.Logic.{inl, inr}
 use mathlib.Core.Bool.{Bool, not}
-use Prim.Native.Nat.{ℕ, suc, _+_, _-_, _*_, _/_, _%_, _^_, _<_, _≤_}
+use Prim.Native.Nat.{ℕ, suc, _+_, _-_, _/_, _%_, _<_, _≤_}
 use native.Mathlib.Nat.{lt-of-lt-of-le}
 use native.Mathlib.Omega.{arith}
 use lib.Dec.{T, lit≤}
-use lib.Ieee.{Float, binary32, fits, toBits}
+use lib.Ieee.{binary32, fits, toBits}
 use lib.Ieee.Bits.{toBits-lt}
 use Rattle.meter.proofs.Apart.{least, normal, no-nan}
 use Rattle.meter.proofs.taken_apart.Statement.{statement}
@@ -44,15 +44,17 @@ returns c =
 
 add-t7 : tie.Need-add-t7
 add-t7 c = search needs
+
 sub-t9 : tie.Need-sub-t9
 sub-t9 c = search needs
 
 returns-2 : tie.Need-returns-2
 returns-2 c =
     let x = c .before .args .x in
-    let b = toBits binary32 x in
-    (normal x (held (c .before)) (c .before .pre) (b % 2147483648 / 8388608 - 1) (next (b % 2147483648 / 8388608) (c .if1 .left)),
-     record { small = full b; most = under b; leading = inr (top b) })
+    let b = toBits binary32 x in (
+      normal x (held (c .before)) (c .before .pre) (b % 2147483648 / 8388608 - 1) (next (b % 2147483648 / 8388608) (c .if1 .left)),
+      record { small = full b; most = under b; leading = inr (top b) },
+    )
 
 pub taken-apart-spec : {M : Type 1} → statement M
 taken-apart-spec =
