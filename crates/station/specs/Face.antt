@@ -3,12 +3,15 @@
 use mathlib.Core.Path.{_≡_}
 use mathlib.Core.List.{List}
 use Prim.Native.Nat.{ℕ}
+use lib.Ieee.{Float}
 use Rattle.clock.specs.declared.Pair.{Pair}
 use Rattle.matrix.specs.declared.Pixel.{Pixel}
+use Rattle.meter.specs.declared.Metered.{Metered}
 use Rattle.plan.specs.declared.Planned.{Planned}
 use Rattle.decode.specs.declared.Decoded.{Decoded}
 use Rattle.request.specs.Read.{nctsOf}
 use Rattle.matrix.specs.Preview.{previewOf}
+use Rattle.meter.specs.Found.{meterOf, meterBuffer}
 use Rattle.plan.specs.Plan.{planOf, planBuffer}
 use Rattle.decode.specs.Decode as decoding
 use Rattle.station.specs.declared.CountOut.{CountOut}
@@ -20,6 +23,9 @@ countOut p = record { refusal = p .refusal; count = p .count }
 
 abbrev pub requestOut : Decoded → CountOut
 requestOut d = record { refusal = d .refusal; count = d .count }
+
+abbrev pub meterOut : Metered → CountOut
+meterOut m = record { refusal = m .refusal; count = m .count }
 
 abbrev pub pairOut : Pair → PairOut
 pairOut p = record { refusal = p .refusal; n = p .n; cts = p .cts }
@@ -38,3 +44,6 @@ StationNcts request out = out ≡ pairOut (nctsOf request)
 
 abbrev pub StationPreview : List ℕ → ℕ → ℕ → ℕ → PixelOut → Type 0
 StationPreview matrix a b c out = out ≡ pixelOut (previewOf matrix a b c)
+
+abbrev pub StationMeter : List Float → List ℕ → CountOut → List ℕ → Type 0
+StationMeter numbers matrix out left = (out ≡ meterOut (meterOf numbers matrix)) × (left ≡ meterBuffer numbers matrix)

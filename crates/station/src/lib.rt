@@ -1,5 +1,5 @@
 // The C face: each call is a call of the library, taken apart. No logic. The C declarations are in include/station.h.
-ghost use Rattle.station.specs.Face.{StationPlan, StationDecode, StationNcts, StationPreview};
+ghost use Rattle.station.specs.Face.{StationPlan, StationDecode, StationNcts, StationPreview, StationMeter};
 
 mod machine;
 
@@ -75,5 +75,17 @@ pub extern "C" fn station_preview(matrix: &[u8], a: u32, b: u32, c: u32) -> Pixe
         a: pixel.a as u32,
         b: pixel.b as u32,
         c: pixel.c as u32,
+    }
+}
+
+// A colour meter's twelve numbers as a matrix, 25 bytes as the request has them: refusals 5, 10, 18 and 19.
+#[no_mangle]
+pub extern "C" fn station_meter(numbers: &[f32], matrix: &mut [u8]) -> CountOut
+    ensures { λ r. ⌜ StationMeter (now (numbers .entry)) (now (matrix .entry)) r (now (matrix .exit)) ⌝ }
+{
+    let metered = meter::take_matrix(numbers, matrix);
+    CountOut {
+        refusal: metered.refusal as u32,
+        count: metered.count,
     }
 }
