@@ -1,6 +1,6 @@
 # The C programs beside the library, and its package. tools/setup finds the compiler and, on Arm, the emulator, and installs what is missing.
 #   make           the library's archive and everything below that is built of it
-#   make programs  what tools/{listing,request,modes,image,picture,review} run, and accident, agree and vectors, over the library
+#   make programs  what tools/{listing,request,meter,modes,image,picture,review} run, and accident, agree and vectors, over the library
 #   make host      the example host: then host/run --cut 25 --brief, or host/run --chain 7 --brief
 #   make bench     planning, decoding and the vet of a list, the library against plain C: times, instructions, and whether the bars are met;
 #                  writes and bus time of typical changes
@@ -14,7 +14,7 @@ EXAMPLE  = $(shell sed -n 's/^ . So \([0-9a-f ]*\) is .*/\1/p' include/station.h
 FLAGS    = -std=c99 -D_GNU_SOURCE -Wall -Wextra -O2 -Iinclude '-DEXAMPLE="$(EXAMPLE)"'
 HEADERS  = $(wildcard include/*.h programs/*.h host/*.h tests/*.h tests/*/*.h bench/*.h)
 PROVED   = crates.txt $(wildcard crates/*/src/*.rt crates/*/specs/*.antt crates/*/proofs/*.antt)
-PROGRAMS = $(addprefix target/c/,accident agree image listing modes picture request review vectors)
+PROGRAMS = $(addprefix target/c/,accident agree image listing meter modes picture request review vectors)
 BINARIES = $(PROGRAMS) $(addprefix target/c/,example host i2c i2c_fake bench tests)
 PREFIX   = /usr/local
 TO       = $(DESTDIR)$(PREFIX)
@@ -42,22 +42,23 @@ clean:
 help:
 	@sed -n 's/^#   //p' Makefile
 
-target/c/accident: programs/accident.c programs/fields.c programs/chip.c programs/words.c
-target/c/agree: programs/agree.c programs/judge.c programs/fields.c programs/chip.c programs/words.c
+target/c/accident: programs/accident.c programs/fields.c programs/factors.c programs/chip.c programs/words.c
+target/c/agree: programs/agree.c programs/judge.c programs/fields.c programs/factors.c programs/chip.c programs/words.c
 target/c/image: programs/image.c programs/words.c
 target/c/listing: programs/listing.c programs/table.c programs/registers.c programs/chip.c programs/words.c
-target/c/modes: programs/modes.c programs/clocks.c programs/fields.c programs/words.c
+target/c/meter: programs/meter.c programs/factors.c programs/words.c
+target/c/modes: programs/modes.c programs/clocks.c programs/fields.c programs/factors.c programs/words.c
 target/c/picture: programs/picture.c programs/chain.c programs/events.c programs/list.c programs/judge.c programs/registers.c \
-  programs/fields.c programs/chip.c programs/words.c
-target/c/request: programs/request.c programs/clocks.c programs/fields.c programs/words.c
+  programs/fields.c programs/factors.c programs/chip.c programs/words.c
+target/c/request: programs/request.c programs/clocks.c programs/fields.c programs/factors.c programs/words.c
 target/c/review: programs/review.c programs/list.c programs/judge.c programs/table.c programs/registers.c programs/fields.c \
-  programs/chip.c programs/words.c
-target/c/vectors: programs/vectors.c programs/clocks.c programs/fields.c programs/words.c
+  programs/factors.c programs/chip.c programs/words.c
+target/c/vectors: programs/vectors.c programs/clocks.c programs/fields.c programs/factors.c programs/words.c
 target/c/example: host/example.c
-target/c/host: host/host.c host/chain.c programs/chain.c programs/events.c programs/fields.c programs/chip.c programs/words.c
+target/c/host: host/host.c host/chain.c programs/chain.c programs/events.c programs/fields.c programs/factors.c programs/chip.c programs/words.c
 target/c/i2c: host/i2c.c programs/words.c
-target/c/i2c_fake: tests/i2c/fake.c programs/fields.c programs/chip.c programs/words.c | host/i2c.c
-target/c/bench: bench/bench.c bench/plain.c programs/fields.c programs/words.c
+target/c/i2c_fake: tests/i2c/fake.c programs/fields.c programs/factors.c programs/chip.c programs/words.c | host/i2c.c
+target/c/bench: bench/bench.c bench/plain.c programs/fields.c programs/factors.c programs/words.c
 target/c/tests: $(wildcard tests/*.c tests/model/*.c tests/wrong/*.c) bench/plain.c
 target/c/tests: FLAGS += -pthread
 $(BINARIES): $(HEADERS) $(LIB) Makefile

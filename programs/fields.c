@@ -1,7 +1,9 @@
 #include "fields.h"
+#include "factors.h"
 #include "guide.h"
 #include "words.h"
 #include <stdarg.h>
+#include <stdlib.h>
 #include <string.h>
 #include <strings.h>
 
@@ -156,6 +158,18 @@ static void close_section(struct reading *r) {
                (unsigned)sections[r->section].numbers);
 }
 
+/* A whole matrix, its mode and twelve coefficients, for which a word stands. */
+static void take_matrix(struct reading *r, const char *word, const uint8_t *body) {
+    for (size_t f = 0; f < FIELDS; f++) {
+        if (fields[f].section != IN_MATRIX) continue;
+        if (r->set[f] || r->numbers) misuse("'%.80s' stands beside another matrix", word);
+        r->value[f] = body[0];
+        r->set[f] = 1;
+    }
+    memcpy(r->number, body + 1, sizeof r->number);
+    r->numbers = COEFFICIENTS_OF_A_TABLE;
+}
+
 /* "tableNN": the matrix of a table of the guide, its misprints corrected. */
 static int take_table(struct reading *r, const char *word) {
     uint8_t body[1 + 2 * COEFFICIENTS_OF_A_TABLE];
@@ -164,18 +178,34 @@ static int take_table(struct reading *r, const char *word) {
     for (size_t t = 0; t < COUNT(tables); t++) {
         if (tables[t].number != number) continue;
         body_of(&tables[t], 1, body);
-        for (size_t f = 0; f < FIELDS; f++) {
-            if (fields[f].section != IN_MATRIX) continue;
-            if (r->set[f] || r->numbers) misuse("'%s' stands beside another matrix", word);
-            r->value[f] = body[0];
-            r->set[f] = 1;
-        }
-        memcpy(r->number, body + 1, sizeof r->number);
-        r->numbers = COEFFICIENTS_OF_A_TABLE;
+        take_matrix(r, word, body);
         return 1;
     }
     misuse("table %ld of the guide is not at hand", number);
     return 0;
+}
+
+/* "factors" and twelve numbers as a colour meter has them: the library makes the matrix. How many words that took, 0 where it is another word.
+ * Numbers that the library refuses have no bytes, and end the program. */
+static int take_factors(struct reading *r, int count, char **words) {
+    float numbers[STATION_METER], more;
+    uint8_t body[STATION_MATRIX];
+    char name[3];
+    if (r->section != IN_MATRIX || strcasecmp(words[0], "factors")) return 0;
+    for (int n = 0; n < STATION_METER; n++) {
+        if (n + 1 == count) misuse("'%s' has %d numbers after it, and not %d", words[0], n, STATION_METER);
+        const char *wrong = float_of_word(words[n + 1], &numbers[n]);
+        if (wrong) misuse("'%.80s', for %s, %s", words[n + 1], name_of_number((size_t)n, name), wrong);
+    }
+    if (STATION_METER + 1 < count && !float_of_word(words[STATION_METER + 1], &more))
+        misuse("'%s' has more than %d numbers after it", words[0], STATION_METER);
+    struct station_count c = station_meter(numbers, STATION_METER, body, sizeof body);
+    if (c.refusal) {
+        explain_refused(stderr, numbers, c.refusal);
+        exit(REFUSED);
+    }
+    take_matrix(r, words[0], body);
+    return 1 + STATION_METER;
 }
 
 /* Reads a field, or a number after the last field: how many words that took. */
@@ -215,7 +245,7 @@ struct request request_of_words(int count, char **words) {
     if (longest != STATION_REQUEST) misuse("the longest request has %u bytes, and by station.h %u", (unsigned)longest, STATION_REQUEST);
     memset(&r, 0, sizeof r);
     r.given[IN_VIDEO] = 1;
-    for (int w = 0; w < count; ) {
+    for (int w = 0, used; w < count; ) {
         int opens = 0;
         for (int s = 0; s < SECTIONS; s++)
             if (sections[s].may_be_left_out && !strcasecmp(words[w], sections[s].name)) opens = s;
@@ -226,6 +256,7 @@ struct request request_of_words(int count, char **words) {
             r.given[opens] = 1;
             w++;
         } else if (take_table(&r, words[w])) w++;
+        else if ((used = take_factors(&r, count - w, words + w))) w += used;
         else w += take(&r, count - w, words + w);
     }
     close_section(&r);
@@ -352,12 +383,6 @@ enum { BYTES = 16 };
 static const char *digits_of(const struct field *f, const uint8_t *body, char text[BYTES]) {
     if (f->bits == 8) snprintf(text, BYTES, "%02x", body[f->at]);
     else snprintf(text, BYTES, "%02x[%d:%d]", body[f->at], f->shift + f->bits - 1, f->shift);
-    return text;
-}
-
-/* A coefficient's name by its place, A1 to C4. */
-static const char *name_of_number(size_t n, char text[3]) {
-    text[0] = "ABC"[n / 4], text[1] = "1234"[n % 4], text[2] = 0;
     return text;
 }
 

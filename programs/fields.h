@@ -8,7 +8,7 @@
 enum { TEXT_OF_A_REQUEST = 400 };
 
 /* A request from its words; or from a text of them, with blanks between, which is made as printf makes it. Words that are none end the
- * program. A field that no word gives has its usual value. */
+ * program, and so do numbers of a colour meter that the library refuses (status REFUSED). A field that no word gives has its usual value. */
 struct request { uint8_t bytes[STATION_REQUEST]; size_t length; };
 struct request request_of_words(int count, char **words);
 struct request request_of_text(const char *format, ...);

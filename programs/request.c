@@ -17,9 +17,11 @@ static const char help[] =
     "digits, with or without blanks between.\n"
     "\n"
     "The words are those of the video section; then, where there is sound, 'audio'\n"
-    "and its words; then, where there is a matrix, 'matrix' and either 'tableNN' (a\n"
-    "table of the programming guide, 39 to 64, its misprints corrected) or its mode\n"
-    "and twelve numbers, A1 to A4, B1 to B4, C1 to C4. Within a section the fields\n"
+    "and its words; then, where there is a matrix, 'matrix' and one of these: its\n"
+    "mode and twelve numbers, A1 to A4, B1 to B4, C1 to C4; 'tableNN' (a table of the\n"
+    "programming guide, 39 to 64, its misprints corrected); 'factors' and twelve\n"
+    "numbers as a colour meter has them, such as 1.25, in the same order (tools/meter\n"
+    "reads a meter's file, and says more of them). Within a section the fields\n"
     "may stand in any order:\n"
     "\n",
     more[] =
@@ -29,13 +31,15 @@ static const char help[] =
     "a field any number, also one that is refused. tools/modes lists the VICs, and\n"
     "their clocks by depth and repetition. The status is 0 for a request that is\n"
     "accepted, 1 for one that is refused (its bytes are printed, the rule is said on\n"
-    "the error stream), 2 for a command that is not as above.\n"
+    "the error stream) and for factors that are refused (18, 19; there are no bytes\n"
+    "then), 2 for a command that is not as above.\n"
     "\n"
     "  tools/request vic 16 rgb hdmi audio 48kHz 2 coherent\n"
     "  tools/request vic 4 /1.001 ycbcr444 hdmi matrix table43\n"
     "  tools/request vic 32 rgb hdmi 36bit audio 48kHz 8 coherent\n"
     "  tools/request vic 16 rgb hdmi 861-e photo\n"
     "  tools/request vic 1 rgb dvi matrix 1 2048 0 0 0 0 2048 0 0 0 0 2048 0\n"
+    "  tools/request vic 1 rgb dvi matrix factors 1 0 0 0 0 .98 0 0 0 0 1.05 -2.5\n"
     "  tools/request --explain " EXAMPLE "\n";
 
 static int tell(FILE *to, struct station_pair p, int of_sound) {

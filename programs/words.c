@@ -3,6 +3,7 @@
 #include <stdio.h>
 #include <stdlib.h>
 #include <string.h>
+#include <strings.h>
 
 /* One line, whatever a stranger's word has in it. */
 void misuse(const char *format, ...) {
@@ -50,6 +51,31 @@ long number_of_word(const char *word, const char *what, long least, long most) {
     long number = length > 0 && length < 10 && strspn(digits, "0123456789") == length ? strtol(word, NULL, 10) : least - 1;
     if (number < least || number > most) misuse("'%.80s' is no %s: a number from %ld to %ld", word, what, least, most);
     return number;
+}
+
+/* Digits, a point among them or none, an exponent or none: what strtof reads too, but no hex and no blanks. Where there is a digit that is not
+ * 0, so that the number is not. */
+static int is_decimal(const char *at, int *is_not_0) {
+    size_t whole = strspn(at, "0123456789"), point = at[whole] == '.', part = point ? strspn(at + whole + 1, "0123456789") : 0;
+    *is_not_0 = strspn(at, "0.") < whole + point + part;
+    if (whole + part == 0) return 0;
+    at += whole + point + part;
+    if (*at != 'e' && *at != 'E') return *at == 0;
+    at += 1 + (at[1] == '+' || at[1] == '-');
+    return *at && strspn(at, "0123456789") == strlen(at);
+}
+
+const char *float_of_word(const char *word, float *number) {
+    static const char *const not_finite[] = { "nan", "inf", "infinity" };
+    const char *at = word + (word[0] == '+' || word[0] == '-');
+    int is_not_0 = 0, is_infinite = 0;
+    *number = strtof(word, NULL);
+    for (size_t k = 0; k < sizeof not_finite / sizeof not_finite[0]; k++)
+        if (!strcasecmp(at, not_finite[k])) return NULL;
+    if (!is_decimal(at, &is_not_0)) return "is no number";
+    is_infinite = *number - *number != 0;
+    if (is_infinite) return "is beyond the largest float, 3.40282347e+38";
+    return *number == 0 && is_not_0 ? "is not 0, and of the floats 0 is the nearest: write 0 where that is meant" : NULL;
 }
 
 void bytes_of_file(const char *name, uint8_t *bytes, size_t length) {

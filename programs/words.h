@@ -27,6 +27,11 @@ size_t bytes_of_word(const char *word, uint8_t *bytes);
 /* A word that is a whole number from `least` to `most`, in decimal digits with at most a minus before them; `what` says what it is. */
 long number_of_word(const char *word, const char *what, long least, long most);
 
+/* A word that is a number as colour meters write it: decimal digits, a point among them or none, a sign and an exponent or none; or nan, inf
+ * or infinity, which have their sign too. `number` is the float nearest to it. What is wrong with the word, as the rest of a line that names
+ * it; NULL where it was read. */
+const char *float_of_word(const char *word, float *number);
+
 /* A file that has exactly so many bytes. */
 void bytes_of_file(const char *name, uint8_t *bytes, size_t length);
 

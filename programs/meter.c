@@ -1,0 +1,309 @@
+/* A colour meter's export as the matrix of a request: the bytes, the mode and why it is no smaller one, each number beside the field that
+ * stands for it, and eight patches through both. The matrix is the library's; what is told of it is found here, from the export's own floats,
+ * and where the two do not lead to each other no answer is given. What it prints of meter.txt is compared with meter.out. */
+#include "factors.h"
+#include "words.h"
+#include <errno.h>
+#include <stdio.h>
+#include <string.h>
+
+const char *program = "tools/meter";
+
+static const char help[] =
+    "tools/meter [OPTIONS] [FILE]\n"
+    "\n"
+    "Makes the matrix of a request from a colour meter's export, twelve numbers in\n"
+    "the order A1 A2 A3 A4, B1 B2 B3 B4, C1 C2 C3 C4: A4, B4 and C4 are offsets in\n"
+    "12-bit codes, the other nine are factors. A is red, B green, C blue. Prints\n"
+    "\n"
+    "  the words that tools/request takes, and in hex the bytes of the section as it\n"
+    "    stands in a request: its count, 19, and the 25 bytes of the matrix;\n"
+    "  the mode, and the numbers for which a smaller one would not do;\n"
+    "  of each number the field, what that stands for, and how far off it is: at most\n"
+    "    half a unit of the field;\n"
+    "  eight patches through the matrix, beside what the numbers themselves give,\n"
+    "    rounded down and held within 0 to 4095 as the chip does.\n"
+    "\n"
+    "FILE, or with - or without it the standard input, is text or raw:\n"
+    "\n"
+    "  text   twelve numbers such as 1, -0.02, .5 or 3e-3, or nan and inf, which are\n"
+    "         refused; between two of them blanks or line ends, and at most one comma\n"
+    "         or semicolon. A # at the front of a line or after a blank or comma\n"
+    "         begins a comment. The decimal point is a point. Each number is taken as\n"
+    "         the float nearest to it.\n"
+    "  raw    48 bytes: twelve floats of 32 bits (IEEE 754), the low byte first.\n"
+    "\n"
+    "A file of exactly 48 bytes that is no text is raw, any other is text. No text is\n"
+    "what has control characters or, outside comments, a byte above 0x7e.\n"
+    "\n"
+    "  --raw     it is raw\n"
+    "  --text    it is text\n"
+    "  --words   print the words alone, for a shell\n"
+    "\n"
+    "The status is 0 for a matrix; 1 for numbers that are refused, 18 or 19: then\n"
+    "those at fault are named, and how it is mended; 2 for a file or a command that\n"
+    "is not as above; 3 where what the library answers is not what these numbers ask\n"
+    "for: then trust neither.\n"
+    "\n"
+    "  tools/meter programs/meter.txt\n"
+    "  tools/request vic 16 rgb hdmi $(tools/meter --words programs/meter.txt)\n";
+
+enum { DIFFERS = 3, MOST = 1 << 16, OF_A_FLOAT = 4, RAW = STATION_METER * OF_A_FLOAT, HIGHEST_CODE = 4095 };
+
+/* ---- The export. */
+
+static const char *file = "-";
+static void take_name(const char *word, void *into) {
+    if ((*(int *)into)++) misuse("more than one file");
+    file = word;
+}
+
+static size_t read_file(uint8_t *bytes) {
+    FILE *from = strcmp(file, "-") ? fopen(file, "rb") : stdin;
+    if (!from) misuse("%.80s cannot be opened", file);
+    size_t length = fread(bytes, 1, MOST, from);
+    if (ferror(from)) misuse(errno == EISDIR ? "%.80s is a directory" : "%.80s cannot be read", file);
+    if (length == MOST) misuse("the file has %u bytes or more: no such export", (unsigned)MOST);
+    if (length == 0) misuse("the file is empty");
+    if (from != stdin) fclose(from);
+    return length;
+}
+
+/* A text as it is read, byte by byte: a mark of UTF-8 in front of it is passed over. */
+struct reader { const uint8_t *at, *end; unsigned line; };
+static struct reader reader_of(const uint8_t *bytes, size_t length) {
+    static const uint8_t mark[] = { 0xEF, 0xBB, 0xBF };
+    size_t front = length >= sizeof mark && !memcmp(bytes, mark, sizeof mark) ? sizeof mark : 0;
+    return (struct reader){ bytes + front, bytes + length, 1 };
+}
+
+/* A carriage return stands before a line's end. Elsewhere it ends lines for some programs and not for others: with it a comment could swallow
+ * numbers. */
+static int is_return(const struct reader *r, size_t k) { return r->at[k] == '\r' && (r->at + k + 1 == r->end || r->at[k + 1] == '\n'); }
+static int is_blank(const struct reader *r, size_t k) { return strchr(" \t\n", r->at[k] ? r->at[k] : 'x') || is_return(r, k); }
+static int is_comma(int c) { return c == ',' || c == ';'; }
+static int is_control(const struct reader *r, size_t k) { return (r->at[k] < ' ' && !is_blank(r, k)) || r->at[k] == 0x7F; }
+
+/* The next blank, comma or word, and how long it is; a comment is passed over as a blank. 0 at the end, -1 at a byte that is no text. */
+enum next { NO_TEXT = -1, THE_END, A_BLANK, A_COMMA, A_WORD };
+static enum next next_of(struct reader *r, size_t *length) {
+    size_t k = 0;
+    *length = 1;
+    if (r->at == r->end) return THE_END;
+    if (is_blank(r, 0)) return A_BLANK;
+    if (is_comma(*r->at)) return A_COMMA;
+    int comment = *r->at == '#';
+    for (; r->at + k < r->end && (comment ? r->at[k] != '\n' : !is_blank(r, k) && !is_comma(r->at[k])); k++)
+        if (is_control(r, k) || (!comment && r->at[k] > '~')) {
+            r->at += k;
+            return NO_TEXT;
+        }
+    *length = k;
+    return comment ? A_BLANK : A_WORD;
+}
+
+static void pass(struct reader *r, size_t length) {
+    r->line += *r->at == '\n';
+    r->at += length;
+}
+
+static int is_text(const uint8_t *bytes, size_t length) {
+    struct reader r = reader_of(bytes, length);
+    size_t passed;
+    enum next n;
+    while ((n = next_of(&r, &passed)) > THE_END) pass(&r, passed);
+    return n == THE_END;
+}
+
+static void numbers_of_text(const uint8_t *bytes, size_t length, float *numbers) {
+    struct reader r = reader_of(bytes, length);
+    unsigned count = 0, too_many = 0;
+    int after_number = 0, within = 0;               /* may a comma stand here; does one stand within a number */
+    char name[3];
+    size_t passed;
+    for (enum next n; (n = next_of(&r, &passed)) != THE_END; pass(&r, passed)) {
+        static char word[MOST + 1];
+        float number;
+        if (n == NO_TEXT && *r.at == '\r') misuse("line %u: a carriage return inside a line", r.line);
+        if (n == NO_TEXT)
+            misuse("line %u: the byte 0x%02x is no text; raw is what has %u bytes, and here are %u", r.line, *r.at, (unsigned)RAW,
+                   (unsigned)length);
+        if (n == A_COMMA) {
+            if (!after_number) misuse("line %u: a '%c' with no number before it", r.line, *r.at);
+            after_number = 0;
+            within |= *r.at == ',' && r.at + 1 < r.end && !is_blank(&r, 1);
+        }
+        if (n != A_WORD) continue;
+        memcpy(word, r.at, passed);
+        word[passed] = 0;
+        const char *wrong = float_of_word(word, &number);
+        if (wrong) misuse("line %u: '%.40s' %s", r.line, word, wrong);
+        if (count < STATION_METER) numbers[count] = number;
+        if (++count == STATION_METER + 1) too_many = r.line;
+        after_number = 1;
+    }
+    if (count == 0) misuse("the file has no number");
+    if (count < STATION_METER) misuse("%u numbers, and not %u: the last is %s", count, STATION_METER, name_of_number(count - 1, name));
+    if (count > STATION_METER)
+        misuse("%u numbers, and not %u: the first too many stands in line %u%s", count, STATION_METER, too_many,
+               within ? "; a comma parts two numbers, the decimal point is a point" : "");
+}
+
+static void numbers_of_raw(const uint8_t *bytes, size_t length, float *numbers) {
+    if (length != RAW) misuse("%u bytes, and not %u: twelve floats of four bytes", (unsigned)length, (unsigned)RAW);
+    for (size_t n = 0; n < STATION_METER; n++) {
+        uint32_t bits = 0;
+        for (size_t b = OF_A_FLOAT; b > 0; b--) bits = bits << 8 | bytes[OF_A_FLOAT * n + b - 1];
+        memcpy(&numbers[n], &bits, sizeof numbers[n]);
+    }
+}
+
+/* ---- The matrix. */
+
+static int field_of(const uint8_t *matrix, size_t n) {
+    int value = 256 * matrix[1 + 2 * n] + matrix[2 + 2 * n];
+    return value < 32768 ? value : value - 65536;
+}
+
+/* Is it the matrix that the numbers ask for: the smallest mode that each fits, and the nearest fields? And are there none where it is refused? */
+static int fits(const float *numbers, int mode) {
+    char text[TEXT_OF_A_FAULT];
+    for (size_t n = 0; n < STATION_METER; n++)
+        if (fault_of(numbers[n], n, mode, text)) return 0;
+    return 1;
+}
+
+static int is_asked_for(const float *numbers, struct station_count c, const uint8_t *matrix) {
+    int mode = 0, finite = 1;
+    for (size_t n = 0; n < STATION_METER; n++) finite &= numbers[n] - numbers[n] == 0;
+    if (!finite) return c.refusal == STATION_NOT_FINITE;
+    while (mode <= LARGEST_MODE && !fits(numbers, mode)) mode++;
+    if (mode > LARGEST_MODE) return c.refusal == STATION_NO_MODE_FITS;
+    if (c.refusal || c.count != STATION_MATRIX || matrix[0] != mode) return 0;
+    for (size_t n = 0; n < STATION_METER; n++)
+        if (field_of(matrix, n) != nearest(in_units(numbers[n], n, mode))) return 0;
+    return 1;
+}
+
+static void print_words(const uint8_t *matrix) {
+    printf("matrix %u", matrix[0]);
+    for (size_t n = 0; n < STATION_METER; n++) printf(" %d", field_of(matrix, n));
+    printf("\n");
+}
+
+static void print_bytes(const uint8_t *matrix) {
+    printf("%02x", STATION_MATRIX);
+    for (size_t i = 0; i < STATION_MATRIX; i++) printf(" %02x", matrix[i]);
+    printf("\n");
+}
+
+/* What does not fit a mode does not fit a smaller one, so the next smaller one tells it all. */
+static void print_mode(const float *numbers, int mode) {
+    char text[TEXT_OF_A_FAULT], name[3];
+    printf("\nMode %d: ", mode);
+    if (mode == 0) printf("every number fits, and there is no smaller one.\n");
+    else printf("%s too small for\n", mode == 1 ? "mode 0 is" : "modes 0 and 1 are");
+    for (size_t n = 0; mode > 0 && n < STATION_METER; n++)
+        if (fault_of(numbers[n], n, mode - 1, text)) printf("  %s %.9g: %s\n", name_of_number(n, name), numbers[n], text);
+}
+
+/* How far off, for a person: eight decimals, or fewer digits of what is less; 0 for nothing at all. With eight a tie, 0.5, is told from every
+ * other float. */
+static const char *text_of_off(double off, char text[24]) {
+    if (off == 0) snprintf(text, 24, "0");
+    else snprintf(text, 24, off < 1e-6 && off > -1e-6 ? "%+.2e" : "%+.8f", off);
+    return text;
+}
+
+/* The difference of a float and its field is exact: one that is not 0 lies within half a unit of the number, so a double has room for it. */
+static void print_fields(const float *numbers, const uint8_t *matrix) {
+    char name[3], by[24], itself[24];
+    int mode = matrix[0];
+    printf("\n%-4s%-18s%5s   %-18s%13s%15s\n", "", " number", "field", "stands for", "off, in units", "off");
+    for (size_t n = 0; n < STATION_METER; n++) {
+        int field = field_of(matrix, n);
+        double unit = (is_offset(n) ? 1.0 : 1.0 / 4096) * (1 << mode), off = field - in_units(numbers[n], n, mode);
+        printf("%-4s% -18.9g%5d  % -18.12g%14s%15s%s\n", name_of_number(n, name), numbers[n], field, field * unit, text_of_off(off, by),
+               text_of_off(off * unit, itself), off == 0.5 || off == -0.5 ? " tie" : "");
+    }
+    printf("A unit is 1/%d in a factor, %d in an offset.\n", 4096 >> mode, 1 << mode);
+}
+
+/* One output of three codes by the numbers themselves, of which none is above 2^15 in size, as document 01 has it: rounded down, and held
+ * within 0 to 4095. Every float is a whole number of 2^-149. So is the sum, and its digits are of 16 bits, the lowest first, each with what is
+ * to be carried. */
+enum { DIGITS = 10, OF_A_DIGIT = 16, OF_THE_PART = 149 };
+static int64_t down(int64_t value, int bits) { return value < 0 ? ~(~value >> bits) : value >> bits; }
+
+static int code_of(const float *row, const uint32_t *codes) {
+    int64_t digits[DIGITS] = { 0 }, carry = 0;
+    for (size_t n = 0; n < 4; n++) {
+        uint32_t bits;
+        memcpy(&bits, &row[n], sizeof bits);
+        uint32_t exponent = bits >> 23 & 0xFF, shift = exponent ? exponent - 1 : 0;
+        int64_t size = (bits & 0x7FFFFF) | (exponent ? 0x800000 : 0);
+        size = (size * (is_offset(n) ? 1 : codes[n])) << shift % OF_A_DIGIT;
+        digits[shift / OF_A_DIGIT] += bits >> 31 ? -size : size;
+    }
+    for (size_t d = 0; d < DIGITS - 1; d++) carry = down(digits[d] + carry, OF_A_DIGIT);
+    int64_t code = down(digits[DIGITS - 1] + carry, OF_THE_PART - (DIGITS - 1) * OF_A_DIGIT);
+    return code < 0 ? 0 : code > HIGHEST_CODE ? HIGHEST_CODE : (int)code;
+}
+
+static void print_patches(const float *numbers, const uint8_t *matrix) {
+    enum { BLUE = 1, GREEN = 2, RED = 4 };
+    static const struct { const char *name; int lit; } patches[] = {
+        { "black", 0 }, { "white", RED | GREEN | BLUE }, { "red", RED }, { "green", GREEN }, { "blue", BLUE },
+        { "cyan", GREEN | BLUE }, { "magenta", RED | BLUE }, { "yellow", RED | GREEN },
+    };
+    printf("\n%-10s%12s%21s%21s%12s\n", "patch", "codes", "by the matrix", "by the numbers", "apart");
+    for (size_t p = 0; p < sizeof patches / sizeof patches[0]; p++) {
+        int lit = patches[p].lit;
+        uint32_t in[3] = { lit & RED ? HIGHEST_CODE : 0, lit & GREEN ? HIGHEST_CODE : 0, lit & BLUE ? HIGHEST_CODE : 0 };
+        struct station_pixel out = station_preview(matrix, STATION_MATRIX, in[0], in[1], in[2]);
+        int by[3] = { (int)out.a, (int)out.b, (int)out.c }, want[3], apart = 0;
+        for (size_t row = 0; row < 3; row++) {
+            want[row] = code_of(numbers + 4 * row, in);
+            apart |= by[row] != want[row];
+        }
+        printf("%-8s%5u%5u%5u %6d%5d%5d %6d%5d%5d", patches[p].name, (unsigned)in[0], (unsigned)in[1], (unsigned)in[2], by[0], by[1], by[2], want[0],
+               want[1], want[2]);
+        if (apart) printf(" %6d%5d%5d", by[0] - want[0], by[1] - want[1], by[2] - want[2]);
+        printf("\n");
+    }
+}
+
+int main(int count, char **words) {
+    static uint8_t bytes[MOST];
+    float numbers[STATION_METER];
+    uint8_t matrix[STATION_MATRIX] = { 0 };
+    int files = 0, raw = 0, text = 0, alone = 0, factors = 0;
+    struct option options[] = { { "--raw", NULL, &raw, 0, 0 }, { "--text", NULL, &text, 0, 0 }, { "--words", NULL, &alone, 0, 0 } };
+    words_of_command(count, words, help, options, sizeof options / sizeof options[0], take_name, &files);
+    if (raw && text) misuse("--raw and --text exclude each other");
+    size_t length = read_file(bytes);
+    if (!text && !raw) raw = length == RAW && !is_text(bytes, length);
+    if (raw) numbers_of_raw(bytes, length, numbers);
+    else numbers_of_text(bytes, length, numbers);
+
+    struct station_count c = station_meter(numbers, STATION_METER, matrix, sizeof matrix);
+    if (!is_asked_for(numbers, c, matrix)) {
+        fprintf(stderr, "%s: WHAT THE LIBRARY ANSWERS IS NOT WHAT THESE NUMBERS ASK FOR: TRUST NEITHER\n", program);
+        return DIFFERS;
+    }
+    if (c.refusal) {
+        explain_refused(alone ? stderr : stdout, numbers, c.refusal);
+        return printed(REFUSED);
+    }
+    print_words(matrix);
+    if (alone) return printed(ACCEPTED);
+    print_bytes(matrix);
+    print_mode(numbers, matrix[0]);
+    print_fields(numbers, matrix);
+    print_patches(numbers, matrix);
+    for (size_t n = 0; n < STATION_METER; n++) factors += !is_offset(n) && field_of(matrix, n) != 0;
+    if (factors == 0)
+        printf("\nThe field of every factor is 0: whatever the camera shows, the picture is one\ncolour.%s\n",
+               raw ? " Is the low byte of each float the first?" : "");
+    return printed(ACCEPTED);
+}
