@@ -59,10 +59,9 @@ void explain_refused(FILE *to, const float *numbers, uint32_t refusal) {
     for (size_t n = 0; n < STATION_METER; n++)
         if (fault_of(numbers[n], n, LARGEST_MODE, text) && (refusal != STATION_NOT_FINITE || !is_finite(numbers[n])))
             fprintf(to, "  %s %.9g: %s\n", name_of_number(n, name), numbers[n], text);
-    if (refusal == STATION_NOT_FINITE)
-        fprintf(to, "The meter has no value there: measure again, and let nothing stand for it\nthat was not measured.\n");
+    if (refusal == STATION_NOT_FINITE) fprintf(to, "The meter has no value there: measure again, and do not put 0 in its place.\n");
     if (refusal == STATION_NO_MODE_FITS)
-        fprintf(to, "In mode %d, the largest, a factor lies above -4 and below %.12g, an offset\nfrom %d to below %d. "
-                "All twelve times %.4g would fit; then the picture is\nthat much darker.\n",
+        fprintf(to, "In mode %d, the largest, a factor lies above -4 and below %.12g, an\noffset from %d to below %d. "
+                "All twelve times %.4g would fit; the\npicture is that much darker then.\n",
                 LARGEST_MODE, FACTORS_END, OFFSETS_BEGIN, OFFSETS_END, scale_of(numbers));
 }

@@ -125,9 +125,9 @@ static void numbers_of_text(const uint8_t *bytes, size_t length, float *numbers)
         static char word[MOST + 1];
         float number;
         if (n == NO_TEXT && *r.at == '\r') misuse("line %u: a carriage return inside a line", r.line);
+        if (n == NO_TEXT && length == RAW) misuse("line %u: the byte 0x%02x is no text", r.line, *r.at);
         if (n == NO_TEXT)
-            misuse("line %u: the byte 0x%02x is no text; raw is what has %u bytes, and here are %u", r.line, *r.at, (unsigned)RAW,
-                   (unsigned)length);
+            misuse("line %u: the byte 0x%02x is no text, and a raw export has %u bytes, not %u", r.line, *r.at, (unsigned)RAW, (unsigned)length);
         if (n == A_COMMA) {
             if (!after_number) misuse("line %u: a '%c' with no number before it", r.line, *r.at);
             after_number = 0;
@@ -149,11 +149,12 @@ static void numbers_of_text(const uint8_t *bytes, size_t length, float *numbers)
                within ? "; a comma parts two numbers, the decimal point is a point" : "");
 }
 
-static void numbers_of_raw(const uint8_t *bytes, size_t length, float *numbers) {
+/* The low byte first; or, `turned`, the high one. */
+static void numbers_of_raw(const uint8_t *bytes, size_t length, int turned, float *numbers) {
     if (length != RAW) misuse("%u bytes, and not %u: twelve floats of four bytes", (unsigned)length, (unsigned)RAW);
     for (size_t n = 0; n < STATION_METER; n++) {
         uint32_t bits = 0;
-        for (size_t b = OF_A_FLOAT; b > 0; b--) bits = bits << 8 | bytes[OF_A_FLOAT * n + b - 1];
+        for (size_t b = 0; b < OF_A_FLOAT; b++) bits = bits << 8 | bytes[OF_A_FLOAT * n + (turned ? b : OF_A_FLOAT - 1 - b)];
         memcpy(&numbers[n], &bits, sizeof numbers[n]);
     }
 }
@@ -226,7 +227,7 @@ static void print_fields(const float *numbers, const uint8_t *matrix) {
         printf("%-4s% -18.9g%5d  % -18.12g%14s%15s%s\n", name_of_number(n, name), numbers[n], field, field * unit, text_of_off(off, by),
                text_of_off(off * unit, itself), off == 0.5 || off == -0.5 ? " tie" : "");
     }
-    printf("A unit is 1/%d in a factor, %d in an offset.\n", 4096 >> mode, 1 << mode);
+    printf("A unit is 1/%d in a factor, %d in an offset. Off is what the field stands for,\nless the number.\n", 4096 >> mode, 1 << mode);
 }
 
 /* One output of three codes by the numbers themselves, of which none is above 2^15 in size, as document 01 has it: rounded down, and held
@@ -273,37 +274,57 @@ static void print_patches(const float *numbers, const uint8_t *matrix) {
     }
 }
 
+/* How many fields of factors are not 0. */
+static int factors_in(const uint8_t *matrix) {
+    int factors = 0;
+    for (size_t n = 0; n < STATION_METER; n++) factors += !is_offset(n) && field_of(matrix, n) != 0;
+    return factors;
+}
+
+/* Would raw floats make a matrix, with the high byte of each first? */
+static void tell_turned(FILE *to, const uint8_t *bytes) {
+    float numbers[STATION_METER];
+    uint8_t matrix[STATION_MATRIX];
+    numbers_of_raw(bytes, RAW, 1, numbers);
+    if (station_meter(numbers, STATION_METER, matrix, sizeof matrix).refusal == 0 && factors_in(matrix) > 0)
+        fprintf(to, "With the high byte of each float first there is a matrix, in mode %u: has the\nexport that order? It is read with the low byte first.\n",
+                matrix[0]);
+}
+
 int main(int count, char **words) {
     static uint8_t bytes[MOST];
     float numbers[STATION_METER];
     uint8_t matrix[STATION_MATRIX] = { 0 };
-    int files = 0, raw = 0, text = 0, alone = 0, factors = 0;
+    int files = 0, raw = 0, text = 0, alone = 0;
     struct option options[] = { { "--raw", NULL, &raw, 0, 0 }, { "--text", NULL, &text, 0, 0 }, { "--words", NULL, &alone, 0, 0 } };
     words_of_command(count, words, help, options, sizeof options / sizeof options[0], take_name, &files);
     if (raw && text) misuse("--raw and --text exclude each other");
     size_t length = read_file(bytes);
     if (!text && !raw) raw = length == RAW && !is_text(bytes, length);
-    if (raw) numbers_of_raw(bytes, length, numbers);
+    if (raw) numbers_of_raw(bytes, length, 0, numbers);
     else numbers_of_text(bytes, length, numbers);
 
     struct station_count c = station_meter(numbers, STATION_METER, matrix, sizeof matrix);
+    FILE *to = alone ? stderr : stdout;
     if (!is_asked_for(numbers, c, matrix)) {
         fprintf(stderr, "%s: WHAT THE LIBRARY ANSWERS IS NOT WHAT THESE NUMBERS ASK FOR: TRUST NEITHER\n", program);
         return DIFFERS;
     }
     if (c.refusal) {
-        explain_refused(alone ? stderr : stdout, numbers, c.refusal);
+        explain_refused(to, numbers, c.refusal);
+        if (raw) tell_turned(to, bytes);
         return printed(REFUSED);
     }
     print_words(matrix);
-    if (alone) return printed(ACCEPTED);
-    print_bytes(matrix);
-    print_mode(numbers, matrix[0]);
-    print_fields(numbers, matrix);
-    print_patches(numbers, matrix);
-    for (size_t n = 0; n < STATION_METER; n++) factors += !is_offset(n) && field_of(matrix, n) != 0;
-    if (factors == 0)
-        printf("\nThe field of every factor is 0: whatever the camera shows, the picture is one\ncolour.%s\n",
-               raw ? " Is the low byte of each float the first?" : "");
+    if (!alone) {
+        print_bytes(matrix);
+        print_mode(numbers, matrix[0]);
+        print_fields(numbers, matrix);
+        print_patches(numbers, matrix);
+    }
+    if (factors_in(matrix) == 0) {
+        fprintf(to, "%sThe field of every factor is 0: whatever the camera sees, the picture is one\ncolour.\n", alone ? "" : "\n");
+        if (raw) tell_turned(to, bytes);
+    }
     return printed(ACCEPTED);
 }
