@@ -15,7 +15,7 @@ double in_units(float number, size_t n, int mode) { return (double)number * (is_
 
 double nearest(double units) {
     double size = units < 0 ? -units : units;
-    if (size >= 1e9) return units;                                      /* whole, for a float has 24 bits */
+    if (!(size < 1e9)) return units;                                    /* whole, for a float has 24 bits; or none */
     long whole = (long)size;
     double rest = size - (double)whole;
     if (rest > 0.5 || (rest == 0.5 && whole % 2)) whole++;

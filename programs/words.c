@@ -53,8 +53,8 @@ long number_of_word(const char *word, const char *what, long least, long most) {
     return number;
 }
 
-/* Digits, a point among them or none, an exponent or none: what strtof reads too, but no hex and no blanks. Where there is a digit that is not
- * 0, so that the number is not. */
+/* Digits, a point among them or none, an exponent or none: strtof reads that too, and blanks and hex besides. And whether a digit before the
+ * exponent is not 0. */
 static int is_decimal(const char *at, int *is_not_0) {
     size_t whole = strspn(at, "0123456789"), point = at[whole] == '.', part = point ? strspn(at + whole + 1, "0123456789") : 0;
     *is_not_0 = strspn(at, "0.") < whole + point + part;
@@ -68,13 +68,12 @@ static int is_decimal(const char *at, int *is_not_0) {
 const char *float_of_word(const char *word, float *number) {
     static const char *const not_finite[] = { "nan", "inf", "infinity" };
     const char *at = word + (word[0] == '+' || word[0] == '-');
-    int is_not_0 = 0, is_infinite = 0;
+    int is_not_0;
     *number = strtof(word, NULL);
     for (size_t k = 0; k < sizeof not_finite / sizeof not_finite[0]; k++)
         if (!strcasecmp(at, not_finite[k])) return NULL;
     if (!is_decimal(at, &is_not_0)) return "is no number";
-    is_infinite = *number - *number != 0;
-    if (is_infinite) return "is beyond the largest float, 3.40282347e+38";
+    if (*number - *number != 0) return "is beyond the largest float, 3.40282347e+38";
     return *number == 0 && is_not_0 ? "is not 0, and of the floats 0 is the nearest: write 0 where that is meant" : NULL;
 }
 
