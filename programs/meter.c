@@ -22,7 +22,7 @@ static const char help[] =
     "  of each number the field, what that stands for, and how far off it is: at most\n"
     "    half a unit of the field;\n"
     "  eight patches through the matrix, beside what the numbers themselves give,\n"
-    "    rounded down and held within 0 to 4095 as the chip does.\n"
+    "    both rounded down and held within 0 to 4095; and how far they are apart.\n"
     "\n"
     "FILE, or with - or without it the standard input, is text or raw:\n"
     "\n"
@@ -84,7 +84,7 @@ static int is_blank(const struct reader *r, size_t k) { return strchr(" \t\n", r
 static int is_comma(int c) { return c == ',' || c == ';'; }
 static int is_control(const struct reader *r, size_t k) { return (r->at[k] < ' ' && !is_blank(r, k)) || r->at[k] == 0x7F; }
 
-/* The next blank, comma or word, and how long it is; a comment is passed over as a blank. 0 at the end, -1 at a byte that is no text. */
+/* The next blank, comma or word, and how long it is; a comment counts as a blank. At a byte that is no text the reader stands on it. */
 enum next { NO_TEXT = -1, THE_END, A_BLANK, A_COMMA, A_WORD };
 static enum next next_of(struct reader *r, size_t *length) {
     size_t k = 0;
@@ -118,7 +118,7 @@ static int is_text(const uint8_t *bytes, size_t length) {
 static void numbers_of_text(const uint8_t *bytes, size_t length, float *numbers) {
     struct reader r = reader_of(bytes, length);
     unsigned count = 0, too_many = 0;
-    int after_number = 0, within = 0;               /* may a comma stand here; does one stand within a number */
+    int after_number = 0, within = 0;               /* may a comma stand here; was there one that no blank followed, as in 1,5 */
     char name[3];
     size_t passed;
     for (enum next n; (n = next_of(&r, &passed)) != THE_END; pass(&r, passed)) {
