@@ -126,6 +126,11 @@ module _ (l : List Float) (twelve : length l ≡ 12) (all : every finite l ≡ t
   }
 
 -- ---- the call
+pub record Laid (l : List Float) (b : List ℕ) : Type 0 where
+  pub matrix : Matrix
+  pub whole : Whole matrix
+  pub front : take 25 (meterBuffer l b) ≡ bodyOf matrix
+
 module _ (l : List Float) (b : List ℕ) where
   decided : Decided (meterTests l b) (meterRules l b)
   decided = (
@@ -178,6 +183,10 @@ module _ (l : List Float) (b : List ℕ) where
     front : take 25 (meterBuffer l b) ≡ bodyOf (inMode (modeOf l) l)
     unfolding body
     front = ap₂ take (sym (made-length l twelve all some)) laid ∙ take-append-seam body (drop 25 b)
+
+    -- where none is refused: the matrix whose bytes stand in front
+    pub laid-matrix : Laid l b
+    laid-matrix = record { matrix = inMode (modeOf l) l; whole = whole l twelve all some; front = front }
 
     counted : meterOf l b .count ≡ 25
     unfolding meterOf

@@ -10,6 +10,7 @@ use Rattle.clock.specs.Pairs.{noPair}
 use Rattle.clock.proofs.Rows as clocks
 use Rattle.frames.proofs.Refused as frames
 use Rattle.matrix.proofs.Codes as preview
+use Rattle.meter.proofs.Rule as meter
 use Rattle.request.specs.declared.Sound.{Sound}
 use Rattle.request.specs.declared.Sound.the-variants.{Off, On}
 use Rattle.request.specs.Read.{readOf, nctsOf, pairIn, pairFor}
@@ -64,6 +65,7 @@ any-input = record {
   clock = clocks.refusals;
   frames = frames.refusals;
   preview = preview.refusals;
+  meter = meter.rule;
   write = entry.refusals;
   vsync = entry.turn-refusals;
   view = view.refusals;
@@ -82,6 +84,9 @@ any-input = record {
   stationPreview = λ matrix a b c out d p h.
       let u = preview.refusals matrix d a b c .zeros (λ z. h (ap (λ (o : PixelOut). o .refusal) p ∙ z)) in
       (ap (λ (o : PixelOut). o .a) p ∙ u .0, ap (λ (o : PixelOut). o .b) p ∙ u .1, ap (λ (o : PixelOut). o .c) p ∙ u .2);
+  stationMeter = λ numbers matrix left out p h.
+      let u = meter.rule numbers matrix .nothing (λ z. h (ap (λ (o : CountOut). o .refusal) (p .0) ∙ z)) in
+      (ap (λ (o : CountOut). o .count) (p .0) ∙ u .0, p .1 ∙ u .1);
   stationWrite = λ l left address value out p h. p .1 ∙ entry.refusals l address value .kept (λ z. h (p .0 ∙ z));
   stationVsync = λ l left out p h. p .1 ∙ entry.turn-refusals l .kept (λ z. h (p .0 ∙ z));
   stationSent = λ image packet which out p h.

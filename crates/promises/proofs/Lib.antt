@@ -9,5 +9,6 @@ pub mod Example
 pub mod Places
 pub mod Filled
 pub mod Shown
+pub mod Metered
 pub mod Vendors
 pub mod VendorCases

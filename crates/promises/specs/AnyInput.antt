@@ -4,11 +4,13 @@ use mathlib.Core.Path.{_≡_}
 use mathlib.Core.Logic.{_≢_}
 use mathlib.Core.List.{List}
 use Prim.Native.Nat.{ℕ}
+use lib.Ieee.{Float}
 use Rattle.refusals.specs.Rows.{Given}
 use Rattle.clock.specs.Theorems.{ClockRefusals}
 use Rattle.frames.specs.Theorems.{FrameRefusals}
 use Rattle.matrix.specs.Matrix.{Bytes}
 use Rattle.matrix.specs.Preview.{PreviewRefusals}
+use Rattle.meter.specs.Meter.{MeterRule}
 use Rattle.request.specs.Sections.{walked}
 use Rattle.request.specs.Request.{nctsRules}
 use Rattle.request.specs.Read.{nctsOf}
@@ -27,7 +29,7 @@ use Rattle.station.specs.declared.PixelOut.{PixelOut}
 use Rattle.station.specs.declared.machine.PartOut.{PartOut}
 use Rattle.station.specs.declared.machine.StateOut.{StateOut}
 use Rattle.station.specs.declared.machine.VerdictOut.{VerdictOut}
-use Rattle.station.specs.Face.{StationPlan, StationDecode, StationNcts, StationPreview}
+use Rattle.station.specs.Face.{StationPlan, StationDecode, StationNcts, StationPreview, StationMeter}
 use Rattle.station.specs.Machine.{StationWrite, StationVsync, StationSent, StationMute, StationMatrix, StationVet}
 
 -- "A bad request gets a numbered refusal from the list in document 01, a count of zero, and every lent buffer unchanged." Each of these
@@ -45,6 +47,8 @@ pub record Demand1 : Type 0 where
   pub frames : FrameRefusals
   -- the preview, 5 and 12
   pub preview : (matrix : List ℕ) → Bytes matrix → (a b c : ℕ) → PreviewRefusals matrix a b c
+  -- a colour meter's numbers, 5, 10, 18 and 19 (`given`, `nothing`)
+  pub meter : (numbers : List Float) (buffer : List ℕ) → MeterRule numbers buffer
   -- a machine write, 7 and 13, and a Vsync, 7: a refused one changes nothing
   pub write : (l : Lent) (address value : ℕ) → WriteRefusals l address value
   pub vsync : (l : Lent) → VsyncRefusals l
@@ -61,6 +65,8 @@ pub record Demand1 : Type 0 where
   pub stationNcts : (request : List ℕ) (out : PairOut) → StationNcts request out → out .refusal ≢ 0 → (out .n ≡ 0) × (out .cts ≡ 0)
   pub stationPreview : (matrix : List ℕ) (a b c : ℕ) (out : PixelOut) → Bytes matrix → StationPreview matrix a b c out
       → out .refusal ≢ 0 → (out .a ≡ 0) × (out .b ≡ 0) × (out .c ≡ 0)
+  pub stationMeter : (numbers : List Float) (matrix left : List ℕ) (out : CountOut) → StationMeter numbers matrix out left
+      → out .refusal ≢ 0 → (out .count ≡ 0) × (left ≡ matrix)
   pub stationWrite : (l left : Lent) (address value out : ℕ) → StationWrite l address value out left → out ≢ 0 → left ≡ l
   pub stationVsync : (l left : Lent) (out : ℕ) → StationVsync l out left → out ≢ 0 → left ≡ l
   pub stationSent : (image packet : List ℕ) (which : ℕ) (out : PartOut) → StationSent image packet which out

@@ -7,5 +7,6 @@ pub mod LentBytes
 pub mod AnyCut
 pub mod Example
 pub mod Finished
+pub mod Metered
 pub mod Vendors
 pub mod VendorCases

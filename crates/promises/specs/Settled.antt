@@ -5,6 +5,7 @@ use mathlib.Core.List.{List, _++_}
 use Prim.Native.Nat.{ℕ, _+_}
 use lib.Dec.{eqb}
 use lib.ListN.{length, drop, replicate}
+use lib.Ieee.{Float}
 use Rattle.registers.specs.declared.Class.{Class}
 use Rattle.registers.specs.Classes.{classAt, Classifies}
 use Rattle.video.specs.declared.Video.{Video}
@@ -17,6 +18,8 @@ use Rattle.frames.specs.declared.Audio.{Audio}
 use Rattle.frames.specs.Answers.{aviOf, audioOf, GivesAvi, GivesAudio}
 use Rattle.matrix.specs.declared.Pixel.{Pixel}
 use Rattle.matrix.specs.Preview.{previewOf, Previews}
+use Rattle.meter.specs.declared.Metered.{Metered}
+use Rattle.meter.specs.Found.{meterOf, meterBuffer, Meters}
 use Rattle.request.specs.declared.Checked.{Checked}
 use Rattle.line.specs.Words.{lineText, Prints}
 use Rattle.line.specs.Verdict.{verdictText, PrintsVerdict}
@@ -46,7 +49,7 @@ use Rattle.station.specs.declared.machine.PartOut.{PartOut}
 use Rattle.station.specs.declared.machine.StateOut.{StateOut}
 use Rattle.station.specs.declared.machine.VerdictOut.{VerdictOut}
 use Rattle.station.specs.declared.machine.ClassOut.{ClassOut}
-use Rattle.station.specs.Face.{StationPlan, StationDecode, StationNcts, StationPreview}
+use Rattle.station.specs.Face.{StationPlan, StationDecode, StationNcts, StationPreview, StationMeter}
 use Rattle.station.specs.Machine.{StationWrite, StationVsync, StationSent, StationMute, StationMatrix, StationVet, StationClass}
 
 -- "the result and each lent byte are settled by the promise: any two outcomes it allows are proved equal"
@@ -78,6 +81,8 @@ pub record Settled : Type 0 where
       → let text : List ℕ = verdictText refusal place in
       Only {A = ℕ × List ℕ} (λ o. PrintsVerdict refusal place (o .0) (o .1)) (length text, text ++ drop (length text) (replicate 80 0))
   pub preview : (matrix : List ℕ) (a b c : ℕ) → Only {A = Pixel} (Previews matrix a b c) (previewOf matrix a b c)
+  pub meter : (numbers : List Float) (buffer : List ℕ)
+      → Only {A = Metered × List ℕ} (λ o. Meters numbers buffer (o .0) (o .1)) (meterOf numbers buffer, meterBuffer numbers buffer)
   pub clock : (video : Video) → Only {A = Clock} (GivesClock video) (clockOf video)
   pub pair : (video : Video) (rate coherent : ℕ) → Only {A = Pair} (GivesPair video rate coherent) (pairOf video rate coherent)
   pub avi : (video : Video) → Only {A = Avi} (GivesAvi video) (aviOf video)
@@ -103,7 +108,7 @@ pub record Settled : Type 0 where
   -- a vendor's list on a state: document 02, request 03
   pub vet : (s : Chip) (list : List ℕ) → Only {A = Verdict} (Vets s list) (vetOf s list)
   pub class : (address : ℕ) → Only {A = Class} (Classifies address) (classAt address)
-  -- the eleven exported calls: field by field what the library answers
+  -- the twelve exported calls: field by field what the library answers
   pub stationPlan : (request image writes : List ℕ)
       → let p : Planned = planOf request image writes in
       Only {A = CountOut × List ℕ} (λ o. StationPlan request image writes (o .0) (o .1))
@@ -118,6 +123,10 @@ pub record Settled : Type 0 where
   pub stationPreview : (matrix : List ℕ) (a b c : ℕ)
       → let p : Pixel = previewOf matrix a b c in
       Only {A = PixelOut} (StationPreview matrix a b c) (record { refusal = p .refusal; a = p .a; b = p .b; c = p .c })
+  pub stationMeter : (numbers : List Float) (matrix : List ℕ)
+      → let m : Metered = meterOf numbers matrix in
+      Only {A = CountOut × List ℕ} (λ o. StationMeter numbers matrix (o .0) (o .1))
+      (record { refusal = m .refusal; count = m .count }, meterBuffer numbers matrix)
   pub stationWrite : (l : Lent) (address value : ℕ)
       → let e : Entry = enterOf l address value in
       Only {A = ℕ × Lent} (λ o. StationWrite l address value (o .0) (o .1)) (e .refusal, e .slices)

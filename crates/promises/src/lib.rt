@@ -2,6 +2,7 @@
 ghost use mathlib.Core.Path.{_≡_};
 ghost use mathlib.Core.List.{List};
 ghost use Prim.Native.Nat.{ℕ};
+ghost use lib.Ieee.{Float};
 ghost use Rattle.request.specs.declared.Request.{Request};
 ghost use Rattle.chip.specs.declared.Chip.{Chip};
 ghost use Rattle.plan.specs.Plan.{planOf};
@@ -10,6 +11,7 @@ ghost use Rattle.promises.specs.AnyInput.{Demand1};
 ghost use Rattle.promises.specs.Cases.{MarkedCases};
 ghost use Rattle.promises.specs.Example.{Example};
 ghost use Rattle.promises.specs.Finished.{AllNamed};
+ghost use Rattle.promises.specs.Metered.{FromMeter};
 ghost use Rattle.promises.specs.Rules.{Demand2, OnSomeImage, FieldByField};
 ghost use Rattle.promises.specs.Settled.{Settled};
 ghost use Rattle.promises.specs.VendorCases.{VendorCases};
@@ -54,6 +56,11 @@ pub fn field_by_field()
 // and wherever the run is cut.
 pub fn demand_3()
     ensures { λ _. ⌜ ((input buffer : List ℕ) (s : Chip) → planOf input (s .image) buffer .refusal ≡ 0 → AnyCut input buffer s) ⌝ }
+{}
+
+// Document 02, request 07: what a meter's matrix is to a request and to the preview.
+pub fn from_meter()
+    ensures { λ _. ⌜ ((numbers : List Float) (buffer : List ℕ) → FromMeter numbers buffer) ⌝ }
 {}
 
 // Document 02, request 03: our own lists pass, and what a vendor's list that passes gives.

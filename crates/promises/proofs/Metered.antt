@@ -1,0 +1,114 @@
+-- The bytes of a meter's matrix in a request, and in the preview: any matrix section that is allowed is taken. Assumes nothing.
+use mathlib.Core.Path.{_≡_, refl, sym, ap, ap₂, _∙_, subst}
+use mathlib.Core.Logic.{inr}
+use mathlib.Core.Bool.{Bool, true, false, not, _&&_, _||_}
+use mathlib.Core.List.{List, [], _∷_, map}
+use Prim.Native.Nat.{ℕ, _≤_}
+use native.Mathlib.Omega.{arith}
+use lib.Dec.{eqb, ltb}
+use lib.ListN.{length, take}
+use lib.Ieee.{Float}
+use borrow.Author.Tests.{le-ltb, ne-eqb}
+use Rattle.lists.proofs.Both.{neither-left, neither-right}
+use Rattle.refusals.specs.Rows.{lowest}
+use Rattle.refusals.proofs.Tests.{numbered}
+use Rattle.video.specs.declared.Video.{Video}
+use Rattle.video.specs.Tests.{videoOutside, videoCombined}
+use Rattle.clock.specs.Clocks.{tmds}
+use Rattle.matrix.specs.declared.Matrix.{Matrix}
+use Rattle.matrix.specs.Coefficient.{field, coefficientBytes}
+use Rattle.matrix.specs.Matrix.{bodyOf, matrixOf, Whole}
+use Rattle.matrix.specs.Tests.{isAllowed}
+use Rattle.matrix.specs.Preview.{noPixel, previewTests, previewOf}
+use Rattle.matrix.proofs.Body.{unmoved, body-back}
+use Rattle.matrix.proofs.Pairs.{sized}
+use Rattle.meter.specs.Found.{meterOf, meterBuffer}
+use Rattle.meter.proofs.Rule.{Laid, laid-matrix}
+use Rattle.request.specs.declared.Request.{Request}
+use Rattle.request.specs.declared.Checked.{Checked}
+use Rattle.request.specs.Request.{present}
+use Rattle.request.specs.Read.{emptied, audioOutside, outside, combined, bodyTests, judged, readOf}
+use Rattle.request.specs.Bytes.{audioBody, matrixBody, asBytes}
+use Rattle.request.specs.Theorems.{Filled, Shaped}
+use Rattle.request.proofs.Ordered.{accepted}
+use Rattle.request.proofs.Said.{read-judged, said}
+use Rattle.promises.specs.Metered.{bytesWith, askedWith, FromMeter}
+
+-- ---- another matrix section in an accepted request
+module _ (v : Video) (a m n : List ℕ) (allowed : isAllowed n ≡ true) where
+  has : eqb (length n) 0 ≡ false
+  has = ne-eqb (length n) 0 (omega (arith, sized n allowed))
+
+  still-inside : outside v a m ≡ false → outside v a n ≡ false
+  unfolding outside
+  still-inside e =
+      let o = neither-left (videoOutside v) _ e in
+      let s = neither-left (present a && audioOutside a) _ (neither-right (videoOutside v) _ e) in
+      rw (o, s, allowed) (ap (λ (t : Bool). not t && false) has)
+
+  still-apart : combined v a m ≡ false → combined v a n ≡ false
+  unfolding combined
+  still-apart e = rw has (last (not (eqb (v .encoding) 0)) (neither-right (not (eqb (v .encoding) 0) && eqb (length m) 0) _ e))
+    where
+      last : (b : Bool) {c : Bool} → c ≡ false → ((b && false) || c) ≡ false
+      last true e = e
+      last false e = e
+
+  another : judged v a m .refusal ≡ 0 → judged v a n .refusal ≡ 0
+  unfolding judged
+  another z =
+      let j = accepted v a m z in
+      numbered emptied _ (λ c. c .refusal) (lowest (bodyTests v a n)) (λ _. refl) refl
+      ∙ rw (j .mode, still-inside (j .inside), still-apart (j .apart), j .within) refl
+
+-- a whole matrix in place of a request's own
+put : Matrix → Request → Request
+put m r = record { video = r .video; sound = r .sound; matrix = m }
+
+filled : (m : Matrix) → Whole m → Filled m
+filled m w = record { on = w .on; mode = omega (arith, w .mode); twelve = w .twelve; small = w .each }
+
+own-body : (m : Matrix) → Whole m → matrixBody m ≡ bodyOf m
+own-body m w = rw (w .on) (ap (λ (cs : List ℕ). m .mode ∷ coefficientBytes cs) (sym (unmoved (m .coefficients) (w .each))))
+
+taken : (r : Request) (m : Matrix) → Shaped (r .matrix) → Whole m → readOf (asBytes r) .refusal ≡ 0
+    → readOf (asBytes (put m r)) ≡ record { refusal = 0; request = put m r }
+unfolding put
+taken r m s w z =
+    let number : Checked → ℕ = λ c. c .refusal in
+    let v = r .video in
+    let a = audioBody (r .sound) in
+    let shaped : Shaped m = inr (filled m w) in
+    let judgedWith = another v a (matrixBody (r .matrix)) (matrixBody m) (ap isAllowed (own-body m w) ∙ body-back m w .allowed)
+    (sym (ap number (read-judged r s)) ∙ z)
+    in
+    said (put m r) shaped (ap number (read-judged (put m r) shaped) ∙ judgedWith)
+
+in-request : (r : Request) (m : Matrix) → Shaped (r .matrix) → Whole m → readOf (asBytes r) .refusal ≡ 0
+    → readOf (bytesWith (bodyOf m) r) ≡ record { refusal = 0; request = askedWith (bodyOf m) r }
+unfolding put asBytes
+in-request r m s w z =
+    ap (λ (b : List ℕ). readOf (bytesWith b r)) (sym (own-body m w))
+    ∙ taken r m s w z
+    ∙ ap (λ (x : Matrix). the (put x r)) (sym (body-back m w .back))
+  where
+    the : Request → Checked
+    the q = record { refusal = 0; request = q }
+
+-- ---- and in the preview
+in-preview : (body : List ℕ) (a b c : ℕ) → isAllowed body ≡ true → a ≤ 4095 → b ≤ 4095 → c ≤ 4095 → previewOf body a b c .refusal ≡ 0
+unfolding previewOf
+in-preview body a b c e x y z =
+    numbered noPixel _ (λ p. p .refusal) (lowest (previewTests body a b c)) (λ _. refl) refl
+    ∙ rw (e, le-ltb 4095 a x, le-ltb 4095 b y, le-ltb 4095 c z) refl
+
+pub from-meter : (numbers : List Float) (buffer : List ℕ) → FromMeter numbers buffer
+from-meter numbers buffer = record {
+  request = λ z r s y.
+      let laid = laid-matrix numbers buffer z in
+      subst (λ (body : List ℕ). readOf (bytesWith body r) ≡ record { refusal = 0; request = askedWith body r }) (sym (laid .front))
+      (in-request r (laid .matrix) s (laid .whole) y);
+  preview = λ z a b c h k l.
+      let laid = laid-matrix numbers buffer z in
+      in-preview _ a b c (ap isAllowed (laid .front) ∙ body-back (laid .matrix) (laid .whole) .allowed) h k l;
+}
