@@ -43,6 +43,7 @@ void check_decode(const uint8_t *image, size_t il, const uint8_t *buffer, size_t
 void check_write(const struct slices *s, uint8_t address, uint8_t value);
 void check_vsync(const struct slices *s);
 void check_matrix(const struct slices *s, const uint8_t *matrix, size_t length);
+struct station_count check_meter(const uint32_t *numbers, size_t count, const uint8_t *matrix, size_t length);    /* answers the model's */
 int left_in(uint8_t address, const uint8_t *image, const uint8_t *writes, struct station_count c);  /* the byte that a list leaves there */
 /* Demand 2: the request that an image must read back as which this one has finished; and whether it does. */
 struct fields read_back(const struct fields *f);
@@ -55,6 +56,11 @@ void depths(void);
 /* edition.c: sections. ------------------------------------------------------------------------------------------------------------- */
 
 void editions(void);
+
+/* meter.c: sections. --------------------------------------------------------------------------------------------------------------- */
+
+void meters(void);
+void many_meters(void);
 
 /* turn.c: sections. ---------------------------------------------------------------------------------------------------------------- */
 

@@ -18,6 +18,7 @@ struct face {
     struct station_masks (*class_of)(uint8_t);
     struct station_verdict (*vet)(const uint8_t *, size_t, const uint8_t *, size_t, const uint8_t *, size_t, uint8_t, const uint8_t *,
                                   size_t);
+    struct station_count (*meter)(const float *, size_t, uint8_t *, size_t);
 };
 
 #endif

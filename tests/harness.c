@@ -187,6 +187,21 @@ static void check_preview(const uint8_t *matrix, size_t ml, uint32_t a, uint32_t
     else if (!holds(MATRIX, matrix)) differs("the input was changed");
 }
 
+/* The numbers are the floats' bits. */
+struct station_count check_meter(const uint32_t *numbers, size_t count, const uint8_t *matrix, size_t ml) {
+    const uint8_t *bytes = (const uint8_t *)numbers;
+    run.now->cases++;
+    memcpy(expected, matrix, ml);
+    struct station_count want = model_meter((const float *)(const void *)numbers, count, expected, ml);
+    const float *lent = (const float *)(void *)lend(NUMBERS, bytes, 4 * count, side());
+    struct station_count got = run.f->meter(lent, count, lend(MATRIX, matrix, ml, side()), ml);
+    if (got.refusal != want.refusal || got.count != want.count)
+        differs("%u, count %u, the model has %u, %u", got.refusal, got.count, want.refusal, want.count);
+    else if (!holds(MATRIX, expected)) differs("the matrix buffer is another");
+    else if (!holds(NUMBERS, bytes)) differs("the numbers were changed");
+    return want;
+}
+
 /* How often each verdict was met: by its number, 15 by the rule that is broken. */
 enum { VERDICTS = 17 };
 static uint32_t verdicts[VERDICTS], broken[RULES];
@@ -437,6 +452,7 @@ static void lengths_of_state(const struct slices *s, const uint8_t *buffer, size
 /* Every length of every buffer up to 600, and the order of the refusals where two apply. */
 static void lengths(void) {
     static uint8_t image[600], buffer[600], packet[64], coefficients[64], mark[64];
+    static uint32_t numbers[600];                           /* zeros, but for one that fits no mode, and one that is none */
     const struct slices s = { image, 256, packet, 32, coefficients, 24, mark, 1 };
     uint8_t request[LONGEST];
     uint32_t step = 1 + 3 * (run.share < 1000);
@@ -449,6 +465,7 @@ static void lengths(void) {
         any_bytes(coefficients, sizeof coefficients);
         any_bytes(mark, sizeof mark);
         mark[0] = (const uint8_t[]){ 0, 1, 2, 7, 255, 128 }[i];
+        numbers[5] = i % 3 == 1 ? 0x40800000 : 0, numbers[9] = i % 3 == 2 ? 0x7FC00000 : 0;
         do any_fields(&f); while (!model_pair(&f).exists);
         if (i % 3 == 1) f = (struct fields){ .vic = 4, .family = 1, .link = 1, .sound = 1, .rate = 0, .channels = 2, .coherent = 1 };
         if (i % 3 != 2) finish(image, &f), image[0x4A] &= 0x8F;
@@ -464,6 +481,10 @@ static void lengths(void) {
             check_decode(image, 257, buffer, n);
             check_matrix(&s, buffer, n);
             check_preview(buffer, n, 1, 2, 3);
+            check_meter(numbers, n, buffer, MATRIX_BYTES);
+            check_meter(numbers, n, buffer, MATRIX_BYTES - 1);
+            check_meter(numbers, 12, buffer, n);
+            check_meter(numbers, 11, buffer, n);
             check_vet(&s, buffer, n);
             lengths_of_state(&s, buffer, n);
         }
@@ -1174,6 +1195,8 @@ static const struct { const char *name; void (*run)(void); } sections[SECTIONS] 
     { "Vsync and the mark", turns },
     { "views", views },
     { "preview", preview },
+    { "a meter: by hand, near ties", meters },
+    { "a meter: noise, every NaN", many_meters },
     { "lists: by hand, and our own", own_lists },
     { "lists of ours, a change each", changed_lists },
     { "lists of a vendor", vendors },

@@ -14,9 +14,11 @@
 #include <string.h>
 
 static const struct face model = { model_plan, model_decode, model_ncts,    model_write, model_vsync, model_sent,
-                                   model_mute, model_matrix, model_preview, model_class, model_vet };
+                                   model_mute, model_matrix, model_preview, model_class, model_vet,
+                                   model_meter };
 static const struct face library = { station_plan, station_decode, station_ncts,    station_write, station_vsync, station_sent,
-                                     station_mute, station_matrix, station_preview, station_class, station_vet };
+                                     station_mute, station_matrix, station_preview, station_class, station_vet,
+                                     station_meter };
 
 static int compared(const char *what, const struct face *f, unsigned share) {
     struct section s[SECTIONS];

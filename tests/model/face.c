@@ -124,3 +124,20 @@ struct station_verdict model_vet(const uint8_t *image, size_t image_length, cons
     const struct chip c = taken(image, packet, coefficients, mark);
     return model_judge(&c, list, list_length, &rule);
 }
+
+struct station_count model_meter(const float *numbers, size_t count, uint8_t *matrix, size_t matrix_length) {
+    uint32_t bits[12];
+    int mode, fields[12];
+    if (count != 12) return (struct station_count){ 5, 0 };
+    if (matrix_length < MATRIX_BYTES) return (struct station_count){ 10, 0 };
+    memcpy(bits, numbers, sizeof bits);
+    uint32_t refusal = model_matrix_of(bits, &mode, fields);
+    if (refusal) return (struct station_count){ refusal, 0 };
+    matrix[0] = (uint8_t)mode;
+    for (int i = 0; i < 12; i++) {
+        unsigned two = fields[i] < 0 ? 65536u - (unsigned)-fields[i] : (unsigned)fields[i];
+        matrix[1 + 2 * i] = (uint8_t)(two >> 8);
+        matrix[2 + 2 * i] = (uint8_t)two;
+    }
+    return (struct station_count){ 0, MATRIX_BYTES };
+}

@@ -121,6 +121,15 @@ int           model_same_matrix(const struct in_use *a, const struct in_use *b);
 enum rule     model_cut_breaks(const struct in_use *now, const struct in_use *old, const struct in_use *end);
 struct station_verdict model_judge(const struct chip *c, const uint8_t *list, size_t length, enum rule *rule);     /* 8 and 14 to 16 */
 
+/* meter.c: a meter's numbers, by the bits of the floats. The size of one times a power of two, as a fraction; the field of a finite one at
+ * its place, of twelve, in a mode (0 where it does not fit); and refusal 18 or 19, or the mode and the twelve fields. */
+struct fraction { uint64_t top, bottom; };
+int             model_finite(uint32_t number);
+struct fraction model_size(uint32_t number, int twos);
+int             model_is_offset(int place);
+int             model_metered(uint32_t number, int place, int mode, int *field);
+uint32_t        model_matrix_of(const uint32_t *numbers, int *mode, int *fields);
+
 /* face.c: the C face, by the model. */
 struct station_count model_plan(const uint8_t *, size_t, const uint8_t *, size_t, uint8_t *, size_t);
 struct station_count model_decode(const uint8_t *, size_t, uint8_t *, size_t);
@@ -134,5 +143,6 @@ struct station_pixel model_preview(const uint8_t *, size_t, uint32_t, uint32_t, 
 struct station_masks model_class(uint8_t);
 struct station_verdict model_vet(const uint8_t *, size_t, const uint8_t *, size_t, const uint8_t *, size_t, uint8_t, const uint8_t *,
                                  size_t);
+struct station_count model_meter(const float *, size_t, uint8_t *, size_t);
 
 #endif
