@@ -10,17 +10,18 @@
 struct wrong { const char *fault; void (*put)(struct face *); int alone; };
 enum { BY_CUTS = 1, BY_CHAINS = 2, NOT_BY_CUTS = 4, BY_CHAINS_ALONE = BY_CHAINS | NOT_BY_CUTS };
 extern const struct wrong wrong_plans[], wrong_fewer[], wrong_numbers[], wrong_decodes[], wrong_machines[], wrong_marks[], wrong_views[],
-    wrong_vets[], wrong_chains[], wrong_depths[], wrong_editions[];
+    wrong_vets[], wrong_chains[], wrong_depths[], wrong_editions[], wrong_meters[];
 /* The sets, the last without rows; `first` is the section of the harness to begin with. */
 extern const struct wrong_set { const struct wrong *rows; int first; } wrong_sets[];
-/* The planner of wrong/fewer.c, the machine of wrong/mark.c, the judge of wrong/vet.c and the libraries of wrong/chain.c, wrong/depth.c and
- * wrong/edition.c, without a fault: they must not be caught. */
+/* The planner of wrong/fewer.c, the machine of wrong/mark.c, the judge of wrong/vet.c, the libraries of wrong/chain.c, wrong/depth.c and
+ * wrong/edition.c and the matrices of wrong/meter.c, without a fault: they must not be caught. */
 void put_right_planner(struct face *f);
 void put_right_machine(struct face *f);
 void put_right_judge(struct face *f);
 void put_right_library(struct face *f);
 void put_right_depths(struct face *f);
 void put_right_editions(struct face *f);
+void put_right_meter(struct face *f);
 
 /* The argument lists that are long. */
 #define PLAN_ARGUMENTS const uint8_t *r, size_t rl, const uint8_t *i, size_t il, uint8_t *w, size_t wl
