@@ -2,7 +2,7 @@
 #   make           the library's archive and everything below that is built of it
 #   make programs  what tools/{listing,request,meter,modes,image,picture,review} run, and accident, agree and vectors, over the library
 #   make host      the example host: then host/run --cut 25 --brief, or host/run --chain 7 --brief
-#   make bench     planning, decoding and the vet of a list, the library against plain C: times, instructions, and whether the bars are met;
+#   make bench     planning, decoding, the vet of a list and a meter's matrix, the library against plain C: times, instructions, bars;
 #                  writes and bus time of typical changes
 #   make tests     tests/run
 #   make peers     Linux's reader of InfoFrames on every packet that we finish; fetches its source (Debian's linux-source), no part of the gate
@@ -61,9 +61,10 @@ target/c/i2c_fake: tests/i2c/fake.c programs/fields.c programs/factors.c program
 target/c/bench: bench/bench.c bench/plain.c programs/fields.c programs/factors.c programs/words.c
 target/c/tests: $(wildcard tests/*.c tests/model/*.c tests/wrong/*.c) bench/plain.c
 target/c/tests: FLAGS += -pthread
+target/c/bench target/c/tests: MORE = -lm
 $(BINARIES): $(HEADERS) $(LIB) Makefile
 	@mkdir -p target/c
-	@setup=$$(tools/setup) && eval "$$setup" && $$CC $(FLAGS) $(filter %.c,$^) $(LIB) -o $@
+	@setup=$$(tools/setup) && eval "$$setup" && $$CC $(FLAGS) $(filter %.c,$^) $(LIB) $(MORE) -o $@
 
 # An archive that is older than a source is proved and built anew.
 $(LIB): $(PROVED)

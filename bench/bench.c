@@ -1,11 +1,11 @@
-/* The benchmark: planning, decoding and the vet of a list, the library and plain C in one run, ns for each call and the ratio. The sides
- * take turns, and each keeps its best round. A round is short, so that some are not disturbed on a busy machine, and its time is the
- * processor's.
+/* The benchmark: planning, decoding, the vet of a list and a meter's matrix, the library and plain C in one run, ns for each call and the
+ * ratio. The sides take turns, and each keeps its best round. A round is short, so that some are not disturbed on a busy machine, and its
+ * time is the processor's.
  *   bench                      the times, and whether the bars are met: the status is 1 where they are not; then as bench bus
  *   bench check                only compares the answers
  *   bench bus                  the writes and the bus time of typical changes, the list whole and as it is planned
  *   bench count SIDE CALL N    N calls and nothing else, for a tool that counts instructions: SIDE library, plain or rule, CALL plan,
- *                              plan_few, decode, refused, vet or vet_long */
+ *                              plan_few, decode, refused, vet, vet_long or meter */
 #include "plain.h"
 #include "../programs/fields.h"
 #include "../programs/may.h"
@@ -30,6 +30,7 @@ static struct {
     uint8_t start[STATION_IMAGE], finished[STATION_IMAGE], damaged[STATION_IMAGE], near[STATION_IMAGE];
 } in[INPUTS];
 static struct { uint8_t packet[STATION_PACKET], coefficients[STATION_COEFFICIENTS], mark; struct pairs own, longest; } lists[INPUTS];
+static float exports[INPUTS][STATION_METER];
 static uint8_t room[STATION_WRITES];
 static uint32_t sum;    /* keeps the calls alive */
 
@@ -158,19 +159,30 @@ static void make_lists(void) {
     }
 }
 
-/* The sides, and what is called. */
+/* Exports of a meter that are accepted, in each mode by turns; a quarter of their factors are 0. */
+static void make_exports(void) {
+    for (int i = 0; i < INPUTS; i++)
+        for (int k = 0; k < STATION_METER; k++) {
+            float part = (float)((int)(noise() % 16000001) - 8000000) / 8001000;        /* below 1 in size */
+            exports[i][k] = part * (k % 4 == 3 ? 4095 : noise() % 4 ? 1 : 0) * (float)(1 << i % 3);
+            if (k == 0 && i % 3) exports[i][k] = i % 3 == 2 ? -2.5f : 1.25f;
+        }
+}
+
+/* The sides, and what is called. A meter's matrix has no N and CTS, and one plain side. */
 enum { LIBRARY, PLAIN, RULE, SIDES };
-enum { PLAN, PLAN_FEW, DECODE, NO_REQUEST, VET, VET_LONG, WHATS };
+enum { PLAN, PLAN_FEW, DECODE, NO_REQUEST, VET, VET_LONG, METER, WHATS };
 static const struct {
     const char *name;
     struct station_count (*plan)(const uint8_t *, size_t, const uint8_t *, size_t, uint8_t *, size_t);
     struct station_count (*decode)(const uint8_t *, size_t, uint8_t *, size_t);
     struct station_verdict (*vet)(const uint8_t *, size_t, const uint8_t *, size_t, const uint8_t *, size_t, uint8_t, const uint8_t *,
                                   size_t);
+    struct station_count (*meter)(const float *, size_t, uint8_t *, size_t);
 } sides[SIDES] = {
-    [LIBRARY] = { "library", station_plan, station_decode, station_vet },
-    [PLAIN] = { "plain", plain_plan, plain_decode, plain_vet },
-    [RULE] = { "rule", rule_plan, rule_decode, rule_vet },
+    [LIBRARY] = { "library", station_plan, station_decode, station_vet, station_meter },
+    [PLAIN] = { "plain", plain_plan, plain_decode, plain_vet, plain_meter },
+    [RULE] = { "rule", rule_plan, rule_decode, rule_vet, plain_meter },
 };
 /* `bar`: 0 where none was asked for; `turns` over the inputs make a round; `clears`: whether a cleared buffer is tried too. */
 static const struct { const char *name, *title; double bar; int turns, clears; } whats[WHATS] = {
@@ -180,6 +192,7 @@ static const struct { const char *name, *title; double bar; int turns, clears; }
     [NO_REQUEST] = { "refused", "decoding, refused 11", 2.0, 10, 1 },
     [VET] = { "vet", "a list of ours", 2.0, 4, 0 },
     [VET_LONG] = { "vet_long", "a list of 512 pairs", 2.0, 1, 0 },
+    [METER] = { "meter", "matrix of a meter", 0, 10, 0 },
 };
 
 static inline struct station_verdict vetted(int side, int i, const struct pairs *l) {
@@ -188,6 +201,7 @@ static inline struct station_verdict vetted(int side, int i, const struct pairs 
 }
 
 static inline struct station_count call(int side, int what, int i) {
+    if (what == METER) return sides[side].meter(exports[i], STATION_METER, room, sizeof room);
     if (what == VET || what == VET_LONG) {
         struct station_verdict v = vetted(side, i, what == VET ? &lists[i].own : &lists[i].longest);
         return (struct station_count){ v.refusal, v.place };
@@ -252,7 +266,38 @@ static int vets_alike(void) {
     return 1;
 }
 
-/* The sides must answer alike before their times are worth anything; and what is vetted for its time passes. */
+/* A number of an export that is near a tie or a limit, or any 32 bits. */
+static float other_number(void) {
+    uint32_t bits = noise();
+    float x;
+    if (noise() % 4) {
+        float halves = (float)((int)(noise() % 16400) - 8200);              /* of a field's unit */
+        memcpy(&bits, &halves, sizeof bits);
+        if (halves != 0) bits += (uint32_t)((int)(noise() % 3) - (noise() % 4 ? 13 : 1)) << 23;
+        bits += noise() % 3 - 1;
+    }
+    memcpy(&x, &bits, sizeof x);
+    return x;
+}
+
+/* The sides' answers on exports with other numbers in some places, now and then one number or one byte less. */
+static int meters_alike(void) {
+    for (int i = 0; i < INPUTS; i++)
+        for (int k = 0; k < CHANGES; k++) {
+            float numbers[STATION_METER];
+            uint8_t ours[STATION_MATRIX + 1], theirs[STATION_MATRIX + 1];
+            size_t count = STATION_METER - (noise() % 32 == 0), length = STATION_MATRIX + 1 - noise() % 32 / 30 * 2;
+            memcpy(numbers, exports[i], sizeof numbers);
+            for (uint32_t n = 1 + noise() % 3; n > 0; n--) numbers[noise() % STATION_METER] = other_number();
+            memset(ours, 0x5A, sizeof ours);
+            memset(theirs, 0x5A, sizeof theirs);
+            struct station_count a = station_meter(numbers, count, ours, length), b = plain_meter(numbers, count, theirs, length);
+            if (a.refusal != b.refusal || a.count != b.count || memcmp(ours, theirs, sizeof ours)) return 0;
+        }
+    return 1;
+}
+
+/* The sides must answer alike before their times are worth anything; and what is vetted for its time passes, as a meter's exports do. */
 static int alike(void) {
     uint8_t kept[STATION_WRITES];
     for (int i = 0; i < INPUTS; i++)
@@ -267,14 +312,14 @@ static int alike(void) {
             }
             if (what >= VET && a.refusal) return 0;
         }
-    return vets_alike();
+    return vets_alike() && meters_alike();
 }
 
 /* Times, in rounds by turns; the ratios are to plain C, and to plain C that finds N and CTS by the rule. */
 static int measured(void) {
     double worst[WHATS] = { 0 };
     int met = 1;
-    printf("best of %d rounds, each over %d requests, images and lists; the sides in turns\n", ROUNDS, INPUTS);
+    printf("best of %d rounds, each over %d requests, images, lists and exports; the sides in turns\n", ROUNDS, INPUTS);
     printf("%-22s %-12s %10s %12s %7s %14s %7s\n", "", "buffer", "library", "plain C -O2", "ratio", "by the rule", "ratio");
     for (int what = 0; what < WHATS; what++)
         for (int clear = 0; clear <= whats[what].clears; clear++) {
@@ -378,6 +423,7 @@ int main(int count, char **words) {
     make_inputs();
     make_lists();
     make_near();
+    make_exports();
     if (count == 5 && !strcmp(words[1], "count")) return counted(words[2], words[3], words[4]);
     if (!alike()) {
         puts("the library and plain C answer differently");

@@ -1,7 +1,8 @@
 /* The planner, the decoder and the vet as a C programmer would write them with speed in mind: constant tables, one pass, two for a vendor's
- * list, and registers in a row that stand as wanted passed over at once. Nothing is proved of it; the tests compare its answers with the
- * model's, the benchmark with the library's before it takes the time. */
+ * list, and registers in a row that stand as wanted passed over at once; and a meter's matrix in doubles. Nothing is proved of it; the
+ * tests compare its answers with the model's, the benchmark with the library's before it takes the time. */
 #include "plain.h"
+#include <math.h>
 #include <string.h>
 
 /* The places of the video section's fields in a request, behind its count, and that of the next count. The bytes of each section and of
@@ -492,3 +493,34 @@ DECODE(plain_decode, looked_up)
 DECODE(rule_decode, by_rule)
 VET(plain_vet, looked_up)
 VET(rule_vet, by_rule)
+
+/* ---- A colour meter's matrix. A float times a power of two is exact as a double, and the processor rounds it to the nearest whole number,
+ * to the even one on a tie. What rounds to a field lies from -4096.5, itself included, to 4095.5, which rounds to 4096. */
+
+static inline int in_mode(const float *numbers, int mode, uint8_t *matrix) {
+    const double limit = 1 << mode;
+    long fields[STATION_METER];
+    for (int i = 0; i < STATION_METER; i++) {
+        double x = numbers[i];
+        if (i % 4 != 3) {
+            if (fabs(x) >= limit) return 0;
+            x *= 4096;
+        }
+        x /= limit;
+        if (x < -4096.5 || x >= 4095.5) return 0;
+        fields[i] = lrint(x);
+    }
+    matrix[0] = (uint8_t)mode;
+    for (int i = 0; i < STATION_METER; i++) matrix[1 + 2 * i] = (uint8_t)(fields[i] >> 8), matrix[2 + 2 * i] = (uint8_t)fields[i];
+    return 1;
+}
+
+struct station_count plain_meter(const float *numbers, size_t count, uint8_t *matrix, size_t matrix_length) {
+    if (count != STATION_METER) return (struct station_count){ 5, 0 };
+    if (matrix_length < STATION_MATRIX) return (struct station_count){ 10, 0 };
+    for (int i = 0; i < STATION_METER; i++)
+        if (!isfinite(numbers[i])) return (struct station_count){ 18, 0 };
+    for (int mode = 0; mode <= 2; mode++)
+        if (in_mode(numbers, mode, matrix)) return (struct station_count){ 0, STATION_MATRIX };
+    return (struct station_count){ 19, 0 };
+}

@@ -38,12 +38,12 @@ static int compared(const char *what, const struct face *f, unsigned share) {
 /* The same run, with fewer cases, on the model itself and on each wrong library. */
 enum { SHARE = 20 };
 
-static void put_plain(struct face *f) { f->plan = plain_plan, f->decode = plain_decode, f->vet = plain_vet; }
+static void put_plain(struct face *f) { f->plan = plain_plan, f->decode = plain_decode, f->vet = plain_vet, f->meter = plain_meter; }
 static void put_rule(struct face *f) { f->plan = rule_plan, f->decode = rule_decode, f->vet = rule_vet; }
 static void put_nothing(struct face *f) { (void)f; }
 static const struct { const char *what; void (*put)(struct face *); unsigned share; } right[] = {
     { "the right one", put_nothing, SHARE },
-    { "the plain planner, decoder and vet of bench/", put_plain, 5 * SHARE },
+    { "the plain planner, decoder, vet and meter of bench/", put_plain, 5 * SHARE },
     { "the same, N and CTS by the rule", put_rule, 5 * SHARE },
     { "the planner of wrong/fewer.c without a fault", put_right_planner, 5 * SHARE },
     { "the machine of wrong/mark.c without a fault", put_right_machine, 5 * SHARE },
