@@ -1,5 +1,5 @@
-/* The library's eleven calls at every alignment, in threads at a time, and on a painted stack; and the sizes and names of station.h against
- * what the calls take. */
+/* The library's twelve calls at every alignment, in threads at a time, and on a painted stack; and the sizes and names of station.h against
+ * what the calls take. A meter's numbers stand at a float's own alignment. */
 #include "facts.h"
 #include "lists.h"
 #include "station_text.h"
@@ -12,7 +12,7 @@
 /* ---- The calls, each on slices of one kind of input; an answer is its bytes. */
 
 struct slices {
-    uint8_t *request, *image, *packet, *coefficients, *mark, *matrix, *writes, *back, *list;
+    uint8_t *request, *image, *packet, *coefficients, *mark, *matrix, *writes, *back, *list, *numbers;
     size_t length, list_length;
     uint8_t address, value;
 };
@@ -52,19 +52,24 @@ static void vet(const struct slices *s, struct answer *a) {
     ANSWER(struct station_verdict, station_vet(s->image, STATION_IMAGE, s->packet, STATION_PACKET, s->coefficients, STATION_COEFFICIENTS,
                                                *s->mark, s->list, s->list_length));
 }
+static void meter(const struct slices *s, struct answer *a) {
+    const float *numbers = (const float *)(const void *)s->numbers;
+    ANSWER(struct station_count, station_meter(numbers, STATION_METER, s->matrix, STATION_MATRIX));
+}
 
 static const struct { const char *name; void (*call)(const struct slices *, struct answer *); } calls[] = {
     { "station_plan", plan },       { "station_decode", decode },   { "station_ncts", ncts },
     { "station_preview", preview }, { "station_write", write_one }, { "station_vsync", vsync },
     { "station_sent", sent },       { "station_mute", mute },       { "station_matrix", matrix },
-    { "station_class", class_of },  { "station_vet", vet },
+    { "station_class", class_of },  { "station_vet", vet },         { "station_meter", meter },
 };
-enum { CALLS = sizeof calls / sizeof calls[0], INPUTS = 300, OFFSETS = 16, SLICES = 9 };
+enum { CALLS = sizeof calls / sizeof calls[0], INPUTS = 300, OFFSETS = 16, SLICES = 10, OF_NUMBERS = 9 };
 
 /* ---- Inputs, and the slices of one, each at an offset of its own. */
 
 static struct input {
     uint8_t request[LEAST_ROOM], matrix[STATION_MATRIX];
+    float numbers[STATION_METER];
     struct chip chip;
     size_t length;
     uint8_t address, value;
@@ -77,6 +82,16 @@ static void make_list(struct input *n, int longest) {
     accepted_fields(&f);
     our_list(&n->chip, &f, &n->list);
     if (longest) stretch(&n->chip, &n->list, MOST_PAIRS);
+}
+
+/* An export of a meter in each mode, some of them with a number that is too large, or that is none. */
+static void make_export(struct input *n, int i) {
+    for (int k = 0; k < STATION_METER; k++) {
+        float part = (float)((int)any(16000001) - 8000000) / 8001000;
+        n->numbers[k] = part * (k % 4 == 3 ? 4095 : 1) * (float)(1 << i % 3);
+    }
+    if (i % 9 == 7) n->numbers[i % STATION_METER] = 20000;
+    if (i % 9 == 8) memset(&n->numbers[i % STATION_METER], 0xFF, sizeof n->numbers[0]);
 }
 
 static void make_inputs(void) {
@@ -94,6 +109,7 @@ static void make_inputs(void) {
         if (i % 4 == 0) any_bytes(n->matrix + 1, sizeof n->matrix - 1);
         n->address = i % 7 ? (uint8_t)any(256) : 0x1A, n->value = (uint8_t)any(256);
         make_list(n, i % 5 == 0);
+        make_export(n, i);
     }
 }
 
@@ -102,8 +118,10 @@ struct room { uint8_t bytes[SLICES][STATION_LIST + 64]; } __attribute__((aligned
 static struct slices lay(struct room *r, const struct input *n, int offset) {
     memset(r, 0x5A, sizeof *r);
     struct slices s = { .length = n->length, .list_length = n->list.length, .address = n->address, .value = n->value };
-    uint8_t **const at[SLICES] = { &s.request, &s.image, &s.packet, &s.coefficients, &s.mark, &s.matrix, &s.writes, &s.back, &s.list };
+    uint8_t **const at[SLICES] = { &s.request, &s.image, &s.packet, &s.coefficients, &s.mark,
+                                   &s.matrix,  &s.writes, &s.back, &s.list, [OF_NUMBERS] = &s.numbers };
     for (int k = 0; k < SLICES; k++) *at[k] = r->bytes[k] + (offset ? (offset + k) % OFFSETS : 0);
+    s.numbers = r->bytes[OF_NUMBERS] + offset * sizeof(float) % OFFSETS;
     memcpy(s.request, n->request, n->length);
     memcpy(s.image, n->chip.image, STATION_IMAGE);
     memcpy(s.packet, n->chip.packet, STATION_PACKET);
@@ -111,6 +129,7 @@ static struct slices lay(struct room *r, const struct input *n, int offset) {
     *s.mark = n->chip.mark;
     memcpy(s.matrix, n->matrix, sizeof n->matrix);
     memcpy(s.list, n->list.bytes, n->list.length);
+    memcpy(s.numbers, n->numbers, sizeof n->numbers);
     return s;
 }
 
@@ -119,7 +138,8 @@ struct outcome { struct answer a; uint8_t left[SLICES][STATION_IMAGE]; };
 static void run_one(int call, const struct input *n, int offset, struct outcome *o) {
     struct room r;
     struct slices s = lay(&r, n, offset);
-    const uint8_t *const at[SLICES] = { s.request, s.image, s.packet, s.coefficients, s.mark, s.matrix, s.writes, s.back, s.list };
+    const uint8_t *const at[SLICES] = { s.request, s.image, s.packet, s.coefficients, s.mark, s.matrix, s.writes, s.back, s.list,
+                                        [OF_NUMBERS] = s.numbers };
     memset(o, 0, sizeof *o);
     calls[call].call(&s, &o->a);
     for (int k = 0; k < SLICES; k++) memcpy(o->left[k], at[k], STATION_IMAGE);
@@ -238,6 +258,21 @@ static void run_list(const uint8_t *writes, uint32_t count) {
     tell(chip.mark == 0, "no change waits after a list that had its Vsync");
 }
 
+static void names_of_a_meter(void) {
+    static const float zeros[STATION_METER + 1], large[STATION_METER] = { 4 };
+    float none[STATION_METER];
+    uint8_t m[STATION_MATRIX];
+    memset(none, 0xFF, sizeof none);
+    struct station_count c = station_meter(zeros, STATION_METER, m, STATION_MATRIX);
+    tell(c.refusal == STATION_ACCEPTED && c.count == STATION_MATRIX, "STATION_METER numbers make STATION_MATRIX bytes");
+    tell(station_meter(zeros, STATION_METER - 1, m, sizeof m).refusal == STATION_FIELD_OUT_OF_RANGE &&
+             station_meter(zeros, STATION_METER + 1, m, sizeof m).refusal == STATION_FIELD_OUT_OF_RANGE,
+         "STATION_METER is an export's length");
+    tell(station_meter(zeros, STATION_METER, m, STATION_MATRIX - 1).refusal == STATION_BUFFER_SHORT, "STATION_MATRIX is a meter's least room");
+    tell(station_meter(none, STATION_METER, m, sizeof m).refusal == STATION_NOT_FINITE, "STATION_NOT_FINITE");
+    tell(station_meter(large, STATION_METER, m, sizeof m).refusal == STATION_NO_MODE_FITS, "STATION_NO_MODE_FITS");
+}
+
 static void names(void) {
     uint8_t request[LONGEST], writes[STATION_WRITES], back[STATION_REQUEST], m[STATION_MATRIX];
     size_t length = model_bytes(&example, request);
@@ -271,7 +306,8 @@ static void names(void) {
 #define VET(length) station_vet(STATE(STATION_PACKET, STATION_COEFFICIENTS), chip.mark, l.bytes, length).refusal
     tell(VET(STATION_LIST) == STATION_ACCEPTED, "a list of STATION_LIST bytes passes");
     tell(VET(STATION_LIST + 2) == STATION_LIST_LENGTH, "STATION_LIST is the longest list");
-    tell(strcmp(station_text(STATION_CLOCK_ABOVE), station_text(STATION_CLOCK_ABOVE + 1)) != 0, "station_text knows its last number");
+    tell(strcmp(station_text(STATION_NO_MODE_FITS), station_text(STATION_NO_MODE_FITS + 1)) != 0, "station_text knows its last number");
+    names_of_a_meter();
 }
 
 int facts(void) {
