@@ -7,7 +7,8 @@
 
 /* By their own numbers, not the model's: twelve numbers, 25 bytes, and more room than that; the places of the offsets are 3, 7 and 11. */
 enum { TWELVE = 12, BYTES = 25, LENT = 32, MODES = 3, LEAST = -4096, MOST = 4095, PAINT = 0x5A };
-enum { SIGN = 0x80000000, INFINITE = 0x7F800000, FRACTIONS = 0x800000 };
+enum { INFINITE = 0x7F800000, FRACTIONS = 0x800000 };
+static const uint32_t minus_zero = 0x80000000;
 static int is_offset(int place) { return place == 3 || place == 7 || place == 11; }
 static uint8_t paint[LENT];
 
@@ -29,21 +30,28 @@ static struct { uint32_t modes[MODES], refused[20], to_zero, away, next_mode, le
 static int passed_over(uint32_t of) { return run.share < 1000 && any(of) != 0; }
 static uint32_t very_many(uint32_t n) { return run.share < 1000 ? times(n) / 20 + 1 : n; }
 
-/* Any number that fits a mode at a place, and twelve of which the others fit no smaller one, whatever stands at this place. */
+/* A number of any sign and fraction with this exponent, 127 for 1. */
+static uint32_t with_exponent(uint32_t exponent) {
+    uint32_t sign = any(2), fraction = any(FRACTIONS);
+    return sign << 31 | exponent << 23 | fraction;
+}
+
+/* Any number that fits a mode at a place, now and then a zero; and twelve of which those at other places fit no smaller mode. */
 static uint32_t any_number(int place, int mode) {
-    uint32_t number;
+    uint32_t number, largest = 126 + (is_offset(place) ? 13 : 0) + (uint32_t)mode;
     int field;
-    do number = any(2) << 31 | (126u + (is_offset(place) ? 13 : 0) + (unsigned)mode - any(18)) << 23 | any(FRACTIONS);
+    do number = with_exponent(largest - any(18));
     while (!model_metered(number, place, mode, &field));
-    return any(12) ? number : number & SIGN;
+    return any(12) ? number : number & minus_zero;
 }
 
 static void any_numbers(uint32_t *numbers, int mode, int place) {
     static const int factors[] = { 0, 1, 2, 4, 5, 6, 8, 9, 10 };
-    int large = factors[any(9)];
+    int large = factors[any(9)], field;
     while (large == place) large = factors[any(9)];
     for (int i = 0; i < TWELVE; i++) numbers[i] = any_number(i, mode);
-    if (mode) numbers[large] = any(2) << 31 | (126u + (unsigned)mode) << 23 | any(FRACTIONS - 1024);
+    do if (mode) numbers[large] = with_exponent(126 + (uint32_t)mode);
+    while (!model_metered(numbers[large], large, mode, &field));
 }
 
 /* Rows of calls on buffers that are lent once: of twelve numbers one is changed at a time. What the other eleven say in each mode is found
@@ -118,7 +126,7 @@ static uint32_t tried(uint32_t number) {
     }
     put_field(row.right[mode], row.place, row.field);
     met.modes[mode]++;
-    met.least += row.field == LEAST, met.most += row.field == MOST, met.minus_zero += number == SIGN;
+    met.least += row.field == LEAST, met.most += row.field == MOST, met.minus_zero += number == minus_zero;
     called_as(number, mode, row.right[mode]);
     return mode;
 }
@@ -413,7 +421,7 @@ static void every_exponent(void) {
         begin_row(numbers, place);
         for (uint32_t exponent = 0; exponent < 512; exponent++) {       /* with the sign */
             const uint32_t fractions[] = { 0, 1, 0x400000, 0x7FFFFF, any(FRACTIONS) };
-            for (int k = 0; k < 5; k++) tried(exponent << 23 | fractions[k]);
+            for (size_t k = 0; k < sizeof fractions / sizeof fractions[0]; k++) tried(exponent << 23 | fractions[k]);
         }
         end_row();
     }
@@ -435,10 +443,11 @@ static void shown_near(const float *numbers, int mode, const uint32_t *codes, ui
 static void taken(const uint32_t *numbers) {
     static const struct fields picture = { .vic = 16, .link = 1 };
     uint8_t matrix[BYTES], request[LONGEST], back[LONGEST], again[BYTES], image[256] = { 0 }, writes[256] = { 0 };
-    const uint32_t codes[3] = { any(4096), any(4096), any(4096) };
+    uint32_t codes[3];
     float floats[TWELVE];
     struct fields f;
     memcpy(floats, numbers, sizeof floats);
+    for (int k = 0; k < 3; k++) codes[k] = any(4096);
     run.now->cases++;
     if (run.f->meter(floats, TWELVE, matrix, BYTES).refusal) return;
     size_t length = model_bytes(&picture, request) + BYTES;
@@ -512,8 +521,8 @@ static struct wide distance(const struct wide *a, const struct wide *b) {
 /* The rule by itself: the field fits exactly where the factor is below 2^mode and a number from -4096 to 4095 is nearest, half a unit away
  * at the most, and the even one where it is exactly that. */
 static void by_definition(uint32_t number, int place, int mode) {
-    int exponent = number >> 23 & 0xFF, offset = is_offset(place), field, fits = model_metered(number, place, mode, &field);
-    uint32_t digits = (number & 0x7FFFFF) + (exponent ? FRACTIONS : 0), size = fits && field < 0 ? 0u - (uint32_t)field : (uint32_t)field;
+    int exponent = number >> 23 & 0xFF, offset = is_offset(place), field = 0, fits = model_metered(number, place, mode, &field);
+    uint32_t digits = (number & 0x7FFFFF) + (exponent ? FRACTIONS : 0), size = (uint32_t)(field < 0 ? -field : field);
     int twos = (exponent ? exponent : 1) - 1, one = 149 + mode;         /* over 2^-149: the size is digits 2^twos, and 2^mode is 2^one */
     const struct wide value = wide(digits, twos), limit = wide(1, one), doubled = wide(digits, twos + (offset ? 1 : 13));
     int below = offset || compared(&value, &limit) < 0;
@@ -582,13 +591,13 @@ static void noise(void) {
 /* Twelve at a time, of sizes about the limits of a mode; some of them not finite. */
 static void whole_noise(void) {
     for (uint32_t i = very_many(200000); i > 0; i--) {
-        uint32_t numbers[TWELVE], size = 126 + any(3), spread = 1 + any(20);
         seed(0x1E00000u + i);
+        uint32_t numbers[TWELVE], size = 126 + any(3), spread = 1 + any(20);
         for (int place = 0; place < TWELVE; place++) {
-            uint32_t exponent = size + (is_offset(place) ? 13 : 0) - any(spread);
-            numbers[place] = any(2) << 31 | exponent << 23 | (any(4) ? any(FRACTIONS) : any(16) << 19);
+            numbers[place] = with_exponent(size + (is_offset(place) ? 13 : 0) - any(spread));
+            if (any(4) == 0) numbers[place] &= 0xFFF80000;          /* few digits, so that ties come */
         }
-        if (any(16) == 0) numbers[any(TWELVE)] = any(2) << 31 | INFINITE | (any(2) ? any(FRACTIONS) : 0);
+        if (any(16) == 0) numbers[i % TWELVE] = with_exponent(255) & (any(2) ? 0xFF800000 : 0xFFFFFFFF);
         check_meter(numbers, TWELVE, paint, BYTES + any(8));
     }
 }

@@ -39,7 +39,7 @@
     FAULT(first_row_alone, "the mode of the first row alone") \
     FAULT(last_factor_not_asked, "C3 not asked for the mode") \
     FAULT(mode_2_always, "mode 2 always") \
-    FAULT(largest_mode, "the largest mode that has no field above half") \
+    FAULT(larger_mode, "a larger mode where every field is small") \
     FAULT(mode_1_least, "no mode 0") \
     FAULT(mode_1_skipped, "mode 2 after mode 0") \
     FAULT(mode_2_never, "no mode 2") \
@@ -93,6 +93,9 @@
     FAULT(two_exports_taken, "twenty-four numbers taken") \
     FAULT(count_in_a_byte, "the count of numbers in one byte") \
     FAULT(none_taken, "no numbers as zeros") \
+    FAULT(reads_twelve, "twelve numbers read before they are counted") \
+    FAULT(reads_after, "a number behind the twelfth read") \
+    FAULT(reads_before, "a number in front of the first read") \
     FAULT(ten_first, "10 before 5") \
     FAULT(eighteen_before_10, "18 before 10") \
     FAULT(nineteen_before_10, "19 before 10") \
@@ -298,6 +301,18 @@ static int fit(enum fault fault, const uint32_t *numbers, int mode, int *fields)
     return 1;
 }
 
+static int factors_fit(const uint32_t *numbers, int mode) {
+    int field, good = 1;
+    for (int i = 0; i < 12; i++) good &= model_is_offset(i) || model_metered(numbers[i], i, mode, &field);
+    return good;
+}
+
+static int all_small(const int *fields) {
+    int small = 1;
+    for (int i = 0; i < 12; i++) small &= fields[i] > -1024 && fields[i] < 1024;
+    return small;
+}
+
 /* Whether a number is refused 18, and as what one is taken otherwise. */
 static int is_refused_18(enum fault fault, uint32_t *number, int place) {
     int nan = is_nan(*number), infinite = is_infinite(*number), offset = model_is_offset(place), not_finite = nan || infinite;
@@ -355,19 +370,11 @@ static uint32_t matrix_of(enum fault fault, uint32_t *numbers, int *mode, int *f
             return 19;
     }
     for (*mode = first; *mode < end; *mode += fault == mode_1_skipped_fault ? 2 : 1) {
-        if (fit(fault, numbers, *mode, fields)) {
-            if (fault == largest_mode_fault && *mode < 2) {
-                int small = 1;
-                for (int i = 0; i < 12; i++) small &= fields[i] > -1024 && fields[i] < 1024;
-                if (small) continue;
-            }
+        if (!fit(fault, numbers, *mode, fields)) {
+            if (fault == offsets_not_asked_fault && factors_fit(numbers, *mode)) return 19;
+        } else if (fault != larger_mode_fault || *mode == 2 || !all_small(fields)) {
             mode_before = *mode;
             return 0;
-        }
-        if (fault == offsets_not_asked_fault) {
-            int factors[12], with_0[12];
-            for (int i = 0; i < 12; i++) with_0[i] = model_is_offset(i) ? 0 : (int)numbers[i];
-            if (fit(right_fault, (const uint32_t *)with_0, *mode, factors)) return 19;
         }
     }
     return 19;
@@ -442,9 +449,18 @@ static uint32_t refused(const uint32_t *lent) {
     return model_matrix_of(lent, &mode, fields);
 }
 
+static void read_elsewhere(enum fault fault, const float *lent, size_t count) {
+    volatile float number = 0;
+    if (fault == reads_twelve_fault) number = lent[11];
+    if (fault == reads_after_fault && count == 12) number = lent[12];
+    if (fault == reads_before_fault && count == 12) number = lent[-1];
+    (void)number;
+}
+
 static struct station_count metered(enum fault fault, const float *lent, size_t count, uint8_t *matrix, size_t length) {
     uint32_t bits[12] = { 0 }, numbers[12], refusal = 0;
     int mode, fields[12], short_room = !room_taken(fault, length);
+    read_elsewhere(fault, lent, count);
     if (count) memcpy(bits, lent, count < 12 ? 4 * count : sizeof bits);
     if (fault == ten_first_fault && short_room) refusal = 10;
     else if (!count_taken(fault, count)) refusal = fault == five_as_1_fault ? 1 : 5;
