@@ -271,7 +271,8 @@ static float other_number(void) {
     uint32_t bits = noise();
     float x;
     if (noise() % 4) {
-        float halves = (float)((int)(noise() % 16400) - 8200);              /* of a field's unit */
+        int size = (int)(noise() % 3 ? noise() % 8200 : 8190 + noise() % 5);
+        float halves = (float)(noise() % 2 ? size : -size);                 /* of a field's unit */
         memcpy(&bits, &halves, sizeof bits);
         if (halves != 0) bits += (uint32_t)((int)(noise() % 3) - (noise() % 4 ? 13 : 1)) << 23;
         bits += noise() % 3 - 1;
