@@ -60,7 +60,7 @@
     FAULT(factors_times_mode, "factors times 2^mode") \
     FAULT(factors_times_2048, "factors times 2048") \
     FAULT(factors_times_4095, "factors times 4095") \
-    FAULT(mode_root, "factors times 4096 over the root of the mode") \
+    FAULT(factors_over_mode, "factors divided by the mode, not by 2^mode") \
     FAULT(sign_lost, "the sign lost") \
     FAULT(negative_offsets_0, "negative offsets as 0") \
     FAULT(shift_wraps_at_64, "a shift of more than 63 places wraps") \
@@ -196,7 +196,7 @@ static int twos_of(enum fault fault, int offset, int mode) {
     case factors_not_divided_fault: return offset ? -mode : 12;
     case factors_times_mode_fault: return offset ? -mode : 12 + mode;
     case factors_times_2048_fault: return offset ? -mode : 11 - mode;
-    case mode_root_fault: return offset ? -mode : mode == 2 ? 11 : 12;
+    case factors_over_mode_fault: return offset ? -mode : mode == 2 ? 11 : 12;
     default: return (offset ? 0 : 12) - mode;
     }
 }
