@@ -23,10 +23,8 @@
     FAULT(last_bits_lost, "the last eight bits of a float lost") \
     FAULT(sticky_bits, "bits below a quarter not looked at") \
     FAULT(limit_taken, "a factor of 2^mode in size taken") \
-    FAULT(lower_limit_taken, "a factor of -2^mode taken") \
     FAULT(limit_signed, "the limit of factors on the signed value") \
     FAULT(limit_of_one, "a factor below 1 in any mode") \
-    FAULT(limit_next, "a factor below 2^(mode + 1) in size") \
     FAULT(limit_on_offsets, "offsets below 2^mode too") \
     FAULT(limit_rounded_down, "the limit on 4095 units, not on 4096") \
     FAULT(factor_4096_held, "a factor that rounds to 4096 held at 4095") \
@@ -241,10 +239,8 @@ static int is_below(enum fault fault, uint32_t number, int offset, int mode) {
     uint64_t limit = f.bottom << mode;
     switch (fault) {
     case limit_taken_fault: return offset || f.top <= limit;
-    case lower_limit_taken_fault: return offset || f.top < limit || (f.top == limit && negative(number));
     case limit_signed_fault: return offset || negative(number) || f.top < limit;
     case limit_of_one_fault: return offset || f.top < f.bottom;
-    case limit_next_fault: return offset || f.top < 2 * limit;
     case limit_on_offsets_fault: return f.top < limit;
     case limit_rounded_down_fault: return offset || 4096 * f.top < 4095 * limit;
     default: return offset || f.top < limit;
