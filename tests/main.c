@@ -41,17 +41,17 @@ enum { SHARE = 20 };
 static void put_plain(struct face *f) { f->plan = plain_plan, f->decode = plain_decode, f->vet = plain_vet, f->meter = plain_meter; }
 static void put_rule(struct face *f) { f->plan = rule_plan, f->decode = rule_decode, f->vet = rule_vet; }
 static void put_nothing(struct face *f) { (void)f; }
-static const struct { const char *what; void (*put)(struct face *); unsigned share; } right[] = {
-    { "the right one", put_nothing, SHARE },
-    { "the plain planner, decoder, vet and meter of bench/", put_plain, 5 * SHARE },
-    { "the same, N and CTS by the rule", put_rule, 5 * SHARE },
-    { "the planner of wrong/fewer.c without a fault", put_right_planner, 5 * SHARE },
-    { "the machine of wrong/mark.c without a fault", put_right_machine, 5 * SHARE },
-    { "the judge of wrong/vet.c without a fault", put_right_judge, 5 * SHARE },
-    { "the library of wrong/chain.c without a fault", put_right_library, 5 * SHARE },
-    { "the library of wrong/depth.c without a fault", put_right_depths, 5 * SHARE },
-    { "the library of wrong/edition.c without a fault", put_right_editions, 5 * SHARE },
-    { "the matrices of wrong/meter.c without a fault", put_right_meter, 5 * SHARE },
+static const struct { const char *what; void (*put)(struct face *); unsigned share; int first, end; } right[] = {
+    { "the right one", put_nothing, SHARE, ALL, SECTIONS },
+    { "the plain planner, decoder, vet and meter of bench/", put_plain, 5 * SHARE, ALL, SECTIONS },
+    { "the same, N and CTS by the rule", put_rule, 5 * SHARE, ALL, SECTIONS },
+    { "the planner of wrong/fewer.c without a fault", put_right_planner, 5 * SHARE, ALL, SECTIONS },
+    { "the machine of wrong/mark.c without a fault", put_right_machine, 5 * SHARE, ALL, SECTIONS },
+    { "the judge of wrong/vet.c without a fault", put_right_judge, 5 * SHARE, ALL, SECTIONS },
+    { "the library of wrong/chain.c without a fault", put_right_library, 5 * SHARE, ALL, SECTIONS },
+    { "the library of wrong/depth.c without a fault", put_right_depths, 5 * SHARE, ALL, SECTIONS },
+    { "the library of wrong/edition.c without a fault", put_right_editions, 5 * SHARE, ALL, SECTIONS },
+    { "the matrices of wrong/meter.c without a fault", put_right_meter, 5 * SHARE, ON_METER, ON_LISTS },
 };
 enum { RIGHT = sizeof right / sizeof right[0] };
 
@@ -71,7 +71,7 @@ static int caught(void) {
     for (int i = 0; i < RIGHT; i++) {
         struct face f = model;
         right[i].put(&f);
-        int bad = harness(&f, ALL, SECTIONS, right[i].share, 1, 0, s);
+        int bad = harness(&f, right[i].first, right[i].end, right[i].share, 1, 0, s);
         control += bad != 0;
         printf("  %s: %s\n", right[i].what, bad ? first_difference : "no difference");
     }
