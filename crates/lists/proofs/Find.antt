@@ -58,6 +58,11 @@ every-part test (x ∷ xs) (suc k) n t = every-part test xs k n (both-right (tes
 pub next : {A : Type 0} (l : List A) (i : ℕ) (d : A) → i < length l → drop i l ≡ getD l i d ∷ drop (i + 1) l
 next l i d h = rw (add-one i) (drop-cons l i d h)
 
+-- a test that every entry passes, where a loop has looked at i of them
+pub every-next : {A : Type 0} (test : A → Bool) (l : List A) (i : ℕ) (d : A) → i < length l
+    → every test (drop i l) ≡ (test (getD l i d) && every test (drop (i + 1) l))
+every-next test l i d h = ap (every test) (next l i d h)
+
 -- a search that a loop makes entry by entry: where entry i passes, what is found from there on is its value; where it fails, what is found after it
 module _ {A B : Type 0} (seek : List A → B) (test : A → Bool) (value : A → B)
     (step : (x : A) (xs : List A) → seek (x ∷ xs) ≡ cond (test x) (value x) (seek xs)) (l : List A) (d : A) (i : ℕ) (h : i < length l) where

@@ -3,12 +3,14 @@ use mathlib.Core.Path.{_≡_, refl, sym, ap, _∙_, subst}
 use mathlib.Core.Logic.{_≢_}
 use mathlib.Core.Bool.{Bool, true, false}
 use mathlib.Core.List.{List}
-use Prim.Native.Nat.{ℕ, _<_, _≤_}
+use Prim.Native.Nat.{ℕ, zero, suc, _+_, _<_, _≤_}
+use native.Mathlib.Nat.{not-suc-le-zero, le-of-suc-le-suc}
 use native.Mathlib.Omega.{arith}
+use lib.Dec.{eqb, lit<}
 use lib.ListN.{length}
 use lib.Ieee.{Float}
 use lib.Ieee.Scale.{finite}
-use borrow.Author.Tests.{eq-eqb, ne-eqb, lt-ltb, le-ltb}
+use borrow.Author.Tests.{eq-eqb, ne-eqb, eqb-true, eqb-false, lt-ltb, le-ltb}
 use Rattle.lists.specs.Find.{every}
 use Rattle.lists.specs.Over.{over}
 use Rattle.refusals.specs.Rows.{lowest, answer}
@@ -30,26 +32,42 @@ pub tested : (mode : ℕ) (l : List Float) {fields : List ℕ} {found answer : B
     → found ≡ answer → fitsIn mode l ≡ answer
 tested mode l e f a = ap (every isField) (sym e) ∙ sym f ∙ a
 
+-- and one that does not fit is one more that does not
+pub one-more : (P : ℕ → Type 0) (n : ℕ) → ((k : ℕ) → k < n → P k) → P n → (k : ℕ) → k < n + 1 → P k
+one-more P n f p k h = go (eqb k n) refl
+  where
+    go : (b : Bool) → eqb k n ≡ b → P k
+    go true e = subst P (sym (eqb-true k n e)) p
+    go false e = f k (omega (arith, eqb-false k n e))
+
 module _ (l : List Float) where
   pub not-finite : every finite l ≡ false → refused 18 ≡ converted l
   unfolding converted
   not-finite e = rw e refl
 
-  pub in-0 : every finite l ≡ true → fitsIn 0 l ≡ true → taken 0 l ≡ converted l
+  in-0 : every finite l ≡ true → fitsIn 0 l ≡ true → taken 0 l ≡ converted l
   unfolding converted
   in-0 e f = rw (e, f) refl
 
-  pub in-1 : every finite l ≡ true → fitsIn 0 l ≡ false → fitsIn 1 l ≡ true → taken 1 l ≡ converted l
+  in-1 : every finite l ≡ true → fitsIn 0 l ≡ false → fitsIn 1 l ≡ true → taken 1 l ≡ converted l
   unfolding converted
   in-1 e f g = rw (e, f, g) refl
 
-  pub in-2 : every finite l ≡ true → fitsIn 0 l ≡ false → fitsIn 1 l ≡ false → fitsIn 2 l ≡ true → taken 2 l ≡ converted l
+  in-2 : every finite l ≡ true → fitsIn 0 l ≡ false → fitsIn 1 l ≡ false → fitsIn 2 l ≡ true → taken 2 l ≡ converted l
   unfolding converted
   in-2 e f g h = rw (e, f, g, h) refl
 
-  pub in-none : every finite l ≡ true → fitsIn 0 l ≡ false → fitsIn 1 l ≡ false → fitsIn 2 l ≡ false → refused 19 ≡ converted l
+  -- the first mode that fits
+  pub in-mode : (mode : ℕ) → mode < 3 → every finite l ≡ true → ((k : ℕ) → k < mode → fitsIn k l ≡ false) → fitsIn mode l ≡ true
+      → withFields mode (fieldsIn mode l) ≡ converted l
+  in-mode zero h e f g = in-0 e g
+  in-mode (suc zero) h e f g = in-1 e (f 0 (lit< tt)) g
+  in-mode (suc (suc zero)) h e f g = in-2 e (f 0 (lit< tt)) (f 1 (lit< tt)) g
+  in-mode (suc (suc (suc mode))) h e f g = absurd (not-suc-le-zero (le-of-suc-le-suc (le-of-suc-le-suc (le-of-suc-le-suc h))))
+
+  pub in-none : every finite l ≡ true → ((k : ℕ) → k < 3 → fitsIn k l ≡ false) → refused 19 ≡ converted l
   unfolding converted
-  in-none e f g h = rw (e, f, g, h) refl
+  in-none e f = rw (e, f 0 (lit< tt), f 1 (lit< tt), f 2 (lit< tt)) refl
 
   pub number-given : converted l .refusal ≡ lowest (numberTests l)
   unfolding converted

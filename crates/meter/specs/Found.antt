@@ -16,7 +16,6 @@ use Rattle.refusals.specs.Rows.{fieldOutOfRange, bufferShort, notFinite, noMode
 use Rattle.matrix.specs.declared.Matrix.{Matrix}
 use Rattle.matrix.specs.Matrix.{noMatrix, bodyOf}
 use Rattle.meter.specs.declared.Meter.{Meter}
-use Rattle.meter.specs.declared.Row.{Row}
 use Rattle.meter.specs.declared.Converted.{Converted}
 use Rattle.meter.specs.declared.Metered.{Metered}
 use Rattle.meter.specs.Numbers.{isOffset}
@@ -60,10 +59,6 @@ unfoldable pub fieldIn : ℕ → Bool → Float → ℕ
 unfolding fieldOf
 fieldIn mode true x = fieldOf x 0 mode
 fieldIn mode false x = cond (isBelow x mode) (fieldOf x 12 mode) 8192
-
-abbrev pub rowIn : ℕ → Float → Float → Float → Float → Row
-rowIn mode k1 k2 k3 k4 =
-    record { k1 = fieldIn mode false k1; k2 = fieldIn mode false k2; k3 = fieldIn mode false k3; k4 = fieldIn mode true k4 }
 
 -- those of all numbers, the first of which is number i
 abbrev pub fieldsFrom : ℕ → ℕ → List Float → List ℕ

@@ -1,7 +1,7 @@
 // The colour meter's matrix: twelve floats, exactly, as fields of 13 bits with a mode. Document 02, request 07.
 ghost use mathlib.Core.Path.{_≡_};
-ghost use mathlib.Core.Bool.{true, _&&_};
-ghost use mathlib.Core.List.{List, [], _∷_};
+ghost use mathlib.Core.Bool.{true};
+ghost use mathlib.Core.List.{List};
 ghost use Prim.Native.Nat.{ℕ, _*_, _^_, _<_, _≤_};
 ghost use lib.IntN.{ℤ};
 ghost use lib.ListN.{length};
@@ -11,21 +11,8 @@ ghost use lib.Ieee.Nearest.{closest};
 ghost use lib.Ieee.Scale.{finite};
 ghost use Rattle.lists.specs.Find.{every};
 ghost use Rattle.meter.specs.Nearest.{Rounds};
-ghost use Rattle.meter.specs.Found.{
-  numbersOf,
-  Normal,
-  isBelow,
-  signedField,
-  fieldOf,
-  fieldIn,
-  rowIn,
-  fieldsIn,
-  isField,
-  refused,
-  converted,
-  meterRefused,
-  Meters,
-};
+ghost use Rattle.meter.specs.Found.{numbersOf, Normal, isBelow, signedField, fieldOf, fieldIn, fieldsIn, isField, refused, converted};
+ghost use Rattle.meter.specs.Found.{meterRefused, Meters};
 ghost use Rattle.meter.specs.Meter.{MeterRule};
 ghost use Rattle.meter.specs.Cases.{MeterCases};
 use matrix::Matrix;
@@ -64,14 +51,6 @@ pub struct Parts {
     pub negative: bool,
     pub digits: u64,
     pub exponent: u64,
-}
-
-// The fields of one row.
-pub struct Row {
-    pub k1: u16,
-    pub k2: u16,
-    pub k3: u16,
-    pub k4: u16,
 }
 
 // What no field of 13 bits is.
@@ -190,47 +169,51 @@ fn field_in(x: f32, offset: bool, mode: u8) -> u16
     NO_FIELD
 }
 
-// Three factors and an offset in a mode.
-fn row_in(k1: f32, k2: f32, k3: f32, k4: f32, mode: u8) -> Row
-    requires { ⌜ every finite (k1 ∷ k2 ∷ k3 ∷ k4 ∷ []) ≡ true ⌝ }
-    requires { ⌜ mode ≤ 2 ⌝ }
-    ensures { λ r. ⌜ r ≡ rowIn mode k1 k2 k3 k4 ⌝ }
+// The twelve numbers in their order.
+fn numbers_of(m: Meter) -> [f32; 12]
+    ensures { λ r. ⌜ r ≡ numbersOf m ⌝ }
 {
-    let f1 = field_in(k1, false, mode);
-    let f2 = field_in(k2, false, mode);
-    let f3 = field_in(k3, false, mode);
-    let f4 = field_in(k4, true, mode);
-    Row {
-        k1: f1,
-        k2: f2,
-        k3: f3,
-        k4: f4,
+    [
+        m.a1,
+        m.a2,
+        m.a3,
+        m.a4,
+        m.b1,
+        m.b2,
+        m.b3,
+        m.b4,
+        m.c1,
+        m.c2,
+        m.c3,
+        m.c4,
+    ]
+}
+
+fn all_finite(numbers: [f32; 12]) -> bool
+    ensures { λ r. ⌜ r ≡ every finite numbers ⌝ }
+{
+    let mut i: usize = 0;
+    while i < 12 {
+        if !is_finite(numbers[i]) {
+            return false;
+        }
+        i = i + 1;
     }
+    true
 }
 
 // All twelve in a mode.
-fn fields_in(m: Meter, mode: u8) -> [u16; 12]
-    requires { ⌜ every finite (numbersOf m) ≡ true ⌝ }
-    requires { ⌜ mode ≤ 2 ⌝ }
-    ensures { λ r. ⌜ r ≡ fieldsIn mode (numbersOf m) ⌝ }
+fn fields_in(numbers: [f32; 12], mode: u8) -> [u16; 12]
+    requires { ⌜ (every finite numbers ≡ true) × (mode ≤ 2) ⌝ }
+    ensures { λ r. ⌜ r ≡ fieldsIn mode numbers ⌝ }
 {
-    let a = row_in(m.a1, m.a2, m.a3, m.a4, mode);
-    let b = row_in(m.b1, m.b2, m.b3, m.b4, mode);
-    let c = row_in(m.c1, m.c2, m.c3, m.c4, mode);
-    [
-        a.k1,
-        a.k2,
-        a.k3,
-        a.k4,
-        b.k1,
-        b.k2,
-        b.k3,
-        b.k4,
-        c.k1,
-        c.k2,
-        c.k3,
-        c.k4,
-    ]
+    let mut out = [0u16; 12];
+    let mut i: usize = 0;
+    while i < 12 {
+        out[i] = field_in(numbers[i], i % 4 == 3, mode);
+        i = i + 1;
+    }
+    out
 }
 
 // Whether each of them is a field.
@@ -245,21 +228,6 @@ fn all_fit(fields: [u16; 12]) -> bool
         i = i + 1;
     }
     true
-}
-
-// Whether a row is finite, and so is what comes after it.
-fn row_finite(k1: f32, k2: f32, k3: f32, k4: f32, after: bool) -> bool
-    ensures { λ r. ⌜ r ≡ (finite k1 && (finite k2 && (finite k3 && (finite k4 && after)))) ⌝ }
-{
-    is_finite(k1) & (is_finite(k2) & (is_finite(k3) & (is_finite(k4) & after)))
-}
-
-fn all_finite(m: Meter) -> bool
-    ensures { λ r. ⌜ r ≡ every finite (numbersOf m) ⌝ }
-{
-    let c = row_finite(m.c1, m.c2, m.c3, m.c4, true);
-    let b = row_finite(m.b1, m.b2, m.b3, m.b4, c);
-    row_finite(m.a1, m.a2, m.a3, m.a4, b)
 }
 
 fn no_matrix(refusal: u8) -> Converted
@@ -290,20 +258,17 @@ fn with(mode: u8, fields: [u16; 12]) -> Converted
 pub fn convert(m: Meter) -> Converted
     ensures { λ r. ⌜ r ≡ converted (numbersOf m) ⌝ }
 {
-    if !all_finite(m) {
+    let numbers = numbers_of(m);
+    if !all_finite(numbers) {
         return no_matrix(Refusal::NOT_FINITE);
     }
-    let first = fields_in(m, 0);
-    if all_fit(first) {
-        return with(0, first);
-    }
-    let second = fields_in(m, 1);
-    if all_fit(second) {
-        return with(1, second);
-    }
-    let third = fields_in(m, 2);
-    if all_fit(third) {
-        return with(2, third);
+    let mut mode: u8 = 0;
+    while mode < 3 {
+        let fields = fields_in(numbers, mode);
+        if all_fit(fields) {
+            return with(mode, fields);
+        }
+        mode = mode + 1;
     }
     no_matrix(Refusal::NO_MODE_FITS)
 }

@@ -1,14 +1,12 @@
 -- `meter::all_fit` meets its contract: what is left to look at decides. Assumes nothing.
 use mathlib.Core.Path.{_≡_, refl, sym, ap, _∙_}
-use mathlib.Core.Bool.{_&&_}
-use mathlib.Core.List.{List}
-use Prim.Native.Nat.{ℕ, _+_, _≤_, _<_, _-_}
+use Prim.Native.Nat.{_≤_, _-_}
 use native.Mathlib.Omega.{arith}
 use lib.ListN.{drop, getD, length, drop-of-length-le}
 use borrow.Author.Needs.{needs}
 use borrow.Author.Tests.{lt-ltb, le-ltb}
 use Rattle.lists.specs.Find.{every}
-use Rattle.lists.proofs.Find.{next}
+use Rattle.lists.proofs.Find.{every-next}
 use Rattle.meter.specs.Found.{isField}
 use Rattle.meter.proofs.all_fit.Statement.{statement}
 use Rattle.meter.proofs.all_fit.Tie as tie
@@ -28,15 +26,11 @@ mul-if1 c = search needs
 array-read-if1 : tie.Need-array-read-if1 Inv-loop μ-loop
 array-read-if1 c = search needs
 
--- what is left from i on, by its first
-first : (l : List ℕ) (i : ℕ) → i < length l → every isField (drop i l) ≡ (isField (getD l i 0) && every isField (drop (i + 1) l))
-first l i h = ap (every isField) (next l i 0 h)
-
 returns : tie.Need-returns Inv-loop μ-loop
 returns c =
     let l = c .before .before .loop in
     let fields = c .before .before .before .args .t1 in
-    sym (l .inv .2 ∙ first fields (l .i) (omega arith) ∙ rw (le-ltb (getD fields (l .i) 0) 8192 (c .if1 .taken)) refl)
+    sym (l .inv .2 ∙ every-next isField fields (l .i) 0 (omega arith) ∙ rw (le-ltb (getD fields (l .i) 0) 8192 (c .if1 .taken)) refl)
 
 add-i : tie.Need-add-i Inv-loop μ-loop
 add-i c = search needs
@@ -48,7 +42,7 @@ loop-again : tie.Need-loop-again Inv-loop μ-loop
 loop-again c =
     let l = c .before .before .loop in
     let fields = c .before .before .before .args .t1 in
-    (search needs, search needs, l .inv .2 ∙ first fields (l .i) (omega arith) ∙ rw (lt-ltb (getD fields (l .i) 0) 8192 (c .if1 .left)) refl)
+    (search needs, search needs, l .inv .2 ∙ every-next isField fields (l .i) 0 (omega arith) ∙ rw (lt-ltb (getD fields (l .i) 0) 8192 (c .if1 .left)) refl)
 
 returns-2 : tie.Need-returns-2 Inv-loop μ-loop
 returns-2 c =

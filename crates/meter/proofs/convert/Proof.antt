@@ -1,126 +1,102 @@
--- `meter::convert` meets its contract: the tests one after another. Assumes nothing.
+-- `meter::convert` meets its contract: before turn `mode` no smaller mode fits. Assumes nothing.
 use mathlib.Core.Path.{_≡_, sym, ap, _∙_}
 use mathlib.Core.Bool.{true, false}
-use mathlib.Core.List.{List}
-use lib.Dec.{lit≤}
-use lib.Ieee.{Float}
+use Prim.Native.Nat.{ℕ, _<_, _≤_, _-_}
+use native.Mathlib.Nat.{not-suc-le-zero}
+use native.Mathlib.Omega.{arith}
 use lib.Ieee.Scale.{finite}
 use borrow.Author.Needs.{needs}
 use borrow.Author.Tests.{not-true, not-false}
 use Rattle.lists.specs.Find.{every}
-use Rattle.meter.specs.Found.{numbersOf, fitsIn}
-use Rattle.meter.proofs.Answers.{withFields, tested, not-finite, in-0, in-1, in-2, in-none}
+use Rattle.meter.specs.Found.{fitsIn, converted}
+use Rattle.meter.proofs.Answers.{withFields, tested, one-more, not-finite, in-mode, in-none}
 use Rattle.meter.proofs.convert.Statement.{statement}
 use Rattle.meter.proofs.convert.Tie as tie
 
-abbrev numbers : tie.Else1 → List Float
-numbers c = numbersOf (c .before .before .args .m)
+abbrev Inv-loop : tie.InvT-loop
+Inv-loop numbers mode₀ mode = (mode ≤ 3) × (every finite numbers ≡ true) × ((k : ℕ) → k < mode → fitsIn k numbers ≡ false)
 
--- what is known past each test
-all : (c : tie.Else1) → every finite (numbers c) ≡ true
-all c = sym (c .before .all-finite .ensures) ∙ not-false (c .before .all-finite .result) (c .if1 .left)
+abbrev μ-loop : tie.MeasureT-loop
+μ-loop numbers mode₀ mode = 3 - mode
 
-not-0 : (c : tie.Else2) → fitsIn 0 (numbers (c .before .before .before)) ≡ false
-not-0 c = tested 0 (numbers (c .before .before .before)) (c .before .before .fields-in .ensures) (c .before .all-fit .ensures) (c .if2 .left)
+numbers-of-requires : tie.Need-numbers-of-requires Inv-loop μ-loop
+numbers-of-requires c κs = search needs
 
-abbrev second : tie.Else3 → tie.Else2
-second c = c .before .before .before
-
-not-1 : (c : tie.Else3) → fitsIn 1 (numbers (second c .before .before .before)) ≡ false
-not-1 c =
-    tested 1 (numbers (second c .before .before .before)) (c .before .before .fields-in2 .ensures) (c .before .all-fit2 .ensures) (c .if3 .left)
-
-all-finite-requires : tie.Need-all-finite-requires
+all-finite-requires : tie.Need-all-finite-requires Inv-loop μ-loop
 all-finite-requires c κs = search needs
 
-no-matrix-requires : tie.Need-no-matrix-requires
+no-matrix-requires : tie.Need-no-matrix-requires Inv-loop μ-loop
 no-matrix-requires c κs = search needs
 
-returns : tie.Need-returns
+returns : tie.Need-returns Inv-loop μ-loop
 returns c =
-    let t = c .before in
-    c .no-matrix .ensures ∙ not-finite _ (sym (t .before .all-finite .ensures) ∙ not-true (t .before .all-finite .result) (t .if1 .taken))
+    let a = c .before .before in
+    c .no-matrix .ensures
+    ∙ not-finite _ (sym (a .all-finite .ensures) ∙ not-true (a .all-finite .result) (c .before .if1 .taken)) ∙ ap converted (a .before .numbers-of .ensures)
 
-fields-in-requires : tie.Need-fields-in-requires
-fields-in-requires c κs = (all c, lit≤ tt)
+loop-holds : tie.Need-loop-holds Inv-loop μ-loop
+loop-holds c =
+    (search needs, sym (c .before .all-finite .ensures) ∙ not-false (c .before .all-finite .result) (c .if1 .left), λ k h. absurd (not-suc-le-zero h))
 
-all-fit-requires : tie.Need-all-fit-requires
+fields-in-requires : tie.Need-fields-in-requires Inv-loop μ-loop
+fields-in-requires c κs = (c .before .loop .inv .1, omega arith)
+
+all-fit-requires : tie.Need-all-fit-requires Inv-loop μ-loop
 all-fit-requires c κs = search needs
 
-with-requires : tie.Need-with-requires
+with-requires : tie.Need-with-requires Inv-loop μ-loop
 with-requires c κs = search needs
 
-returns-2 : tie.Need-returns-2
+returns-2 : tie.Need-returns-2 Inv-loop μ-loop
 returns-2 c =
-    let t = c .before in
-    c .with .ensures ∙ ap (withFields 0) (t .before .before .fields-in .ensures)
-    ∙ in-0 _ (all (t .before .before .before)) (tested 0 (numbers (t .before .before .before)) (t .before .before .fields-in .ensures) (t .before .all-fit .ensures) (t .if2 .taken))
+    let fit = c .before .before in
+    let l = fit .before .before .before .loop in
+    let n = fit .before .before .before .before .before .before .numbers-of in
+    let e = fit .before .fields-in .ensures in
+    c .with .ensures ∙ ap (withFields (l .mode)) e
+    ∙ in-mode (n .result) (l .mode) (omega arith) (l .inv .1) (l .inv .2) (tested (l .mode) (n .result) e (fit .all-fit .ensures) (c .before .if2 .taken))
+    ∙ ap converted (n .ensures)
 
-fields-in-requires-2 : tie.Need-fields-in-requires-2
-fields-in-requires-2 c κs = (all (c .before .before .before), lit≤ tt)
+add-mode : tie.Need-add-mode Inv-loop μ-loop
+add-mode c = search needs
 
-all-fit-requires-2 : tie.Need-all-fit-requires-2
-all-fit-requires-2 c κs = search needs
+loop-less : tie.Need-loop-less Inv-loop μ-loop
+loop-less c = search needs
 
-with-requires-2 : tie.Need-with-requires-2
-with-requires-2 c κs = search needs
+loop-again : tie.Need-loop-again Inv-loop μ-loop
+loop-again c =
+    let fit = c .before in
+    let l = fit .before .before .before .loop in
+    let n = fit .before .before .before .before .before .before .numbers-of in
+    let f = tested (l .mode) (n .result) (fit .before .fields-in .ensures) (fit .all-fit .ensures) (c .if2 .left) in
+    (search needs, l .inv .1, one-more (λ k. fitsIn k (n .result) ≡ false) (l .mode) (l .inv .2) f)
 
-returns-3 : tie.Need-returns-3
-returns-3 c =
-    let t = c .before in
-    let e = t .before .before .before in
-    c .with2 .ensures ∙ ap (withFields 1) (t .before .before .fields-in2 .ensures)
-    ∙ in-1 _ (all (e .before .before .before)) (not-0 e)
-    (tested 1 (numbers (e .before .before .before)) (t .before .before .fields-in2 .ensures) (t .before .all-fit2 .ensures) (t .if3 .taken))
-
-fields-in-requires-3 : tie.Need-fields-in-requires-3
-fields-in-requires-3 c κs = (all (c .before .before .before .before .before .before), lit≤ tt)
-
-all-fit-requires-3 : tie.Need-all-fit-requires-3
-all-fit-requires-3 c κs = search needs
-
-with-requires-3 : tie.Need-with-requires-3
-with-requires-3 c κs = search needs
-
-returns-4 : tie.Need-returns-4
-returns-4 c =
-    let t = c .before in
-    let e = t .before .before .before in
-    let d = e .before .before .before in
-    c .with3 .ensures ∙ ap (withFields 2) (t .before .before .fields-in3 .ensures)
-    ∙ in-2 _ (all (d .before .before .before)) (not-0 d) (not-1 e)
-    (tested 2 (numbers (d .before .before .before)) (t .before .before .fields-in3 .ensures) (t .before .all-fit3 .ensures) (t .if4 .taken))
-
-no-matrix-requires-2 : tie.Need-no-matrix-requires-2
+no-matrix-requires-2 : tie.Need-no-matrix-requires-2 Inv-loop μ-loop
 no-matrix-requires-2 c κs = search needs
 
-returns-5 : tie.Need-returns-5
-returns-5 c =
-    let t = c .before in
-    let e = t .before .before .before in
-    let d = e .before .before .before in
-    c .no-matrix2 .ensures
-    ∙ in-none _ (all (d .before .before .before)) (not-0 d) (not-1 e)
-    (tested 2 (numbers (d .before .before .before)) (t .before .before .fields-in3 .ensures) (t .before .all-fit3 .ensures) (t .if4 .left))
+returns-3 : tie.Need-returns-3 Inv-loop μ-loop
+returns-3 c =
+    let l = c .before .before .loop in
+    let n = c .before .before .before .before .before .numbers-of in
+    c .no-matrix2 .ensures ∙ in-none (n .result) (l .inv .1) (λ k h. l .inv .2 k (omega arith)) ∙ ap converted (n .ensures)
 
 pub convert-spec : {M : Type 1} → statement M
 convert-spec =
     tie.close
     (tie.spec
+    Inv-loop
+    μ-loop
+    numbers-of-requires
     all-finite-requires
     no-matrix-requires
     returns
+    loop-holds
     fields-in-requires
     all-fit-requires
     with-requires
     returns-2
-    fields-in-requires-2
-    all-fit-requires-2
-    with-requires-2
-    returns-3
-    fields-in-requires-3
-    all-fit-requires-3
-    with-requires-3
-    returns-4
+    add-mode
+    loop-less
+    loop-again
     no-matrix-requires-2
-    returns-5)
+    returns-3)
