@@ -1218,8 +1218,8 @@ int harness(const struct face *f, int first, int end, unsigned share, int stop, 
         sigaltstack(&s, NULL);
         sigaction(SIGSEGV, &fault, NULL);
         sigaction(SIGBUS, &fault, NULL);
-        sigaction(SIGALRM, &tick, NULL);
-        setitimer(ITIMER_REAL, &second, NULL);
+        sigaction(SIGPROF, &tick, NULL);
+        setitimer(ITIMER_PROF, &second, NULL);      /* of processor time: a loaded machine is no fault of the call */
     }
     run.f = f;
     run.share = share;

@@ -64,19 +64,24 @@ static int shown(const struct wrong *w, int first, int end, unsigned share) {
 }
 static void say(int caught, const char *what) { printf("  %-6s %-48.48s %.100s\n", caught ? "caught" : "MISSED", what, first_difference); }
 
-static int caught(void) {
+/* Of each `of` libraries, right ones and wrong ones, number `part`: so several processors may share them. */
+static int caught(int part, int of) {
     struct section s[SECTIONS];
-    int all = 0, missed = 0, cuts = 0, chains = 0, only = 0, control = 0;
+    int all = 0, missed = 0, cuts = 0, chains = 0, only = 0, control = 0, tried = 0, next = 0;
     printf("wrong libraries, each with one fault\n");
     for (int i = 0; i < RIGHT; i++) {
         struct face f = model;
+        if (next++ % of != part) continue;
+        tried++;
         right[i].put(&f);
         int bad = harness(&f, right[i].first, right[i].end, right[i].share, 1, 0, s);
         control += bad != 0;
         printf("  %s: %s\n", right[i].what, bad ? first_difference : "no difference");
     }
     for (const struct wrong_set *set = wrong_sets; set->rows; set++)
-        for (const struct wrong *w = set->rows; w->fault; w++, all++) {
+        for (const struct wrong *w = set->rows; w->fault; w++) {
+            if (next++ % of != part) continue;
+            all++;
             int by_chains = (w->alone & BY_CHAINS) != 0;    /* these by themselves, with more of them, for what they need is rare */
             int bad = by_chains ? shown(w, ON_CHAINS, SECTIONS, 10 * SHARE) : shown(w, set->first, SECTIONS, SHARE);
             say(bad, w->fault);
@@ -96,7 +101,7 @@ static int caught(void) {
         }
     printf("  %d of %d wrong libraries caught, %d of them by demand 3 alone as well, %d by chains alone, %d of these not by demand 3\n",
            all - missed, all, cuts, chains, only);
-    printf("%d passed, %d failed\n", all - missed + RIGHT - control, missed + control);
+    printf("%d passed, %d failed\n", all - missed + tried - control, missed + control);
     return missed != 0 || control != 0;
 }
 
@@ -137,7 +142,7 @@ static int verdict(void) {
 }
 
 static int usage(void) {
-    fprintf(stderr, "usage: tests lib|self [SHARE OF THE RANDOM CASES IN 1/1000]\n       tests wrong\n       tests facts\n"
+    fprintf(stderr, "usage: tests lib|self [SHARE OF THE RANDOM CASES IN 1/1000]\n       tests wrong [PART OF PARTS, FROM 0]\n       tests facts\n"
                     "       tests line <REQUEST\n       tests verdict <REGISTERS, BUFFERS, MARK AND LIST\n"
                     "       tests input noise|pairs|vendor|waits NUMBER\n");
     return 2;
@@ -183,7 +188,11 @@ int main(int count, char **words) {
     unsigned share = count == 3 ? (unsigned)strtoul(words[2], NULL, 10) : 1000;
     if (count >= 2 && !strcmp(words[1], "lib")) return compared("the library", &library, share);
     if (count >= 2 && !strcmp(words[1], "self")) return compared("the model", &model, share);
-    if (count == 2 && !strcmp(words[1], "wrong")) return caught();
+    if (count == 2 && !strcmp(words[1], "wrong")) return caught(0, 1);
+    if (count == 4 && !strcmp(words[1], "wrong")) {
+        long part = strtol(words[2], NULL, 10), of = strtol(words[3], NULL, 10);
+        if (0 <= part && part < of && of < 1000) return caught((int)part, (int)of);
+    }
     if (count == 2 && !strcmp(words[1], "facts")) return facts();
     if (count == 2 && !strcmp(words[1], "line")) return line();
     if (count == 2 && !strcmp(words[1], "verdict")) return verdict();

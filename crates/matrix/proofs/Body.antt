@@ -1,8 +1,7 @@
 -- A matrix as 25 bytes. `sets d at xs` of lib.Seq is d with xs stored from index at. Assumes nothing.
 --     turn-bytes, whole-matrix    a coefficient more, and after the last
 --     unmoved                     fields of 13 bits are their own 13 bits
---     body-back                   the bytes are allowed, and are read as the matrix
---     body-bytes                  and they are bytes
+--     body-bytes, body-back       the bytes are bytes, are allowed, and are read as the matrix
 use mathlib.Core.Path.{_≡_, refl, sym, ap, ap₂, _∙_}
 use mathlib.Core.Bool.{Bool, true, false, cond}
 use mathlib.Core.List.{List, [], _∷_, _++_, append-nil, map}
@@ -18,7 +17,8 @@ use Rattle.lists.proofs.Emit.{sets-two}
 use Rattle.matrix.specs.declared.Matrix.{Matrix}
 use Rattle.matrix.specs.Coefficient.{field, highByte, coefficientBytes}
 use Rattle.matrix.specs.Tests.{inRange, isAllowed}
-use Rattle.matrix.specs.Matrix.{Bytes, bodyOf, Whole, BodyBack}
+use Rattle.matrix.specs.Matrix.{Bytes}
+use Rattle.matrix.specs.Body.{bodyOf, Whole, BodyBack}
 use Rattle.matrix.proofs.Pairs.{length-bytes, fields-said}
 use Rattle.matrix.proofs.Signs.{carried}
 
@@ -55,17 +55,6 @@ unfolding inRange
 all-within [] h = refl
 all-within (c ∷ cs) h = rw (carried c (h 0) .range) (all-within cs (λ i. h (suc i)))
 
-pub body-back : (m : Matrix) → Whole m → BodyBack m
-unfolding isAllowed
-body-back m w =
-    let cs = m .coefficients in
-    let e : map field cs ≡ cs = unmoved cs (w .each) in
-    let l : length (coefficientBytes cs) ≡ 24 = omega (arith, length-bytes cs, w .twelve) in
-    record {
-      allowed = rw e (simp (l, le-leb (m .mode) 2 (w .mode), all-within cs (w .each)));
-      back = rw (e, fields-said cs (w .each), ← w .on) refl;
-    }
-
 -- each of them is a byte
 high-small : (c : ℕ) → c < 8192 → highByte c < 256
 high-small c h = go (ltb c 4096)
@@ -80,6 +69,18 @@ bytes-small (c ∷ cs) zero = high-small (c % 8192) (omega arith)
 bytes-small (c ∷ cs) (suc zero) = omega arith
 bytes-small (c ∷ cs) (suc (suc i)) = bytes-small cs i
 
-pub body-bytes : (m : Matrix) → m .mode < 256 → Bytes (bodyOf m)
+body-bytes : (m : Matrix) → m .mode < 256 → Bytes (bodyOf m)
 body-bytes m h zero = h
 body-bytes m h (suc i) = bytes-small (m .coefficients) i
+
+pub body-back : (m : Matrix) → Whole m → BodyBack m
+unfolding isAllowed
+body-back m w =
+    let cs = m .coefficients in
+    let e : map field cs ≡ cs = unmoved cs (w .each) in
+    let l : length (coefficientBytes cs) ≡ 24 = omega (arith, length-bytes cs, w .twelve) in
+    record {
+      bytes = body-bytes m (omega (arith, w .mode));
+      allowed = rw e (simp (l, le-leb (m .mode) 2 (w .mode), all-within cs (w .each)));
+      back = rw (e, fields-said cs (w .each), ← w .on) refl;
+    }

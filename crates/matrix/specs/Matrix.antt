@@ -3,12 +3,12 @@
 use mathlib.Core.Path.{_≡_}
 use mathlib.Core.Logic.{_↔_}
 use mathlib.Core.Bool.{true}
-use mathlib.Core.List.{List, [], _∷_, map}
+use mathlib.Core.List.{List, [], _∷_}
 use Prim.Native.Nat.{ℕ, _+_, _*_, _<_, _≤_}
 use lib.IntN.{ℤ}
 use lib.ListN.{getD, length, drop}
 use Rattle.matrix.specs.declared.Matrix.{Matrix}
-use Rattle.matrix.specs.Coefficient.{word, field, signed, valueOf, coefficientBytes, Spans}
+use Rattle.matrix.specs.Coefficient.{word, field, signed, valueOf, Spans}
 use Rattle.matrix.specs.Tests.{isAllowed}
 
 -- the fields of 13 bits
@@ -24,10 +24,6 @@ matrixOf body = record { on = 1; mode = getD body 0 0; coefficients = fields (dr
 -- "No matrix: converter off, mode 1, A1 = B2 = C3 = 2048, the rest 0."
 abbrev pub noMatrix : Matrix
 noMatrix = record { on = 0; mode = 1; coefficients = 2048 ∷ 0 ∷ 0 ∷ 0 ∷ 0 ∷ 2048 ∷ 0 ∷ 0 ∷ 0 ∷ 0 ∷ 2048 ∷ 0 ∷ [] }
-
--- and the body of a matrix that is on: "CSC mode, then A1 to A4, B1 to B4, C1 to C4, each two bytes", the 13 bits of each
-abbrev pub bodyOf : Matrix → List ℕ
-bodyOf m = m .mode ∷ coefficientBytes (map field (m .coefficients))
 
 abbrev pub Bytes : List ℕ → Type 0
 Bytes body = (i : ℕ) → getD body i 0 < 256
@@ -49,15 +45,3 @@ pub record Allowed (body : List ℕ) : Type 0 where
 pub record Numbers (body : List ℕ) : Type 0 where
   pub rule : (isAllowed body ≡ true) ↔ Allowed body
   pub values : isAllowed body ≡ true → (i : ℕ) → i < 12 → valueOf (getD (matrixOf body .coefficients) i 0) ≡ numberAt body i
-
--- a matrix as a request may have it: on, a mode of 0 to 2, twelve fields of 13 bits
-pub record Whole (m : Matrix) : Type 0 where
-  pub on : m .on ≡ 1
-  pub mode : m .mode ≤ 2
-  pub twelve : length (m .coefficients) ≡ 12
-  pub each : (i : ℕ) → getD (m .coefficients) i 0 < 8192
-
--- its bytes are a body that is allowed, and are read as that matrix
-pub record BodyBack (m : Matrix) : Type 0 where
-  pub allowed : isAllowed (bodyOf m) ≡ true
-  pub back : matrixOf (bodyOf m) ≡ m

@@ -16,7 +16,7 @@ use Rattle.lists.specs.Over.{over}
 use Rattle.refusals.specs.Rows.{lowest, answer}
 use Rattle.refusals.proofs.Tests.{numbered, answer-none, answer-some}
 use Rattle.matrix.specs.declared.Matrix.{Matrix}
-use Rattle.matrix.specs.Matrix.{bodyOf}
+use Rattle.matrix.specs.Body.{bodyOf}
 use Rattle.meter.specs.declared.Converted.{Converted}
 use Rattle.meter.specs.Found.{fieldsIn, isField, fitsIn, modeOf, inMode, numberTests, refused, converted}
 use Rattle.meter.specs.Found.{meterTests, meterRefused, meterOf, meterBuffer, Meters}

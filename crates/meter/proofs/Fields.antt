@@ -18,7 +18,7 @@ use Rattle.matrix.specs.Coefficient.{valueOf, bitsOf, Spans}
 use Rattle.matrix.proofs.Order.{pos-le, of-pos-le, negsuc-le, of-negsuc-le}
 use Rattle.matrix.proofs.Signs.{twos}
 use Rattle.meter.specs.Nearest.{Nearest}
-use Rattle.meter.specs.Numbers.{top, bottom, Below}
+use Rattle.meter.specs.Numbers.{top, bottom, minusZero, Below}
 use Rattle.meter.specs.Found.{negative, isBelow, signedField, fieldOf, fieldIn, isField}
 use Rattle.meter.proofs.HalfUnit.{nearest-half}
 use Rattle.meter.proofs.Whole.{signedBy, half-signed, alone}
@@ -124,6 +124,11 @@ is-below mode nan e = absurd (false≢true e)
 is-below mode (inf s) e = absurd (false≢true e)
 is-below mode (fin s m e) t =
     subst (λ (n : ℕ). Decides (ltb (m * up e) (2 ^ mode * down e)) (n < 2 ^ mode * down e)) (sym (size (fin s m e))) (less (m * up e) (2 ^ mode * down e))
+
+-- minus zero
+pub zero-is : (mode : ℕ) (o : Bool) → Nearest (top minusZero *ℤ pos (scale o)) (bottom minusZero * 2 ^ mode) (pos 0)
+zero-is mode true = record { within = omega arith; even = λ _. refl }
+zero-is mode false = record { within = omega arith; even = λ _. refl }
 
 -- what a number asks of a mode, as an offset or as a factor
 pub record Suits (mode : ℕ) (o : Bool) (x : Float) : Type 0 where

@@ -21,15 +21,18 @@ use Rattle.refusals.specs.Rows.{lowest}
 use Rattle.refusals.proofs.Tests.{Decided, lowest-given, none-at, numbered, answer-none, answer-some}
 use Rattle.matrix.specs.declared.Matrix.{Matrix}
 use Rattle.matrix.specs.Coefficient.{field, valueOf, bitsOf}
-use Rattle.matrix.specs.Matrix.{bodyOf, Bytes, wordAt, numberAt, Whole}
-use Rattle.matrix.proofs.Body.{body-back, body-bytes}
+use Rattle.matrix.specs.Matrix.{Bytes, wordAt, numberAt}
+use Rattle.matrix.specs.Body.{bodyOf, Whole}
+use Rattle.matrix.proofs.Body.{body-back}
 use Rattle.matrix.proofs.Numbers.{numbers}
 use Rattle.matrix.proofs.Pairs.{length-bytes}
 use Rattle.matrix.proofs.Signs.{twos}
+use Rattle.meter.specs.declared.Converted.{Converted}
 use Rattle.meter.specs.declared.Metered.{Metered}
 use Rattle.meter.specs.Numbers.{numberOf, Rounded}
-use Rattle.meter.specs.Found.{fieldsIn, fitsIn, fitsNone, modeOf, inMode, meterTests, meterRefused, meterOf, meterBuffer}
-use Rattle.meter.specs.Meter.{meterRules, Taken, MeterRule}
+use Rattle.meter.specs.Found.{fieldsIn, fitsIn, fitsNone, modeOf, inMode, numberTests, refused, converted, meterTests, meterRefused, meterOf, meterBuffer}
+use Rattle.meter.specs.Meter.{numberRules, meterRules, Taken, ConvertRule, MeterRule}
+use Rattle.meter.proofs.Answers.{number-given, matrix-taken}
 use Rattle.meter.proofs.Whole.{alone}
 use Rattle.meter.proofs.Fields.{unit, stands-for}
 use Rattle.meter.proofs.Modes.{field-at, fields-length, each-small, not-finite, is-finite, is-field, fitting, none-fits, mode-small, mode-fits, mode-least}
@@ -58,9 +61,15 @@ same-word b c p q i e =
     let little : wordAt c i < 65536 = omega (arith, q (2 * i + 1), q (2 * i + 2)) in
     sym (twos 15 .back (wordAt b i) small) ∙ ap (bitsOf 15) e ∙ twos 15 .back (wordAt c i) little
 
-pub two-taken : (l : List Float) (b c : List ℕ) → Bytes b → Bytes c → Taken l b → Taken l c → b ≡ c
-two-taken l b c p q u v = ext-getD 0 b c (u .allowed .sized ∙ sym (v .allowed .sized)) (λ i h. at i (rw (u .allowed .sized) at h))
+pub two-taken : (l : List Float) (b c : List ℕ) → Taken l b → Taken l c → b ≡ c
+two-taken l b c u v = ext-getD 0 b c (u .allowed .sized ∙ sym (v .allowed .sized)) (λ i h. at i (rw (u .allowed .sized) at h))
   where
+    p : Bytes b
+    p = u .bytes
+
+    q : Bytes c
+    q = v .bytes
+
     word : (j : ℕ) → j < 12 → wordAt b j ≡ wordAt c j
     word j h = same-word b c p q j (same-number l b c u v j h)
 
@@ -103,9 +112,6 @@ module _ (l : List Float) (twelve : length l ≡ 12) (all : every finite l ≡ t
   whole : Whole made
   whole = record { on = refl; mode = mode-small l; twelve = fields-length mode l ∙ twelve; each = each-small (fieldsIn mode l) fit }
 
-  pub made-bytes : Bytes (bodyOf made)
-  made-bytes = body-bytes made (omega (arith, mode-small l))
-
   pub made-length : length (bodyOf made) ≡ 25
   made-length = omega (arith, length-bytes (map field (fieldsIn mode l)), length-map (fieldsIn mode l) field, fields-length mode l)
 
@@ -113,17 +119,35 @@ module _ (l : List Float) (twelve : length l ≡ 12) (all : every finite l ≡ t
   number i h =
       let back = body-back made whole in
       subst (λ (m : Matrix). valueOf (getD (m .coefficients) i 0) ≡ numberAt (bodyOf made) i) (back .back)
-      (numbers (bodyOf made) made-bytes .values (back .allowed) i h)
+      (numbers (bodyOf made) (back .bytes) .values (back .allowed) i h)
 
   pub made-taken : Taken l (bodyOf made)
   made-taken = record {
-    allowed = numbers (bodyOf made) made-bytes .rule .0 (body-back made whole .allowed);
+    numbered = is-finite l twelve all;
+    bytes = body-back made whole .bytes;
+    allowed = numbers (bodyOf made) (body-back made whole .bytes) .rule .0 (body-back made whole .allowed);
     fits = fitting l twelve all mode .passes fit;
     smallest = λ m h. fitting l twelve all m .fails (mode-least l m h);
     rounded = λ i h.
         subst (λ (n : ℤ). Rounded mode i (numberOf l i) n) (sym (ap valueOf (field-at mode l i (rw twelve h))) ∙ number i h)
         (stands-for mode _ (numberOf l i) (is-finite l twelve all i h) (is-field l twelve all mode fit i h));
   }
+
+-- ---- the struct
+pub convert-rule : (l : List Float) → length l ≡ 12 → ConvertRule l
+unfolding converted
+convert-rule l twelve =
+    let tests = numberTests l in
+    record {
+      given = rw (number-given l) (lowest-given tests (numberRules l) refl
+          (refl, not-finite l twelve, λ f. (refl, none-fits l twelve (not-false (every finite l) f), λ _. tt)));
+      nothing = λ h. ap (λ (c : Converted). c .matrix) (answer-some refused _ (lowest tests) (λ z. h (number-given l ∙ z)));
+      taken = λ z.
+          let none : lowest tests ≡ 0 = sym (number-given l) ∙ z in
+          let all = not-false (every finite l) (none-at tests 0 none) in
+          let e = matrix-taken l z in
+          (ap (λ (m : Matrix). m .on) e, subst (λ (m : Matrix). Taken l (bodyOf m)) (sym e) (made-taken l twelve all (none-at tests 1 none)));
+    }
 
 -- ---- the call
 pub record Laid (l : List Float) (b : List ℕ) : Type 0 where
@@ -143,20 +167,20 @@ module _ (l : List Float) (b : List ℕ) where
     ),
   )
 
-  number-given : meterOf l b .refusal ≡ lowest (meterTests l b)
+  given-number : meterOf l b .refusal ≡ lowest (meterTests l b)
   unfolding meterOf
-  number-given = numbered meterRefused _ (λ m. m .refusal) (lowest (meterTests l b)) (λ _. refl) refl
+  given-number = numbered meterRefused _ (λ m. m .refusal) (lowest (meterTests l b)) (λ _. refl) refl
 
   beside : meterOf l b .refusal ≢ 0 → (meterOf l b .count ≡ 0) × (meterBuffer l b ≡ b)
   unfolding meterOf meterBuffer
   beside h =
       let n = lowest (meterTests l b) in
-      let k : n ≢ 0 = λ z. h (number-given ∙ z) in
+      let k : n ≢ 0 = λ z. h (given-number ∙ z) in
       (ap (λ (m : Metered). m .count) (answer-some meterRefused _ n k), answer-some (λ _. b) _ n k)
 
   module _ (z : meterOf l b .refusal ≡ 0) where
     none : lowest (meterTests l b) ≡ 0
-    none = sym number-given ∙ z
+    none = sym given-number ∙ z
 
     twelve : length l ≡ 12
     twelve = eqb-true (length l) 12 (not-false _ (none-at (meterTests l b) 0 none))
@@ -199,15 +223,15 @@ module _ (l : List Float) (b : List ℕ) where
     is-taken : Taken l (take 25 (meterBuffer l b))
     is-taken = subst (Taken l) (sym front) (made-taken l twelve all some)
 
-    no-other : (other : List ℕ) → Bytes other → Taken l other → other ≡ take 25 (meterBuffer l b)
-    no-other other p u = two-taken l other _ p (made-bytes l twelve all some) u (made-taken l twelve all some) ∙ sym front
+    no-other : (other : List ℕ) → Taken l other → other ≡ take 25 (meterBuffer l b)
+    no-other other u = two-taken l other _ u (made-taken l twelve all some) ∙ sym front
 
   pub rule : MeterRule l b
   rule = record {
-    given = rw number-given (lowest-given (meterTests l b) (meterRules l b) refl decided);
+    given = rw given-number (lowest-given (meterTests l b) (meterRules l b) refl decided);
     nothing = beside;
     count = counted;
     taken = is-taken;
     after = stays;
-    only = λ other p u z. no-other z other p u;
+    only = λ other u z. no-other z other u;
   }

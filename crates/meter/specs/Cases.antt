@@ -68,6 +68,8 @@ rows =
     (5 ∷ 0xBF7FFFFF ∷ 0 ∷ 0 ∷ 0xF0 ∷ 0x00 ∷ []) ∷
     -- B2: -1
     (5 ∷ 0xBF800000 ∷ 0 ∷ 1 ∷ 0xF8 ∷ 0x00 ∷ []) ∷
+    -- B2: the next one below
+    (5 ∷ 0xBF800001 ∷ 0 ∷ 1 ∷ 0xF8 ∷ 0x00 ∷ []) ∷
     -- B2: the least above -2
     (5 ∷ 0xBFFFFFFF ∷ 0 ∷ 1 ∷ 0xF0 ∷ 0x00 ∷ []) ∷
     -- B2: -2
@@ -138,6 +140,9 @@ numbers39 =
 
 pub record MeterCases : Type 0 where
   pub each : every agrees rows ≡ true
+  -- at -1 the field of a factor would fit mode 0, and the factor does not: each of the nine; an offset is not asked
+  pub factors : every (λ i. sameList (answered i 0xBF800000) (0 ∷ 1 ∷ 0xF8 ∷ 0x00 ∷ [])) (0 ∷ 1 ∷ 2 ∷ 4 ∷ 5 ∷ 6 ∷ 8 ∷ 9 ∷ 10 ∷ []) ≡ true
+  pub offsets : every (λ i. sameList (answered i 0xBF800000) (0 ∷ 0 ∷ 0xFF ∷ 0xFF ∷ [])) (3 ∷ 7 ∷ 11 ∷ []) ≡ true
   -- all twelve in their places: Table 39's bytes, and what lies behind them stays
   pub table39 : meterBuffer numbers39 (room 27)
       ≡ 1 ∷ 0x0C ∷ 0x53 ∷ 0x08 ∷ 0x00 ∷ 0x00 ∷ 0x00 ∷ 0xF9 ∷ 0xD6 ∷
@@ -149,3 +154,7 @@ pub record MeterCases : Type 0 where
   -- a length other than twelve is 5, and comes before 10; a room of 24 is 10, and comes before 18 and 19
   pub lengths : every (λ n. eqb (meterOf (replicate n (f32 0x7FC00000)) (room 24) .refusal) 5) (0 ∷ 1 ∷ 11 ∷ 13 ∷ 24 ∷ []) ≡ true
   pub rooms : every (λ bits. eqb (meterOf (alone 0 bits) (room 24) .refusal) 10) (0x00000000 ∷ 0x7FC00000 ∷ 0x40800000 ∷ []) ≡ true
+  -- 25 bytes are counted, and none beside a refusal; refused, no byte is written
+  pub counted : map (λ bits. meterOf (alone 0 bits) (room 27) .count) (0x00000000 ∷ 0x3F800000 ∷ 0x40000000 ∷ 0x40800000 ∷ 0x7FC00000 ∷ [])
+      ≡ 25 ∷ 25 ∷ 25 ∷ 0 ∷ 0 ∷ []
+  pub stays : (meterBuffer (alone 0 0x40800000) (room 27) ≡ room 27) × (meterBuffer (alone 0 0) (room 24) ≡ room 24)

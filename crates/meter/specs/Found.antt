@@ -14,7 +14,8 @@ use Rattle.lists.specs.Find.{every}
 use Rattle.lists.specs.Over.{over}
 use Rattle.refusals.specs.Rows.{fieldOutOfRange, bufferShort, notFinite, noModeFits, Test, _if_, lowest, answer}
 use Rattle.matrix.specs.declared.Matrix.{Matrix}
-use Rattle.matrix.specs.Matrix.{noMatrix, bodyOf}
+use Rattle.matrix.specs.Matrix.{noMatrix}
+use Rattle.matrix.specs.Body.{bodyOf}
 use Rattle.meter.specs.declared.Meter.{Meter}
 use Rattle.meter.specs.declared.Converted.{Converted}
 use Rattle.meter.specs.declared.Metered.{Metered}

@@ -1,6 +1,6 @@
--- Document 02, request 07: "twelve f32 numbers, nine factors and three offsets in 12-bit codes", and the mode that they take.
+-- Document 02, request 07: "twelve f32 numbers, nine factors and three offsets in 12-bit codes", and the modes in which they fit.
 use mathlib.Core.Path.{_≡_}
-use mathlib.Core.Bool.{Bool, false, cond}
+use mathlib.Core.Bool.{Bool, true, false, cond}
 use mathlib.Core.List.{List}
 use Prim.Native.Nat.{ℕ, _*_, _%_, _^_, _<_}
 use lib.Dec.{eqb}
@@ -10,7 +10,8 @@ use lib.Ieee.{Float, nan, inf, fin, up, down}
 use Rattle.matrix.specs.Coefficient.{Spans}
 use Rattle.meter.specs.Nearest.{Nearest}
 
--- "Each float is an exact fraction": top / bottom. A finite float is ±m·2^e, and 2^e is up e / down e (lib.Ieee)
+-- "Each float is an exact fraction": top / bottom. A finite float is ±m·2^e, and 2^e is up e / down e (lib.Ieee). What is not finite is no
+-- fraction, and 18 comes first
 abbrev pub top : Float → ℤ
 top nan = pos 0
 top (inf s) = pos 0
@@ -21,11 +22,16 @@ bottom nan = 1
 bottom (inf s) = 1
 bottom (fin s m e) = down e
 
+-- minus zero, of which the fraction keeps no sign
+abbrev pub minusZero : Float
+minusZero = fin true 0 (pos 0)
+
 -- number i of the twelve
 abbrev pub numberOf : List Float → ℕ → Float
 numberOf numbers i = getD numbers i nan
 
--- in the order of a request's matrix, A1 to A4, B1 to B4, C1 to C4: the offsets are A4, B4 and C4, the others are factors
+-- the request names no order; we read that of a request's matrix, A1 to A4, B1 to B4, C1 to C4. The offsets are A4, B4 and C4, the others
+-- factors
 abbrev pub isOffset : ℕ → Bool
 isOffset i = eqb (i % 4) 3
 
@@ -37,7 +43,7 @@ Below mode x = natAbs (top x) < 2 ^ mode * bottom x
 abbrev pub Rounded : ℕ → ℕ → Float → ℤ → Type 0
 Rounded mode i x n = Nearest (top x *ℤ pos (cond (isOffset i) 1 4096)) (bottom x * 2 ^ mode) n
 
--- a "mode in which each factor is below 2^mode in size and every rounded field fits", in 13 bits
+-- a "mode in which each factor is below 2^mode in size and every rounded field fits", from -4096 to 4095 (`Spans 12`)
 pub record FitsIn (numbers : List Float) (mode : ℕ) : Type 0 where
   pub factors : (i : ℕ) → i < 12 → isOffset i ≡ false → Below mode (numberOf numbers i)
   pub fields : (i : ℕ) → i < 12 → (n : ℤ) → Rounded mode i (numberOf numbers i) n → Spans 12 n

@@ -3,17 +3,19 @@ ghost use mathlib.Core.Path.{_≡_};
 ghost use mathlib.Core.Bool.{true};
 ghost use mathlib.Core.List.{List};
 ghost use Prim.Native.Nat.{ℕ, _*_, _^_, _<_, _≤_};
-ghost use lib.IntN.{ℤ};
+ghost use lib.IntN.{ℤ, pos};
 ghost use lib.ListN.{length};
 ghost use lib.Ieee.{Float};
 ghost use lib.Ieee.Exact.{HasValue};
 ghost use lib.Ieee.Nearest.{closest};
 ghost use lib.Ieee.Scale.{finite};
 ghost use Rattle.lists.specs.Find.{every};
+ghost use Rattle.meter.specs.declared.Meter.{Meter};
 ghost use Rattle.meter.specs.Nearest.{Rounds};
+ghost use Rattle.meter.specs.Numbers.{bottom, minusZero, Rounded};
 ghost use Rattle.meter.specs.Found.{numbersOf, Normal, isBelow, signedField, fieldOf, fieldIn, fieldsIn, isField, refused, converted};
 ghost use Rattle.meter.specs.Found.{meterRefused, Meters};
-ghost use Rattle.meter.specs.Meter.{MeterRule};
+ghost use Rattle.meter.specs.Meter.{ConvertRule, MeterRule};
 ghost use Rattle.meter.specs.Cases.{MeterCases};
 use matrix::Matrix;
 use refusals::Refusal;
@@ -327,9 +329,16 @@ pub fn take_matrix(numbers: &[f32], buffer: &mut [u8]) -> Metered
     }
 }
 
-// There is a nearest whole number, and no other.
+// There is a nearest whole number, and no other, for any float and mode; "minus zero gives 0".
 pub fn rounding()
     ensures { λ _. ⌜ ((a : ℤ) (b : ℕ) → 0 < b → Rounds a b) ⌝ }
+    ensures { λ _. ⌜ ((x : Float) (mode : ℕ) → 0 < bottom x * 2 ^ mode) ⌝ }
+    ensures { λ _. ⌜ ((mode i : ℕ) → Rounded mode i minusZero (pos 0)) ⌝ }
+{}
+
+// What becomes of the struct, in document 02's words.
+pub fn convert_rule()
+    ensures { λ _. ⌜ ((m : Meter) → ConvertRule (numbersOf m)) ⌝ }
 {}
 
 // What the call answers, and what it leaves, in document 02's words.

@@ -1,8 +1,8 @@
 -- The bytes of a meter's matrix in a request, and in the preview: any matrix section that is allowed is taken. Assumes nothing.
-use mathlib.Core.Path.{_≡_, refl, sym, ap, ap₂, _∙_, subst}
+use mathlib.Core.Path.{_≡_, refl, sym, ap, _∙_, subst}
 use mathlib.Core.Logic.{inr}
 use mathlib.Core.Bool.{Bool, true, false, not, _&&_, _||_}
-use mathlib.Core.List.{List, [], _∷_, map}
+use mathlib.Core.List.{List, _∷_}
 use Prim.Native.Nat.{ℕ, _≤_}
 use native.Mathlib.Omega.{arith}
 use lib.Dec.{eqb, ltb}
@@ -13,17 +13,15 @@ use Rattle.lists.proofs.Both.{neither-left, neither-right}
 use Rattle.refusals.specs.Rows.{lowest}
 use Rattle.refusals.proofs.Tests.{numbered}
 use Rattle.video.specs.declared.Video.{Video}
-use Rattle.video.specs.Tests.{videoOutside, videoCombined}
-use Rattle.clock.specs.Clocks.{tmds}
+use Rattle.video.specs.Tests.{videoOutside}
 use Rattle.matrix.specs.declared.Matrix.{Matrix}
-use Rattle.matrix.specs.Coefficient.{field, coefficientBytes}
-use Rattle.matrix.specs.Matrix.{bodyOf, matrixOf, Whole}
+use Rattle.matrix.specs.Coefficient.{coefficientBytes}
+use Rattle.matrix.specs.Body.{bodyOf, Whole}
 use Rattle.matrix.specs.Tests.{isAllowed}
 use Rattle.matrix.specs.Preview.{noPixel, previewTests, previewOf}
 use Rattle.matrix.proofs.Body.{unmoved, body-back}
 use Rattle.matrix.proofs.Pairs.{sized}
-use Rattle.meter.specs.Found.{meterOf, meterBuffer}
-use Rattle.meter.proofs.Rule.{Laid, laid-matrix}
+use Rattle.meter.proofs.Rule.{laid-matrix}
 use Rattle.request.specs.declared.Request.{Request}
 use Rattle.request.specs.declared.Checked.{Checked}
 use Rattle.request.specs.Request.{present}

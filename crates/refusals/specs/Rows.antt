@@ -38,9 +38,8 @@ number noModeFits = 19
 -- 07 names them
 abbrev pub order : List Row
 order =
-    inputEnds ∷ countNotAllowed ∷ bytesAfter ∷ modeNotOffered ∷ fieldOutOfRange ∷ combination ∷ clockAbove ∷
-    imageLength ∷ holdsUp ∷ noExactPair ∷ bufferShort ∷ noRequest ∷ inputAbove ∷ twoHolds ∷ listLength ∷ badPair ∷ badEnd ∷
-    notFinite ∷ noModeFits ∷ []
+    inputEnds ∷ countNotAllowed ∷ bytesAfter ∷ modeNotOffered ∷ fieldOutOfRange ∷ combination ∷ clockAbove ∷ imageLength ∷ holdsUp ∷
+    noExactPair ∷ bufferShort ∷ noRequest ∷ inputAbove ∷ twoHolds ∷ listLength ∷ badPair ∷ badEnd ∷ notFinite ∷ noModeFits ∷ []
 
 -- a row that a call checks, and when it applies to the call's input
 pub record Condition : Type 1 where

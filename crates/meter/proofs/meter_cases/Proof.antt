@@ -9,7 +9,17 @@ use Rattle.meter.proofs.meter_cases.Tie as tie
 
 cases : MeterCases
 unfolding ofBits ofFields odd trailingZeros signedField fieldOf fieldIn meterOf meterBuffer
-cases = record { each = refl; table39 = refl; before19 = refl; lengths = refl; rooms = refl }
+cases = record {
+  each = refl;
+  factors = refl;
+  offsets = refl;
+  table39 = refl;
+  before19 = refl;
+  lengths = refl;
+  rooms = refl;
+  counted = refl;
+  stays = (refl, refl);
+}
 
 returns : tie.Need-returns
 returns c = cases

@@ -5,7 +5,7 @@ use Rattle.meter.specs.Found.{converted, meterRefused}
 use mathlib.Core.List.{List}
 use Prim.Native.Nat.{ℕ}
 use Rattle.lists.specs.Over.{over}
-use Rattle.matrix.specs.Matrix.{bodyOf}
+use Rattle.matrix.specs.Body.{bodyOf}
 use borrow.Author.Needs.{needs}
 use Rattle.meter.proofs.Answers.{not-twelve, no-room, not-converted, converted-to}
 use Rattle.meter.proofs.take_matrix.Statement.{statement}
