@@ -146,7 +146,8 @@ convert-rule l twelve =
           let none : lowest tests ≡ 0 = sym (number-given l) ∙ z in
           let all = not-false (every finite l) (none-at tests 0 none) in
           let e = matrix-taken l z in
-          (ap (λ (m : Matrix). m .on) e, subst (λ (m : Matrix). Taken l (bodyOf m)) (sym e) (made-taken l twelve all (none-at tests 1 none)));
+          let some = none-at tests 1 none in
+          subst (λ (m : Matrix). Whole m × Taken l (bodyOf m)) (sym e) (whole l twelve all some, made-taken l twelve all some);
     }
 
 -- ---- the call

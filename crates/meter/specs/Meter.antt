@@ -10,7 +10,7 @@ use lib.Ieee.{Float}
 use lib.Ieee.Scale.{finite}
 use Rattle.refusals.specs.Rows.{fieldOutOfRange, bufferShort, notFinite, noModeFits, Condition, _when_, Given}
 use Rattle.matrix.specs.Matrix.{Bytes, Allowed, noMatrix, numberAt}
-use Rattle.matrix.specs.Body.{bodyOf}
+use Rattle.matrix.specs.Body.{bodyOf, Whole}
 use Rattle.meter.specs.Numbers.{numberOf, Rounded, FitsIn}
 use Rattle.meter.specs.Found.{converted, meterOf, meterBuffer}
 
@@ -40,7 +40,7 @@ pub record Taken (numbers : List Float) (body : List ℕ) : Type 0 where
 pub record ConvertRule (numbers : List Float) : Type 0 where
   pub given : Given (numberRules numbers) (converted numbers .refusal)
   pub nothing : converted numbers .refusal ≢ 0 → converted numbers .matrix ≡ noMatrix
-  pub taken : converted numbers .refusal ≡ 0 → (converted numbers .matrix .on ≡ 1) × Taken numbers (bodyOf (converted numbers .matrix))
+  pub taken : converted numbers .refusal ≡ 0 → Whole (converted numbers .matrix) × Taken numbers (bodyOf (converted numbers .matrix))
 
 -- the call: which refusal is given; "nothing is written" beside one; else 25 bytes in front that are that section, and no others are
 pub record MeterRule (numbers : List Float) (buffer : List ℕ) : Type 0 where
