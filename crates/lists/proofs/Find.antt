@@ -1,5 +1,5 @@
 -- A search in a table: what every entry passes, and what stands in for none, the entry found passes; a test that every entry passes, entry
--- by entry and of a part; a table of three numbers, the first 0.
+-- by entry; a table of three numbers, the first 0.
 -- Assumes nothing.
 use mathlib.Core.Path.{_≡_, refl, ap, _∙_}
 use mathlib.Core.Bool.{Bool, true, false, cond, true≢false, _&&_}
@@ -7,7 +7,7 @@ use mathlib.Core.List.{List, [], _∷_}
 use Prim.Native.Nat.{ℕ, zero, suc, _+_, _<_, suc-le-suc}
 use native.Mathlib.Nat.{not-suc-le-zero, zero-lt-suc, le-of-suc-le-suc}
 use native.Mathlib.Numerals.{add-one}
-use lib.ListN.{length, take, drop, getD}
+use lib.ListN.{length, drop, getD}
 use lib.Seq.{drop-cons}
 use Rattle.lists.specs.Find.{find, every}
 use Rattle.lists.proofs.Both.{both-left, both-right}
@@ -22,7 +22,7 @@ module _ {A : Type 0} (rule : A → Bool) where
       go true here there = here
       go false here there = there
 
--- entry by entry, both ways, and the entries of a part
+-- entry by entry, both ways; and where it fails, an entry that does not pass
 pub every-at : {A : Type 0} (test : A → Bool) (l : List A) (k : ℕ) (d : A) → every test l ≡ true → k < length l → test (getD l k d) ≡ true
 every-at test [] k d t h = absurd (not-suc-le-zero h)
 every-at test (x ∷ xs) zero d t h = both-left (test x) (every test xs) t
@@ -44,15 +44,6 @@ one-failing test (x ∷ xs) d e = go (test x) refl (one-failing test xs d) e
     go : (b : Bool) → test x ≡ b → (every test xs ≡ false → Failing test xs d) → (b && every test xs) ≡ false → Failing test (x ∷ xs) d
     go true p more e = let f = more e in record { place = suc (f .place); within = suc-le-suc (f .within); fails = f .fails }
     go false p more e = record { place = 0; within = zero-lt-suc _; fails = p }
-
-pub every-part : {A : Type 0} (test : A → Bool) (l : List A) (k n : ℕ) → every test l ≡ true → every test (take n (drop k l)) ≡ true
-every-part test l zero zero t = refl
-every-part test [] zero (suc n) t = refl
-every-part test (x ∷ xs) zero (suc n) t =
-    rw (both-left (test x) (every test xs) t) (every-part test xs zero n (both-right (test x) (every test xs) t))
-every-part test [] (suc k) zero t = refl
-every-part test [] (suc k) (suc n) t = refl
-every-part test (x ∷ xs) (suc k) n t = every-part test xs k n (both-right (test x) (every test xs) t)
 
 -- the entries that a search has not passed yet: the next one, and those after it
 pub next : {A : Type 0} (l : List A) (i : ℕ) (d : A) → i < length l → drop i l ≡ getD l i d ∷ drop (i + 1) l

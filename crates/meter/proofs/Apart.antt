@@ -24,9 +24,6 @@ fields s (suc k) t h = go (eqb (suc k) 255) (eqb t 0) h
     go true false e = absurd (true≢false (sym e))
     go false b e = odd-sign 24 s (8388608 + t) k 149
 
-pub exponentOf : ℕ → ℕ
-exponentOf b = b % 2147483648 / 8388608
-
 apart : (x : Float) → T (fits binary32 x) → finite x ≡ true
     → Apart (leb 2147483648 (toBits binary32 x)) (toBits binary32 x % 2147483648 / 8388608) (toBits binary32 x % 8388608) x
 unfolding ofBits

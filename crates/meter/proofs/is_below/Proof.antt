@@ -18,21 +18,12 @@ right : (p : Bool) → (p && true) ≡ p
 right true = refl
 right false = refl
 
-some : (a b : ℕ) → 0 < b → ltb 0 (a + b) ≡ true
-some a b h = is-true (ltb 0 (a + b)) (lt→ltb 0 (a + b) (more h))
-  where
-    more : 0 < b → 0 < a + b
-    more h = omega arith
-
-some' : (a b : ℕ) → 0 < b → ltb 0 (b + a) ≡ true
-some' a b h = is-true (ltb 0 (b + a)) (lt→ltb 0 (b + a) (more h))
-  where
-    more : 0 < b → 0 < b + a
-    more h = omega arith
+some : (n : ℕ) → 0 < n → ltb 0 n ≡ true
+some n h = is-true (ltb 0 n) (lt→ltb 0 n h)
 
 sized : (s : Bool) (a b : ℕ) → 0 < b → (below s a false b && below true b s a) ≡ ltb a b
-sized false a b h = ap (λ (q : Bool). ltb a b && q) (some' a b h) ∙ right (ltb a b)
-sized true a b h = ap (λ (q : Bool). q && ltb a b) (some a b h)
+sized false a b h = ap (λ (q : Bool). ltb a b && q) (some (b + a) (omega arith)) ∙ right (ltb a b)
+sized true a b h = ap (λ (q : Bool). q && ltb a b) (some (a + b) (omega arith))
 
 between : (k : ℕ) (x : Float) → (lt x (fin false 1 (pos k)) && lt (fin true 1 (pos k)) x) ≡ isBelow x k
 unfolding lt
