@@ -34,6 +34,7 @@
     FAULT(offset_below_before_rounding, "an offset below -4096 units not taken, rounded or not") \
     FAULT(offsets_not_asked, "an offset outside refused 19 without the next mode") \
     FAULT(rounded_to_4096_refused, "a factor that rounds to 4096 refused 19") \
+    FAULT(largest_factor_alone, "the mode of the largest factor alone") \
     FAULT(first_row_alone, "the mode of the first row alone") \
     FAULT(last_factor_not_asked, "C3 not asked for the mode") \
     FAULT(mode_2_always, "mode 2 always") \
@@ -362,9 +363,11 @@ static uint32_t matrix_of(enum fault fault, uint32_t *numbers, int *mode, int *f
     for (int i = 0; i < 12; i++) {
         int mode_of = exponent_of(numbers[i]) < 127 ? 0 : exponent_of(numbers[i]) - 126, field;
         fields[i] = 9999;
+        if (fault == largest_factor_alone_fault && !model_is_offset(i) && mode_of > first) first = mode_of;
         if (fault == rounded_to_4096_refused_fault && !model_is_offset(i) && mode_of < 3 && !model_metered(numbers[i], i, mode_of, &field))
             return 19;
     }
+    if (fault == largest_factor_alone_fault && first < end) end = first + 1;
     for (*mode = first; *mode < end; *mode += fault == mode_1_skipped_fault ? 2 : 1) {
         if (!fit(fault, numbers, *mode, fields)) {
             if (fault == offsets_not_asked_fault && factors_fit(numbers, *mode)) return 19;

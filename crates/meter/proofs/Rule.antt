@@ -27,9 +27,10 @@ use Rattle.matrix.proofs.Body.{body-back}
 use Rattle.matrix.proofs.Numbers.{numbers}
 use Rattle.matrix.proofs.Pairs.{length-bytes}
 use Rattle.matrix.proofs.Signs.{twos}
+use Rattle.meter.specs.declared.Meter.{Meter}
 use Rattle.meter.specs.declared.Converted.{Converted}
 use Rattle.meter.specs.declared.Metered.{Metered}
-use Rattle.meter.specs.Numbers.{numberOf, Rounded}
+use Rattle.meter.specs.Numbers.{numbersOf, numberOf, Rounded}
 use Rattle.meter.specs.Found.{fieldsIn, fitsIn, fitsNone, modeOf, inMode, numberTests, refused, converted, meterTests, meterRefused, meterOf, meterBuffer}
 use Rattle.meter.specs.Meter.{numberRules, meterRules, Taken, ConvertRule, MeterRule}
 use Rattle.meter.proofs.Answers.{number-given, matrix-taken}
@@ -134,9 +135,11 @@ module _ (l : List Float) (twelve : length l ≡ 12) (all : every finite l ≡ t
   }
 
 -- ---- the struct
-pub convert-rule : (l : List Float) → length l ≡ 12 → ConvertRule l
+pub convert-rule : (m : Meter) → ConvertRule m
 unfolding converted
-convert-rule l twelve =
+convert-rule m =
+    let l = numbersOf m in
+    let twelve : length l ≡ 12 = refl in
     let tests = numberTests l in
     record {
       given = rw (number-given l) (lowest-given tests (numberRules l) refl
@@ -147,7 +150,7 @@ convert-rule l twelve =
           let all = not-false (every finite l) (none-at tests 0 none) in
           let e = matrix-taken l z in
           let some = none-at tests 1 none in
-          subst (λ (m : Matrix). Whole m × Taken l (bodyOf m)) (sym e) (whole l twelve all some, made-taken l twelve all some);
+          subst (λ (o : Matrix). Whole o × Taken l (bodyOf o)) (sym e) (whole l twelve all some, made-taken l twelve all some);
     }
 
 -- ---- the call

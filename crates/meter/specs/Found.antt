@@ -16,17 +16,9 @@ use Rattle.refusals.specs.Rows.{fieldOutOfRange, bufferShort, notFinite, noMode
 use Rattle.matrix.specs.declared.Matrix.{Matrix}
 use Rattle.matrix.specs.Matrix.{noMatrix}
 use Rattle.matrix.specs.Body.{bodyOf}
-use Rattle.meter.specs.declared.Meter.{Meter}
 use Rattle.meter.specs.declared.Converted.{Converted}
 use Rattle.meter.specs.declared.Metered.{Metered}
 use Rattle.meter.specs.Numbers.{isOffset}
-
--- the struct's numbers, in their order
-abbrev pub numbersOf : Meter → List Float
-numbersOf m =
-    m .a1 ∷ m .a2 ∷ m .a3 ∷ m .a4 ∷
-    m .b1 ∷ m .b2 ∷ m .b3 ∷ m .b4 ∷
-    m .c1 ∷ m .c2 ∷ m .c3 ∷ m .c4 ∷ []
 
 -- what a finite float's bits hold: digits of at most 24 bits, whose leading one is there unless the exponent is the least
 pub record Normal (digits exponent : ℕ) : Type 0 where

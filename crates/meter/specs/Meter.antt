@@ -11,7 +11,8 @@ use lib.Ieee.Scale.{finite}
 use Rattle.refusals.specs.Rows.{fieldOutOfRange, bufferShort, notFinite, noModeFits, Condition, _when_, Given}
 use Rattle.matrix.specs.Matrix.{Bytes, Allowed, noMatrix, numberAt}
 use Rattle.matrix.specs.Body.{bodyOf, Whole}
-use Rattle.meter.specs.Numbers.{numberOf, Rounded, FitsIn}
+use Rattle.meter.specs.declared.Meter.{Meter}
+use Rattle.meter.specs.Numbers.{numbersOf, numberOf, Rounded, FitsIn}
 use Rattle.meter.specs.Found.{converted, meterOf, meterBuffer}
 
 -- "not a number or infinite"
@@ -37,10 +38,11 @@ pub record Taken (numbers : List Float) (body : List ℕ) : Type 0 where
   pub rounded : (i : ℕ) → i < 12 → Rounded (getD body 0 0) i (numberOf numbers i) (numberAt body i)
 
 -- of the struct: which of 18 and 19 is given, with no matrix beside it; else the matrix of that section
-pub record ConvertRule (numbers : List Float) : Type 0 where
-  pub given : Given (numberRules numbers) (converted numbers .refusal)
-  pub nothing : converted numbers .refusal ≢ 0 → converted numbers .matrix ≡ noMatrix
-  pub taken : converted numbers .refusal ≡ 0 → Whole (converted numbers .matrix) × Taken numbers (bodyOf (converted numbers .matrix))
+pub record ConvertRule (m : Meter) : Type 0 where
+  pub given : Given (numberRules (numbersOf m)) (converted (numbersOf m) .refusal)
+  pub nothing : converted (numbersOf m) .refusal ≢ 0 → converted (numbersOf m) .matrix ≡ noMatrix
+  pub taken : converted (numbersOf m) .refusal ≡ 0
+      → Whole (converted (numbersOf m) .matrix) × Taken (numbersOf m) (bodyOf (converted (numbersOf m) .matrix))
 
 -- the call: which refusal is given; "nothing is written" beside one; else 25 bytes in front that are that section, and no others are
 pub record MeterRule (numbers : List Float) (buffer : List ℕ) : Type 0 where

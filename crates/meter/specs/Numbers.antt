@@ -1,13 +1,14 @@
 -- Document 02, request 07: "twelve f32 numbers, nine factors and three offsets in 12-bit codes", and the modes in which they fit.
 use mathlib.Core.Path.{_≡_}
 use mathlib.Core.Bool.{Bool, true, false, cond}
-use mathlib.Core.List.{List}
+use mathlib.Core.List.{List, [], _∷_}
 use Prim.Native.Nat.{ℕ, _*_, _%_, _^_, _<_}
 use lib.Dec.{eqb}
 use lib.IntN.{ℤ, pos, negℤ, natAbs, _*ℤ_}
 use lib.ListN.{getD}
 use lib.Ieee.{Float, nan, inf, fin, up, down}
 use Rattle.matrix.specs.Coefficient.{Spans}
+use Rattle.meter.specs.declared.Meter.{Meter}
 use Rattle.meter.specs.Nearest.{Nearest}
 
 -- "Each float is an exact fraction": top / bottom. A finite float is ±m·2^e, and 2^e is up e / down e (lib.Ieee). What is not finite is no
@@ -26,12 +27,18 @@ bottom (fin s m e) = down e
 abbrev pub minusZero : Float
 minusZero = fin true 0 (pos 0)
 
+-- the twelve of the struct. The request names no order; we read that of a request's matrix
+abbrev pub numbersOf : Meter → List Float
+numbersOf m =
+    m .a1 ∷ m .a2 ∷ m .a3 ∷ m .a4 ∷
+    m .b1 ∷ m .b2 ∷ m .b3 ∷ m .b4 ∷
+    m .c1 ∷ m .c2 ∷ m .c3 ∷ m .c4 ∷ []
+
 -- number i of the twelve
 abbrev pub numberOf : List Float → ℕ → Float
 numberOf numbers i = getD numbers i nan
 
--- the request names no order; we read that of a request's matrix, A1 to A4, B1 to B4, C1 to C4. The offsets are A4, B4 and C4, the others
--- factors
+-- A4, B4 and C4 are the offsets, the others factors
 abbrev pub isOffset : ℕ → Bool
 isOffset i = eqb (i % 4) 3
 

@@ -12,8 +12,8 @@ ghost use lib.Ieee.Scale.{finite};
 ghost use Rattle.lists.specs.Find.{every};
 ghost use Rattle.meter.specs.declared.Meter.{Meter};
 ghost use Rattle.meter.specs.Nearest.{Rounds};
-ghost use Rattle.meter.specs.Numbers.{bottom, minusZero, Rounded};
-ghost use Rattle.meter.specs.Found.{numbersOf, Normal, isBelow, signedField, fieldOf, fieldIn, fieldsIn, isField, refused, converted};
+ghost use Rattle.meter.specs.Numbers.{bottom, minusZero, numbersOf, Rounded};
+ghost use Rattle.meter.specs.Found.{Normal, isBelow, signedField, fieldOf, fieldIn, fieldsIn, isField, refused, converted};
 ghost use Rattle.meter.specs.Found.{meterRefused, Meters};
 ghost use Rattle.meter.specs.Meter.{ConvertRule, MeterRule};
 ghost use Rattle.meter.specs.Cases.{MeterCases};
@@ -338,7 +338,7 @@ pub fn rounding()
 
 // What becomes of the struct, in document 02's words.
 pub fn convert_rule()
-    ensures { λ _. ⌜ ((m : Meter) → ConvertRule (numbersOf m)) ⌝ }
+    ensures { λ _. ⌜ ((m : Meter) → ConvertRule m) ⌝ }
 {}
 
 // What the call answers, and what it leaves, in document 02's words.
