@@ -12,6 +12,10 @@ enum { LARGEST_MODE = 2, TEXT_OF_A_FAULT = 80 };
 const char *name_of_number(size_t n, char text[3]);
 int         is_offset(size_t n);
 
+/* A number in the fewest digits, from six on, of which it is the nearest float. */
+enum { TEXT_OF_A_NUMBER = 24 };
+const char *text_of_number(float number, char text[TEXT_OF_A_NUMBER]);
+
 /* A number in units of its field: a factor times 4096, an offset as it is, both divided by 2^mode; no bit of it is lost. And the whole number
  * nearest to it, the even one on a tie. */
 double in_units(float number, size_t n, int mode);

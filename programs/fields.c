@@ -149,7 +149,9 @@ static void close_section(struct reading *r) {
         int used;
         if (fields[f].section != r->section || r->set[f]) continue;
         usual = (char *)fields[f].usual;
-        if (!usual) misuse("the %s is missing: %s", fields[f].name, words_of_field(&fields[f], text, sizeof text));
+        if (!usual)
+            misuse("the %s is missing: %s%s", fields[f].name, words_of_field(&fields[f], text, sizeof text),
+                   r->section == IN_MATRIX ? ", or 'tableNN', or 'factors' and twelve numbers" : "");
         r->value[f] = value_of(&fields[f], 1, &usual, &used);
         r->set[f] = 1;
     }
@@ -190,12 +192,12 @@ static int take_table(struct reading *r, const char *word) {
 static int take_factors(struct reading *r, int count, char **words) {
     float numbers[STATION_METER], more;
     uint8_t body[STATION_MATRIX];
-    char name[3];
+    char name[3], text[SHOWN];
     if (r->section != IN_MATRIX || strcasecmp(words[0], "factors")) return 0;
     for (int n = 0; n < STATION_METER; n++) {
         if (n + 1 == count) misuse("'%s' has %d numbers after it, and not %d", words[0], n, STATION_METER);
         const char *wrong = float_of_word(words[n + 1], &numbers[n]);
-        if (wrong) misuse("'%.80s', for %s, %s", words[n + 1], name_of_number((size_t)n, name), wrong);
+        if (wrong) misuse("'%s', for %s, %s", shown(words[n + 1], text), name_of_number((size_t)n, name), wrong);
     }
     if (STATION_METER + 1 < count && !float_of_word(words[STATION_METER + 1], &more))
         misuse("'%s' has more than %d numbers after it", words[0], STATION_METER);
@@ -206,6 +208,14 @@ static int take_factors(struct reading *r, int count, char **words) {
     }
     take_matrix(r, words[0], body);
     return 1 + STATION_METER;
+}
+
+/* A number with a point or an exponent in a matrix is a colour meter's. */
+static void look_for_factor(const struct reading *r, const char *word) {
+    float number;
+    char text[SHOWN];
+    if (r->section == IN_MATRIX && strpbrk(word, ".eE") && !float_of_word(word, &number))
+        misuse("'%s' is no whole number: a colour meter's numbers stand behind the word 'factors'", shown(word, text));
 }
 
 /* Reads a field, or a number after the last field: how many words that took. */
@@ -225,6 +235,7 @@ static int take(struct reading *r, int count, char **words) {
         r->set[f] = 1;
         return used;
     }
+    look_for_factor(r, words[0]);
     if (whole && r->numbers < sections[r->section].numbers) {
         long number = number_of_word(words[0], "coefficient", -32768, 32767);
         r->number[2 * r->numbers] = (uint8_t)(((unsigned long)number & 0xFFFF) >> 8);

@@ -4,7 +4,9 @@
 #include "factors.h"
 #include "words.h"
 #include <errno.h>
+#include <stdarg.h>
 #include <stdio.h>
+#include <stdlib.h>
 #include <string.h>
 
 const char *program = "tools/meter";
@@ -22,23 +24,28 @@ static const char help[] =
     "  of each number the field, what that stands for, and how far off it is: at most\n"
     "    half a unit of the field;\n"
     "  eight patches through the matrix, beside what the numbers themselves give,\n"
-    "    both rounded down and held within 0 to 4095; and how far they are apart.\n"
+    "    both rounded down and held within 0 to 4095; and how far they are apart,\n"
+    "    the first less the second.\n"
     "\n"
     "FILE, or with - or without it the standard input, is text or raw:\n"
     "\n"
     "  text   twelve numbers such as 1, -0.02, .5 or 3e-3, or nan and inf, which are\n"
-    "         refused; between two of them blanks or line ends, and at most one comma\n"
-    "         or semicolon. A # at the front of a line or after a blank or comma\n"
-    "         begins a comment. The decimal point is a point. Each number is taken as\n"
-    "         the float nearest to it.\n"
+    "         refused. Blanks, line ends, or a comma or semicolon part two of them.\n"
+    "         A # at the front of a line or after a blank or comma begins a comment.\n"
+    "         The decimal point is a point; a comma as in 1,5 parts two numbers where\n"
+    "         all of its line, four or twelve, are parted so, and is else refused.\n"
+    "         Each number is taken as the float nearest to it; one beyond the largest\n"
+    "         float, or so small that 0 is the nearest, is not taken.\n"
     "  raw    48 bytes: twelve floats of 32 bits (IEEE 754), the low byte first.\n"
     "\n"
-    "A file of exactly 48 bytes that is no text is raw, any other is text. No text is\n"
-    "what has control characters or, outside comments, a byte above 0x7e.\n"
+    "A file of exactly 48 bytes that is no text is raw, any other is text, of less\n"
+    "than 64 KiB. No text is what has control characters other than tabs and line\n"
+    "ends or, outside comments, a byte above 0x7e. UTF-8's mark may stand in front.\n"
     "\n"
     "  --raw     it is raw\n"
     "  --text    it is text\n"
-    "  --words   print the words alone, for a shell\n"
+    "  --words   print the words alone, for a shell; and 'matrix refused', at which\n"
+    "            tools/request stops, where there are none\n"
     "\n"
     "The status is 0 for a matrix; 1 for numbers that are refused, 18 or 19: then\n"
     "those at fault are named, and how it is mended; 2 for a file or a command that\n"
@@ -46,23 +53,25 @@ static const char help[] =
     "for: then trust neither.\n"
     "\n"
     "  tools/meter programs/meter.txt\n"
-    "  tools/request vic 16 rgb hdmi $(tools/meter --words programs/meter.txt)\n";
+    "  words=$(tools/meter --words programs/meter.txt) &&\n"
+    "    tools/request vic 16 rgb hdmi $words\n";
 
-enum { DIFFERS = 3, MOST = 1 << 16, OF_A_FLOAT = 4, RAW = STATION_METER * OF_A_FLOAT, HIGHEST_CODE = 4095 };
+enum { DIFFERS = 3, MOST = 1 << 16, ROW = 4, OF_A_FLOAT = 4, RAW = STATION_METER * OF_A_FLOAT, HIGHEST_CODE = 4095 };
 
 /* ---- The export. */
 
 static const char *file = "-";
 static void take_name(const char *word, void *into) {
+    if (!*word) misuse("a file without a name");
     if ((*(int *)into)++) misuse("more than one file");
     file = word;
 }
 
 static size_t read_file(uint8_t *bytes) {
     FILE *from = strcmp(file, "-") ? fopen(file, "rb") : stdin;
-    if (!from) misuse("%.80s cannot be opened", file);
+    if (!from) misuse("%.80s cannot be opened: %s", file, strerror(errno));
     size_t length = fread(bytes, 1, MOST, from);
-    if (ferror(from)) misuse(errno == EISDIR ? "%.80s is a directory" : "%.80s cannot be read", file);
+    if (ferror(from)) misuse("%.80s cannot be read: %s", strcmp(file, "-") ? file : "the standard input", strerror(errno));
     if (length == MOST) misuse("the file has %u bytes or more: no such export", (unsigned)MOST);
     if (length == 0) misuse("the file is empty");
     if (from != stdin) fclose(from);
@@ -115,38 +124,76 @@ static int is_text(const uint8_t *bytes, size_t length) {
     return n == THE_END;
 }
 
+/* What is wrong with a text, and what else the file may be. */
+static void no_export(const uint8_t *bytes, size_t length, const char *format, ...) {
+    char text[200];
+    int turned = length > 1 && bytes[0] == 0xFE && bytes[1] == 0xFF, wide = length > 1 && bytes[0] == 0xFF && bytes[1] == 0xFE;
+    va_list list;
+    va_start(list, format);
+    vsnprintf(text, sizeof text, format, list);
+    va_end(list);
+    misuse("%s%s", text, turned || wide ? "; it looks like UTF-16: save it as UTF-8"
+           : length == RAW ? "; it has 48 bytes: where they are floats, say --raw" : length == 2 * RAW ? "; are its floats of 64 bits?" : "");
+}
+
+/* A line of numbers. In 1,5 no blank stands beside the comma, and no number has a point: a decimal comma, or a comma that parts two numbers. It is
+ * the latter where all numbers of the line are parted so, and are a row or the whole matrix. */
+struct line { unsigned numbers, decimals, parted; };
+static int is_unclear(struct line l) { return l.decimals && (l.parted || (l.numbers != ROW && l.numbers != STATION_METER)); }
+
 static void numbers_of_text(const uint8_t *bytes, size_t length, float *numbers) {
     struct reader r = reader_of(bytes, length);
-    unsigned count = 0, too_many = 0;
-    int after_number = 0, within = 0;               /* may a comma stand here; was there one that no blank followed, as in 1,5 */
-    char name[3];
+    struct line l = { 0, 0, 0 };
+    unsigned count = 0, too_many = 0, lines = 0, lines_of_three = 0;
+    int after_number = 0, joined = 0, point = 0;     /* may a comma stand here; does it join two words; has the number before it a point */
+    char name[3], text[SHOWN];
     size_t passed;
-    for (enum next n; (n = next_of(&r, &passed)) != THE_END; pass(&r, passed)) {
+    enum next n;
+    do {
         static char word[MOST + 1];
         float number;
-        if (n == NO_TEXT && *r.at == '\r') misuse("line %u: a carriage return inside a line", r.line);
-        if (n == NO_TEXT && length == RAW) misuse("line %u: the byte 0x%02x is no text", r.line, *r.at);
+        n = next_of(&r, &passed);
+        if (n == NO_TEXT && *r.at == '\r') no_export(bytes, 0, "line %u: a carriage return inside a line: a line ends with a line feed", r.line);
+        if (n == NO_TEXT && length == RAW) no_export(bytes, length, "line %u: the byte 0x%02x is no text", r.line, *r.at);
         if (n == NO_TEXT)
-            misuse("line %u: the byte 0x%02x is no text, and a raw export has %u bytes, not %u", r.line, *r.at, (unsigned)RAW, (unsigned)length);
-        if (n == A_COMMA) {
-            if (!after_number) misuse("line %u: a '%c' with no number before it", r.line, *r.at);
-            after_number = 0;
-            within |= *r.at == ',' && r.at + 1 < r.end && !is_blank(&r, 1);
+            no_export(bytes, length, "line %u: the byte 0x%02x is no text, and a raw export has %u bytes, not %u", r.line, *r.at, (unsigned)RAW,
+                      (unsigned)length);
+        if (n == THE_END || *r.at == '\n') {
+            if (is_unclear(l))
+                no_export(bytes, length, "line %u: is a comma here a decimal comma? The decimal point is a point; where commas part two numbers, put a "
+                          "blank behind each", r.line);
+            lines += l.numbers > 0;
+            lines_of_three += l.numbers == ROW - 1;
+            l = (struct line){ 0, 0, 0 };
         }
-        if (n != A_WORD) continue;
-        memcpy(word, r.at, passed);
-        word[passed] = 0;
-        const char *wrong = float_of_word(word, &number);
-        if (wrong) misuse("line %u: '%.40s' %s", r.line, word, wrong);
-        if (count < STATION_METER) numbers[count] = number;
-        if (++count == STATION_METER + 1) too_many = r.line;
-        after_number = 1;
-    }
-    if (count == 0) misuse("the file has no number");
-    if (count < STATION_METER) misuse("%u numbers, and not %u: the last is %s", count, STATION_METER, name_of_number(count - 1, name));
-    if (count > STATION_METER)
-        misuse("%u numbers, and not %u: the first too many stands in line %u%s", count, STATION_METER, too_many,
-               within ? "; a comma parts two numbers, the decimal point is a point" : "");
+        if (n == A_COMMA) {
+            if (!after_number) no_export(bytes, length, "line %u: a '%c' with no number before it", r.line, *r.at);
+            after_number = 0;
+        }
+        joined = n == A_COMMA ? joined && *r.at == ',' : n == A_WORD && joined;
+        if (n == A_WORD) {
+            memcpy(word, r.at, passed);
+            word[passed] = 0;
+            const char *wrong = float_of_word(word, &number);
+            if (wrong) no_export(bytes, length, "line %u: '%s' %s", r.line, shown(word, text), wrong);
+            if (count < STATION_METER) numbers[count] = number;
+            if (++count == STATION_METER + 1) too_many = r.line;
+            int had = point;
+            point = strchr(word, '.') != NULL;
+            l.decimals += l.numbers && joined && !had && !point && word[0] >= '0' && word[0] <= '9';
+            l.parted += l.numbers && !joined;
+            l.numbers++;
+            after_number = joined = 1;
+        }
+        if (n != THE_END) pass(&r, passed);
+    } while (n != THE_END);
+    if (count == 0) no_export(bytes, length, "the file has no number");
+    if (count < STATION_METER)
+        no_export(bytes, length, "%u numbers, and not %u: the last is %s; each of three rows has three factors and an offset", count, STATION_METER,
+                  name_of_number(count - 1, name));
+    if (count > STATION_METER) no_export(bytes, length, "%u numbers, and not %u: the first too many stands in line %u", count, STATION_METER, too_many);
+    if (lines == lines_of_three)
+        no_export(bytes, length, "four lines of three numbers: the offset of each row stands behind its three factors, A1 A2 A3 A4");
 }
 
 /* The low byte first; or, `turned`, the high one. */
@@ -200,12 +247,13 @@ static void print_bytes(const uint8_t *matrix) {
 
 /* What does not fit a mode does not fit a smaller one, so the next smaller one tells it all. */
 static void print_mode(const float *numbers, int mode) {
-    char text[TEXT_OF_A_FAULT], name[3];
+    char text[TEXT_OF_A_FAULT], name[3], number[TEXT_OF_A_NUMBER];
     printf("\nMode %d: ", mode);
     if (mode == 0) printf("every number fits, and there is no smaller one.\n");
     else printf("%s too small for\n", mode == 1 ? "mode 0 is" : "modes 0 and 1 are");
     for (size_t n = 0; mode > 0 && n < STATION_METER; n++)
-        if (fault_of(numbers[n], n, mode - 1, text)) printf("  %s %.9g: %s\n", name_of_number(n, name), numbers[n], text);
+        if (fault_of(numbers[n], n, mode - 1, text))
+            printf("  %s %s: %s\n", name_of_number(n, name), text_of_number(numbers[n], number), text);
 }
 
 /* How far off, for a person: eight decimals, or fewer digits of what is less; 0 for nothing at all. With eight a tie, 0.5, is told from every
@@ -218,16 +266,17 @@ static const char *text_of_off(double off, char text[24]) {
 
 /* The difference of a float and its field is exact: one that is not 0 lies within half a unit of the number, so a double has room for it. */
 static void print_fields(const float *numbers, const uint8_t *matrix) {
-    char name[3], by[24], itself[24];
+    char name[3], by[24], itself[24], number[TEXT_OF_A_NUMBER];
     int mode = matrix[0];
     printf("\n%-4s%-18s%5s   %-18s%13s%15s\n", "", " number", "field", "stands for", "off, in units", "off");
     for (size_t n = 0; n < STATION_METER; n++) {
         int field = field_of(matrix, n);
         double unit = (is_offset(n) ? 1.0 : 1.0 / 4096) * (1 << mode), off = field - in_units(numbers[n], n, mode);
-        printf("%-4s% -18.9g%5d  % -18.12g%14s%15s%s\n", name_of_number(n, name), numbers[n], field, field * unit, text_of_off(off, by),
-               text_of_off(off * unit, itself), off == 0.5 || off == -0.5 ? " tie" : "");
+        text_of_number(numbers[n], number);
+        printf("%-4s%s%-*s%5d  % -18.12g%14s%15s%s\n", name_of_number(n, name), *number == '-' ? "" : " ", *number == '-' ? 18 : 17, number, field,
+               field * unit, text_of_off(off, by), text_of_off(off * unit, itself), off == 0.5 || off == -0.5 ? " tie" : "");
     }
-    printf("A unit is 1/%d in a factor, %d in an offset. Off is what the field stands for,\nless the number.\n", 4096 >> mode, 1 << mode);
+    printf("A unit is 1/%d in a factor, %d in an offset. Off is what the field stands for,\nless the float nearest to the number.\n", 4096 >> mode, 1 << mode);
 }
 
 /* One output of three codes by the numbers themselves, of which none is above 2^15 in size, as document 01 has it: rounded down, and held
@@ -258,6 +307,7 @@ static void print_patches(const float *numbers, const uint8_t *matrix) {
         { "cyan", GREEN | BLUE }, { "magenta", RED | BLUE }, { "yellow", RED | GREEN },
     };
     printf("\n%-10s%12s%21s%21s%12s\n", "patch", "codes", "by the matrix", "by the numbers", "apart");
+    printf("%-8s%5s%5s%5s %6s%5s%5s %6s%5s%5s %6s%5s%5s\n", "", "A", "B", "C", "A", "B", "C", "A", "B", "C", "A", "B", "C");
     for (size_t p = 0; p < sizeof patches / sizeof patches[0]; p++) {
         int lit = patches[p].lit;
         uint32_t in[3] = { lit & RED ? HIGHEST_CODE : 0, lit & GREEN ? HIGHEST_CODE : 0, lit & BLUE ? HIGHEST_CODE : 0 };
@@ -291,6 +341,14 @@ static void tell_turned(FILE *to, const uint8_t *bytes) {
                 matrix[0]);
 }
 
+static void tell_raw(FILE *to) { fprintf(to, "Read as raw: twelve floats, the low byte of each first. --text reads text.\n"); }
+
+/* With --words the words end in another command, which would go on without a matrix: where there are none, this stops it. */
+static int no_words = 1;
+static void tell_no_words(void) {
+    if (no_words) printf("matrix refused\n");
+}
+
 int main(int count, char **words) {
     static uint8_t bytes[MOST];
     float numbers[STATION_METER];
@@ -298,6 +356,7 @@ int main(int count, char **words) {
     int files = 0, raw = 0, text = 0, alone = 0;
     struct option options[] = { { "--raw", NULL, &raw, 0, 0 }, { "--text", NULL, &text, 0, 0 }, { "--words", NULL, &alone, 0, 0 } };
     words_of_command(count, words, help, options, sizeof options / sizeof options[0], take_name, &files);
+    if (alone) atexit(tell_no_words);
     if (raw && text) misuse("--raw and --text exclude each other");
     size_t length = read_file(bytes);
     if (!text && !raw) raw = length == RAW && !is_text(bytes, length);
@@ -312,12 +371,15 @@ int main(int count, char **words) {
     }
     if (c.refusal) {
         explain_refused(to, numbers, c.refusal);
+        if (raw) tell_raw(to);
         if (raw) tell_turned(to, bytes);
         return printed(REFUSED);
     }
     print_words(matrix);
+    no_words = 0;
     if (!alone) {
         print_bytes(matrix);
+        if (raw) tell_raw(to);
         print_mode(numbers, matrix[0]);
         print_fields(numbers, matrix);
         print_patches(numbers, matrix);

@@ -45,11 +45,16 @@ size_t bytes_of_word(const char *word, uint8_t *bytes) {
     return count;
 }
 
+const char *shown(const char *word, char text[SHOWN]) {
+    snprintf(text, SHOWN, strlen(word) < SHOWN - 3 ? "%s" : "%.40s..", word);
+    return text;
+}
+
 long number_of_word(const char *word, const char *what, long least, long most) {
     const char *digits = word + (word[0] == '-');
     size_t length = strlen(digits);
     long number = length > 0 && length < 10 && strspn(digits, "0123456789") == length ? strtol(word, NULL, 10) : least - 1;
-    if (number < least || number > most) misuse("'%.80s' is no %s: a number from %ld to %ld", word, what, least, most);
+    if (number < least || number > most) misuse("'%.80s' is no %s: a whole number from %ld to %ld", word, what, least, most);
     return number;
 }
 
@@ -72,7 +77,9 @@ const char *float_of_word(const char *word, float *number) {
     *number = strtof(word, NULL);
     for (size_t k = 0; k < sizeof not_finite / sizeof not_finite[0]; k++)
         if (!strcasecmp(at, not_finite[k])) return NULL;
-    if (!is_decimal(at, &is_not_0)) return "is no number";
+    if (!is_decimal(at, &is_not_0))
+        return strchr(at, ',') ? "is no number: blanks part two of them here, and the decimal point is a point"
+             : strchr(at, '#') ? "is no number: a comment's # stands behind a blank" : "is no number";
     if (*number - *number != 0) return "is beyond the largest float, 3.40282347e+38";
     return *number == 0 && is_not_0 ? "is not 0, and of the floats 0 is the nearest: write 0 where that is meant" : NULL;
 }

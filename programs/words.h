@@ -24,6 +24,10 @@ int hex_digit(int c);
 /* The bytes of a word at `bytes`, which has room for half its letters: a byte is exactly two hex digits, and blanks may stand between. */
 size_t bytes_of_word(const char *word, uint8_t *bytes);
 
+/* A word for a message: its front, and two points where it goes on. */
+enum { SHOWN = 44 };
+const char *shown(const char *word, char text[SHOWN]);
+
 /* A word that is a whole number from `least` to `most`, in decimal digits with at most a minus before them; `what` says what it is. */
 long number_of_word(const char *word, const char *what, long least, long most);
 

@@ -21,7 +21,7 @@ use Rattle.refusals.specs.Rows.{lowest}
 use Rattle.refusals.proofs.Tests.{Decided, lowest-given, none-at, numbered, answer-none, answer-some}
 use Rattle.matrix.specs.declared.Matrix.{Matrix}
 use Rattle.matrix.specs.Coefficient.{field, valueOf, bitsOf}
-use Rattle.matrix.specs.Matrix.{Bytes, wordAt, numberAt}
+use Rattle.matrix.specs.Matrix.{Bytes, matrixOf, wordAt, numberAt}
 use Rattle.matrix.specs.Body.{bodyOf, Whole}
 use Rattle.matrix.proofs.Body.{body-back}
 use Rattle.matrix.proofs.Numbers.{numbers}
@@ -227,6 +227,11 @@ module _ (l : List Float) (b : List ℕ) where
     is-taken : Taken l (take 25 (meterBuffer l b))
     is-taken = subst (Taken l) (sym front) (made-taken l twelve all some)
 
+    struct-matrix : matrixOf (take 25 (meterBuffer l b)) ≡ converted l .matrix
+    struct-matrix =
+        let tests : lowest (numberTests l) ≡ 0 = rw (all, some) refl in
+        ap matrixOf front ∙ body-back (inMode (modeOf l) l) (whole l twelve all some) .back ∙ sym (matrix-taken l (number-given l ∙ tests))
+
     no-other : (other : List ℕ) → Taken l other → other ≡ take 25 (meterBuffer l b)
     no-other other u = two-taken l other _ u (made-taken l twelve all some) ∙ sym front
 
@@ -236,6 +241,7 @@ module _ (l : List Float) (b : List ℕ) where
     nothing = beside;
     count = counted;
     taken = is-taken;
+    said = struct-matrix;
     after = stays;
     only = λ other u z. no-other z other u;
   }

@@ -9,7 +9,7 @@ use lib.ListN.{getD, length, take, drop}
 use lib.Ieee.{Float}
 use lib.Ieee.Scale.{finite}
 use Rattle.refusals.specs.Rows.{fieldOutOfRange, bufferShort, notFinite, noModeFits, Condition, _when_, Given}
-use Rattle.matrix.specs.Matrix.{Bytes, Allowed, noMatrix, numberAt}
+use Rattle.matrix.specs.Matrix.{Bytes, Allowed, matrixOf, noMatrix, numberAt}
 use Rattle.matrix.specs.Body.{bodyOf, Whole}
 use Rattle.meter.specs.declared.Meter.{Meter}
 use Rattle.meter.specs.Numbers.{numbersOf, numberOf, Rounded, FitsIn}
@@ -50,5 +50,7 @@ pub record MeterRule (numbers : List Float) (buffer : List ℕ) : Type 0 where
   pub nothing : meterOf numbers buffer .refusal ≢ 0 → (meterOf numbers buffer .count ≡ 0) × (meterBuffer numbers buffer ≡ buffer)
   pub count : meterOf numbers buffer .refusal ≡ 0 → meterOf numbers buffer .count ≡ 25
   pub taken : meterOf numbers buffer .refusal ≡ 0 → Taken numbers (take 25 (meterBuffer numbers buffer))
+  -- what they say is the struct's matrix
+  pub said : meterOf numbers buffer .refusal ≡ 0 → matrixOf (take 25 (meterBuffer numbers buffer)) ≡ converted numbers .matrix
   pub after : meterOf numbers buffer .refusal ≡ 0 → drop 25 (meterBuffer numbers buffer) ≡ drop 25 buffer
   pub only : (body : List ℕ) → Taken numbers body → meterOf numbers buffer .refusal ≡ 0 → body ≡ take 25 (meterBuffer numbers buffer)

@@ -162,6 +162,7 @@ cases =
       readers = refl;
       readsAsD = reads 0x01 refl refl refl;
       readsAsE = reads 0x11 refl refl refl;
+      withMeter = refl;
       few = few;
       encodings = refl;
       links = refl;

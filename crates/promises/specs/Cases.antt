@@ -31,6 +31,7 @@ use Rattle.writes.specs.List.{finishedImage}
 use Rattle.plan.specs.Plan.{planOf}
 use Rattle.decode.specs.Theorems.{Answered}
 use Rattle.line.specs.Words.{ascii, lineText}
+use Rattle.promises.specs.Metered.{bytesWith}
 use Rattle.promises.specs.Rules.{asked}
 use Rattle.promises.specs.Worked.{example, zeros, Few, FewDeep, FewEditions}
 
@@ -211,6 +212,9 @@ pub record MarkedCases : Type 0 where
   -- the finished image of an E that asks for nothing reads back as D, and that of E with type 1 as it is
   pub readsAsD : (room : List ℕ) → 38 ≤ length room → Answered (asked16 0 1 0x00) (done16 0x01) room
   pub readsAsE : (room : List ℕ) → 38 ≤ length room → Answered (withEdition 0x11 (asked16 0 1 0x00)) (done16 0x11) room
+  -- request 07: a meter's bytes stand behind the example's sound, and their count, 25, in front of them
+  pub withMeter : bytesWith table39 (readOf (0x07 ∷ 0x10 ∷ 0x00 ∷ 0x00 ∷ 0x01 ∷ 0x00 ∷ 0x00 ∷ 0x00 ∷ 0x03 ∷ 0x02 ∷ 0x02 ∷ 0x01 ∷ 0x00 ∷ []) .request)
+      ≡ 0x07 ∷ 0x10 ∷ 0x00 ∷ 0x00 ∷ 0x01 ∷ 0x00 ∷ 0x00 ∷ 0x00 ∷ 0x03 ∷ 0x02 ∷ 0x02 ∷ 0x01 ∷ 0x19 ∷ table39
   -- request 09
   pub few : Few
   -- Lengths follow from the counts: document 01 had 7, 10, 32, 35, and each has three bytes more

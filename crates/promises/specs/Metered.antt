@@ -22,7 +22,7 @@ abbrev pub askedWith : List ℕ → Request → Request
 askedWith body r = record { video = r .video; sound = r .sound; matrix = matrixOf body }
 
 pub record FromMeter (numbers : List Float) (buffer : List ℕ) : Type 0 where
-  -- in any request that is accepted they are accepted, and are read as the matrix that they say
+  -- in any request that is accepted, with a matrix or without, they are accepted, and are read as the matrix that they say
   pub request : meterOf numbers buffer .refusal ≡ 0 → let body : List ℕ = take 25 (meterBuffer numbers buffer) in
       (r : Request) → Shaped (r .matrix) → readOf (asBytes r) .refusal ≡ 0
       → readOf (bytesWith body r) ≡ record { refusal = 0; request = askedWith body r }

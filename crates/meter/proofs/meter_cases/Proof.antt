@@ -3,22 +3,27 @@ use mathlib.Core.Path.{refl}
 use lib.Count.{trailingZeros}
 use lib.Ieee.{ofBits, ofFields, odd}
 use Rattle.meter.specs.Cases.{MeterCases}
-use Rattle.meter.specs.Found.{signedField, fieldOf, fieldIn, meterOf, meterBuffer}
+use Rattle.meter.specs.Found.{signedField, fieldOf, fieldIn, converted, meterOf, meterBuffer}
 use Rattle.meter.proofs.meter_cases.Statement.{statement}
 use Rattle.meter.proofs.meter_cases.Tie as tie
 
 cases : MeterCases
-unfolding ofBits ofFields odd trailingZeros signedField fieldOf fieldIn meterOf meterBuffer
+unfolding ofBits ofFields odd trailingZeros signedField fieldOf fieldIn converted meterOf meterBuffer
 cases = record {
   each = refl;
   factors = refl;
   offsets = refl;
   table39 = refl;
-  before19 = refl;
-  lengths = refl;
-  rooms = refl;
   counted = refl;
-  stays = (refl, refl);
+  nineteen = refl;
+  eighteen = refl;
+  rooms = refl;
+  lengths = refl;
+  lengthsInRoom = refl;
+  places = refl;
+  struct39 = refl;
+  noStruct = refl;
+  negativeZero = refl;
 }
 
 returns : tie.Need-returns
