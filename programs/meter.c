@@ -34,6 +34,7 @@ static const char help[] =
     "         A # at the front of a line or after a blank or comma begins a comment.\n"
     "         The decimal point is a point; a comma as in 1,5 parts two numbers where\n"
     "         all of its line, four or twelve, are parted so, and is else refused.\n"
+    "         Four lines of three are not taken: a row's offset is its fourth number.\n"
     "         Each number is taken as the float nearest to it; one beyond the largest\n"
     "         float, or so small that 0 is the nearest, is not taken.\n"
     "  raw    48 bytes: twelve floats of 32 bits (IEEE 754), the low byte first.\n"
