@@ -27,9 +27,9 @@
 #include <stdint.h>
 
 /* The version of this header, one for each landing; CHANGELOG.md says what came with it. */
-#define STATION_VERSION "5.1.0"
+#define STATION_VERSION "5.2.0"
 #define STATION_MAJOR 5
-#define STATION_MINOR 1
+#define STATION_MINOR 2
 #define STATION_PATCH 0
 
 /* Lengths in bytes. */
@@ -41,6 +41,7 @@
 #define STATION_REQUEST 38      /* the longest request, and the least room for one */
 #define STATION_MATRIX 25       /* a matrix as a request has it: its mode and twelve coefficients */
 #define STATION_LIST 1024       /* the longest list that a vendor may bring, 512 pairs */
+#define STATION_PIPE (STATION_REQUEST + 2) /* a pipe: the request so far, its count, its answer */
 
 /* And in numbers. */
 #define STATION_METER 12        /* a colour meter's export: nine factors and three offsets */
@@ -50,8 +51,8 @@ extern "C" {
 #endif
 
 /* Why a call refuses. Of those that a call gives, the first that applies, in the order of their numbers, is given; but 17 is checked after 6
- * and before 7. Then every other field of the answer is 0 (but for the place beside 15), and no lent byte is changed. station_text.h has
- * these lines as strings. */
+ * and before 7. Then every other field of the answer is 0 (but for the place beside 15), and no lent byte is changed. A pipe alone says
+ * beside a request's number that it is answered, and remembers it. station_text.h has these lines as strings. */
 enum station_refusal {
     STATION_ACCEPTED = 0,           /* none */
     STATION_INPUT_ENDS = 1,         /* input ends before a count or inside a section */
@@ -60,7 +61,7 @@ enum station_refusal {
     STATION_MODE_NOT_OFFERED = 4,   /* VIC not listed, or family not offered by it */
     STATION_FIELD_OUT_OF_RANGE = 5, /* any other field outside its range (matrix mode, depth or repetition above 2; range, edition or quantisation above 1; bits 7:6 of the edition byte); not twelve numbers of a meter */
     STATION_COMBINATION = 6,        /* encoding not 0 without a matrix or with range 1; DVI with audio or with encoding not 0; more than 24 bits with 4:2:2 or DVI; quantisation or content type under edition D */
-    STATION_IMAGE_LENGTH = 7,       /* image not of 256 bytes; in the machine also packet buffer not of 32, coefficient buffer not of 24, mark not of 1 */
+    STATION_IMAGE_LENGTH = 7,       /* image not of 256 bytes; in the machine also packet buffer not of 32, coefficient buffer not of 24, mark not of 1; bytes that are no pipe: another length, or a count above the longest request */
     STATION_HOLDS_UP = 8,           /* GC hold up, or AVI and audio holds both up */
     STATION_NO_EXACT_PAIR = 9,      /* coherent audio, and no exact pair exists */
     STATION_BUFFER_SHORT = 10,      /* write buffer shorter than 256 bytes; request buffer shorter than STATION_REQUEST; matrix buffer shorter than 25 */
@@ -82,6 +83,7 @@ struct station_pixel { uint32_t refusal, a, b, c; };
 struct station_state { uint32_t refusal, mute; };
 struct station_masks { uint32_t read_only, mandated, named, free_bits, value; };
 struct station_verdict { uint32_t refusal, place; };
+struct station_piped { uint32_t refusal, answered, count; };
 
 /* The write list of a request on a register image of 256 bytes: `count` pairs of address and value at the front of `writes`, which has at
  * least 256 bytes; the bytes after them stay. A register whose byte in the image is right already is left out, so lend the registers as
@@ -111,6 +113,20 @@ struct station_pixel station_preview(const uint8_t *matrix, size_t length, uint3
  * the whole number nearest to factor * 4096 / 2^mode, an offset's the nearest to offset / 2^mode, the even one on a tie, exactly: no float is
  * rounded on the way. Refusals 5 (not STATION_METER numbers), 10 (fewer than 25 bytes), 18 and 19. */
 struct station_count station_meter(const float *numbers, size_t count, uint8_t *matrix, size_t matrix_length);
+
+/* A request that arrives in parts, as a pipe delivers them. A pipe is STATION_PIPE bytes of the host's, all 0 for a fresh one: the bytes so
+ * far, their count in byte STATION_REQUEST, and in the byte after it the answer, 0 for none yet, 255 for accepted, else the refusal. One pipe
+ * takes one request.
+ * station_pipe_take takes a part of any length, an empty one too; station_pipe_end says that the input has ended, which only the host knows.
+ * `answered` 0: none yet, go on. `answered` 1: `refusal` is the one that station_ncts gives for the parts joined, or 0, and then `count`
+ * bytes at the front of the pipe are the request, ready for station_plan(pipe, count, ..). Refusals 2 and 3, which no later byte changes, are
+ * answered by the part that holds the deciding byte; every other answer, acceptance too, by the end. An answer stays: parts after it are
+ * ignored, and so are parts and ends after the end. A part that is answered, or ignored, is not kept: the answer's byte is the only one that
+ * changes, and once there it does not.
+ * Any bytes may be lent as a pipe: 7, with `answered` 0 and no byte changed, for another length and for a count above STATION_REQUEST, which
+ * no call leaves. What some other hand wrote into a pipe is taken as it stands. */
+struct station_piped station_pipe_take(uint8_t *pipe, size_t pipe_length, const uint8_t *part, size_t part_length);
+struct station_piped station_pipe_end(uint8_t *pipe, size_t pipe_length);
 
 /* The chip machine: a register image of 256 bytes, a packet buffer of 32, a coefficient buffer of 24 and a waiting mark of 1, all four the
  * host's. It stands for the chip in tests and simulations. Planning and decoding need the image alone.

@@ -17,7 +17,7 @@ static inline const char *station_text(uint32_t refusal) {
         "VIC not listed, or family not offered by it",
         "any other field outside its range (matrix mode, depth or repetition above 2; range, edition or quantisation above 1; bits 7:6 of the edition byte); not twelve numbers of a meter",
         "encoding not 0 without a matrix or with range 1; DVI with audio or with encoding not 0; more than 24 bits with 4:2:2 or DVI; quantisation or content type under edition D",
-        "image not of 256 bytes; in the machine also packet buffer not of 32, coefficient buffer not of 24, mark not of 1",
+        "image not of 256 bytes; in the machine also packet buffer not of 32, coefficient buffer not of 24, mark not of 1; bytes that are no pipe: another length, or a count above the longest request",
         "GC hold up, or AVI and audio holds both up",
         "coherent audio, and no exact pair exists",
         "write buffer shorter than 256 bytes; request buffer shorter than " STATION_TEXT(STATION_REQUEST) "; matrix buffer shorter than 25",
