@@ -1,0 +1,5 @@
+pub mod More
+pub mod Told
+pub mod Early
+pub mod Joined
+pub mod Answers

@@ -1,0 +1,149 @@
+-- What the walk of an input tells of its number: 1 where it ends too soon, 2 where a count is not allowed, 3 where bytes are left, and else
+-- none of these. Assumes nothing.
+use mathlib.Core.Path.{_≡_, refl, sym, ap, subst, _∙_}
+use mathlib.Core.Logic.{_≢_, _⊎_, inl, inr}
+use mathlib.Core.Bool.{Bool, true, false, cond, not, _&&_}
+use mathlib.Core.List.{List, [], _∷_, _++_}
+use Prim.Native.Nat.{ℕ, _+_, _*_, _/_, _≤_, _<_}
+use native.Mathlib.Omega.{arith}
+use lib.Dec.{eqb, ltb}
+use lib.ListN.{length, getD}
+use borrow.Author.Tests.{ltb-true, eqb-true, eqb-false}
+use Rattle.lists.specs.Find.{every}
+use Rattle.lists.proofs.Both.{both-left, both-right}
+use Rattle.refusals.specs.Rows.{number, Test, lowest, answer}
+use Rattle.video.specs.declared.Video.{Video}
+use Rattle.video.specs.Video.{videoIn}
+use Rattle.clock.specs.declared.Clock.{Clock}
+use Rattle.clock.specs.declared.Pair.{Pair}
+use Rattle.clock.specs.declared.NCts.{NCts}
+use Rattle.clock.specs.Pairs.{reference, recommendedOf, thePair, noPair, other}
+use Rattle.clock.specs.Clocks.{clockOf}
+use Rattle.clock.specs.Found.{pairTests, nearestK, leastK, mostK, nearestIn, nearestOf, exactly, coherentOf, pairOf}
+use Rattle.request.specs.declared.Sound.{Sound}
+use Rattle.request.specs.declared.Sound.the-variants.{Off, On}
+use Rattle.request.specs.declared.Request.{Request}
+use Rattle.request.specs.declared.Checked.{Checked}
+use Rattle.request.specs.Sections.{Walk, ends, notAllowed, whole, walk, walked, sections, longest}
+use Rattle.request.specs.Request.{requestIn}
+use Rattle.request.specs.Read.{emptied, bodyTests, judged, checked, readOf, pairIn, pairFor, nctsOf}
+use Rattle.request.proofs.Counted.{Counted, counted, within}
+use Rattle.pipe.specs.Final.{refusalOf}
+use Rattle.pipe.proofs.More.{Short, short}
+
+-- none of rows 1 to 3, and a number of a byte that is not 255
+abbrev pub Later : ℕ → Type 0
+Later n = ((n ≡ 0) ⊎ (3 < n)) × (n < 255)
+
+either : (t : Bool) (a b : ℕ) → Later a → Later b → Later (cond t a b)
+either true a b p q = p
+either false a b p q = q
+
+none : Later 0
+none = (inl refl, omega arith)
+
+row : (n : ℕ) → 3 < n → n < 255 → Later n
+row n h k = (inr h, k)
+
+-- of tests for such rows
+abbrev laterRow : Test → Bool
+laterRow t = ltb 3 (number (t .row)) && ltb (number (t .row)) 255
+
+lowest-later : (tests : List Test) → every laterRow tests ≡ true → Later (lowest tests)
+lowest-later [] h = none
+lowest-later (t ∷ tests) h =
+    let r : laterRow t ≡ true = both-left (laterRow t) (every laterRow tests) h in
+    let n : ℕ = number (t .row) in
+    either (t .found) n (lowest tests) (row n (ltb-true 3 n (both-left (ltb 3 n) (ltb n 255) r)) (ltb-true n 255 (both-right (ltb 3 n) (ltb n 255) r)))
+    (lowest-later tests (both-right (laterRow t) (every laterRow tests) h))
+
+-- of a pair
+pair-of : (t : Bool) (p q : Pair) → Later (p .refusal) → Later (q .refusal) → Later (cond t p q .refusal)
+pair-of true p q h k = h
+pair-of false p q h k = k
+
+answered : (n : ℕ) (p : Pair) → Later n → Later (p .refusal) → Later (answer n noPair p .refusal)
+answered n p h k = pair-of (eqb n 0) p (noPair n) k h
+
+nearest-in : (f u v : ℕ) → Later (nearestIn f u v .refusal)
+unfolding nearestIn
+nearest-in f u v =
+    let k : ℕ = nearestK f v (leastK f v) (mostK f u v) (f / (1000 * v)) in
+    pair-of (ltb (mostK f u v) (leastK f v)) (noPair 9) (thePair (k * v) (k * u)) (row 9 (omega arith) (omega arith)) none
+
+nearest-later : (clock : Clock) (rate : ℕ) → Later (nearestOf clock rate .refusal)
+unfolding nearestOf
+nearest-later clock rate = nearest-in (reference rate) _ _
+
+coherent-later : (clock : Clock) (rate : ℕ) → Later (coherentOf clock rate .refusal)
+unfolding coherentOf
+coherent-later clock rate =
+    let r : NCts = recommendedOf clock rate in
+    pair-of (exactly clock rate (r .n) (r .cts)) (thePair (r .n) (r .cts)) (nearestOf clock rate) none (nearest-later clock rate)
+
+single-later : (video : Video) (rate coherent : ℕ) → Later (pairOf video rate coherent .refusal)
+unfolding pairOf
+single-later video rate coherent =
+    answered (lowest (pairTests video rate coherent)) (cond (eqb coherent 1) (coherentOf (clockOf video) rate) (other rate))
+    (lowest-later (pairTests video rate coherent) refl)
+    (pair-of (eqb coherent 1) (coherentOf (clockOf video) rate) (other rate) (coherent-later (clockOf video) rate) none)
+
+pair-later : (r : Request) → Later (pairFor r .refusal)
+unfolding pairFor
+pair-later r = go (r .sound)
+  where
+    go : (s : Sound) → Later (pairIn r s .refusal)
+    go Off = none
+    go (On rate channels coherent) = single-later (r .video) rate coherent
+
+judged-later : (video : Video) (audio matrix : List ℕ) → Later (judged video audio matrix .refusal)
+unfolding judged
+judged-later video audio matrix = go (lowest (bodyTests video audio matrix)) (lowest-later (bodyTests video audio matrix) refl)
+  where
+    go : (n : ℕ) → Later n → Later (answer n emptied (record { refusal = 0; request = requestIn video audio matrix }) .refusal)
+    go n h = split (eqb n 0)
+      where
+        split : (t : Bool) → Later (cond t (record { refusal = 0; request = requestIn video audio matrix }) (emptied n) .refusal)
+        split true = none
+        split false = h
+
+-- of the number that N and CTS gives: that of the sections, or that of the pair
+abbrev numberIn : Checked → ℕ
+numberIn c = answer (c .refusal) noPair (pairFor (c .request)) .refusal
+
+later : (c : Checked) → Later (c .refusal) → Later (numberIn c)
+later c h = answered (c .refusal) (pairFor (c .request)) h (pair-later (c .request))
+
+-- by what the walk finds
+abbrev pub Told : Walk → ℕ → Type 0
+Told ends n = n ≡ 1
+Told notAllowed n = n ≡ 2
+Told (whole bodies rest) n = ((length rest ≢ 0) × (n ≡ 3)) ⊎ ((length rest ≡ 0) × Later n)
+
+of-walk : (w : Walk) → Told w (numberIn (checked w))
+of-walk ends = refl
+of-walk notAllowed = refl
+of-walk (whole bodies rest) = go (eqb (length rest) 0) refl
+  where
+    video : Video
+    video = videoIn (getD bodies 0 [])
+    said : Checked
+    said = judged video (getD bodies 1 []) (getD bodies 2 [])
+    go : (b : Bool) → eqb (length rest) 0 ≡ b
+        → ((length rest ≢ 0) × (numberIn (answer (cond (not b) 3 0) emptied said) ≡ 3)) ⊎ ((length rest ≡ 0) × Later (numberIn (answer (cond (not b) 3 0) emptied said)))
+    go true e = inr (eqb-true (length rest) 0 e, later said (judged-later video (getD bodies 1 []) (getD bodies 2 [])))
+    go false e = inl (eqb-false (length rest) 0 e, refl)
+
+pub told : (input : List ℕ) → Told (walked input) (refusalOf input)
+unfolding nctsOf readOf
+told input = of-walk (walked input)
+
+-- a number of a byte, and not 255
+pub small : (input : List ℕ) → refusalOf input < 255
+small input = go (walked input) (told input)
+  where
+    go : (w : Walk) → Told w (refusalOf input) → refusalOf input < 255
+    go ends e = omega (arith, e)
+    go notAllowed e = omega (arith, e)
+    go (whole bodies rest) (inl e) = omega (arith, e .1)
+    go (whole bodies rest) (inr e) = e .1 .1

@@ -1,0 +1,161 @@
+// Requests through a pipe: document 02, request 08.
+ghost use mathlib.Core.Path.{_≡_};
+ghost use mathlib.Core.Bool.{true};
+ghost use mathlib.Core.List.{List, _++_};
+ghost use Prim.Native.Nat.{ℕ, suc, _≤_};
+ghost use lib.ListN.{length, take};
+ghost use Rattle.request.specs.Sections.{longest};
+ghost use Rattle.pipe.specs.Found.{answerIn, soFar, isPipe, saidBy, answerByte, Takes, Ends};
+ghost use Rattle.pipe.specs.Found as found;
+use refusals::Refusal;
+use request::sections::LONGEST;
+
+// A pipe: the request so far, its count, and its answer: 0 for none yet, ACCEPTED, or the refusal.
+pub const COUNT: usize = LONGEST;
+
+pub const ANSWER: usize = LONGEST + 1;
+
+pub const PIPE: usize = LONGEST + 2;
+
+pub const ACCEPTED: u8 = 255;
+
+// One byte more than the longest request decides.
+pub const ENOUGH: usize = LONGEST + 1;
+
+// A refusal of the request or 0, whether that is its answer, and the count of an accepted request's bytes; 7 for bytes that are no pipe.
+pub struct Piped {
+    pub refusal: u8,
+    pub answered: u8,
+    pub count: u32,
+}
+
+fn is_pipe(pipe: &[u8]) -> bool
+    ensures { λ r. ⌜ r ≡ isPipe (now (pipe .entry)) ⌝ }
+{
+    if pipe.len() != PIPE {
+        return false;
+    }
+    pipe[COUNT] as usize <= LONGEST
+}
+
+// Bytes from a place on, as many as there is room for, and the place after them.
+fn put(input: &mut [u8], at: usize, bytes: &[u8]) -> usize
+    requires { ⌜ at ≤ length (now input) ⌝ }
+    ensures { λ r. ⌜ r ≤ length (now (input .exit)) ⌝ }
+    ensures { λ r. ⌜ take r (now (input .exit)) ≡ take (length (now (input .entry))) (take at (now (input .entry)) ++ now (bytes .entry)) ⌝ }
+{
+    let room = input.len() - at;
+    let mut i: usize = 0;
+    while (i < room) & (i < bytes.len()) {
+        input[at + i] = bytes[i];
+        i = i + 1;
+    }
+    at + i
+}
+
+// The request so far and a part, as many bytes as decide, and their count.
+fn join(pipe: &[u8], part: &[u8], input: &mut [u8]) -> usize
+    requires { ⌜ (isPipe (now pipe) ≡ true) × (length (now input) ≡ suc longest) ⌝ }
+    ensures { λ r. ⌜ r ≤ length (now (input .exit)) ⌝ }
+    ensures { λ r. ⌜ take r (now (input .exit)) ≡ take (suc longest) (soFar (now (pipe .entry)) ++ now (part .entry)) ⌝ }
+{
+    let count = pipe[COUNT] as usize;
+    let n = put(input, 0, &pipe[..count]);
+    put(input, n, part)
+}
+
+// What an answer's byte says.
+fn said(byte: u8, count: u8) -> Piped
+    ensures { λ r. ⌜ r ≡ saidBy byte count ⌝ }
+{
+    if byte == ACCEPTED {
+        return Piped {
+            refusal: Refusal::NONE,
+            answered: 1,
+            count: count as u32,
+        };
+    }
+    Piped {
+        refusal: byte,
+        answered: 1,
+        count: 0,
+    }
+}
+
+fn no_pipe() -> Piped
+    ensures { λ r. ⌜ r ≡ found.noPipe ⌝ }
+{
+    Piped {
+        refusal: Refusal::IMAGE_LENGTH,
+        answered: 0,
+        count: 0,
+    }
+}
+
+fn answer_byte(number: u8) -> u8
+    ensures { λ r. ⌜ r ≡ answerByte number ⌝ }
+{
+    if number == Refusal::NONE {
+        return ACCEPTED;
+    }
+    number
+}
+
+// A part, where there is no answer yet: 2 and 3 at once, and else it is put behind the request so far.
+fn take_open(pipe: &mut [u8], part: &[u8]) -> Piped
+    requires { ⌜ (isPipe (now pipe) ≡ true) × (answerIn (now pipe) ≡ 0) ⌝ }
+    ensures { λ r. ⌜ Takes (now (pipe .entry)) (now (part .entry)) r (now (pipe .exit)) ⌝ }
+{
+    let mut input = [0u8; ENOUGH];
+    let n = join(pipe, part, &mut input);
+    let pair = request::ncts(&input[..n]);
+    let number = pair.refusal;
+    if (number == Refusal::COUNT_NOT_ALLOWED) | (number == Refusal::BYTES_AFTER) {
+        pipe[ANSWER] = number;
+        return Piped {
+            refusal: number,
+            answered: 1,
+            count: 0,
+        };
+    }
+    lists::copy(&input[..n], pipe);
+    pipe[COUNT] = n as u8;
+    Piped {
+        refusal: Refusal::NONE,
+        answered: 0,
+        count: 0,
+    }
+}
+
+// A part of a request, of any length. An answer that is there stays.
+pub fn take(pipe: &mut [u8], part: &[u8]) -> Piped
+    ensures { λ r. ⌜ Takes (now (pipe .entry)) (now (part .entry)) r (now (pipe .exit)) ⌝ }
+{
+    if !is_pipe(pipe) {
+        return no_pipe();
+    }
+    let count = pipe[COUNT];
+    let answer = pipe[ANSWER];
+    if answer != 0 {
+        return said(answer, count);
+    }
+    take_open(pipe, part)
+}
+
+// The end of a request: what N and CTS gives it.
+pub fn end(pipe: &mut [u8]) -> Piped
+    ensures { λ r. ⌜ Ends (now (pipe .entry)) r (now (pipe .exit)) ⌝ }
+{
+    if !is_pipe(pipe) {
+        return no_pipe();
+    }
+    let count = pipe[COUNT];
+    let answer = pipe[ANSWER];
+    if answer != 0 {
+        return said(answer, count);
+    }
+    let pair = request::ncts(&pipe[..count as usize]);
+    let byte = answer_byte(pair.refusal);
+    pipe[ANSWER] = byte;
+    said(byte, count)
+}
