@@ -3,3 +3,5 @@ pub mod Told
 pub mod Early
 pub mod Joined
 pub mod Answers
+pub mod Grows
+pub mod Cut

@@ -1,2 +1,3 @@
 pub mod Final
 pub mod Found
+pub mod Pipe

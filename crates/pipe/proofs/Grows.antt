@@ -1,0 +1,119 @@
+-- A pipe that takes a part, ends, or takes nothing any more: `AnyPipe`. Assumes nothing.
+use mathlib.Core.Path.{_≡_, refl, sym, ap, subst, _∙_}
+use mathlib.Core.Logic.{_≢_, _⊎_, inl, inr}
+use mathlib.Core.Bool.{Bool, true, false, cond, _&&_}
+use mathlib.Core.List.{List, [], _∷_, _++_}
+use Prim.Native.Nat.{ℕ, suc, _+_, _-_, _≤_, _<_}
+use native.Mathlib.Omega.{arith}
+use lib.Dec.{eqb, leb}
+use lib.ListN.{length, getD, take, drop, set, length-append, length-drop, length-set}
+use lib.Seq.{take-all, take-at, take-set-le, getD-set-same, getD-set-other, getD-append-add, getD-drop, length-take-le}
+use borrow.Author.Tests.{eq-eqb, ne-eqb, leb-true, leb-false, lt-leb, le-leb}
+use Rattle.lists.specs.Over.{over}
+use Rattle.lists.proofs.Copied.{over-front}
+use Rattle.refusals.specs.Rows.{answer}
+use Rattle.request.specs.Sections.{longest}
+use Rattle.pipe.specs.declared.Piped.{Piped}
+use Rattle.pipe.specs.Final.{refusalOf, Final}
+use Rattle.pipe.specs.Found.{pipeLength, countIn, answerIn, soFar, isPipe, refused, accepted, notYet, noPipe, saidBy, answerByte, kept, withAnswer}
+use Rattle.pipe.specs.Found.{takeOf, takePipe, endOf, endPipe, Takes, Ends}
+use Rattle.pipe.specs.Pipe.{answerFor, NoPipe, IsPipe, Open, Grown, AnyPipe}
+use Rattle.pipe.proofs.Told.{small}
+use Rattle.pipe.proofs.Early.{TwoOrThree, long, final, its-own, one-of-two}
+use Rattle.pipe.proofs.Joined.{of-length, counted, a-pipe, length-so-far}
+use Rattle.pipe.proofs.Answers.{no-taking, no-ending, taking-ignored, ending-ignored, ending, taking-early, taking-on}
+
+-- the test says which
+pub is-pipe : (pipe : List ℕ) → IsPipe pipe → isPipe pipe ≡ true
+is-pipe pipe h = a-pipe pipe (h .long) (h .counted)
+
+pub pipe-is : (pipe : List ℕ) → isPipe pipe ≡ true → IsPipe pipe
+pipe-is pipe t = record { long = of-length pipe t; counted = counted pipe t }
+
+no-pipe : (pipe : List ℕ) → NoPipe pipe → isPipe pipe ≡ false
+no-pipe pipe (inl h) = rw (ne-eqb (length pipe) pipeLength h)
+no-pipe pipe (inr h) = go (eqb (length pipe) pipeLength)
+  where
+    go : (b : Bool) → (b && leb (countIn pipe) longest) ≡ false
+    go true = lt-leb (countIn pipe) longest h
+    go false = refl
+
+-- an input with no final answer is no longer than the longest
+pub within-longest : (input : List ℕ) → (TwoOrThree (refusalOf input) → ⊥) → length input ≤ longest
+within-longest input none = go (leb (length input) longest) refl
+  where
+    go : (b : Bool) → leb (length input) longest ≡ b → length input ≤ longest
+    go true h = leb-true (length input) longest h
+    go false h = absurd (none (long input (leb-false (length input) longest h)))
+
+-- the bytes over a pipe's front
+module _ (pipe input : List ℕ) (l : length pipe ≡ pipeLength) (h : length input ≤ longest) where
+  laid-over : over input pipe ≡ input ++ drop (length input) pipe
+  laid-over = over-front input pipe (omega (arith, l))
+
+  abbrev grownBy : List ℕ
+  grownBy = set (over input pipe) longest (length input)
+
+  as-long : length (over input pipe) ≡ pipeLength
+  as-long = ap length laid-over ∙ length-append input (drop (length input) pipe) ∙ omega (arith, length-drop (length input) pipe, l)
+
+  count-grown : countIn grownBy ≡ length input
+  count-grown = getD-set-same (over input pipe) longest (length input) 0 (omega (arith, as-long))
+
+  -- a byte behind the input is the pipe's own
+  pub behind-over : (i : ℕ) → length input ≤ i → getD (over input pipe) i 0 ≡ getD pipe i 0
+  behind-over i k =
+      let q : i ≡ length input + (i - length input) = omega arith in
+      ap (λ (s : List ℕ). getD s i 0) laid-over ∙ ap (λ (j : ℕ). getD (input ++ drop (length input) pipe) j 0) q
+      ∙ getD-append-add input (drop (length input) pipe) (i - length input) 0 ∙ getD-drop (length input) pipe (i - length input) 0 ∙ ap (λ (j : ℕ). getD pipe j 0) (sym q)
+
+  pub grown-so-far : soFar grownBy ≡ input
+  grown-so-far =
+      ap (λ (n : ℕ). take n grownBy) count-grown ∙ take-set-le (length input) (over input pipe) longest (length input) h
+      ∙ ap (take (length input)) laid-over ∙ take-at input (drop (length input) pipe) (length input) refl
+
+  pub grown-open : answerIn pipe ≡ 0 → Open grownBy
+  grown-open z =
+      record {
+        one = record { long = length-set (over input pipe) longest (length input) ∙ as-long; counted = omega (arith, count-grown) };
+        unanswered = getD-set-other (over input pipe) longest (suc longest) (length input) 0 (λ e. omega arith) ∙ behind-over (suc longest) (omega arith) ∙ z;
+      }
+
+  pub grown-behind : (i : ℕ) → length input ≤ i → i < longest → getD grownBy i 0 ≡ getD pipe i 0
+  grown-behind i k m = getD-set-other (over input pipe) longest i (length input) 0 (λ e. omega arith) ∙ behind-over i k
+
+-- what an answer's byte says of a number
+pub said : (n count : ℕ) → n < 255 → saidBy (answerByte n) count ≡ answer n refused (accepted count)
+said n count h = go (eqb n 0) refl
+  where
+    go : (b : Bool) → eqb n 0 ≡ b → saidBy (cond b 255 n) count ≡ cond b (accepted count) (refused n)
+    go true e = refl
+    go false e = rw (ne-eqb n 255 (λ e. omega arith))
+
+pub any-pipe : (pipe part : List ℕ) → AnyPipe pipe part
+any-pipe pipe part =
+    record {
+      none = λ h. (no-taking pipe part (no-pipe pipe h), no-ending pipe (no-pipe pipe h));
+      stays = λ h z. (taking-ignored pipe part (is-pipe pipe h) z, ending-ignored pipe (is-pipe pipe h) z);
+      atOnce = λ o n f. taking-early pipe part n (is-pipe pipe (o .one)) (o .unanswered) (sym (its-own (soFar pipe ++ part) n f))
+        (subst TwoOrThree (its-own (soFar pipe ++ part) n f) (one-of-two (soFar pipe ++ part) n f));
+      goesOn = λ o none. goes-on o (λ e. none (refusalOf (soFar pipe ++ part)) (final (soFar pipe ++ part) e));
+      ends = λ o. the-end o;
+    }
+  where
+    goes-on : Open pipe → (TwoOrThree (refusalOf (soFar pipe ++ part)) → ⊥) → (takeOf pipe part ≡ notYet) × Grown pipe part (takePipe pipe part)
+    goes-on o none =
+        let m = taking-on pipe part (is-pipe pipe (o .one)) (o .unanswered) none in
+        let h : length (soFar pipe ++ part) ≤ longest = within-longest (soFar pipe ++ part) none in
+        let l : length pipe ≡ pipeLength = o .one .long in
+        let e : soFar (kept pipe part) ≡ soFar pipe ++ part = grown-so-far pipe (soFar pipe ++ part) l h in
+        (sym (m .0), subst (Grown pipe part) (m .1) (record {
+          still = grown-open pipe (soFar pipe ++ part) l h (o .unanswered);
+          grown = e;
+          behind = λ i k q. grown-behind pipe (soFar pipe ++ part) l h i (subst (λ (s : List ℕ). length s ≤ i) e k) q;
+        }))
+    the-end : Open pipe → Ends pipe (answerFor (soFar pipe)) (withAnswer pipe (answerByte (refusalOf (soFar pipe))))
+    the-end o =
+        let t : isPipe pipe ≡ true = is-pipe pipe (o .one) in
+        let m = ending pipe t (o .unanswered) in
+        (ap (λ (n : ℕ). answer (refusalOf (soFar pipe)) refused (accepted n)) (length-so-far pipe t) ∙ sym (said (refusalOf (soFar pipe)) (countIn pipe) (small (soFar pipe))) ∙ m .0, m .1)

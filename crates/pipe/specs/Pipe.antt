@@ -1,0 +1,82 @@
+-- Document 02, request 08: what a pipe answers, of any bytes that are lent as one, and however a request is cut. What is answered, `takeOf` and
+-- `endOf`, and what is left, `takePipe` and `endPipe`, follow the code (Found).
+use mathlib.Core.Path.{_≡_}
+use mathlib.Core.Logic.{_≢_, _↔_, _⊎_}
+use mathlib.Core.List.{List, [], _∷_, _++_}
+use Prim.Native.Nat.{ℕ, _<_, _≤_}
+use lib.ListN.{length, getD, take, replicate}
+use Rattle.refusals.specs.Rows.{answer}
+use Rattle.request.specs.Sections.{longest}
+use Rattle.pipe.specs.declared.Piped.{Piped}
+use Rattle.pipe.specs.Final.{refusalOf, Final}
+use Rattle.pipe.specs.Found.{pipeLength, countIn, answerIn, soFar, refused, accepted, notYet, noPipe, saidBy, answerByte, withAnswer}
+use Rattle.pipe.specs.Found.{takeOf, takePipe, endOf, endPipe, Takes, Ends}
+
+-- "the answer .. for the joined bytes": the refusal, or accepted with the count of the bytes
+abbrev pub answerFor : List ℕ → Piped
+answerFor input = answer (refusalOf input) refused (accepted (length input))
+
+-- bytes that are no pipe: of another length, or with a count above the longest request; and a pipe with no answer yet
+abbrev pub NoPipe : List ℕ → Type 0
+NoPipe pipe = (length pipe ≢ pipeLength) ⊎ (longest < countIn pipe)
+
+pub record IsPipe (pipe : List ℕ) : Type 0 where
+  pub long : length pipe ≡ pipeLength
+  pub counted : countIn pipe ≤ longest
+
+pub record Open (pipe : List ℕ) : Type 0 where
+  pub one : IsPipe pipe
+  pub unanswered : answerIn pipe ≡ 0
+
+-- a pipe that has grown by a part, and what is behind it stays
+pub record Grown (pipe part left : List ℕ) : Type 0 where
+  pub still : Open left
+  pub grown : soFar left ≡ soFar pipe ++ part
+  pub behind : (i : ℕ) → length (soFar left) ≤ i → i < longest → getD left i 0 ≡ getD pipe i 0
+
+-- any bytes, lent as a pipe, and any part
+pub record AnyPipe (pipe part : List ℕ) : Type 0 where
+  -- no pipe: 7, zeros beside it, and no byte is changed
+  pub none : NoPipe pipe → Takes pipe part noPipe pipe × Ends pipe noPipe pipe
+  -- an answer stays, and no byte is changed
+  pub stays : IsPipe pipe → answerIn pipe ≢ 0
+      → let said : Piped = saidBy (answerIn pipe) (countIn pipe) in Takes pipe part said pipe × Ends pipe said pipe
+  -- "A refusal that no later byte can change is given at once", and its byte is the only one that changes
+  pub atOnce : Open pipe → (n : ℕ) → Final (soFar pipe ++ part) n → Takes pipe part (refused n) (withAnswer pipe n)
+  -- and no other answer is
+  pub goesOn : Open pipe → ((n : ℕ) → Final (soFar pipe ++ part) n → ⊥) → (takeOf pipe part ≡ notYet) × Grown pipe part (takePipe pipe part)
+  -- the end: the answer for the bytes so far, and its byte is the only one that changes
+  pub ends : Open pipe → Ends pipe (answerFor (soFar pipe)) (withAnswer pipe (answerByte (refusalOf (soFar pipe))))
+
+-- "the joined bytes"
+abbrev pub joined : List (List ℕ) → List ℕ
+joined [] = []
+joined (part ∷ parts) = part ++ joined parts
+
+-- "a pipe of zeros is a fresh one"; and a pipe that has taken some parts
+abbrev pub fresh : List ℕ
+fresh = replicate pipeLength 0
+
+abbrev pub fed : List ℕ → List (List ℕ) → List ℕ
+fed pipe [] = pipe
+fed pipe (part ∷ parts) = fed (takePipe pipe part) parts
+
+abbrev pub after : List (List ℕ) → List ℕ
+after parts = fed fresh parts
+
+-- "in parts, none too short, the empty part included": any parts, one after another
+pub record HoweverCut (parts : List (List ℕ)) : Type 0 where
+  -- "However the request is cut, the answer must equal that for the joined bytes": at the end
+  pub answer : endOf (after parts) ≡ answerFor (joined parts)
+  -- an accepted request stands at the pipe's front
+  pub front : refusalOf (joined parts) ≡ 0 → take (length (joined parts)) (endPipe (after parts)) ≡ joined parts
+  -- before the end: one more part is answered exactly if no later byte can change the number, with that number, which is 2 or 3; and else not
+  pub atOnce : (part : List ℕ) (n : ℕ) → (takeOf (after parts) part ≡ refused n) ↔ Final (joined parts ++ part) n
+  pub given : (part : List ℕ) (n : ℕ) → takeOf (after parts) part ≡ refused n → (n ≡ 2) ⊎ (n ≡ 3)
+  pub notYet : (part : List ℕ) → (takeOf (after parts) part ≡ notYet) ↔ ((n : ℕ) → Final (joined parts ++ part) n → ⊥)
+  -- "Parts after an answer or the end are ignored", and so is an end that is said twice
+  pub answered : (part : List ℕ) (n : ℕ) → takeOf (after parts) part ≡ refused n
+      → (later : List (List ℕ)) → fed (takePipe (after parts) part) later ≡ takePipe (after parts) part
+  pub ended : (later : List (List ℕ)) → fed (endPipe (after parts)) later ≡ endPipe (after parts)
+  pub again : (part : List ℕ) → Takes (endPipe (after parts)) part (answerFor (joined parts)) (endPipe (after parts))
+  pub twice : Ends (endPipe (after parts)) (answerFor (joined parts)) (endPipe (after parts))
