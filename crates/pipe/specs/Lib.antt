@@ -1,3 +1,4 @@
 pub mod Final
 pub mod Found
 pub mod Pipe
+pub mod Cases

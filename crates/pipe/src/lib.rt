@@ -7,6 +7,9 @@ ghost use lib.ListN.{length, take};
 ghost use Rattle.request.specs.Sections.{longest};
 ghost use Rattle.pipe.specs.Found.{answerIn, soFar, isPipe, saidBy, answerByte, Takes, Ends};
 ghost use Rattle.pipe.specs.Found as found;
+ghost use Rattle.pipe.specs.Final.{Finals, Deciding};
+ghost use Rattle.pipe.specs.Pipe.{AnyPipe, HoweverCut};
+ghost use Rattle.pipe.specs.Cases.{PipeCases};
 use refusals::Refusal;
 use request::sections::LONGEST;
 
@@ -159,3 +162,24 @@ pub fn end(pipe: &mut [u8]) -> Piped
     pipe[ANSWER] = byte;
     said(byte, count)
 }
+
+// What no later byte can change, and which byte decides.
+pub fn final_answers()
+    ensures { λ _. ⌜ ((input : List ℕ) → Finals input) ⌝ }
+    ensures { λ _. ⌜ ((bodies : List (List ℕ)) → Deciding bodies) ⌝ }
+{}
+
+// What any bytes that are lent as a pipe make of a part and of the end.
+pub fn any_pipe()
+    ensures { λ _. ⌜ ((pipe part : List ℕ) → AnyPipe pipe part) ⌝ }
+{}
+
+// However a request is cut, in document 02's words.
+pub fn however_cut()
+    ensures { λ _. ⌜ ((parts : List (List ℕ)) → HoweverCut parts) ⌝ }
+{}
+
+// Parts, and what they are answered.
+pub fn pipe_cases()
+    ensures { λ _. ⌜ PipeCases ⌝ }
+{}
