@@ -66,6 +66,13 @@ Leaves text count left = (count ≡ lineBytes text .count) × (left ≡ lineByte
 abbrev pub Prints : List ℕ → ℕ → List ℕ → Type 0
 Prints input count left = Leaves (lineText input) count left
 
+-- of a request that came in parts (document 02, request 08): the line of its refusal, or that of the request
+abbrev pub answerText : ℕ → List ℕ → List ℕ
+answerText refusal request = cond (eqb refusal 0) (lineText request) (refusedText refusal)
+
+abbrev pub PrintsAnswer : ℕ → List ℕ → ℕ → List ℕ → Type 0
+PrintsAnswer refusal request count left = Leaves (answerText refusal request) count left
+
 -- the number that decimal digits say, read from the left
 abbrev pub said : ℕ → List ℕ → ℕ
 said n [] = n

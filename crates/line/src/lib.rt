@@ -5,7 +5,7 @@ ghost use Prim.Native.Nat.{ℕ, _+_, _<_, _≤_};
 ghost use lib.ListN.{length};
 ghost use Rattle.line.specs.Line.{audioChecksum, lineOf, Lines};
 ghost use Rattle.line.specs.Verdict.{placedText, PrintsVerdict, Verdicts};
-ghost use Rattle.line.specs.Words.{digit, decimal, hex, acceptedText, refusedText, Stores, textOf, lineBytes, Prints, Numeral};
+ghost use Rattle.line.specs.Words.{digit, decimal, hex, acceptedText, refusedText, Stores, textOf, lineBytes, Prints, PrintsAnswer, Numeral};
 use refusals::Refusal;
 use request::Sound;
 
@@ -187,6 +187,18 @@ pub fn print(s: &[u8], out: &mut [u8; 80]) -> usize
     let bytes = text.bytes;
     *out = bytes;
     text.count
+}
+
+// What is printed of a request that came in parts: the line of its refusal, or that of the request.
+pub fn print_answer(refusal: u8, request: &[u8], out: &mut [u8; 80]) -> usize
+    ensures { λ r. ⌜ PrintsAnswer refusal (now (request .entry)) r (now (out .exit)) ⌝ }
+    ensures { λ r. ⌜ r ≤ length (now (out .exit)) ⌝ }
+{
+    if refusal == Refusal::NONE {
+        return print(request, out);
+    }
+    *out = [0u8; 80];
+    refused(out, refusal)
 }
 
 // The line of a vendor's list that is refused for one of its pairs.

@@ -18,7 +18,7 @@ use Rattle.pipe.specs.Found.{pipeLength, countIn, answerIn, soFar, isPip
 use Rattle.pipe.specs.Found.{takeOf, takePipe, endOf, endPipe, Takes, Ends}
 use Rattle.pipe.specs.Pipe.{answerFor, IsPipe, Open, Grown, AnyPipe, joined, fresh, fed, after, HoweverCut}
 use Rattle.pipe.proofs.Told.{small}
-use Rattle.pipe.proofs.Early.{TwoOrThree, more, final, its-own, one-of-two}
+use Rattle.pipe.proofs.Early.{TwoOrThree, either, more, final, its-own, one-of-two}
 use Rattle.pipe.proofs.Joined.{length-so-far}
 use Rattle.pipe.proofs.Grows.{is-pipe, any-pipe, said}
 
@@ -35,19 +35,6 @@ Holds pipe input =
 some : (n : ℕ) → TwoOrThree n → n ≢ 0
 some n (inl h) z = omega arith
 some n (inr h) z = omega arith
-
--- two or three, or neither
-either : (n : ℕ) → TwoOrThree n ⊎ (TwoOrThree n → ⊥)
-either n = go (eqb n 2) refl (eqb n 3) refl
-  where
-    go : (a : Bool) → eqb n 2 ≡ a → (b : Bool) → eqb n 3 ≡ b → TwoOrThree n ⊎ (TwoOrThree n → ⊥)
-    go true e b f = inl (inl (eqb-true n 2 e))
-    go false e true f = inl (inr (eqb-true n 3 f))
-    go false e false f = inr (neither (eqb-false n 2 e) (eqb-false n 3 f))
-      where
-        neither : (n ≡ 2 → ⊥) → (n ≡ 3 → ⊥) → TwoOrThree n → ⊥
-        neither a b (inl h) = a h
-        neither a b (inr h) = b h
 
 -- a byte stored as the answer
 closed : (pipe : List ℕ) (byte : ℕ) → IsPipe pipe → Closed (withAnswer pipe byte) byte

@@ -12,7 +12,7 @@ use native.Mathlib.Omega.{arith}
 use lib.Dec.{eqb, leb}
 use lib.ListN.{length, getD, take, replicate, length-append, length-replicate}
 use lib.Seq.{take-all}
-use borrow.Author.Tests.{eqb-true, leb-true, leb-false}
+use borrow.Author.Tests.{eqb-true, eqb-false, leb-true, leb-false}
 use Rattle.lists.specs.Among.{among}
 use Rattle.matrix.specs.Matrix.{Bytes}
 use Rattle.request.specs.Sections.{Walk, ends, notAllowed, whole, walk, walked, sections, longest, laid, fits}
@@ -25,6 +25,19 @@ use Rattle.pipe.proofs.Told.{Later, Told, told}
 
 abbrev pub TwoOrThree : ℕ → Type 0
 TwoOrThree n = (n ≡ 2) ⊎ (n ≡ 3)
+
+-- two or three, or neither
+pub either : (n : ℕ) → TwoOrThree n ⊎ (TwoOrThree n → ⊥)
+either n = go (eqb n 2) refl (eqb n 3) refl
+  where
+    go : (a : Bool) → eqb n 2 ≡ a → (b : Bool) → eqb n 3 ≡ b → TwoOrThree n ⊎ (TwoOrThree n → ⊥)
+    go true e b f = inl (inl (eqb-true n 2 e))
+    go false e true f = inl (inr (eqb-true n 3 f))
+    go false e false f = inr (neither (eqb-false n 2 e) (eqb-false n 3 f))
+      where
+        neither : (n ≡ 2 → ⊥) → (n ≡ 3 → ⊥) → TwoOrThree n → ⊥
+        neither a b (inl h) = a h
+        neither a b (inr h) = b h
 
 not-later : (n : ℕ) → Later n → TwoOrThree n → ⊥
 not-later n (inl z, k) (inl e) = omega arith

@@ -15,11 +15,11 @@ use Rattle.refusals.specs.Rows.{answer}
 use Rattle.request.specs.Sections.{longest}
 use Rattle.pipe.specs.declared.Piped.{Piped}
 use Rattle.pipe.specs.Final.{refusalOf, Final}
-use Rattle.pipe.specs.Found.{pipeLength, countIn, answerIn, soFar, isPipe, refused, accepted, notYet, noPipe, saidBy, answerByte, kept, withAnswer}
+use Rattle.pipe.specs.Found.{pipeLength, countIn, answerIn, soFar, isPipe, refused, accepted, notYet, noPipe, saidBy, answerByte, kept, withAnswer, endByte}
 use Rattle.pipe.specs.Found.{takeOf, takePipe, endOf, endPipe, Takes, Ends}
 use Rattle.pipe.specs.Pipe.{answerFor, NoPipe, IsPipe, Open, Grown, AnyPipe}
 use Rattle.pipe.proofs.Told.{small}
-use Rattle.pipe.proofs.Early.{TwoOrThree, long, final, its-own, one-of-two}
+use Rattle.pipe.proofs.Early.{TwoOrThree, either, long, final, its-own, one-of-two}
 use Rattle.pipe.proofs.Joined.{of-length, counted, a-pipe, length-so-far}
 use Rattle.pipe.proofs.Answers.{no-taking, no-ending, taking-ignored, ending-ignored, ending, taking-early, taking-on}
 
@@ -117,3 +117,31 @@ any-pipe pipe part =
         let t : isPipe pipe ≡ true = is-pipe pipe (o .one) in
         let m = ending pipe t (o .unanswered) in
         (ap (λ (n : ℕ). answer (refusalOf (soFar pipe)) refused (accepted n)) (length-so-far pipe t) ∙ sym (said (refusalOf (soFar pipe)) (countIn pipe) (small (soFar pipe))) ∙ m .0, m .1)
+
+-- a part that is not empty and is not answered leaves more bytes in the pipe
+pub takes-more : (pipe part : List ℕ) → Open pipe → takeOf pipe part .answered ≡ 0 → 0 < length part
+    → Open (takePipe pipe part) × (countIn pipe < countIn (takePipe pipe part))
+takes-more pipe part o z h = go (either (refusalOf (soFar pipe ++ part)))
+  where
+    go : TwoOrThree (refusalOf (soFar pipe ++ part)) ⊎ (TwoOrThree (refusalOf (soFar pipe ++ part)) → ⊥)
+        → Open (takePipe pipe part) × (countIn pipe < countIn (takePipe pipe part))
+    go (inl e) =
+        let m = any-pipe pipe part .atOnce o (refusalOf (soFar pipe ++ part)) (final (soFar pipe ++ part) e) in
+        absurd (omega (arith, ap (λ (p : Piped). p .answered) (m .0), z))
+    go (inr none) =
+        let m = any-pipe pipe part .goesOn o (λ n f. none (one-of-two (soFar pipe ++ part) n f)) .1 in
+        let left = takePipe pipe part in
+        (m .still, omega (arith, length-so-far pipe (is-pipe pipe (o .one)), length-so-far left (is-pipe left (m .still .one)), ap length (m .grown), length-append (soFar pipe) part))
+
+-- the count of an answer is within the longest request
+pub end-within : (pipe : List ℕ) → endOf pipe .count ≤ longest
+unfolding endOf
+end-within pipe = go (isPipe pipe) refl
+  where
+    go : (t : Bool) → isPipe pipe ≡ t → cond t (saidBy (endByte pipe) (countIn pipe)) noPipe .count ≤ longest
+    go true t = byte (eqb (endByte pipe) 255)
+      where
+        byte : (b : Bool) → cond b (accepted (countIn pipe)) (refused (endByte pipe)) .count ≤ longest
+        byte true = counted pipe t
+        byte false = omega arith
+    go false t = omega arith
