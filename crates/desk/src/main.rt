@@ -31,10 +31,6 @@ fn main() {
     }
     let piped = pipe::end(&mut pipe);
     let mut line = [0u8; 80];
-    let count = line::print_answer(
-        piped.refusal,
-        &pipe[..piped.count as usize],
-        &mut line,
-    );
+    let count = line::print_answer(piped.refusal, &pipe[..piped.count as usize], &mut line);
     io::write_all(STDOUT_FILENO, &line[..count]);
 }

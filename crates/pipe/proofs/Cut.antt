@@ -66,6 +66,7 @@ step pipe input part (inl (o, e, none)) = go (either (refusalOf (input ++ part))
   where
     all : soFar pipe ++ part ≡ input ++ part
     all = ap (λ (s : List ℕ). s ++ part) e
+
     go : TwoOrThree (refusalOf (input ++ part)) ⊎ (TwoOrThree (refusalOf (input ++ part)) → ⊥) → Stepped pipe input part
     go (inl h) =
         let n : ℕ = refusalOf (input ++ part) in
@@ -137,8 +138,8 @@ ended pipe input (inl (o, e, none)) =
       left = subst (λ (p : List ℕ). Closed p byte) w (closed pipe byte (o .one));
       says = ap (saidBy byte) c ∙ said (refusalOf input) (length input) (small input);
       front = λ _.
-        ap (take (length input)) (sym w) ∙ take-set-le (length input) pipe (suc longest) byte (omega (arith, l, o .one .counted))
-        ∙ ap (λ (n : ℕ). take n pipe) (sym l) ∙ e;
+          ap (take (length input)) (sym w) ∙ take-set-le (length input) pipe (suc longest) byte (omega (arith, l, o .one .counted))
+          ∙ ap (λ (n : ℕ). take n pipe) (sym l) ∙ e;
     }
 ended pipe input (inr (c, h)) =
     let n : ℕ = refusalOf input in

@@ -139,13 +139,13 @@ pub deciding : (bodies : List (List ℕ)) → Deciding bodies
 deciding bodies =
     record {
       count = λ n h f a.
-        finals (laid bodies (n ∷ [])) .two
-        (from-walk (laid bodies (n ∷ [])) notAllowed
-        (walks sections (laid bodies (n ∷ [])) .notAllowed .1 (record {
-          begun = record { bodies = bodies; left = n ∷ []; some = h; fitting = f; made = refl };
-          present = omega arith;
-          refused = a;
-        })));
+          finals (laid bodies (n ∷ [])) .two
+          (from-walk (laid bodies (n ∷ [])) notAllowed
+          (walks sections (laid bodies (n ∷ [])) .notAllowed .1 (record {
+            begun = record { bodies = bodies; left = n ∷ []; some = h; fitting = f; made = refl };
+            present = omega arith;
+            refused = a;
+          })));
       byte = λ n f. finals (laid bodies (n ∷ [])) .three (too-many n f);
       before = λ h f n e. nothing h f (one-of-two (laid bodies []) n e);
     }
@@ -156,6 +156,7 @@ deciding bodies =
         go : tells (laid bodies (n ∷ [])) (whole bodies (n ∷ [])) → refusalOf (laid bodies (n ∷ [])) ≡ 3
         go (inl t) = t .1
         go (inr t) = absurd (omega (arith, t .0))
+
     nothing : length bodies ≤ length sections → fits (take (length bodies) sections) bodies ≡ true → TwoOrThree (refusalOf (laid bodies [])) → ⊥
     nothing h f e = go (leb (length sections) (length bodies)) refl
       where

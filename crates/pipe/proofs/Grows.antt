@@ -7,7 +7,7 @@ use Prim.Native.Nat.{ℕ, suc, _+_, _-_, _≤_, _<_}
 use native.Mathlib.Omega.{arith}
 use lib.Dec.{eqb, leb}
 use lib.ListN.{length, getD, take, drop, set, length-append, length-drop, length-set}
-use lib.Seq.{take-all, take-at, take-set-le, getD-set-same, getD-set-other, getD-append-add, getD-drop, length-take-le}
+use lib.Seq.{take-all, take-at, take-set-le, set-getD, getD-set-same, getD-set-other, getD-append-add, getD-drop, length-take-le}
 use borrow.Author.Tests.{eq-eqb, ne-eqb, leb-true, leb-false, lt-leb, le-leb}
 use Rattle.lists.specs.Over.{over}
 use Rattle.lists.proofs.Copied.{over-front}
@@ -15,7 +15,7 @@ use Rattle.refusals.specs.Rows.{answer}
 use Rattle.request.specs.Sections.{longest}
 use Rattle.pipe.specs.declared.Piped.{Piped}
 use Rattle.pipe.specs.Final.{refusalOf, Final}
-use Rattle.pipe.specs.Found.{pipeLength, countIn, answerIn, soFar, isPipe, refused, accepted, notYet, noPipe, saidBy, answerByte, kept, withAnswer, endByte}
+use Rattle.pipe.specs.Found.{pipeLength, countIn, answerIn, soFar, isPipe, refused, accepted, notYet, noPipe, saidBy, answerByte, givenAt, kept, withAnswer, endByte}
 use Rattle.pipe.specs.Found.{takeOf, takePipe, endOf, endPipe, Takes, Ends}
 use Rattle.pipe.specs.Pipe.{answerFor, NoPipe, IsPipe, Open, Grown, AnyPipe}
 use Rattle.pipe.proofs.Told.{small}
@@ -90,15 +90,57 @@ said n count h = go (eqb n 0) refl
     go true e = refl
     go false e = rw (ne-eqb n 255 (λ e. omega arith))
 
+-- beside a refusal: a count of zero, and no byte but the answer's
+abbrev Kept : List ℕ → Piped → List ℕ → Type 0
+Kept pipe out left = out .refusal ≢ 0 → (out .count ≡ 0) × (left ≡ withAnswer pipe (answerIn left))
+
+kept-by : (pipe : List ℕ) (byte count : ℕ) (left : List ℕ) → left ≡ withAnswer pipe (answerIn left) → Kept pipe (saidBy byte count) left
+kept-by pipe byte count left e = go (eqb byte 255)
+  where
+    go : (b : Bool) → Kept pipe (cond b (accepted count) (refused byte)) left
+    go true h = absurd (h refl)
+    go false h = (refl, e)
+
+its-byte : (pipe : List ℕ) (byte : ℕ) → isPipe pipe ≡ true → withAnswer pipe byte ≡ withAnswer pipe (answerIn (withAnswer pipe byte))
+its-byte pipe byte t = ap (withAnswer pipe) (sym (getD-set-same pipe (suc longest) byte 0 (omega (arith, of-length pipe t))))
+
+own-byte : (pipe : List ℕ) → pipe ≡ withAnswer pipe (answerIn pipe)
+own-byte pipe = sym (set-getD pipe (suc longest) 0)
+
+kept-taking : (pipe part : List ℕ) → Kept pipe (takeOf pipe part) (takePipe pipe part)
+unfolding takeOf takePipe
+kept-taking pipe part = go (isPipe pipe) refl (eqb (answerIn pipe) 0) (givenAt pipe part)
+  where
+    go : (a : Bool) → isPipe pipe ≡ a → (b : Bool) (m : ℕ)
+        → Kept pipe (cond a (cond b (answer m refused notYet) (saidBy (answerIn pipe) (countIn pipe))) noPipe)
+        (cond a (cond b (answer m (withAnswer pipe) (kept pipe part)) pipe) pipe)
+    go false t b m = λ h. (refl, own-byte pipe)
+    go true t false m = kept-by pipe (answerIn pipe) (countIn pipe) pipe (own-byte pipe)
+    go true t true m = split (eqb m 0)
+      where
+        split : (z : Bool) → Kept pipe (cond z notYet (refused m)) (cond z (kept pipe part) (withAnswer pipe m))
+        split true h = absurd (h refl)
+        split false h = (refl, its-byte pipe m t)
+
+kept-ending : (pipe : List ℕ) → Kept pipe (endOf pipe) (endPipe pipe)
+unfolding endOf endPipe
+kept-ending pipe = go (isPipe pipe) refl
+  where
+    go : (a : Bool) → isPipe pipe ≡ a → Kept pipe (cond a (saidBy (endByte pipe) (countIn pipe)) noPipe) (cond a (withAnswer pipe (endByte pipe)) pipe)
+    go false t = λ h. (refl, own-byte pipe)
+    go true t = kept-by pipe (endByte pipe) (countIn pipe) (withAnswer pipe (endByte pipe)) (its-byte pipe (endByte pipe) t)
+
 pub any-pipe : (pipe part : List ℕ) → AnyPipe pipe part
 any-pipe pipe part =
     record {
       none = λ h. (no-taking pipe part (no-pipe pipe h), no-ending pipe (no-pipe pipe h));
       stays = λ h z. (taking-ignored pipe part (is-pipe pipe h) z, ending-ignored pipe (is-pipe pipe h) z);
       atOnce = λ o n f. taking-early pipe part n (is-pipe pipe (o .one)) (o .unanswered) (sym (its-own (soFar pipe ++ part) n f))
-        (subst TwoOrThree (its-own (soFar pipe ++ part) n f) (one-of-two (soFar pipe ++ part) n f));
+          (subst TwoOrThree (its-own (soFar pipe ++ part) n f) (one-of-two (soFar pipe ++ part) n f));
       goesOn = λ o none. goes-on o (λ e. none (refusalOf (soFar pipe ++ part)) (final (soFar pipe ++ part) e));
       ends = λ o. the-end o;
+      kept = kept-taking pipe part;
+      keptAtEnd = kept-ending pipe;
     }
   where
     goes-on : Open pipe → (TwoOrThree (refusalOf (soFar pipe ++ part)) → ⊥) → (takeOf pipe part ≡ notYet) × Grown pipe part (takePipe pipe part)
@@ -106,12 +148,15 @@ any-pipe pipe part =
         let m = taking-on pipe part (is-pipe pipe (o .one)) (o .unanswered) none in
         let h : length (soFar pipe ++ part) ≤ longest = within-longest (soFar pipe ++ part) none in
         let l : length pipe ≡ pipeLength = o .one .long in
-        let e : soFar (kept pipe part) ≡ soFar pipe ++ part = grown-so-far pipe (soFar pipe ++ part) l h in
-        (sym (m .0), subst (Grown pipe part) (m .1) (record {
-          still = grown-open pipe (soFar pipe ++ part) l h (o .unanswered);
-          grown = e;
-          behind = λ i k q. grown-behind pipe (soFar pipe ++ part) l h i (subst (λ (s : List ℕ). length s ≤ i) e k) q;
-        }))
+        let e : soFar (kept pipe part) ≡ soFar pipe ++ part = grown-so-far pipe (soFar pipe ++ part) l h in (
+          sym (m .0),
+          subst (Grown pipe part) (m .1) (record {
+            still = grown-open pipe (soFar pipe ++ part) l h (o .unanswered);
+            grown = e;
+            behind = λ i k q. grown-behind pipe (soFar pipe ++ part) l h i (subst (λ (s : List ℕ). length s ≤ i) e k) q;
+          }),
+        )
+
     the-end : Open pipe → Ends pipe (answerFor (soFar pipe)) (withAnswer pipe (answerByte (refusalOf (soFar pipe))))
     the-end o =
         let t : isPipe pipe ≡ true = is-pipe pipe (o .one) in
@@ -145,3 +190,31 @@ end-within pipe = go (isPipe pipe) refl
         byte true = counted pipe t
         byte false = omega arith
     go false t = omega arith
+
+-- a refusal that is no answer leaves every byte
+pub none-taken : (pipe part : List ℕ) → takeOf pipe part .refusal ≢ 0 → takeOf pipe part .answered ≡ 0 → takePipe pipe part ≡ pipe
+unfolding takeOf takePipe
+none-taken pipe part = go (isPipe pipe) (eqb (answerIn pipe) 0) (givenAt pipe part)
+  where
+    go : (a b : Bool) (m : ℕ) → let out : Piped = cond a (cond b (answer m refused notYet) (saidBy (answerIn pipe) (countIn pipe))) noPipe in
+        out .refusal ≢ 0 → out .answered ≡ 0 → cond a (cond b (answer m (withAnswer pipe) (kept pipe part)) pipe) pipe ≡ pipe
+    go false b m h z = refl
+    go true false m h z = refl
+    go true true m h z = split (eqb m 0) h z
+      where
+        split : (c : Bool) → cond c notYet (refused m) .refusal ≢ 0 → cond c notYet (refused m) .answered ≡ 0
+            → cond c (kept pipe part) (withAnswer pipe m) ≡ pipe
+        split true h z = absurd (h refl)
+        split false h z = absurd (omega arith)
+
+pub none-ended : (pipe : List ℕ) → endOf pipe .answered ≡ 0 → endPipe pipe ≡ pipe
+unfolding endOf endPipe
+none-ended pipe = go (isPipe pipe)
+  where
+    go : (a : Bool) → cond a (saidBy (endByte pipe) (countIn pipe)) noPipe .answered ≡ 0 → cond a (withAnswer pipe (endByte pipe)) pipe ≡ pipe
+    go false z = refl
+    go true z = split (eqb (endByte pipe) 255) z
+      where
+        split : (c : Bool) → cond c (accepted (countIn pipe)) (refused (endByte pipe)) .answered ≡ 0 → withAnswer pipe (endByte pipe) ≡ pipe
+        split true z = absurd (omega arith)
+        split false z = absurd (omega arith)

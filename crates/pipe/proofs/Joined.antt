@@ -20,6 +20,7 @@ as-many room d at bytes i l h k e = take-paste d at bytes i (omega arith) h ∙ 
   where
     m : length (take at d) ≡ at
     m = length-take-le at d (omega arith)
+
     go : (room - at ≤ i) ⊎ (length bytes ≤ i) → take room (take at d ++ bytes) ≡ take at d ++ take i bytes
     go (inl f) =
         let q : room ≡ length (take at d) + i = omega (arith, m) in

@@ -127,8 +127,10 @@ of-walk (whole bodies rest) = go (eqb (length rest) 0) refl
   where
     video : Video
     video = videoIn (getD bodies 0 [])
+
     said : Checked
     said = judged video (getD bodies 1 []) (getD bodies 2 [])
+
     go : (b : Bool) → eqb (length rest) 0 ≡ b
         → ((length rest ≢ 0) × (numberIn (answer (cond (not b) 3 0) emptied said) ≡ 3)) ⊎ ((length rest ≡ 0) × Later (numberIn (answer (cond (not b) 3 0) emptied said)))
     go true e = inr (eqb-true (length rest) 0 e, later said (judged-later video (getD bodies 1 []) (getD bodies 2 [])))

@@ -50,8 +50,8 @@ pub record PipeCases : Type 0 where
   pub mended : (refusalOf (take 12 example) ≡ 1) × (refusalOf example ≡ 0)
   pub others : map (λ (request : List ℕ). refusalOf request ∷ refusalOf (request ++ (0x00 ∷ [])) ∷ [])
       (
-        -- accepted; VIC 0; range 2; DVI with audio; VIC 16 in 36 bits, twice; VIC 4 in family 1 with coherent sound at 32 kHz
-        example ∷ set example 1 0 ∷ set example 5 2 ∷ set example 4 0 ∷ set example 6 0x12 ∷ set (set (set example 1 4) 2 1) 9 0 ∷ []
+      -- accepted; VIC 0; range 2; DVI with audio; VIC 16 in 36 bits, twice; VIC 4 in family 1 with coherent sound at 32 kHz
+      example ∷ set example 1 0 ∷ set example 5 2 ∷ set example 4 0 ∷ set example 6 0x12 ∷ set (set (set example 1 4) 2 1) 9 0 ∷ []
       )
       ≡ (0 ∷ 3 ∷ []) ∷ (4 ∷ 3 ∷ []) ∷ (5 ∷ 3 ∷ []) ∷ (6 ∷ 3 ∷ []) ∷ (17 ∷ 3 ∷ []) ∷ (9 ∷ 3 ∷ []) ∷ []
   -- bytes that are no pipe: 39, 41 and none, and a count of 39

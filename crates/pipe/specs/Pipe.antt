@@ -47,6 +47,9 @@ pub record AnyPipe (pipe part : List ℕ) : Type 0 where
   pub goesOn : Open pipe → ((n : ℕ) → Final (soFar pipe ++ part) n → ⊥) → (takeOf pipe part ≡ notYet) × Grown pipe part (takePipe pipe part)
   -- the end: the answer for the bytes so far, and its byte is the only one that changes
   pub ends : Open pipe → Ends pipe (answerFor (soFar pipe)) (withAnswer pipe (answerByte (refusalOf (soFar pipe))))
+  -- so beside a refusal stands a count of zero, and every byte is as it was, but for the answer's
+  pub kept : takeOf pipe part .refusal ≢ 0 → (takeOf pipe part .count ≡ 0) × (takePipe pipe part ≡ withAnswer pipe (answerIn (takePipe pipe part)))
+  pub keptAtEnd : endOf pipe .refusal ≢ 0 → (endOf pipe .count ≡ 0) × (endPipe pipe ≡ withAnswer pipe (answerIn (endPipe pipe)))
 
 -- "the joined bytes"
 abbrev pub joined : List (List ℕ) → List ℕ

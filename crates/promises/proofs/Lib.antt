@@ -10,5 +10,6 @@ pub mod Places
 pub mod Filled
 pub mod Shown
 pub mod Metered
+pub mod Piped
 pub mod Vendors
 pub mod VendorCases

@@ -8,5 +8,6 @@ pub mod AnyCut
 pub mod Example
 pub mod Finished
 pub mod Metered
+pub mod Piped
 pub mod Vendors
 pub mod VendorCases

@@ -21,7 +21,9 @@ use Rattle.matrix.specs.Preview.{previewOf, Previews}
 use Rattle.meter.specs.declared.Metered.{Metered}
 use Rattle.meter.specs.Found.{meterOf, meterBuffer, Meters}
 use Rattle.request.specs.declared.Checked.{Checked}
-use Rattle.line.specs.Words.{lineText, Prints}
+use Rattle.pipe.specs.declared.Piped.{Piped}
+use Rattle.pipe.specs.Found.{takeOf, takePipe, endOf, endPipe, Takes, Ends}
+use Rattle.line.specs.Words.{lineText, Prints, answerText, PrintsAnswer}
 use Rattle.line.specs.Verdict.{verdictText, PrintsVerdict}
 use Rattle.request.specs.declared.Request.{Request}
 use Rattle.request.specs.Read.{readOf, pairFor, nctsOf, Reads, Pairs, PairsInput}
@@ -45,11 +47,12 @@ use Rattle.vendor.specs.Found.{vetOf, Vets}
 use Rattle.station.specs.declared.CountOut.{CountOut}
 use Rattle.station.specs.declared.PairOut.{PairOut}
 use Rattle.station.specs.declared.PixelOut.{PixelOut}
+use Rattle.station.specs.declared.PipedOut.{PipedOut}
 use Rattle.station.specs.declared.machine.PartOut.{PartOut}
 use Rattle.station.specs.declared.machine.StateOut.{StateOut}
 use Rattle.station.specs.declared.machine.VerdictOut.{VerdictOut}
 use Rattle.station.specs.declared.machine.ClassOut.{ClassOut}
-use Rattle.station.specs.Face.{StationPlan, StationDecode, StationNcts, StationPreview, StationMeter}
+use Rattle.station.specs.Face.{StationPlan, StationDecode, StationNcts, StationPreview, StationMeter, StationPipeTake, StationPipeEnd}
 use Rattle.station.specs.Machine.{StationWrite, StationVsync, StationSent, StationMute, StationMatrix, StationVet, StationClass}
 
 -- "the result and each lent byte are settled by the promise: any two outcomes it allows are proved equal"
@@ -76,13 +79,19 @@ pub record Settled : Type 0 where
   pub line : (request : List ℕ)
       → let text : List ℕ = lineText request in
       Only {A = ℕ × List ℕ} (λ o. Prints request (o .0) (o .1)) (length text, text ++ drop (length text) (replicate 80 0))
-  -- and so does the line of a verdict
+  -- and so do the line of a request that came in parts, and that of a verdict
+  pub answer : (refusal : ℕ) (request : List ℕ)
+      → let text : List ℕ = answerText refusal request in
+      Only {A = ℕ × List ℕ} (λ o. PrintsAnswer refusal request (o .0) (o .1)) (length text, text ++ drop (length text) (replicate 80 0))
   pub verdict : (refusal place : ℕ)
       → let text : List ℕ = verdictText refusal place in
       Only {A = ℕ × List ℕ} (λ o. PrintsVerdict refusal place (o .0) (o .1)) (length text, text ++ drop (length text) (replicate 80 0))
   pub preview : (matrix : List ℕ) (a b c : ℕ) → Only {A = Pixel} (Previews matrix a b c) (previewOf matrix a b c)
   pub meter : (numbers : List Float) (buffer : List ℕ)
       → Only {A = Metered × List ℕ} (λ o. Meters numbers buffer (o .0) (o .1)) (meterOf numbers buffer, meterBuffer numbers buffer)
+  -- a part of a request, and its end
+  pub take : (pipe part : List ℕ) → Only {A = Piped × List ℕ} (λ o. Takes pipe part (o .0) (o .1)) (takeOf pipe part, takePipe pipe part)
+  pub end : (pipe : List ℕ) → Only {A = Piped × List ℕ} (λ o. Ends pipe (o .0) (o .1)) (endOf pipe, endPipe pipe)
   pub clock : (video : Video) → Only {A = Clock} (GivesClock video) (clockOf video)
   pub pair : (video : Video) (rate coherent : ℕ) → Only {A = Pair} (GivesPair video rate coherent) (pairOf video rate coherent)
   pub avi : (video : Video) → Only {A = Avi} (GivesAvi video) (aviOf video)
@@ -108,7 +117,7 @@ pub record Settled : Type 0 where
   -- a vendor's list on a state: document 02, request 03
   pub vet : (s : Chip) (list : List ℕ) → Only {A = Verdict} (Vets s list) (vetOf s list)
   pub class : (address : ℕ) → Only {A = Class} (Classifies address) (classAt address)
-  -- the twelve exported calls: field by field what the library answers
+  -- the fourteen exported calls: field by field what the library answers
   pub stationPlan : (request image writes : List ℕ)
       → let p : Planned = planOf request image writes in
       Only {A = CountOut × List ℕ} (λ o. StationPlan request image writes (o .0) (o .1))
@@ -127,6 +136,14 @@ pub record Settled : Type 0 where
       → let m : Metered = meterOf numbers matrix in
       Only {A = CountOut × List ℕ} (λ o. StationMeter numbers matrix (o .0) (o .1))
       (record { refusal = m .refusal; count = m .count }, meterBuffer numbers matrix)
+  pub stationPipeTake : (pipe part : List ℕ)
+      → let p : Piped = takeOf pipe part in
+      Only {A = PipedOut × List ℕ} (λ o. StationPipeTake pipe part (o .0) (o .1))
+      (record { refusal = p .refusal; answered = p .answered; count = p .count }, takePipe pipe part)
+  pub stationPipeEnd : (pipe : List ℕ)
+      → let p : Piped = endOf pipe in
+      Only {A = PipedOut × List ℕ} (λ o. StationPipeEnd pipe (o .0) (o .1))
+      (record { refusal = p .refusal; answered = p .answered; count = p .count }, endPipe pipe)
   pub stationWrite : (l : Lent) (address value : ℕ)
       → let e : Entry = enterOf l address value in
       Only {A = ℕ × Lent} (λ o. StationWrite l address value (o .0) (o .1)) (e .refusal, e .slices)

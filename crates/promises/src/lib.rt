@@ -12,6 +12,7 @@ ghost use Rattle.promises.specs.Cases.{MarkedCases};
 ghost use Rattle.promises.specs.Example.{Example};
 ghost use Rattle.promises.specs.Finished.{AllNamed};
 ghost use Rattle.promises.specs.Metered.{FromMeter};
+ghost use Rattle.promises.specs.Piped.{ThroughPipe};
 ghost use Rattle.promises.specs.Rules.{Demand2, OnSomeImage, FieldByField};
 ghost use Rattle.promises.specs.Settled.{Settled};
 ghost use Rattle.promises.specs.VendorCases.{VendorCases};
@@ -61,6 +62,11 @@ pub fn demand_3()
 // Document 02, request 07: what a meter's matrix is to a request and to the preview.
 pub fn from_meter()
     ensures { λ _. ⌜ ((numbers : List Float) (buffer : List ℕ) → FromMeter numbers buffer) ⌝ }
+{}
+
+// Document 02, request 08: what an answer that a pipe gives is to planning, and to the small program's line.
+pub fn through_pipe()
+    ensures { λ _. ⌜ ((parts : List (List ℕ)) → ThroughPipe parts) ⌝ }
 {}
 
 // Document 02, request 03: our own lists pass, and what a vendor's list that passes gives.

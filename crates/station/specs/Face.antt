@@ -10,6 +10,8 @@ use Rattle.meter.specs.declared.Metered.{Metered}
 use Rattle.plan.specs.declared.Planned.{Planned}
 use Rattle.decode.specs.declared.Decoded.{Decoded}
 use Rattle.request.specs.Read.{nctsOf}
+use Rattle.pipe.specs.declared.Piped.{Piped}
+use Rattle.pipe.specs.Found.{takeOf, takePipe, endOf, endPipe}
 use Rattle.matrix.specs.Preview.{previewOf}
 use Rattle.meter.specs.Found.{meterOf, meterBuffer}
 use Rattle.plan.specs.Plan.{planOf, planBuffer}
@@ -17,6 +19,7 @@ use Rattle.decode.specs.Decode as decoding
 use Rattle.station.specs.declared.CountOut.{CountOut}
 use Rattle.station.specs.declared.PairOut.{PairOut}
 use Rattle.station.specs.declared.PixelOut.{PixelOut}
+use Rattle.station.specs.declared.PipedOut.{PipedOut}
 
 abbrev pub countOut : Planned → CountOut
 countOut p = record { refusal = p .refusal; count = p .count }
@@ -33,6 +36,9 @@ pairOut p = record { refusal = p .refusal; n = p .n; cts = p .cts }
 abbrev pub pixelOut : Pixel → PixelOut
 pixelOut p = record { refusal = p .refusal; a = p .a; b = p .b; c = p .c }
 
+abbrev pub pipedOut : Piped → PipedOut
+pipedOut p = record { refusal = p .refusal; answered = p .answered; count = p .count }
+
 abbrev pub StationPlan : List ℕ → List ℕ → List ℕ → CountOut → List ℕ → Type 0
 StationPlan request image writes out left = (out ≡ countOut (planOf request image writes)) × (left ≡ planBuffer request image writes)
 
@@ -47,3 +53,9 @@ StationPreview matrix a b c out = out ≡ pixelOut (previewOf matrix a b c)
 
 abbrev pub StationMeter : List Float → List ℕ → CountOut → List ℕ → Type 0
 StationMeter numbers matrix out left = (out ≡ meterOut (meterOf numbers matrix)) × (left ≡ meterBuffer numbers matrix)
+
+abbrev pub StationPipeTake : List ℕ → List ℕ → PipedOut → List ℕ → Type 0
+StationPipeTake pipe part out left = (out ≡ pipedOut (takeOf pipe part)) × (left ≡ takePipe pipe part)
+
+abbrev pub StationPipeEnd : List ℕ → PipedOut → List ℕ → Type 0
+StationPipeEnd pipe out left = (out ≡ pipedOut (endOf pipe)) × (left ≡ endPipe pipe)

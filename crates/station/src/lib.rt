@@ -1,5 +1,5 @@
 // The C face: each call is a call of the library, taken apart. No logic. The C declarations are in include/station.h.
-ghost use Rattle.station.specs.Face.{StationPlan, StationDecode, StationNcts, StationPreview, StationMeter};
+ghost use Rattle.station.specs.Face.{StationPlan, StationDecode, StationNcts, StationPreview, StationMeter, StationPipeTake, StationPipeEnd};
 
 mod machine;
 
@@ -25,6 +25,14 @@ pub struct PixelOut {
     pub a: u32,
     pub b: u32,
     pub c: u32,
+}
+
+// struct station_piped
+#[repr(C)]
+pub struct PipedOut {
+    pub refusal: u32,
+    pub answered: u32,
+    pub count: u32,
 }
 
 // The write list of a request on an image, as pairs of address and value: refusals 1 to 6, 17 and 7 to 10.
@@ -87,5 +95,31 @@ pub extern "C" fn station_meter(numbers: &[f32], matrix: &mut [u8]) -> CountOut
     CountOut {
         refusal: metered.refusal as u32,
         count: metered.count,
+    }
+}
+
+// A part of a request, into a pipe: refusals 2 and 3 at once, and 7 of bytes that are no pipe.
+#[no_mangle]
+pub extern "C" fn station_pipe_take(pipe: &mut [u8], part: &[u8]) -> PipedOut
+    ensures { λ r. ⌜ StationPipeTake (now (pipe .entry)) (now (part .entry)) r (now (pipe .exit)) ⌝ }
+{
+    let piped = pipe::take(pipe, part);
+    PipedOut {
+        refusal: piped.refusal as u32,
+        answered: piped.answered as u32,
+        count: piped.count,
+    }
+}
+
+// The end of the input: refusals 1 to 6, 17 and 9, and 7 of bytes that are no pipe.
+#[no_mangle]
+pub extern "C" fn station_pipe_end(pipe: &mut [u8]) -> PipedOut
+    ensures { λ r. ⌜ StationPipeEnd (now (pipe .entry)) r (now (pipe .exit)) ⌝ }
+{
+    let piped = pipe::end(pipe);
+    PipedOut {
+        refusal: piped.refusal as u32,
+        answered: piped.answered as u32,
+        count: piped.count,
     }
 }

@@ -1,0 +1,27 @@
+-- Document 02, request 08: what an answer that a pipe gives is to planning, and to the small program's line.
+use mathlib.Core.Path.{_≡_}
+use mathlib.Core.Logic.{_≢_}
+use mathlib.Core.Bool.{true}
+use mathlib.Core.List.{List, [], _∷_, _++_}
+use Prim.Native.Nat.{ℕ}
+use lib.ListN.{take}
+use Rattle.lists.specs.Among.{among}
+use Rattle.matrix.specs.Matrix.{Bytes}
+use Rattle.pipe.specs.Final.{refusalOf}
+use Rattle.pipe.specs.Found.{refused, takeOf, endOf, endPipe}
+use Rattle.pipe.specs.Pipe.{joined, after}
+use Rattle.line.specs.Words.{lineText, answerText}
+use Rattle.plan.specs.Plan.{planOf}
+
+pub record ThroughPipe (parts : List (List ℕ)) : Type 0 where
+  -- a request that is accepted, taken from the pipe's front, is planned as the joined bytes are; no row but 7, 8 and 10 can refuse it then,
+  -- those of the image and of the buffer
+  pub front : refusalOf (joined parts) ≡ 0 → take (endOf (after parts) .count) (endPipe (after parts)) ≡ joined parts
+  pub planned : refusalOf (joined parts) ≡ 0
+      → (image buffer : List ℕ) → among (planOf (joined parts) image buffer .refusal) (0 ∷ 7 ∷ 8 ∷ 10 ∷ []) ≡ true
+  -- and what the pipe refuses is never planned, whatever image and buffer are lent
+  pub unplanned : refusalOf (joined parts) ≢ 0 → (image buffer : List ℕ) → planOf (joined parts) image buffer .refusal ≢ 0
+  -- the small program: the line of the joined bytes; and where a part is answered, at once the line that they have whatever follows
+  pub line : answerText (endOf (after parts) .refusal) (take (endOf (after parts) .count) (endPipe (after parts))) ≡ lineText (joined parts)
+  pub lineAtOnce : (part : List ℕ) (n : ℕ) → takeOf (after parts) part ≡ refused n
+      → (later : List ℕ) → Bytes later → answerText n [] ≡ lineText ((joined parts ++ part) ++ later)
