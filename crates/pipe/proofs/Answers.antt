@@ -15,7 +15,8 @@ use Rattle.request.specs.Read.{nctsOf}
 use Rattle.request.proofs.Cut.{lengths}
 use Rattle.pipe.specs.declared.Piped.{Piped}
 use Rattle.pipe.specs.Final.{refusalOf}
-use Rattle.pipe.specs.Found.{countIn, answerIn, soFar, isPipe, refused, notYet, noPipe, saidBy, answerByte, early, kept, withAnswer}
+use Rattle.pipe.specs.Bytes.{countIn, answerIn, soFar, refused, notYet, noPipe, saidBy, answerByte, withAnswer}
+use Rattle.pipe.specs.Found.{isPipe, early, kept}
 use Rattle.pipe.specs.Found.{takeOf, takePipe, endOf, endPipe, Takes, Ends}
 use Rattle.pipe.proofs.Early.{TwoOrThree, long, early-is, is-early, not-early}
 

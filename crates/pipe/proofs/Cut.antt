@@ -14,9 +14,10 @@ use Rattle.request.specs.Sections.{longest, walk, walked}
 use Rattle.request.specs.Read.{readOf, nctsOf}
 use Rattle.pipe.specs.declared.Piped.{Piped}
 use Rattle.pipe.specs.Final.{refusalOf, Final}
-use Rattle.pipe.specs.Found.{pipeLength, countIn, answerIn, soFar, isPipe, refused, accepted, notYet, saidBy, answerByte, withAnswer}
+use Rattle.pipe.specs.Bytes.{pipeLength, countIn, answerIn, soFar, fresh, refused, accepted, notYet, saidBy, answerByte, withAnswer}
+use Rattle.pipe.specs.Found.{isPipe}
 use Rattle.pipe.specs.Found.{takeOf, takePipe, endOf, endPipe, Takes, Ends}
-use Rattle.pipe.specs.Pipe.{answerFor, IsPipe, Open, Grown, AnyPipe, joined, fresh, fed, after, HoweverCut}
+use Rattle.pipe.specs.Pipe.{answerFor, IsPipe, Open, Grown, AnyPipe, joined, fed, after, HoweverCut}
 use Rattle.pipe.proofs.Told.{small}
 use Rattle.pipe.proofs.Early.{TwoOrThree, either, more, final, its-own, one-of-two}
 use Rattle.pipe.proofs.Joined.{length-so-far}

@@ -15,7 +15,8 @@ use Rattle.refusals.specs.Rows.{answer}
 use Rattle.request.specs.Sections.{longest}
 use Rattle.pipe.specs.declared.Piped.{Piped}
 use Rattle.pipe.specs.Final.{refusalOf, Final}
-use Rattle.pipe.specs.Found.{pipeLength, countIn, answerIn, soFar, isPipe, refused, accepted, notYet, noPipe, saidBy, answerByte, givenAt, kept, withAnswer, endByte}
+use Rattle.pipe.specs.Bytes.{pipeLength, countIn, answerIn, soFar, refused, accepted, notYet, noPipe, saidBy, answerByte, withAnswer}
+use Rattle.pipe.specs.Found.{isPipe, givenAt, kept, endByte}
 use Rattle.pipe.specs.Found.{takeOf, takePipe, endOf, endPipe, Takes, Ends}
 use Rattle.pipe.specs.Pipe.{answerFor, NoPipe, IsPipe, Open, Grown, AnyPipe}
 use Rattle.pipe.proofs.Told.{small}

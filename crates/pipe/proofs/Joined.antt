@@ -11,7 +11,8 @@ use lib.Seq.{paste, take-paste, take-append-add, take-all, length-take-le}
 use borrow.Author.Tests.{eqb-true, leb-true, eq-eqb, le-leb}
 use Rattle.lists.proofs.Both.{both-left, both-right}
 use Rattle.request.specs.Sections.{longest}
-use Rattle.pipe.specs.Found.{pipeLength, countIn, soFar, isPipe}
+use Rattle.pipe.specs.Bytes.{pipeLength, countIn, soFar}
+use Rattle.pipe.specs.Found.{isPipe}
 
 -- after the last turn: all the bytes, or as many as there is room for
 pub as-many : (room : ℕ) (d : List ℕ) (at : ℕ) (bytes : List ℕ) (i : ℕ) → length d ≡ room → i ≤ length bytes → at + i ≤ room

@@ -5,8 +5,8 @@ use Prim.Native.Nat.{ℕ}
 use lib.ListN.{take, drop, replicate, set}
 use Rattle.pipe.specs.declared.Piped.{Piped}
 use Rattle.pipe.specs.Final.{refusalOf}
-use Rattle.pipe.specs.Found.{pipeLength, takeOf, takePipe, endOf, endPipe}
-use Rattle.pipe.specs.Pipe.{fresh}
+use Rattle.pipe.specs.Bytes.{pipeLength, fresh}
+use Rattle.pipe.specs.Found.{takeOf, takePipe, endOf, endPipe}
 
 -- document 01's example
 abbrev pub example : List ℕ

@@ -4,12 +4,13 @@ use mathlib.Core.Path.{_≡_}
 use mathlib.Core.Logic.{_≢_, _↔_, _⊎_}
 use mathlib.Core.List.{List, [], _∷_, _++_}
 use Prim.Native.Nat.{ℕ, _<_, _≤_}
-use lib.ListN.{length, getD, take, replicate}
+use lib.ListN.{length, getD, take}
 use Rattle.refusals.specs.Rows.{answer}
 use Rattle.request.specs.Sections.{longest}
 use Rattle.pipe.specs.declared.Piped.{Piped}
 use Rattle.pipe.specs.Final.{refusalOf, Final}
-use Rattle.pipe.specs.Found.{pipeLength, countIn, answerIn, soFar, refused, accepted, notYet, noPipe, saidBy, answerByte, withAnswer}
+use Rattle.pipe.specs.Bytes.{pipeLength, countIn, answerIn, withAnswer, soFar, fresh}
+use Rattle.pipe.specs.Bytes.{refused, accepted, notYet, noPipe, answerByte, saidBy}
 use Rattle.pipe.specs.Found.{takeOf, takePipe, endOf, endPipe, Takes, Ends}
 
 -- "the answer .. for the joined bytes": the refusal, or accepted with the count of the bytes
@@ -56,10 +57,7 @@ abbrev pub joined : List (List ℕ) → List ℕ
 joined [] = []
 joined (part ∷ parts) = part ++ joined parts
 
--- "a pipe of zeros is a fresh one"; and a pipe that has taken some parts
-abbrev pub fresh : List ℕ
-fresh = replicate pipeLength 0
-
+-- a pipe that has taken some parts, and a fresh one that has
 abbrev pub fed : List ℕ → List (List ℕ) → List ℕ
 fed pipe [] = pipe
 fed pipe (part ∷ parts) = fed (takePipe pipe part) parts

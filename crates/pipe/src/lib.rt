@@ -5,8 +5,9 @@ ghost use mathlib.Core.List.{List, _++_};
 ghost use Prim.Native.Nat.{ℕ, suc, _≤_};
 ghost use lib.ListN.{length, take};
 ghost use Rattle.request.specs.Sections.{longest};
-ghost use Rattle.pipe.specs.Found.{answerIn, soFar, isPipe, saidBy, answerByte, Takes, Ends};
-ghost use Rattle.pipe.specs.Found as found;
+ghost use Rattle.pipe.specs.Bytes.{answerIn, soFar, saidBy, answerByte};
+ghost use Rattle.pipe.specs.Found.{isPipe, Takes, Ends};
+ghost use Rattle.pipe.specs.Bytes as bytes;
 ghost use Rattle.pipe.specs.Final.{Finals, Deciding};
 ghost use Rattle.pipe.specs.Pipe.{AnyPipe, HoweverCut};
 ghost use Rattle.pipe.specs.Cases.{PipeCases};
@@ -86,7 +87,7 @@ fn said(byte: u8, count: u8) -> Piped
 }
 
 fn no_pipe() -> Piped
-    ensures { λ r. ⌜ r ≡ found.noPipe ⌝ }
+    ensures { λ r. ⌜ r ≡ bytes.noPipe ⌝ }
 {
     Piped {
         refusal: Refusal::IMAGE_LENGTH,

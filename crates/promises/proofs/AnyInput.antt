@@ -15,7 +15,7 @@ use Rattle.request.specs.declared.Sound.{Sound}
 use Rattle.request.specs.declared.Sound.the-variants.{Off, On}
 use Rattle.request.specs.Read.{readOf, nctsOf, pairIn, pairFor}
 use Rattle.request.proofs.Coherent.{rows}
-use Rattle.pipe.specs.Found.{answerIn, withAnswer}
+use Rattle.pipe.specs.Bytes.{answerIn, withAnswer}
 use Rattle.pipe.proofs.Grows.{any-pipe, none-taken, none-ended}
 use Rattle.line.proofs.Given.{lines}
 use Rattle.chip.specs.Write.{lentAs}

@@ -21,7 +21,8 @@ use Rattle.line.specs.Line.{lineOf}
 use Rattle.line.specs.Words.{lineText, refusedText, answerText}
 use Rattle.pipe.specs.declared.Piped.{Piped}
 use Rattle.pipe.specs.Final.{refusalOf, Final}
-use Rattle.pipe.specs.Found.{refused, endOf, endPipe}
+use Rattle.pipe.specs.Bytes.{refused}
+use Rattle.pipe.specs.Found.{endOf, endPipe}
 use Rattle.pipe.specs.Pipe.{answerFor, joined, after}
 use Rattle.pipe.proofs.Cut.{however-cut}
 use Rattle.promises.specs.Piped.{ThroughPipe}

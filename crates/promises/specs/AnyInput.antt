@@ -15,7 +15,7 @@ use Rattle.request.specs.Sections.{walked}
 use Rattle.request.specs.Request.{nctsRules}
 use Rattle.request.specs.Read.{nctsOf}
 use Rattle.request.specs.Theorems.{Rows}
-use Rattle.pipe.specs.Found.{answerIn, withAnswer}
+use Rattle.pipe.specs.Bytes.{answerIn, withAnswer}
 use Rattle.pipe.specs.Pipe.{AnyPipe}
 use Rattle.line.specs.Line.{lineOf}
 use Rattle.chip.specs.declared.Chip.{Chip}

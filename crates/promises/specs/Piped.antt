@@ -8,7 +8,8 @@ use lib.ListN.{take}
 use Rattle.lists.specs.Among.{among}
 use Rattle.matrix.specs.Matrix.{Bytes}
 use Rattle.pipe.specs.Final.{refusalOf}
-use Rattle.pipe.specs.Found.{refused, takeOf, endOf, endPipe}
+use Rattle.pipe.specs.Bytes.{refused}
+use Rattle.pipe.specs.Found.{takeOf, endOf, endPipe}
 use Rattle.pipe.specs.Pipe.{joined, after}
 use Rattle.line.specs.Words.{lineText, answerText}
 use Rattle.plan.specs.Plan.{planOf}

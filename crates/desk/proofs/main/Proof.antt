@@ -8,7 +8,7 @@ use lib.ListN.{length}
 use lib.Seq.{length-take-le}
 use borrow.Author.Needs.{needs}
 use Rattle.pipe.specs.declared.Piped.{Piped}
-use Rattle.pipe.specs.Found.{countIn}
+use Rattle.pipe.specs.Bytes.{countIn}
 use Rattle.pipe.specs.Pipe.{Open}
 use Rattle.pipe.proofs.Grows.{end-within}
 use Rattle.desk.specs.Turns.{Grows}

@@ -7,7 +7,8 @@ use lib.ListN.{length, take}
 use borrow.Author.Needs.{needs}
 use borrow.Author.Tests.{not-true, not-false}
 use Rattle.clock.specs.declared.Pair.{Pair}
-use Rattle.pipe.specs.Found.{isPipe, answerByte, saidBy, withAnswer, countIn}
+use Rattle.pipe.specs.Bytes.{answerByte, saidBy, withAnswer, countIn}
+use Rattle.pipe.specs.Found.{isPipe}
 use Rattle.pipe.proofs.Joined.{of-length, counted, length-so-far}
 use Rattle.pipe.proofs.Answers.{no-ending, ending-ignored, ending}
 use Rattle.pipe.proofs.end.Statement.{statement}
