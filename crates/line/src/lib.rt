@@ -197,7 +197,8 @@ pub fn print_answer(refusal: u8, request: &[u8], out: &mut [u8; 80]) -> usize
     if refusal == Refusal::NONE {
         return print(request, out);
     }
-    *out = [0u8; 80];
+    let blank = [0u8; 80];
+    *out = blank;
     refused(out, refusal)
 }
 
