@@ -18,8 +18,8 @@ refused-requires c κs = search needs
 returns-2 : tie.Need-returns-2
 returns-2 c =
     let t = c .refused .ensures in
-    let p = c .before .before .before in
-    let a = p .before .args in
+    let p = c .before .before in
+    let a = p .before .before .args in
     rw (ne-eqb _ _ (p .if1 .left)) (left (refusedText (a .refusal)) (t .0) (t .1))
 
 pub print-answer-spec : {M : Type 1} → statement M
