@@ -15,10 +15,10 @@
 
 static const struct face model = { model_plan, model_decode, model_ncts,    model_write, model_vsync, model_sent,
                                    model_mute, model_matrix, model_preview, model_class, model_vet,
-                                   model_meter };
+                                   model_meter, model_pipe_take, model_pipe_end };
 static const struct face library = { station_plan, station_decode, station_ncts,    station_write, station_vsync, station_sent,
                                      station_mute, station_matrix, station_preview, station_class, station_vet,
-                                     station_meter };
+                                     station_meter, station_pipe_take, station_pipe_end };
 
 static int compared(const char *what, const struct face *f, unsigned share) {
     struct section s[SECTIONS];
@@ -51,7 +51,7 @@ static const struct { const char *what; void (*put)(struct face *); unsigned sha
     { "the library of wrong/chain.c without a fault", put_right_library, 5 * SHARE, ALL, SECTIONS },
     { "the library of wrong/depth.c without a fault", put_right_depths, 5 * SHARE, ALL, SECTIONS },
     { "the library of wrong/edition.c without a fault", put_right_editions, 5 * SHARE, ALL, SECTIONS },
-    { "the matrices of wrong/meter.c without a fault", put_right_meter, 5 * SHARE, ON_METER, ON_LISTS },
+    { "the matrices of wrong/meter.c without a fault", put_right_meter, 5 * SHARE, ON_METER, ON_PIPES },
 };
 enum { RIGHT = sizeof right / sizeof right[0] };
 
