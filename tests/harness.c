@@ -202,7 +202,7 @@ struct station_count check_meter(const uint32_t *numbers, size_t count, const ui
     return want;
 }
 
-/* A pipe is lent as it is; `after` gets what the model leaves of it, and may be the pipe itself. */
+/* The pipe is lent as it is; `after` gets what the model leaves of it, and may be the pipe itself. */
 static void compare_pipe(const char *what, struct station_piped got, struct station_piped want) {
     if (got.refusal != want.refusal || got.answered != want.answered || got.count != want.count)
         differs("%s: %u, answered %u, count %u, the model has %u, %u, %u", what, got.refusal, got.answered, got.count, want.refusal,

@@ -1,5 +1,5 @@
-/* Requests through a pipe: document 02, request 08. What each call should answer is told three ways: by hand, by the model, and by the whole
- * request of which the parts are cut. */
+/* Requests through a pipe: document 02, request 08. What a call should answer is told three ways: by hand; by the model, from a pipe's
+ * bytes; and, where a request is cut, by document 02's own words on the bytes that came. There the model is held to the same. */
 #include "check.h"
 #include "lent.h"
 #include <stdio.h>
@@ -19,6 +19,18 @@ static struct station_piped said(int answer, size_t count) {
 static int same_piped(struct station_piped a, struct station_piped b) {
     return a.refusal == b.refusal && a.answered == b.answered && a.count == b.count;
 }
+
+/* The numbers of a request, and its kinds: by the section that it ends in (1) or whose count is bad (2), else by those that are there,
+ * sound as 1 and the matrix as 2. */
+enum { VARIANTS = 4 };
+static const struct { uint32_t number; const char *what; int is[VARIANTS]; } numbers[] = {
+    { 0, "accepted", { 1, 1, 1, 1 } },  { 1, "refused 1", { 1, 1, 1, 0 } },   { 2, "refused 2", { 1, 1, 1, 0 } },
+    { 3, "refused 3", { 1, 1, 1, 1 } }, { 4, "refused 4", { 1, 1, 1, 1 } },   { 5, "refused 5", { 1, 1, 1, 1 } },
+    { 6, "refused 6", { 1, 1, 1, 1 } }, { 17, "refused 17", { 1, 1, 1, 1 } }, { 9, "refused 9", { 0, 1, 0, 1 } },
+};
+enum { NUMBERS_OF = sizeof numbers / sizeof numbers[0] };
+static int answer_of(uint32_t number) { return number ? (int)number : YES; }
+static int comes_at_once(int answer) { return answer == 2 || answer == 3; }
 
 /* A part of the cases for the wrong libraries: one of so many. */
 static int passed_over(uint32_t of) { return run.share < 1000 && any(of) != 0; }
@@ -86,7 +98,8 @@ static const struct row rows[] = {
     { "a bad count of sound, within a part", FRESH,
       { { "07 10", NOT_YET, "07 10" }, { "00 00 01 00 00 00 01 02", 2, "07 10" }, { "", 2, "07 10" }, { THE_END, 2, "07 10" } } },
     { "another section's count", FRESH, { { VIDEO "07 10 00 00 01 00 00 00 00 00", 2, "" }, { THE_END, 2, "" } } },
-    { "a bad count of the matrix", FRESH, { { VIDEO SOUND, NOT_YET, VIDEO SOUND }, { "18", 2, VIDEO SOUND }, { THE_END, 2, VIDEO SOUND } } },
+    { "a bad count of the matrix", FRESH,
+      { { VIDEO SOUND, NOT_YET, VIDEO SOUND }, { "18", 2, VIDEO SOUND }, { THE_END, 2, VIDEO SOUND } } },
     { "one without sound", FRESH, { { VIDEO "00", NOT_YET, VIDEO "00" }, { "03 00 02 00", 2, VIDEO "00" }, { "", 2, VIDEO "00" } } },
     { "fields that no request has, and a bad count", FRESH,
       { { "07 FF FF FF FF FF FF", NOT_YET, "07 FF FF FF FF FF FF" }, { "FF", NOT_YET, "07 FF FF FF FF FF FF FF" },
@@ -96,6 +109,7 @@ static const struct row rows[] = {
     { "a byte too many", FRESH,
       { { VIDEO "00", NOT_YET, VIDEO "00" }, { "00", NOT_YET, VIDEO "00 00" }, { "", NOT_YET, VIDEO "00 00" },
         { "00", 3, VIDEO "00 00" }, { "", 3, VIDEO "00 00" }, { "00", 3, VIDEO "00 00" }, { THE_END, 3, VIDEO "00 00" } } },
+    { "a line feed", FRESH, { { VIDEO "00 00", NOT_YET, VIDEO "00 00" }, { "0A", 3, VIDEO "00 00" }, { THE_END, 3, VIDEO "00 00" } } },
     { "a byte too many, in one part", FRESH, { { VIDEO "00 00 00", 3, "" }, { THE_END, 3, "" } } },
     { "a byte too many, with the last count", FRESH, { { VIDEO SOUND, NOT_YET, VIDEO SOUND }, { "00 FF", 3, VIDEO SOUND } } },
     { "many too many", FRESH,
@@ -107,7 +121,8 @@ static const struct row rows[] = {
     { "the longest, but for a byte", FRESH,
       { { VIDEO SOUND BUT_ONE, NOT_YET, VIDEO SOUND BUT_ONE }, { THE_END, 1, VIDEO SOUND BUT_ONE }, { "BE", 1, VIDEO SOUND BUT_ONE } } },
     { "the longest, and a byte", FRESH,
-      { { VIDEO SOUND MATRIX_39, NOT_YET, VIDEO SOUND MATRIX_39 }, { "19", 3, VIDEO SOUND MATRIX_39 }, { THE_END, 3, VIDEO SOUND MATRIX_39 } } },
+      { { VIDEO SOUND MATRIX_39, NOT_YET, VIDEO SOUND MATRIX_39 }, { "19", 3, VIDEO SOUND MATRIX_39 },
+        { THE_END, 3, VIDEO SOUND MATRIX_39 } } },
     { "the longest, and a byte with its last", FRESH,
       { { VIDEO SOUND BUT_ONE, NOT_YET, VIDEO SOUND BUT_ONE }, { "BE 00", 3, VIDEO SOUND BUT_ONE }, { THE_END, 3, VIDEO SOUND BUT_ONE } } },
     /* What another hand wrote. */
@@ -140,7 +155,7 @@ static const struct { const char *bytes; int answer; } whole[] = {
     { "07 10 00 01 01 00 00 00 00 00", 6 },             /* 4:2:2 without a matrix */
     { "07 10 00 00 00 00 00 00 " SOUND "00", 6 },       /* DVI with sound */
     { "07 10 00 00 01 00 10 00 00 00", 17 },            /* 297 MHz */
-    { "07 10 00 00 01 00 02 00 " SOUND MATRIX_39, 0 },  /* 222.75 MHz */
+    { "07 10 00 00 01 00 02 00 " SOUND MATRIX_39, YES },    /* 222.75 MHz */
     { "07 04 01 00 01 00 00 00 03 00 02 01 00", 9 },    /* no exact pair */
 };
 
@@ -172,12 +187,32 @@ static void run_row(const struct row *r, int paint) {
     }
 }
 
+/* Each byte as the count of each section, after the bytes before it: 2 but for those that are allowed. */
+static void every_count(void) {
+    static const struct { const char *before; int allowed[2]; } counts[] = {
+        { "", { 7, 7 } }, { VIDEO, { 0, 3 } }, { VIDEO "00", { 0, 25 } }, { VIDEO SOUND, { 0, 25 } },
+    };
+    for (size_t k = 0; k < sizeof counts / sizeof counts[0]; k++)
+        for (int count = 0; count < 256; count++) {
+            const char *before = counts[k].before;
+            char byte[8], bytes[64];
+            int answer = count == counts[k].allowed[0] || count == counts[k].allowed[1] ? NOT_YET : 2;
+            snprintf(byte, sizeof byte, "%02X", (unsigned)count);
+            snprintf(bytes, sizeof bytes, "%s %s", before, byte);
+            const struct row alone = { bytes, FRESH, { { before, NOT_YET, before }, { byte, answer, answer ? before : bytes } } };
+            const struct row together = { bytes, FRESH, { { bytes, answer, answer ? "" : bytes } } };
+            run_row(&alone, 0);
+            run_row(&together, 0);
+        }
+}
+
 static void by_hand(void) {
+    every_count();
     for (int paint = 0; paint < 256; paint += 85) {
         for (size_t k = 0; k < sizeof rows / sizeof rows[0]; k++) run_row(&rows[k], paint);
         for (size_t k = 0; k < sizeof whole / sizeof whole[0]; k++) {
             const char *w = whole[k].bytes;
-            int answer = whole[k].answer ? whole[k].answer : YES;
+            int answer = whole[k].answer;
             const struct row at_the_end = { w, FRESH, { { w, NOT_YET, w }, { "", NOT_YET, w }, { THE_END, answer, w }, { "00", answer, w },
                                                         { w, answer, w }, { THE_END, answer, w } } };
             const struct row one_more = { w, FRESH, { { w, NOT_YET, w }, { "00", 3, w }, { THE_END, 3, w } } };
@@ -226,24 +261,24 @@ static void every_count_and_answer(void) {
             was[COUNT] = (uint8_t)count, was[ANSWER] = (uint8_t)answer;
             memcpy(pipe, was, BYTES);
             memcpy(again, was, BYTES);
-            struct station_piped a = take(pipe, BYTES, part, any(sizeof part)), b = end(again, BYTES), right = said(answer, (size_t)count);
+            struct station_piped a = take(pipe, BYTES, part, any(sizeof part)), b = end(again, BYTES);
+            struct station_piped right = said(answer, (size_t)count);
             if (count > STATION_REQUEST) right = (struct station_piped){ 7, 0, 0 };
             else if (answer == NOT_YET) continue;
-            if (!same_piped(a, right) || !same_piped(b, right)) differs("count %d, answer %d: %u and %u", count, answer, a.refusal, b.refusal);
-            if (memcmp(pipe, was, BYTES) || memcmp(again, was, BYTES)) differs("count %d, answer %d: the pipe was changed", count, answer);
+            if (!same_piped(a, right) || !same_piped(b, right)) differs("count %d, answer %d: %u, %u", count, answer, a.refusal, b.refusal);
+            if (memcmp(pipe, was, BYTES) || memcmp(again, was, BYTES)) differs("count %d, answer %d: the pipe is another", count, answer);
         }
 }
 
 /* A pipe that some hand wrote: a part of a request or noise, a count that is right or any, mostly no answer yet. Answers the bytes of the
  * request that are in it. */
 static size_t any_pipe(uint8_t *pipe, const uint8_t *request, size_t length) {
-    static const uint8_t ours[] = { YES, 1, 2, 3, 4, 5, 6, 17, 9 };
     size_t count = any((uint32_t)(length < STATION_REQUEST ? length : STATION_REQUEST) + 1);
     any_bytes(pipe, BYTES);
     if (any(4) == 0) memset(pipe, 0, BYTES);
     if (any(8)) memcpy(pipe, request, count);
     pipe[COUNT] = (uint8_t)(any(8) ? count : any(2) ? any(STATION_REQUEST + 1) : any(256));
-    pipe[ANSWER] = any(8) ? NOT_YET : any(4) ? ours[any(sizeof ours)] : (uint8_t)any(256);
+    pipe[ANSWER] = (uint8_t)(any(8) ? NOT_YET : any(4) ? answer_of(numbers[any(NUMBERS_OF)].number) : (int)any(256));
     return count;
 }
 
@@ -268,19 +303,21 @@ static void any_pipes(void) {
 /* Empty parts, wherever they are said to lie: the pipe is looked at, and no byte of theirs. */
 static void empty_parts(void) {
     static const struct step found[] = { FRESH, FOUND(VIDEO, NOT_YET), FOUND("05", NOT_YET), FOUND(VIDEO "00 00", YES), FOUND(VIDEO, 1) };
-    const uint8_t *const at[] = { NULL, (const uint8_t *)1, (const uint8_t *)UINTPTR_MAX, lend(PART, NULL, 0, ENDS), lend(PART, NULL, 0, BEGINS) };
+    const uint8_t *const ends = lend(PART, NULL, 0, ENDS), *const begins = lend(PART, NULL, 0, BEGINS);
+    const uint8_t *const at[] = { NULL, (const uint8_t *)1, (const uint8_t *)UINTPTR_MAX, ends, begins };
     for (size_t k = 0; k < sizeof found / sizeof found[0]; k++)
         for (size_t j = 0; j < sizeof at / sizeof at[0]; j++) {
-            uint8_t pipe[BYTES], right[BYTES];
-            lay_pipe(&found[k], 0x5A, pipe);
-            memcpy(right, pipe, BYTES);
+            uint8_t right[BYTES], *pipe;
+            lay_pipe(&found[k], 0x5A, right);
+            pipe = lend(PIPE, right, BYTES, ENDS);
             run.now->cases++;
             struct station_piped want = model_pipe_take(right, BYTES, at[j], 0), got = run.f->pipe_take(pipe, BYTES, at[j], 0);
-            if (!same_piped(want, got) || memcmp(pipe, right, BYTES)) differs("an empty part at place %zu, on pipe %zu: %u", j, k, got.refusal);
+            if (!same_piped(want, got) || !holds(PIPE, right)) differs("an empty part, place %zu, pipe %zu: %u", j, k, got.refusal);
         }
 }
 
-/* Very long parts, after each number of bytes: the rest of a request, and so many bytes more that a byte, or two, would count the rest alone. */
+/* Very long parts, after each number of bytes: the rest of a request and bytes too many, so many that one byte, or two, would count the
+ * rest alone. */
 static void long_parts(void) {
     static const size_t more[] = { 0, 1, 255, 256, 512, 4096, 65536, 65536 + 256 };
     static uint8_t bytes[STATION_REQUEST + 65536 + 256];
@@ -295,8 +332,9 @@ static void long_parts(void) {
                 if (more[m] > 4096 && first % 4 && first + 1 < length) continue;
                 int answer = more[m] ? 3 : NOT_YET;
                 take(pipe, BYTES, bytes, first);
-                if (!same_piped(take(pipe, BYTES, bytes + first, length - first + more[m]), said(answer, 0)) || pipe[COUNT] != (answer ? first : length))
-                    differs("%zu bytes and %zu more after %zu: answered %d, count %d", length, more[m], first, pipe[ANSWER], pipe[COUNT]);
+                struct station_piped p = take(pipe, BYTES, bytes + first, length - first + more[m]);
+                if (!same_piped(p, said(answer, 0)) || pipe[COUNT] != (answer ? first : length))
+                    differs("%zu bytes and %zu more, after %zu: answer %d, count %d", length, more[m], first, pipe[ANSWER], pipe[COUNT]);
                 end(pipe, BYTES);
             }
         }
@@ -315,18 +353,20 @@ void pipes(void) {
 
 /* Requests, cut. -------------------------------------------------------------------------------------------------------------------- */
 
-/* "Refusal 2 as soon as its count is read, refusal 3 at the first byte too many": what so many bytes decide, by a walk through the sections. */
+static int allowed(int section, int count) { return count == model_counts[section] || (section != OF_VIDEO && count == 0); }
+
+/* "Refusal 2 as soon as its count is read, refusal 3 at the first byte too many": what these bytes decide, by a walk. */
 static int decided(const uint8_t *bytes, size_t length) {
     size_t at = 0;
     for (int s = 0; s < PARTS; s++) {
         if (at >= length) return NOT_YET;
-        if (bytes[at] != model_counts[s] && (s == OF_VIDEO || bytes[at] != 0)) return 2;
+        if (!allowed(s, bytes[at])) return 2;
         at += 1u + bytes[at];
     }
     return at < length ? 3 : NOT_YET;
 }
 
-/* A request as it comes: its bytes, how many of them have come, how many are kept, and the answer. `pipe` is what the calls made of `began`. */
+/* A request as it comes: its bytes, how many of them have come, how many are kept, and the answer. `pipe` is what was made of `began`. */
 struct stream { const uint8_t *bytes; size_t come, kept; int answer; uint8_t began[BYTES], pipe[BYTES]; };
 
 static void begin(struct stream *s, const uint8_t *bytes, int paint) {
@@ -335,42 +375,57 @@ static void begin(struct stream *s, const uint8_t *bytes, int paint) {
     memcpy(s->pipe, s->began, BYTES);
 }
 
-/* By the bytes that came, whatever the cuts were: the call's answer, and every byte of the pipe. */
-static void as_told(const struct stream *s, const char *what, struct station_piped p) {
-    uint8_t right[BYTES];
+static int any_paint(void) { return any(4) ? 0 : (int)any(256); }
+static int any_side(void) { return any(2) ? ENDS : BEGINS; }
+
+/* By the bytes that came, whatever the cuts were: what was said, and every byte of the pipe. Then the model is held to the same. */
+static void as_told(struct stream *s, enum call c, struct station_piped got, const uint8_t *part, size_t length) {
+    static const char *const names[CALLS] = { "a part", "the end" };
+    const struct station_piped want = said(s->answer, s->kept);
+    uint8_t right[BYTES], model[BYTES];
     memcpy(right, s->began, BYTES);
     memcpy(right, s->bytes, s->kept);
     right[COUNT] = (uint8_t)s->kept, right[ANSWER] = (uint8_t)s->answer;
-    if (!same_piped(p, said(s->answer, s->kept)))
-        differs("%s, %zu bytes: %u, answered %u, count %u, not %d", what, s->come, p.refusal, p.answered, p.count, s->answer);
-    else if (memcmp(s->pipe, right, BYTES)) differs("%s, %zu bytes: the pipe is another", what, s->come);
+    if (!same_piped(got, want))
+        differs("%s, %zu bytes came: %u, answered %u, count %u, not %u, %u, %u", names[c], s->come, got.refusal, got.answered, got.count,
+                want.refusal, want.answered, want.count);
+    else if (!holds(PIPE, right)) differs("%s, %zu bytes came: the pipe is another", names[c], s->come);
+    else if (c == TAKE && !holds(PART, part)) differs("the part was changed");
+    memcpy(model, s->pipe, BYTES);
+    count_met(c, s->pipe, BYTES, want);
+    struct station_piped also = c == TAKE ? model_pipe_take(model, BYTES, part, length) : model_pipe_end(model, BYTES);
+    if (!same_piped(also, want) || memcmp(model, right, BYTES)) differs("%s, %zu bytes came: the model has another", names[c], s->come);
+    memcpy(s->pipe, right, BYTES);
 }
 
 static void next_part(struct stream *s, size_t length) {
-    struct station_piped p = take(s->pipe, BYTES, s->bytes + s->come, length);
+    const uint8_t *part = s->bytes + s->come;
+    uint8_t *lent_pipe = lend(PIPE, s->pipe, BYTES, any_side()), *lent_part = lend(PART, part, length, any_side());
+    run.now->cases++;
+    struct station_piped got = run.f->pipe_take(lent_pipe, BYTES, lent_part, length);
     s->come += length;
     if (!s->answer) s->answer = decided(s->bytes, s->come);
     if (!s->answer) s->kept = s->come;
-    as_told(s, "a part", p);
+    as_told(s, TAKE, got, part, length);
 }
 
 /* The bytes at the pipe's front are as good as the request: planning gives the same list for both. */
-static void planned_alike(const struct stream *s, uint32_t count) {
+static void planned_alike(const struct stream *s, const uint8_t *pipe, uint32_t count) {
     uint8_t image[256], writes[256] = { 0 }, again[256] = { 0 };
     any_image(image);
-    struct station_count a = run.f->plan(s->bytes, s->come, image, 256, writes, 256), b = run.f->plan(s->pipe, count, image, 256, again, 256);
+    struct station_count a = run.f->plan(s->bytes, s->come, image, 256, writes, 256), b = run.f->plan(pipe, count, image, 256, again, 256);
     if (a.refusal != b.refusal || a.count != b.count || memcmp(writes, again, 256)) differs("the list of the pipe's front is another");
 }
 
+/* "The answer must equal that for the joined bytes." */
 static void the_end(struct stream *s) {
     int before = s->answer;
-    struct station_piped p = end(s->pipe, BYTES);
-    if (!before) {
-        uint32_t number = run.f->ncts(s->bytes, s->come).refusal;       /* "the answer must equal that for the joined bytes" */
-        s->answer = number ? (int)number : YES;
-    }
-    as_told(s, "the end", p);
-    if (!before && s->answer == YES && any(16) == 0) planned_alike(s, p.count);
+    uint8_t *lent_pipe = lend(PIPE, s->pipe, BYTES, any_side());
+    run.now->cases++;
+    struct station_piped got = run.f->pipe_end(lent_pipe, BYTES);
+    if (!before) s->answer = answer_of(run.f->ncts(s->bytes, s->come).refusal);
+    as_told(s, END, got, NULL, 0);
+    if (!before && s->answer == YES && any(16) == 0) planned_alike(s, lent_pipe, got.count);
 }
 
 /* A request, with bytes behind it that come after the end. */
@@ -396,7 +451,7 @@ static void finish_stream(struct stream *s) {
 static void two_parts(const struct request *r) {
     struct stream s;
     for (size_t cut = 0; cut <= r->length; cut++) {
-        begin(&s, r->bytes, any(4) ? 0 : (int)any(256));
+        begin(&s, r->bytes, any_paint());
         next_part(&s, cut);
         next_part(&s, r->length - cut);
         finish_stream(&s);
@@ -408,7 +463,7 @@ static void three_parts(const struct request *r) {
     for (size_t one = 0; one <= r->length; one++)
         for (size_t two = one; two <= r->length; two++) {
             if (passed_over(16)) continue;
-            begin(&s, r->bytes, any(4) ? 0 : (int)any(256));
+            begin(&s, r->bytes, any_paint());
             next_part(&s, one);
             next_part(&s, two - one);
             next_part(&s, r->length - two);
@@ -419,7 +474,7 @@ static void three_parts(const struct request *r) {
 static void bytes_alone(const struct request *r) {
     struct stream s;
     for (int empty = 0; empty < 2; empty++) {
-        begin(&s, r->bytes, any(4) ? 0 : (int)any(256));
+        begin(&s, r->bytes, any_paint());
         while (s.come < r->length) {
             if (empty && any(2)) next_part(&s, 0);
             else next_part(&s, 1);
@@ -437,7 +492,7 @@ static size_t any_part(size_t left) {
 
 static void many_parts(const struct request *r) {
     struct stream s;
-    begin(&s, r->bytes, any(4) ? 0 : (int)any(256));
+    begin(&s, r->bytes, any_paint());
     while (s.come < r->length) {
         next_part(&s, any_part(r->length - s.come));
         if (s.answer && any(4) == 0) break;
@@ -445,23 +500,13 @@ static void many_parts(const struct request *r) {
     finish_stream(&s);
 }
 
-/* The kinds of request that are cut in every way: by the number, and by the section that it ends in or whose count is bad, or else by the
- * sections that are there. */
-enum { VARIANTS = 4 };
-static const struct { uint32_t number; const char *what; int is[VARIANTS]; } kinds_of[] = {
-    { 0, "accepted", { 1, 1, 1, 1 } },   { 1, "refused 1", { 1, 1, 1, 0 } },  { 2, "refused 2", { 1, 1, 1, 0 } },
-    { 3, "refused 3", { 1, 1, 1, 1 } },  { 4, "refused 4", { 1, 1, 1, 1 } },  { 5, "refused 5", { 1, 1, 1, 1 } },
-    { 6, "refused 6", { 1, 1, 1, 1 } },  { 17, "refused 17", { 1, 1, 1, 1 } }, { 9, "refused 9", { 0, 1, 0, 1 } },
-};
-enum { KINDS_OF = sizeof kinds_of / sizeof kinds_of[0] };
-
-static int variant_of(const struct request *r, uint32_t number) {
+static int kind_of(const struct request *r, uint32_t number) {
     size_t at = 0;
     int there = 0;
     for (int s = 0; s < PARTS; s++) {
         if (number == 1 && (at >= r->length || at + 1 + r->bytes[at] > r->length)) return s;
-        if (number == 2 && r->bytes[at] != model_counts[s] && (s == OF_VIDEO || r->bytes[at] != 0)) return s;
-        if (s != OF_VIDEO && r->bytes[at] != 0) there += s;     /* sound is 1, the matrix 2 */
+        if (number == 2 && !allowed(s, r->bytes[at])) return s;
+        if (s != OF_VIDEO && r->bytes[at] != 0) there += s == OF_SOUND ? 1 : 2;
         at += 1u + r->bytes[at];
     }
     return there;
@@ -469,23 +514,21 @@ static int variant_of(const struct request *r, uint32_t number) {
 
 static void every_cut(void) {
     static struct request r;
-    uint32_t cut[KINDS_OF][VARIANTS] = { { 0 } }, of_each = run.share < 1000 ? 1 : 4, left = 0;
-    for (int k = 0; k < KINDS_OF; k++)
-        for (int v = 0; v < VARIANTS; v++) left += of_each * (uint32_t)kinds_of[k].is[v];
+    uint32_t cut[NUMBERS_OF][VARIANTS] = { { 0 } }, of_each = run.share < 1000 ? 1 : 12, left = 0;
+    for (int k = 0; k < NUMBERS_OF; k++)
+        for (int v = 0; v < VARIANTS; v++) left += of_each * (uint32_t)numbers[k].is[v];
     for (uint32_t i = 0; left > 0 && i < 20000; i++) {
         int k = 0;
         seed(0x2000000u + i);
         any_whole(&r, LEAST_ROOM);
         if (r.length > STATION_REQUEST + BEHIND) continue;
         uint32_t number = model_number(r.bytes, r.length);
-        while (kinds_of[k].number != number) k++;
-        int v = variant_of(&r, number);
-        if (!kinds_of[k].is[v]) differs("%s, of another kind", kinds_of[k].what);
-        if (cut[k][v]++ >= of_each) continue;
-        left--;
-        three_parts(&r);
+        int v = kind_of(&r, number);
+        while (k < NUMBERS_OF && numbers[k].number != number) k++;
+        if (k == NUMBERS_OF || !numbers[k].is[v]) differs("number %u is given for kind %d", number, v);
+        else if (cut[k][v]++ < of_each) three_parts(&r), left--;
     }
-    if (left > 0) differs("%u kinds of request were not cut", left);
+    if (left > 0) differs("%u requests less were cut into three parts", left);
 }
 
 /* Every kind of request that is accepted, and those of all sorts: every cut into two, bytes alone. */
@@ -500,13 +543,13 @@ static void every_kind(void) {
         bytes_alone(&r);
     }
     if (run.share >= 1000) every_value_met();
-    for (uint32_t i = times(5000); i > 0; i--) {
+    for (uint32_t i = times(10000); i > 0; i--) {
         seed(0x2100000u + i);
         any_whole(&r, LEAST_ROOM);
         two_parts(&r);
         bytes_alone(&r);
     }
-    for (uint32_t i = times(100000); i > 0; i--) {
+    for (uint32_t i = times(200000); i > 0; i--) {
         seed(0x2200000u + i);
         any_whole(&r, 4096);
         many_parts(&r);
@@ -530,30 +573,32 @@ static void several(void) {
 }
 
 /* "A refusal that no later byte can change is given at once", by the library's own N and CTS: after each number of bytes of a request, with
- * its rest, one byte, zeros and noise behind them. What was answered is the number of them all; where it was not, one of them has another. */
-static uint32_t changed[20][20];
+ * its rest, one byte, zeros, another request and noise behind them. Where a part is answered, all have its number; else one has another. */
+enum { HIGHEST = STATION_CLOCK_ABOVE };
+static uint32_t changed[HIGHEST + 1][HIGHEST + 1];
 
 static void later_bytes(const struct request *r) {
-    enum { ZEROS = STATION_REQUEST + 1, LATER = 6 };
-    static uint8_t more[STATION_REQUEST + 4096 + BEHIND];
-    for (size_t n = 0; n <= r->length && n <= ZEROS; n++) {
-        uint8_t pipe[BYTES] = { 0 };
-        struct station_piped p = take(pipe, BYTES, r->bytes, n);
+    enum { REST, ONE, ZEROS, ANOTHER, NOISE, LATER = NOISE + 3 };
+    static uint8_t more[2 * sizeof r->bytes];
+    for (size_t n = 0; n <= r->length && n <= STATION_REQUEST + 1; n++) {
+        static const uint8_t fresh[BYTES];
+        uint8_t *pipe = lend(PIPE, fresh, BYTES, any_side()), *part = lend(PART, r->bytes, n, any_side());
+        struct station_piped p = run.f->pipe_take(pipe, BYTES, part, n);
         uint32_t now = run.f->ncts(r->bytes, n).refusal;
         int stays = 1;
-        for (int k = 0; k < LATER; k++) {
-            size_t length = k == 0 ? r->length - n : k == 1 ? 1 : k == 2 ? ZEROS : any(STATION_REQUEST);
-            memcpy(more, r->bytes, n);
-            memset(more + n, 0, length);
-            if (k == 0) memcpy(more + n, r->bytes + n, length);
-            if (k == 1 || k > 2) any_bytes(more + n, length);
+        memcpy(more, r->bytes, r->length);
+        for (int k = REST; k < LATER; k++) {
+            size_t length = k == REST ? r->length - n : k == ONE ? 1 : k == ZEROS ? STATION_REQUEST + 1 : any(STATION_REQUEST);
+            if (k == ANOTHER) length = any_request(more + n, LEAST_ROOM);
+            else if (k == ZEROS) memset(more + n, 0, length);
+            else if (k != REST) any_bytes(more + n, length);
             uint32_t later = run.f->ncts(more, n + length).refusal;
             stays &= later == now;
-            changed[now][later]++;
+            if (now <= HIGHEST && later <= HIGHEST) changed[now][later]++;
         }
         run.now->cases++;
-        if ((int)p.answered != stays || (p.answered && (p.refusal != now || (now != 2 && now != 3))))
-            differs("%zu bytes: answered %u, %u, and later bytes %s the number %u", n, p.answered, p.refusal, stays ? "keep" : "change", now);
+        if ((int)p.answered != stays || (p.answered && (p.refusal != now || !comes_at_once((int)now))))
+            differs("%zu bytes: answered %u, %u, and later bytes %s number %u", n, p.answered, p.refusal, stays ? "keep" : "change", now);
     }
 }
 
@@ -567,33 +612,36 @@ static void every_later_byte(void) {
     }
 }
 
+/* The answers that were given, and those that were there; and the numbers that later bytes have changed. */
 static void all_met(void) {
     static const char *const calls[CALLS] = { "parts", "ends" }, *const after[CALLS] = { "parts after an answer", "ends after an answer" };
-    static const char *const numbers[] = { "parts answered", "ends answered" };
+    char what[64];
     for (int c = 0; c < CALLS; c++) {
-        uint32_t others = 0, not_ours = 0;
+        if (c == TAKE) never_met(met.given[c][NOT_YET], calls[c], "not answered yet");
+        for (int k = 0; k < NUMBERS_OF; k++) {
+            int answer = answer_of(numbers[k].number), at_once = comes_at_once(answer);
+            snprintf(what, sizeof what, "%s%s", numbers[k].what, c == END && at_once ? ", by bytes of another hand" : "");
+            if (c == END || at_once) never_met(met.given[c][answer], calls[c], what);
+            else if (met.given[c][answer]) differs("a part was answered: %s", what);
+        }
         never_met(met.length[c], calls[c], "refused 7, another length");
         never_met(met.count[c], calls[c], "refused 7, a count above");
-        for (int n = 1; n < 256; n++) others += met.there[c][n];
-        if (c == TAKE) never_met(met.given[c][NOT_YET], calls[c], "no answer yet");
-        for (int k = 0; k < KINDS_OF; k++) {
-            uint32_t number = kinds_of[k].number ? kinds_of[k].number : YES;
-            int at_once = number == 2 || number == 3;
-            if (c == END || at_once) never_met(met.given[c][number], numbers[c], kinds_of[k].what);
-            else if (met.given[c][number]) differs("a part was answered: %s", kinds_of[k].what);
-            never_met(met.there[c][number], after[c], kinds_of[k].what);
-            others -= met.there[c][number];
-        }
-        not_ours = others;
-        never_met(not_ours, after[c], "a number that no call gives");
     }
-    for (int k = 0; k < KINDS_OF; k++) {
-        uint32_t n = kinds_of[k].number, other = 0;
-        char what[64];
-        for (int later = 0; later < 20; later++) other += later != (int)n ? changed[n][later] : 0;
-        snprintf(what, sizeof what, "%s, which later bytes change", kinds_of[k].what);
-        if (n != 2 && n != 3) never_met(other, "times", what);
-        else if (other) differs("%s %u times", what, other);
+    for (int c = 0; c < CALLS; c++) {
+        uint32_t others = 0;
+        for (int answer = 1; answer < 256; answer++) others += met.there[c][answer];
+        for (int k = 0; k < NUMBERS_OF; k++) {
+            never_met(met.there[c][answer_of(numbers[k].number)], after[c], numbers[k].what);
+            others -= met.there[c][answer_of(numbers[k].number)];
+        }
+        never_met(others, after[c], "a number that no call gives");
+    }
+    for (int k = 0; k < NUMBERS_OF; k++) {
+        uint32_t number = numbers[k].number, other = 0;
+        for (uint32_t later = 0; later <= HIGHEST; later++) other += later != number ? changed[number][later] : 0;
+        snprintf(what, sizeof what, "%s, and later bytes change it", numbers[k].what);
+        if (!comes_at_once((int)number)) never_met(other, "times", what);
+        else if (other) differs("%s, %u times", what, other);
     }
 }
 
