@@ -44,6 +44,9 @@ void check_write(const struct slices *s, uint8_t address, uint8_t value);
 void check_vsync(const struct slices *s);
 void check_matrix(const struct slices *s, const uint8_t *matrix, size_t length);
 struct station_count check_meter(const uint32_t *numbers, size_t count, const uint8_t *matrix, size_t length);    /* answers the model's */
+/* A pipe with a part, and with the end. Answer the model's; `after` gets the pipe as the model leaves it, and may be the pipe itself. */
+struct station_piped check_take(const uint8_t *pipe, size_t pl, const uint8_t *part, size_t length, uint8_t *after);
+struct station_piped check_end(const uint8_t *pipe, size_t pl, uint8_t *after);
 int left_in(uint8_t address, const uint8_t *image, const uint8_t *writes, struct station_count c);  /* the byte that a list leaves there */
 /* Demand 2: the request that an image must read back as which this one has finished; and whether it does. */
 struct fields read_back(const struct fields *f);
@@ -61,6 +64,11 @@ void editions(void);
 
 void meters(void);
 void many_meters(void);
+
+/* pipe.c: sections. ---------------------------------------------------------------------------------------------------------------- */
+
+void pipes(void);
+void cut_requests(void);
 
 /* turn.c: sections. ---------------------------------------------------------------------------------------------------------------- */
 

@@ -19,6 +19,8 @@ struct face {
     struct station_verdict (*vet)(const uint8_t *, size_t, const uint8_t *, size_t, const uint8_t *, size_t, uint8_t, const uint8_t *,
                                   size_t);
     struct station_count (*meter)(const float *, size_t, uint8_t *, size_t);
+    struct station_piped (*pipe_take)(uint8_t *, size_t, const uint8_t *, size_t);
+    struct station_piped (*pipe_end)(uint8_t *, size_t);
 };
 
 #endif

@@ -1,5 +1,5 @@
-/* The library's twelve calls at every alignment, in threads at a time, and on a painted stack; and the sizes and names of station.h against
- * what the calls take. A meter's numbers stand at a float's own alignment. */
+/* The library's fourteen calls at every alignment, in threads at a time, and on a painted stack; and the sizes and names of station.h
+ * against what the calls take. A meter's numbers stand at a float's own alignment. */
 #include "facts.h"
 #include "lists.h"
 #include "station_text.h"
@@ -12,8 +12,8 @@
 /* ---- The calls, each on slices of one kind of input; an answer is its bytes. */
 
 struct slices {
-    uint8_t *request, *image, *packet, *coefficients, *mark, *matrix, *writes, *back, *list, *numbers;
-    size_t length, list_length;
+    uint8_t *request, *image, *packet, *coefficients, *mark, *matrix, *writes, *back, *list, *pipe, *part, *numbers;
+    size_t length, list_length, part_length;
     uint8_t address, value;
 };
 struct answer { uint8_t bytes[32]; };
@@ -56,22 +56,27 @@ static void meter(const struct slices *s, struct answer *a) {
     const float *numbers = (const float *)(const void *)s->numbers;
     ANSWER(struct station_count, station_meter(numbers, STATION_METER, s->matrix, STATION_MATRIX));
 }
+static void pipe_take(const struct slices *s, struct answer *a) {
+    ANSWER(struct station_piped, station_pipe_take(s->pipe, STATION_PIPE, s->part, s->part_length));
+}
+static void pipe_end(const struct slices *s, struct answer *a) { ANSWER(struct station_piped, station_pipe_end(s->pipe, STATION_PIPE)); }
 
 static const struct { const char *name; void (*call)(const struct slices *, struct answer *); } calls[] = {
     { "station_plan", plan },       { "station_decode", decode },   { "station_ncts", ncts },
     { "station_preview", preview }, { "station_write", write_one }, { "station_vsync", vsync },
     { "station_sent", sent },       { "station_mute", mute },       { "station_matrix", matrix },
     { "station_class", class_of },  { "station_vet", vet },         { "station_meter", meter },
+    { "station_pipe_take", pipe_take },                             { "station_pipe_end", pipe_end },
 };
-enum { CALLS = sizeof calls / sizeof calls[0], INPUTS = 300, OFFSETS = 16, SLICES = 10, OF_NUMBERS = 9 };
+enum { CALLS = sizeof calls / sizeof calls[0], INPUTS = 300, OFFSETS = 16, SLICES = 12, OF_NUMBERS = 11 };
 
 /* ---- Inputs, and the slices of one, each at an offset of its own. */
 
 static struct input {
-    uint8_t request[LEAST_ROOM], matrix[STATION_MATRIX];
+    uint8_t request[LEAST_ROOM], matrix[STATION_MATRIX], pipe[STATION_PIPE];
     float numbers[STATION_METER];
     struct chip chip;
-    size_t length;
+    size_t length, in_pipe;
     uint8_t address, value;
     struct pairs list;
 } inputs[INPUTS];
@@ -94,6 +99,17 @@ static void make_export(struct input *n, int i) {
     if (i % 9 == 8) memset(&n->numbers[i % STATION_METER], 0xFF, sizeof n->numbers[0]);
 }
 
+/* The front of the request in a pipe, for its rest to come as a part: nothing, a part or all of it; some of them answered, or no pipe. */
+static void make_pipe(struct input *n, int i) {
+    size_t most = n->length < STATION_REQUEST ? n->length : STATION_REQUEST;
+    n->in_pipe = i % 4 == 0 ? 0 : i % 4 == 1 ? most : any((uint32_t)most + 1);
+    memset(n->pipe, 0, sizeof n->pipe);
+    memcpy(n->pipe, n->request, n->in_pipe);
+    n->pipe[STATION_REQUEST] = (uint8_t)n->in_pipe;
+    if (i % 9 == 7) n->pipe[STATION_REQUEST + 1] = (uint8_t)any(256);
+    if (i % 9 == 8) n->pipe[STATION_REQUEST] = (uint8_t)any(256);
+}
+
 static void make_inputs(void) {
     seed(11);
     for (int i = 0; i < INPUTS; i++) {
@@ -110,6 +126,7 @@ static void make_inputs(void) {
         n->address = i % 7 ? (uint8_t)any(256) : 0x1A, n->value = (uint8_t)any(256);
         make_list(n, i % 5 == 0);
         make_export(n, i);
+        make_pipe(n, i);
     }
 }
 
@@ -117,9 +134,10 @@ struct room { uint8_t bytes[SLICES][STATION_LIST + 64]; } __attribute__((aligned
 
 static struct slices lay(struct room *r, const struct input *n, int offset) {
     memset(r, 0x5A, sizeof *r);
-    struct slices s = { .length = n->length, .list_length = n->list.length, .address = n->address, .value = n->value };
-    uint8_t **const at[SLICES] = { &s.request, &s.image, &s.packet, &s.coefficients, &s.mark,
-                                   &s.matrix,  &s.writes, &s.back, &s.list, [OF_NUMBERS] = &s.numbers };
+    struct slices s = { .length = n->length, .list_length = n->list.length, .part_length = n->length - n->in_pipe,
+                        .address = n->address, .value = n->value };
+    uint8_t **const at[SLICES] = { &s.request, &s.image, &s.packet, &s.coefficients, &s.mark, &s.matrix,
+                                   &s.writes, &s.back, &s.list, &s.pipe, &s.part, [OF_NUMBERS] = &s.numbers };
     for (int k = 0; k < SLICES; k++) *at[k] = r->bytes[k] + (offset ? (offset + k) % OFFSETS : 0);
     s.numbers = r->bytes[OF_NUMBERS] + offset * sizeof(float) % OFFSETS;
     memcpy(s.request, n->request, n->length);
@@ -129,6 +147,8 @@ static struct slices lay(struct room *r, const struct input *n, int offset) {
     *s.mark = n->chip.mark;
     memcpy(s.matrix, n->matrix, sizeof n->matrix);
     memcpy(s.list, n->list.bytes, n->list.length);
+    memcpy(s.pipe, n->pipe, sizeof n->pipe);
+    memcpy(s.part, n->request + n->in_pipe, s.part_length);
     memcpy(s.numbers, n->numbers, sizeof n->numbers);
     return s;
 }
@@ -138,8 +158,8 @@ struct outcome { struct answer a; uint8_t left[SLICES][STATION_IMAGE]; };
 static void run_one(int call, const struct input *n, int offset, struct outcome *o) {
     struct room r;
     struct slices s = lay(&r, n, offset);
-    const uint8_t *const at[SLICES] = { s.request, s.image, s.packet, s.coefficients, s.mark, s.matrix, s.writes, s.back, s.list,
-                                        [OF_NUMBERS] = s.numbers };
+    const uint8_t *const at[SLICES] = { s.request, s.image, s.packet, s.coefficients, s.mark, s.matrix, s.writes, s.back, s.list, s.pipe,
+                                        s.part, [OF_NUMBERS] = s.numbers };
     memset(o, 0, sizeof *o);
     calls[call].call(&s, &o->a);
     for (int k = 0; k < SLICES; k++) memcpy(o->left[k], at[k], STATION_IMAGE);
@@ -273,6 +293,25 @@ static void names_of_a_meter(void) {
     tell(station_meter(large, STATION_METER, m, sizeof m).refusal == STATION_NO_MODE_FITS, "STATION_NO_MODE_FITS");
 }
 
+static void names_of_a_pipe(void) {
+    uint8_t request[LONGEST], pipe[STATION_PIPE + 1] = { 0 };
+    size_t length = model_bytes(&example, request);
+    tell(station_pipe_end(pipe, STATION_PIPE - 1).refusal == STATION_IMAGE_LENGTH &&
+             station_pipe_end(pipe, STATION_PIPE + 1).refusal == STATION_IMAGE_LENGTH,
+         "STATION_PIPE is a pipe's length");
+    struct station_piped p = station_pipe_take(pipe, STATION_PIPE, request, length);
+    tell(!p.answered && !memcmp(pipe, request, length) && pipe[STATION_REQUEST] == length && pipe[STATION_REQUEST + 1] == 0,
+         "zeros are a fresh pipe; its front has the part, byte STATION_REQUEST the count");
+    p = station_pipe_end(pipe, STATION_PIPE);
+    tell(p.answered && p.refusal == STATION_ACCEPTED && p.count == length && pipe[STATION_REQUEST + 1] == 255, "255 is accepted");
+    memset(pipe, 0, sizeof pipe);
+    p = station_pipe_end(pipe, STATION_PIPE);
+    tell(p.answered && p.refusal == STATION_INPUT_ENDS && pipe[STATION_REQUEST + 1] == STATION_INPUT_ENDS, "a refusal is its number");
+    pipe[STATION_REQUEST] = STATION_REQUEST + 1;
+    p = station_pipe_end(pipe, STATION_PIPE);
+    tell(!p.answered && p.refusal == STATION_IMAGE_LENGTH, "STATION_REQUEST is the largest count");
+}
+
 static void names(void) {
     uint8_t request[LONGEST], writes[STATION_WRITES], back[STATION_REQUEST], m[STATION_MATRIX];
     size_t length = model_bytes(&example, request);
@@ -308,6 +347,7 @@ static void names(void) {
     tell(VET(STATION_LIST + 2) == STATION_LIST_LENGTH, "STATION_LIST is the longest list");
     tell(strcmp(station_text(STATION_NO_MODE_FITS), station_text(STATION_NO_MODE_FITS + 1)) != 0, "station_text knows its last number");
     names_of_a_meter();
+    names_of_a_pipe();
 }
 
 int facts(void) {

@@ -202,6 +202,35 @@ struct station_count check_meter(const uint32_t *numbers, size_t count, const ui
     return want;
 }
 
+/* The pipe is lent as it is; `after` gets what the model leaves of it, and may be the pipe itself. */
+static void compare_pipe(const char *what, struct station_piped got, struct station_piped want) {
+    if (got.refusal != want.refusal || got.answered != want.answered || got.count != want.count)
+        differs("%s: %u, answered %u, count %u, the model has %u, %u, %u", what, got.refusal, got.answered, got.count, want.refusal,
+                want.answered, want.count);
+    else if (!holds(PIPE, expected)) differs("%s: the pipe is another", what);
+}
+
+struct station_piped check_take(const uint8_t *pipe, size_t pl, const uint8_t *part, size_t l, uint8_t *after) {
+    run.now->cases++;
+    memcpy(expected, pipe, pl);
+    struct station_piped want = model_pipe_take(expected, pl, part, l);
+    uint8_t *lent_pipe = lend(PIPE, pipe, pl, side()), *lent_part = lend(PART, part, l, side());
+    compare_pipe("a part", run.f->pipe_take(lent_pipe, pl, lent_part, l), want);
+    if (!holds(PART, part)) differs("the part was changed");
+    memcpy(after, expected, pl);
+    return want;
+}
+
+struct station_piped check_end(const uint8_t *pipe, size_t pl, uint8_t *after) {
+    run.now->cases++;
+    memcpy(expected, pipe, pl);
+    struct station_piped want = model_pipe_end(expected, pl);
+    uint8_t *lent_pipe = lend(PIPE, pipe, pl, side());
+    compare_pipe("the end", run.f->pipe_end(lent_pipe, pl), want);
+    memcpy(after, expected, pl);
+    return want;
+}
+
 /* How often each verdict was met: by its number, 15 by the rule that is broken. */
 enum { VERDICTS = 17 };
 static uint32_t verdicts[VERDICTS], broken[RULES];
@@ -451,7 +480,7 @@ static void lengths_of_state(const struct slices *s, const uint8_t *buffer, size
 
 /* Every length of every buffer up to 600, and the order of the refusals where two apply. */
 static void lengths(void) {
-    static uint8_t image[600], buffer[600], packet[64], coefficients[64], mark[64];
+    static uint8_t image[600], buffer[600], packet[64], coefficients[64], mark[64], pipe[PIPE_BYTES], after[600];
     static uint32_t numbers[600];                           /* zeros, but for one that fits no mode, and one that is none */
     const struct slices s = { image, 256, packet, 32, coefficients, 24, mark, 1 };
     uint8_t request[LONGEST];
@@ -486,6 +515,9 @@ static void lengths(void) {
             check_meter(numbers, 12, buffer, n);
             check_meter(numbers, 11, buffer, n);
             check_vet(&s, buffer, n);
+            check_take(buffer, n, request, rl, after);
+            check_take(pipe, sizeof pipe, buffer, n, after);
+            check_end(buffer, n, after);
             lengths_of_state(&s, buffer, n);
         }
     }
@@ -1197,6 +1229,8 @@ static const struct { const char *name; void (*run)(void); } sections[SECTIONS] 
     { "preview", preview },
     { "a meter: by hand, near ties", meters },
     { "a meter: noise, every NaN", many_meters },
+    { "a pipe: by hand, any bytes", pipes },
+    { "a pipe: every cut", cut_requests },
     { "lists: by hand, and our own", own_lists },
     { "lists of ours, a change each", changed_lists },
     { "lists of a vendor", vendors },

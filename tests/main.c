@@ -1,7 +1,7 @@
 /* tests: `tests lib` compares the library with the model; `tests self` the model with itself, which tries the harness; `tests wrong` runs
- * every wrong library of tests/wrong and says how many were caught, after ten right ones (the model, the two plain ones of bench/, and
+ * every wrong library of tests/wrong and says how many were caught, after eleven right ones (the model, the two plain ones of bench/, and
  * the planner of wrong/fewer.c, the machine of wrong/mark.c, the judge of wrong/vet.c, the libraries of wrong/chain.c, wrong/depth.c and
- * wrong/edition.c and the matrices of wrong/meter.c without a fault).
+ * wrong/edition.c, the matrices of wrong/meter.c and the pipe of wrong/pipe.c without a fault).
  * `tests facts` is what station.h says of sizes, alignment, threads and stack. Each ends with 'N passed, M failed'. `tests line` and
  * `tests verdict` print what the programs `desk` and `vet` should print, `tests input` writes inputs for `vet`. */
 #include "../bench/plain.h"
@@ -15,10 +15,10 @@
 
 static const struct face model = { model_plan, model_decode, model_ncts,    model_write, model_vsync, model_sent,
                                    model_mute, model_matrix, model_preview, model_class, model_vet,
-                                   model_meter };
+                                   model_meter, model_pipe_take, model_pipe_end };
 static const struct face library = { station_plan, station_decode, station_ncts,    station_write, station_vsync, station_sent,
                                      station_mute, station_matrix, station_preview, station_class, station_vet,
-                                     station_meter };
+                                     station_meter, station_pipe_take, station_pipe_end };
 
 static int compared(const char *what, const struct face *f, unsigned share) {
     struct section s[SECTIONS];
@@ -51,7 +51,8 @@ static const struct { const char *what; void (*put)(struct face *); unsigned sha
     { "the library of wrong/chain.c without a fault", put_right_library, 5 * SHARE, ALL, SECTIONS },
     { "the library of wrong/depth.c without a fault", put_right_depths, 5 * SHARE, ALL, SECTIONS },
     { "the library of wrong/edition.c without a fault", put_right_editions, 5 * SHARE, ALL, SECTIONS },
-    { "the matrices of wrong/meter.c without a fault", put_right_meter, 5 * SHARE, ON_METER, ON_LISTS },
+    { "the matrices of wrong/meter.c without a fault", put_right_meter, 5 * SHARE, ON_METER, ON_PIPES },
+    { "the pipe of wrong/pipe.c without a fault", put_right_pipe, 5 * SHARE, ON_PIPES, ON_LISTS },
 };
 enum { RIGHT = sizeof right / sizeof right[0] };
 
@@ -67,7 +68,7 @@ static void say(int caught, const char *what) { printf("  %-6s %-48.48s %.100s\n
 /* Of each `of` libraries, right ones and wrong ones, number `part`: so several processors may share them. */
 static int caught(int part, int of) {
     struct section s[SECTIONS];
-    int all = 0, missed = 0, cuts = 0, chains = 0, only = 0, control = 0, tried = 0, next = 0;
+    int all = 0, missed = 0, cuts = 0, chains = 0, only = 0, parts = 0, control = 0, tried = 0, next = 0;
     printf("wrong libraries, each with one fault\n");
     for (int i = 0; i < RIGHT; i++) {
         struct face f = model;
@@ -96,11 +97,16 @@ static int caught(int part, int of) {
                 only += bad;
                 if (!bad) say(bad, "  the same, which demand 3 should not show");
             }
+            if (bad && (w->alone & BY_PARTS)) {         /* which requests cut into parts must show without the model */
+                bad = shown(w, ON_PARTS, ON_LISTS, SHARE);
+                parts += bad;
+                if (!bad) say(bad, "  the same, by cut requests alone");
+            }
             missed += bad == 0;
             fflush(stdout);
         }
-    printf("  %d of %d wrong libraries caught, %d of them by demand 3 alone as well, %d by chains alone, %d of these not by demand 3\n",
-           all - missed, all, cuts, chains, only);
+    printf("  %d of %d wrong libraries caught, %d of them by demand 3 alone as well, %d by chains alone, %d of these not by demand 3, "
+           "%d by cut requests alone\n", all - missed, all, cuts, chains, only, parts);
     printf("%d passed, %d failed\n", all - missed + tried - control, missed + control);
     return missed != 0 || control != 0;
 }

@@ -1,5 +1,6 @@
 /* The C face by the model: lengths, the order of the refusals, what is written to the lent buffers. */
 #include "model.h"
+#include <stdlib.h>
 #include <string.h>
 
 struct station_count model_plan(const uint8_t *request, size_t request_length, const uint8_t *image, size_t image_length, uint8_t *writes,
@@ -140,4 +141,39 @@ struct station_count model_meter(const float *numbers, size_t count, uint8_t *ma
         matrix[2 + 2 * i] = (uint8_t)two;
     }
     return (struct station_count){ 0, MATRIX_BYTES };
+}
+
+/* Bytes that are no pipe; and what a pipe says. */
+static int no_pipe(const uint8_t *pipe, size_t length) { return length != PIPE_BYTES || pipe[COUNT_AT] > LONGEST; }
+
+static struct station_piped piped(const uint8_t *pipe) {
+    if (pipe[ANSWER_AT] == 0) return (struct station_piped){ 0, 0, 0 };
+    if (pipe[ANSWER_AT] == PIPE_ACCEPTED) return (struct station_piped){ 0, 1, pipe[COUNT_AT] };
+    return (struct station_piped){ pipe[ANSWER_AT], 1, 0 };
+}
+
+static void answer(uint8_t *pipe, uint32_t number) { pipe[ANSWER_AT] = (uint8_t)(number ? number : PIPE_ACCEPTED); }
+
+struct station_piped model_pipe_take(uint8_t *pipe, size_t pipe_length, const uint8_t *part, size_t part_length) {
+    if (no_pipe(pipe, pipe_length)) return (struct station_piped){ 7, 0, 0 };
+    if (pipe[ANSWER_AT] != 0) return piped(pipe);
+    size_t so_far = pipe[COUNT_AT], length = so_far + part_length;
+    uint8_t *joined = malloc(length + 1);
+    if (!joined) abort();
+    memcpy(joined, pipe, so_far);
+    if (part_length) memcpy(joined + so_far, part, part_length);
+    if (model_final(joined, length)) answer(pipe, model_number(joined, length));
+    else if (length > LONGEST) abort();                     /* cannot be: so many bytes hold a bad count, or one too many */
+    else {
+        memcpy(pipe, joined, length);
+        pipe[COUNT_AT] = (uint8_t)length;
+    }
+    free(joined);
+    return piped(pipe);
+}
+
+struct station_piped model_pipe_end(uint8_t *pipe, size_t pipe_length) {
+    if (no_pipe(pipe, pipe_length)) return (struct station_piped){ 7, 0, 0 };
+    if (pipe[ANSWER_AT] == 0) answer(pipe, model_number(pipe, pipe[COUNT_AT]));
+    return piped(pipe);
 }

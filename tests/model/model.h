@@ -130,6 +130,12 @@ int             model_is_offset(int place);
 int             model_metered(uint32_t number, int place, int mode, int *field);
 uint32_t        model_matrix_of(const uint32_t *numbers, int *mode, int *fields);
 
+/* pipe.c: the number that N and CTS give for these bytes, 0 for none; and whether it stays, whatever bytes come after them. The places in a
+ * pipe, its length, and the answer that is no refusal. */
+enum { COUNT_AT = LONGEST, ANSWER_AT, PIPE_BYTES, PIPE_ACCEPTED = 255 };
+uint32_t model_number(const uint8_t *bytes, size_t length);
+int      model_final(const uint8_t *bytes, size_t length);
+
 /* face.c: the C face, by the model. */
 struct station_count model_plan(const uint8_t *, size_t, const uint8_t *, size_t, uint8_t *, size_t);
 struct station_count model_decode(const uint8_t *, size_t, uint8_t *, size_t);
@@ -144,5 +150,7 @@ struct station_masks model_class(uint8_t);
 struct station_verdict model_vet(const uint8_t *, size_t, const uint8_t *, size_t, const uint8_t *, size_t, uint8_t, const uint8_t *,
                                  size_t);
 struct station_count model_meter(const float *, size_t, uint8_t *, size_t);
+struct station_piped model_pipe_take(uint8_t *, size_t, const uint8_t *, size_t);
+struct station_piped model_pipe_end(uint8_t *, size_t);
 
 #endif

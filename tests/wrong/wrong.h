@@ -6,15 +6,15 @@
 #include <string.h>
 
 /* `alone`: what must catch it by itself. 1, `on_cuts` in the tables: the replay of the cuts. BY_CHAINS: the chains of requests; with
- * NOT_BY_CUTS the cuts, which plan the same request again, must not show it. */
+ * NOT_BY_CUTS the cuts, which plan the same request again, must not show it. BY_PARTS: requests cut into parts, without the model. */
 struct wrong { const char *fault; void (*put)(struct face *); int alone; };
-enum { BY_CUTS = 1, BY_CHAINS = 2, NOT_BY_CUTS = 4, BY_CHAINS_ALONE = BY_CHAINS | NOT_BY_CUTS };
+enum { BY_CUTS = 1, BY_CHAINS = 2, NOT_BY_CUTS = 4, BY_PARTS = 8, BY_CHAINS_ALONE = BY_CHAINS | NOT_BY_CUTS };
 extern const struct wrong wrong_plans[], wrong_fewer[], wrong_numbers[], wrong_decodes[], wrong_machines[], wrong_marks[], wrong_views[],
-    wrong_vets[], wrong_chains[], wrong_depths[], wrong_editions[], wrong_meters[];
+    wrong_vets[], wrong_chains[], wrong_depths[], wrong_editions[], wrong_meters[], wrong_pipes[];
 /* The sets, the last without rows; `first` is the section of the harness to begin with. */
 extern const struct wrong_set { const struct wrong *rows; int first; } wrong_sets[];
 /* The planner of wrong/fewer.c, the machine of wrong/mark.c, the judge of wrong/vet.c, the libraries of wrong/chain.c, wrong/depth.c and
- * wrong/edition.c and the matrices of wrong/meter.c, without a fault: they must not be caught. */
+ * wrong/edition.c, the matrices of wrong/meter.c and the pipe of wrong/pipe.c, without a fault: they must not be caught. */
 void put_right_planner(struct face *f);
 void put_right_machine(struct face *f);
 void put_right_judge(struct face *f);
@@ -22,6 +22,7 @@ void put_right_library(struct face *f);
 void put_right_depths(struct face *f);
 void put_right_editions(struct face *f);
 void put_right_meter(struct face *f);
+void put_right_pipe(struct face *f);
 
 /* The argument lists that are long. */
 #define PLAN_ARGUMENTS const uint8_t *r, size_t rl, const uint8_t *i, size_t il, uint8_t *w, size_t wl
