@@ -114,17 +114,17 @@ struct station_pixel station_preview(const uint8_t *matrix, size_t length, uint3
  * rounded on the way. Refusals 5 (not STATION_METER numbers), 10 (fewer than 25 bytes), 18 and 19. */
 struct station_count station_meter(const float *numbers, size_t count, uint8_t *matrix, size_t matrix_length);
 
-/* A request that arrives in parts, as a pipe delivers them. A pipe is STATION_PIPE bytes of the host's, all 0 for a fresh one: the bytes so
- * far, their count in byte STATION_REQUEST, and in the byte after it the answer, 0 for none yet, 255 for accepted, else the refusal. One pipe
- * takes one request.
- * station_pipe_take takes a part of any length, an empty one too; station_pipe_end says that the input has ended, which only the host knows.
- * `answered` 0: none yet, go on. `answered` 1: `refusal` is the one that station_ncts gives for the parts joined, or 0, and then `count`
- * bytes at the front of the pipe are the request, ready for station_plan(pipe, count, ..). Refusals 2 and 3, which no later byte changes, are
- * answered by the part that holds the deciding byte; every other answer, acceptance too, by the end. An answer stays: parts after it are
- * ignored, and so are parts and ends after the end. A part that is answered, or ignored, is not kept: the answer's byte is the only one that
- * changes, and once there it does not.
- * Any bytes may be lent as a pipe: 7, with `answered` 0 and no byte changed, for another length and for a count above STATION_REQUEST, which
- * no call leaves. What some other hand wrote into a pipe is taken as it stands. */
+/* A request that arrives in parts, as a pipe delivers them. A pipe is STATION_PIPE bytes of the host's, all 0 for a fresh one: the request so
+ * far, the count of its bytes in byte STATION_REQUEST, and in the byte after it the answer, 0 for none yet, 255 for accepted, else the refusal.
+ * station_pipe_take takes a part of any length, an empty one too. station_pipe_end says that the input has ended, which the host alone knows.
+ * `answered` 1: `refusal` is the one that station_ncts gives for the parts joined, or 0, and then `count` bytes at the front of the pipe are
+ * the request, ready for station_plan(pipe, count, ..). `answered` 0 with `refusal` 0: none yet, go on.
+ * Refusals 2 and 3, which no later byte changes, are answered by the part that holds the deciding byte; every other answer, acceptance too, by
+ * the end. An answer stays: parts and ends after it are ignored, and say it again. A part that is answered at once is not kept; the answer's
+ * byte is the only one that changes.
+ * Any bytes may be lent as a pipe. 7, with `answered` 0 and no byte changed: another length, or a count above STATION_REQUEST, which no call
+ * leaves; stop there. What another hand has written into a pipe is taken as it stands: its bytes so far are judged with the next part, and an
+ * answer of its own is said as it is, any number. station_plan reads the bytes again, and trusts no pipe. */
 struct station_piped station_pipe_take(uint8_t *pipe, size_t pipe_length, const uint8_t *part, size_t part_length);
 struct station_piped station_pipe_end(uint8_t *pipe, size_t pipe_length);
 
