@@ -1,8 +1,8 @@
 -- Demand 1: zeros beside each refusal; the rest is cited. Assumes nothing.
-use mathlib.Core.Path.{_≡_, refl, sym, ap, _∙_}
+use mathlib.Core.Path.{_≡_, refl, ap, _∙_}
 use mathlib.Core.Logic.{_≢_}
 use mathlib.Core.Bool.{Bool, true, false, cond}
-use mathlib.Core.List.{List, []}
+use mathlib.Core.List.{List}
 use Prim.Native.Nat.{ℕ}
 use lib.Dec.{eqb}
 use Rattle.clock.specs.declared.Pair.{Pair}
@@ -15,8 +15,6 @@ use Rattle.request.specs.declared.Sound.{Sound}
 use Rattle.request.specs.declared.Sound.the-variants.{Off, On}
 use Rattle.request.specs.Read.{readOf, nctsOf, pairIn, pairFor}
 use Rattle.request.proofs.Coherent.{rows}
-use Rattle.pipe.specs.Bytes.{answerIn, withAnswer}
-use Rattle.pipe.proofs.Grows.{any-pipe, none-taken, none-ended}
 use Rattle.line.proofs.Given.{lines}
 use Rattle.chip.specs.Write.{lentAs}
 use Rattle.views.specs.Entry.{marked}
@@ -29,7 +27,6 @@ use Rattle.vendor.proofs.Judged.{vetted}
 use Rattle.station.specs.declared.CountOut.{CountOut}
 use Rattle.station.specs.declared.PairOut.{PairOut}
 use Rattle.station.specs.declared.PixelOut.{PixelOut}
-use Rattle.station.specs.declared.PipedOut.{PipedOut}
 use Rattle.station.specs.declared.machine.PartOut.{PartOut}
 use Rattle.station.specs.declared.machine.StateOut.{StateOut}
 use Rattle.station.specs.declared.machine.VerdictOut.{VerdictOut}
@@ -37,6 +34,7 @@ use Rattle.plan.specs.Plan.{planOf}
 use Rattle.plan.proofs.Ordered as planning
 use Rattle.decode.proofs.Answers as decoding
 use Rattle.promises.specs.AnyInput.{Demand1}
+use Rattle.promises.proofs.Piped.{pipe-refusals}
 
 -- ---- zeros beside a refusal
 
@@ -69,7 +67,7 @@ any-input = record {
   frames = frames.refusals;
   preview = preview.refusals;
   meter = meter.rule;
-  pipe = any-pipe;
+  pipe = pipe-refusals;
   write = entry.refusals;
   vsync = entry.turn-refusals;
   view = view.refusals;
@@ -91,18 +89,6 @@ any-input = record {
   stationMeter = λ numbers matrix left out p h.
       let u = meter.rule numbers matrix .nothing (λ z. h (ap (λ (o : CountOut). o .refusal) (p .0) ∙ z)) in
       (ap (λ (o : CountOut). o .count) (p .0) ∙ u .0, p .1 ∙ u .1);
-  stationPipeTake = λ pipe part left out p h.
-      let u = any-pipe pipe part .kept (λ z. h (ap (λ (o : PipedOut). o .refusal) (p .0) ∙ z)) in (
-        ap (λ (o : PipedOut). o .count) (p .0) ∙ u .0,
-        p .1 ∙ u .1 ∙ ap (λ (l : List ℕ). withAnswer pipe (answerIn l)) (sym (p .1)),
-        λ z. p .1 ∙ none-taken pipe part (λ y. h (ap (λ (o : PipedOut). o .refusal) (p .0) ∙ y)) (sym (ap (λ (o : PipedOut). o .answered) (p .0)) ∙ z),
-      );
-  stationPipeEnd = λ pipe left out p h.
-      let u = any-pipe pipe [] .keptAtEnd (λ z. h (ap (λ (o : PipedOut). o .refusal) (p .0) ∙ z)) in (
-        ap (λ (o : PipedOut). o .count) (p .0) ∙ u .0,
-        p .1 ∙ u .1 ∙ ap (λ (l : List ℕ). withAnswer pipe (answerIn l)) (sym (p .1)),
-        λ z. p .1 ∙ none-ended pipe (sym (ap (λ (o : PipedOut). o .answered) (p .0)) ∙ z),
-      );
   stationWrite = λ l left address value out p h. p .1 ∙ entry.refusals l address value .kept (λ z. h (p .0 ∙ z));
   stationVsync = λ l left out p h. p .1 ∙ entry.turn-refusals l .kept (λ z. h (p .0 ∙ z));
   stationSent = λ image packet which out p h.

@@ -16,16 +16,36 @@ use Rattle.clock.specs.Pairs.{noPair}
 use Rattle.request.specs.Read.{readOf, pairFor, nctsOf}
 use Rattle.writes.specs.List.{ready}
 use Rattle.plan.specs.Plan.{nothing, laterRefusal, planWith, bufferWith, planOf, planBuffer}
-use Rattle.plan.proofs.Ordered as planning
 use Rattle.line.specs.Line.{lineOf}
 use Rattle.line.specs.Words.{lineText, refusedText, answerText}
 use Rattle.pipe.specs.declared.Piped.{Piped}
 use Rattle.pipe.specs.Final.{refusalOf, Final}
-use Rattle.pipe.specs.Bytes.{refused}
+use Rattle.pipe.specs.Bytes.{answerIn, withAnswer, refused}
 use Rattle.pipe.specs.Found.{endOf, endPipe}
 use Rattle.pipe.specs.Pipe.{answerFor, joined, after}
+use Rattle.pipe.proofs.Grows.{any-pipe, none-taken, none-ended}
 use Rattle.pipe.proofs.Cut.{however-cut}
-use Rattle.promises.specs.Piped.{ThroughPipe}
+use Rattle.station.specs.declared.PipedOut.{PipedOut}
+use Rattle.promises.specs.Piped.{PipeRefusals, ThroughPipe}
+
+-- ---- demand 1
+pub pipe-refusals : (pipe part : List ℕ) → PipeRefusals pipe part
+pipe-refusals pipe part =
+    record {
+      any = any-pipe pipe part;
+      stationPipeTake = λ left out p h.
+          let u = any-pipe pipe part .kept (λ z. h (ap (λ (o : PipedOut). o .refusal) (p .0) ∙ z)) in (
+            ap (λ (o : PipedOut). o .count) (p .0) ∙ u .0,
+            p .1 ∙ u .1 ∙ ap (λ (l : List ℕ). withAnswer pipe (answerIn l)) (sym (p .1)),
+            λ z. p .1 ∙ none-taken pipe part (λ y. h (ap (λ (o : PipedOut). o .refusal) (p .0) ∙ y)) (sym (ap (λ (o : PipedOut). o .answered) (p .0)) ∙ z),
+          );
+      stationPipeEnd = λ left out p h.
+          let u = any-pipe pipe part .keptAtEnd (λ z. h (ap (λ (o : PipedOut). o .refusal) (p .0) ∙ z)) in (
+            ap (λ (o : PipedOut). o .count) (p .0) ∙ u .0,
+            p .1 ∙ u .1 ∙ ap (λ (l : List ℕ). withAnswer pipe (answerIn l)) (sym (p .1)),
+            λ z. p .1 ∙ none-ended pipe (sym (ap (λ (o : PipedOut). o .answered) (p .0)) ∙ z),
+          );
+    }
 
 -- ---- planning: a request has the number of its bytes, or else that of its pair
 module _ (input : List ℕ) where

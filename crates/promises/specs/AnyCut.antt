@@ -64,7 +64,6 @@ pub record AnyCut (input buffer : List ℕ) (s : Chip) : Type 0 where
   -- in a finished run, as those of a finished run without a cut
   pub bytesAgain : (l : Lent) → LentSized l → stateOf l ≡ s → (cs : List Cut) (buffers : ℕ → List ℕ) (room : List ℕ)
       → ((i : ℕ) → 256 ≤ length (buffers i)) → 256 ≤ length room → PlannedBytes input cs buffers l
-      → let t : Lent = enteredCuts cs l in
-      Again input (t .image) room
+      → let t : Lent = enteredCuts cs l in Again input (t .image) room
       × ((es fs : List Event) → Finished (pairsLeft input (s .image) buffer) es → Finished (pairsLeft input (t .image) room) fs
       → Same (stateOf (entered es l)) (stateOf (entered fs t)))

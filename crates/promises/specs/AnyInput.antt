@@ -15,8 +15,6 @@ use Rattle.request.specs.Sections.{walked}
 use Rattle.request.specs.Request.{nctsRules}
 use Rattle.request.specs.Read.{nctsOf}
 use Rattle.request.specs.Theorems.{Rows}
-use Rattle.pipe.specs.Bytes.{answerIn, withAnswer}
-use Rattle.pipe.specs.Pipe.{AnyPipe}
 use Rattle.line.specs.Line.{lineOf}
 use Rattle.chip.specs.declared.Chip.{Chip}
 use Rattle.views.specs.Entry.{Lent}
@@ -28,12 +26,12 @@ use Rattle.vendor.specs.Found.{vetOf}
 use Rattle.station.specs.declared.CountOut.{CountOut}
 use Rattle.station.specs.declared.PairOut.{PairOut}
 use Rattle.station.specs.declared.PixelOut.{PixelOut}
-use Rattle.station.specs.declared.PipedOut.{PipedOut}
 use Rattle.station.specs.declared.machine.PartOut.{PartOut}
 use Rattle.station.specs.declared.machine.StateOut.{StateOut}
 use Rattle.station.specs.declared.machine.VerdictOut.{VerdictOut}
-use Rattle.station.specs.Face.{StationPlan, StationDecode, StationNcts, StationPreview, StationMeter, StationPipeTake, StationPipeEnd}
+use Rattle.station.specs.Face.{StationPlan, StationDecode, StationNcts, StationPreview, StationMeter}
 use Rattle.station.specs.Machine.{StationWrite, StationVsync, StationSent, StationMute, StationMatrix, StationVet}
+use Rattle.promises.specs.Piped.{PipeRefusals}
 
 -- "A bad request gets a numbered refusal from the list in document 01, a count of zero, and every lent buffer unchanged." Each of these
 -- says that the number given is that of the first row that applies (`Given`), and what is left beside it. `Bytes` is true of every slice.
@@ -52,8 +50,8 @@ pub record Demand1 : Type 0 where
   pub preview : (matrix : List ℕ) → Bytes matrix → (a b c : ℕ) → PreviewRefusals matrix a b c
   -- a colour meter's numbers, 5, 10, 18 and 19 (`given`, `nothing`)
   pub meter : (numbers : List Float) (buffer : List ℕ) → MeterRule numbers buffer
-  -- a pipe, 7 of bytes that are none, and the request's own number as its answer, whose byte is the pipe's state (`none`, `kept`, `keptAtEnd`)
-  pub pipe : (pipe part : List ℕ) → AnyPipe pipe part
+  -- a pipe: 7 of bytes that are none, and the request's own number as its answer, whose byte is the pipe's state; and its two exported calls
+  pub pipe : (pipe part : List ℕ) → PipeRefusals pipe part
   -- a machine write, 7 and 13, and a Vsync, 7: a refused one changes nothing
   pub write : (l : Lent) (address value : ℕ) → WriteRefusals l address value
   pub vsync : (l : Lent) → VsyncRefusals l
@@ -72,11 +70,6 @@ pub record Demand1 : Type 0 where
       → out .refusal ≢ 0 → (out .a ≡ 0) × (out .b ≡ 0) × (out .c ≡ 0)
   pub stationMeter : (numbers : List Float) (matrix left : List ℕ) (out : CountOut) → StationMeter numbers matrix out left
       → out .refusal ≢ 0 → (out .count ≡ 0) × (left ≡ matrix)
-  -- a pipe: every byte but the answer's is as it was, and that one too where there is no answer
-  pub stationPipeTake : (pipe part left : List ℕ) (out : PipedOut) → StationPipeTake pipe part out left
-      → out .refusal ≢ 0 → (out .count ≡ 0) × (left ≡ withAnswer pipe (answerIn left)) × (out .answered ≡ 0 → left ≡ pipe)
-  pub stationPipeEnd : (pipe left : List ℕ) (out : PipedOut) → StationPipeEnd pipe out left
-      → out .refusal ≢ 0 → (out .count ≡ 0) × (left ≡ withAnswer pipe (answerIn left)) × (out .answered ≡ 0 → left ≡ pipe)
   pub stationWrite : (l left : Lent) (address value out : ℕ) → StationWrite l address value out left → out ≢ 0 → left ≡ l
   pub stationVsync : (l left : Lent) (out : ℕ) → StationVsync l out left → out ≢ 0 → left ≡ l
   pub stationSent : (image packet : List ℕ) (which : ℕ) (out : PartOut) → StationSent image packet which out

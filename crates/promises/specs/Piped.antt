@@ -1,4 +1,4 @@
--- Document 02, request 08: what an answer that a pipe gives is to planning, and to the small program's line.
+-- Document 02, request 08: demand 1 of a pipe; and what an answer that a pipe gives is to planning, and to the small program's line.
 use mathlib.Core.Path.{_≡_}
 use mathlib.Core.Logic.{_≢_}
 use mathlib.Core.Bool.{true}
@@ -8,11 +8,22 @@ use lib.ListN.{take}
 use Rattle.lists.specs.Among.{among}
 use Rattle.matrix.specs.Matrix.{Bytes}
 use Rattle.pipe.specs.Final.{refusalOf}
-use Rattle.pipe.specs.Bytes.{refused}
+use Rattle.pipe.specs.Bytes.{answerIn, withAnswer, refused}
 use Rattle.pipe.specs.Found.{takeOf, endOf, endPipe}
-use Rattle.pipe.specs.Pipe.{joined, after}
+use Rattle.pipe.specs.Pipe.{AnyPipe, joined, after}
 use Rattle.line.specs.Words.{lineText, answerText}
 use Rattle.plan.specs.Plan.{planOf}
+use Rattle.station.specs.declared.PipedOut.{PipedOut}
+use Rattle.station.specs.Face.{StationPipeTake, StationPipeEnd}
+
+-- demand 1: what any bytes make of a part and of the end (`kept`, `keptAtEnd`); and of the exported calls, beside a refusal a count of zero, every
+-- byte as it was but for the answer's, and that one too where there is no answer
+pub record PipeRefusals (pipe part : List ℕ) : Type 0 where
+  pub any : AnyPipe pipe part
+  pub stationPipeTake : (left : List ℕ) (out : PipedOut) → StationPipeTake pipe part out left
+      → out .refusal ≢ 0 → (out .count ≡ 0) × (left ≡ withAnswer pipe (answerIn left)) × (out .answered ≡ 0 → left ≡ pipe)
+  pub stationPipeEnd : (left : List ℕ) (out : PipedOut) → StationPipeEnd pipe out left
+      → out .refusal ≢ 0 → (out .count ≡ 0) × (left ≡ withAnswer pipe (answerIn left)) × (out .answered ≡ 0 → left ≡ pipe)
 
 pub record ThroughPipe (parts : List (List ℕ)) : Type 0 where
   -- a request that is accepted, taken from the pipe's front, is planned as the joined bytes are; no row but 7, 8 and 10 can refuse it then,
