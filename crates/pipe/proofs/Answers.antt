@@ -16,77 +16,66 @@ use Rattle.request.proofs.Cut.{lengths}
 use Rattle.pipe.specs.declared.Piped.{Piped}
 use Rattle.pipe.specs.Final.{refusalOf}
 use Rattle.pipe.specs.Bytes.{countIn, answerIn, soFar, refused, notYet, noPipe, saidBy, answerByte, withAnswer}
-use Rattle.pipe.specs.Found.{isPipe, early, kept}
+use Rattle.pipe.specs.Found.{isOpen, standing, early, kept, endByte}
 use Rattle.pipe.specs.Found.{takeOf, takePipe, endOf, endPipe, Takes, Ends}
 use Rattle.pipe.proofs.Early.{TwoOrThree, long, early-is, is-early, not-early}
 
--- bytes that are no pipe
-pub no-taking : (pipe part : List ℕ) → isPipe pipe ≡ false → Takes pipe part noPipe pipe
+-- not open: what stands there is said, and no byte is changed
+pub taking-nothing : (pipe part : List ℕ) → isOpen pipe ≡ false → Takes pipe part (standing pipe) pipe
 unfolding takeOf takePipe
-no-taking pipe part f = (rw f, rw f)
+taking-nothing pipe part f = (rw f, rw f)
 
-pub no-ending : (pipe : List ℕ) → isPipe pipe ≡ false → Ends pipe noPipe pipe
+pub ending-nothing : (pipe : List ℕ) → isOpen pipe ≡ false → Ends pipe (standing pipe) pipe
 unfolding endOf endPipe
-no-ending pipe f = (rw f, rw f)
-
--- an answer that is there
-pub taking-ignored : (pipe part : List ℕ) → isPipe pipe ≡ true → answerIn pipe ≢ 0 → Takes pipe part (saidBy (answerIn pipe) (countIn pipe)) pipe
-unfolding takeOf takePipe
-taking-ignored pipe part t z = (rw (t, ne-eqb (answerIn pipe) 0 z), rw (t, ne-eqb (answerIn pipe) 0 z))
-
-pub ending-ignored : (pipe : List ℕ) → isPipe pipe ≡ true → answerIn pipe ≢ 0 → Ends pipe (saidBy (answerIn pipe) (countIn pipe)) pipe
-unfolding endOf endPipe
-ending-ignored pipe t z =
-    (rw (t, ne-eqb (answerIn pipe) 0 z), rw (t, ne-eqb (answerIn pipe) 0 z) (sym (set-getD pipe (suc longest) 0)))
+ending-nothing pipe f = (rw f, rw f)
 
 -- the end of an open one
-pub ending : (pipe : List ℕ) → isPipe pipe ≡ true → answerIn pipe ≡ 0
-    → let byte : ℕ = answerByte (refusalOf (soFar pipe)) in Ends pipe (saidBy byte (countIn pipe)) (withAnswer pipe byte)
+pub ending : (pipe : List ℕ) → isOpen pipe ≡ true → Ends pipe (saidBy (endByte pipe) (countIn pipe)) (withAnswer pipe (endByte pipe))
 unfolding endOf endPipe
-ending pipe t z = (rw (t, eq-eqb (answerIn pipe) 0 z), rw (t, eq-eqb (answerIn pipe) 0 z))
+ending pipe t = (rw t, rw t)
 
 -- as many bytes as decide have the number of all
 pub decides : (input : List ℕ) → refusalOf (take (suc longest) input) ≡ refusalOf input
 decides input = ap (λ p. p .refusal) (lengths input .ncts (suc longest) (omega arith))
 
 -- a part that decides
-pub taking-early : (pipe part : List ℕ) (n : ℕ) → isPipe pipe ≡ true → answerIn pipe ≡ 0 → n ≡ refusalOf (soFar pipe ++ part) → TwoOrThree n
+pub taking-early : (pipe part : List ℕ) (n : ℕ) → isOpen pipe ≡ true → n ≡ refusalOf (soFar pipe ++ part) → TwoOrThree n
     → Takes pipe part (refused n) (withAnswer pipe n)
 unfolding takeOf takePipe
-taking-early pipe part n t z e h =
+taking-early pipe part n t e h =
     let k : early (refusalOf (soFar pipe ++ part)) ≡ n = ap early (sym e) ∙ early-is n h in
     let s : n ≢ 0 = some h in
-    (rw (t, eq-eqb (answerIn pipe) 0 z, k, ne-eqb n 0 s), rw (t, eq-eqb (answerIn pipe) 0 z, k, ne-eqb n 0 s))
+    (rw (t, k, ne-eqb n 0 s), rw (t, k, ne-eqb n 0 s))
   where
     some : TwoOrThree n → n ≢ 0
     some (inl h) z = omega arith
     some (inr h) z = omega arith
 
 -- one that does not
-pub taking-on : (pipe part : List ℕ) → isPipe pipe ≡ true → answerIn pipe ≡ 0 → (TwoOrThree (refusalOf (soFar pipe ++ part)) → ⊥)
+pub taking-on : (pipe part : List ℕ) → isOpen pipe ≡ true → (TwoOrThree (refusalOf (soFar pipe ++ part)) → ⊥)
     → Takes pipe part notYet (kept pipe part)
 unfolding takeOf takePipe
-taking-on pipe part t z h =
+taking-on pipe part t h =
     let k : early (refusalOf (soFar pipe ++ part)) ≡ 0 = late (refusalOf (soFar pipe ++ part)) h in
-    (rw (t, eq-eqb (answerIn pipe) 0 z, k), rw (t, eq-eqb (answerIn pipe) 0 z, k))
+    (rw (t, k), rw (t, k))
   where
     late : (n : ℕ) → (TwoOrThree n → ⊥) → early n ≡ 0
     late n h = rw (ne-eqb n 2 (λ e. h (inl e)), ne-eqb n 3 (λ e. h (inr e)))
 
 -- the same of the bytes that are judged
-module _ (pipe part front : List ℕ) (n : ℕ) (t : isPipe pipe ≡ true) (z : answerIn pipe ≡ 0)
+module _ (pipe part front : List ℕ) (n : ℕ) (t : isOpen pipe ≡ true)
     (f : front ≡ take (suc longest) (soFar pipe ++ part)) (e : n ≡ refusalOf front) where
   of-all : n ≡ refusalOf (soFar pipe ++ part)
   of-all = e ∙ ap refusalOf f ∙ decides (soFar pipe ++ part)
 
   pub judged-early : (eqb n 2 || eqb n 3) ≡ true → Takes pipe part (refused n) (withAnswer pipe n)
-  judged-early b = taking-early pipe part n t z of-all (is-early n b)
+  judged-early b = taking-early pipe part n t of-all (is-early n b)
 
   pub judged-on : (r : ℕ) → r ≡ length front → (eqb n 2 || eqb n 3) ≡ false → Takes pipe part notYet (set (over front pipe) longest r)
   judged-on r l b =
       let none : TwoOrThree (refusalOf (soFar pipe ++ part)) → ⊥ = λ h. not-early n b (subst TwoOrThree (sym of-all) h) in
       let whole : front ≡ soFar pipe ++ part = f ∙ take-all (suc longest) (soFar pipe ++ part) (no-longer none) in
-      let m = taking-on pipe part t z none in
+      let m = taking-on pipe part t none in
       (m .0, ap (λ (s : List ℕ). set (over s pipe) longest r) whole ∙ ap (set (over (soFar pipe ++ part) pipe) longest) (l ∙ ap length whole) ∙ m .1)
     where
       no-longer : (TwoOrThree (refusalOf (soFar pipe ++ part)) → ⊥) → length (soFar pipe ++ part) ≤ suc longest

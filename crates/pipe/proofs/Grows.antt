@@ -16,13 +16,13 @@ use Rattle.request.specs.Sections.{longest}
 use Rattle.pipe.specs.declared.Piped.{Piped}
 use Rattle.pipe.specs.Final.{refusalOf, Final}
 use Rattle.pipe.specs.Bytes.{pipeLength, countIn, answerIn, soFar, refused, accepted, notYet, noPipe, saidBy, answerByte, withAnswer}
-use Rattle.pipe.specs.Found.{isPipe, givenAt, kept, endByte}
+use Rattle.pipe.specs.Found.{isPipe, isOpen, standing, givenAt, kept, endByte}
 use Rattle.pipe.specs.Found.{takeOf, takePipe, endOf, endPipe, Takes, Ends}
 use Rattle.pipe.specs.Pipe.{answerFor, NoPipe, IsPipe, Open, Grown, AnyPipe}
 use Rattle.pipe.proofs.Told.{small}
 use Rattle.pipe.proofs.Early.{TwoOrThree, either, long, final, its-own, one-of-two}
-use Rattle.pipe.proofs.Joined.{of-length, counted, a-pipe, length-so-far}
-use Rattle.pipe.proofs.Answers.{no-taking, no-ending, taking-ignored, ending-ignored, ending, taking-early, taking-on}
+use Rattle.pipe.proofs.Joined.{of-length, counted, a-pipe, open-is, is-open, not-open, length-so-far}
+use Rattle.pipe.proofs.Answers.{taking-nothing, ending-nothing, ending, taking-early, taking-on}
 
 -- the test says which
 pub is-pipe : (pipe : List ℕ) → IsPipe pipe → isPipe pipe ≡ true
@@ -30,6 +30,9 @@ is-pipe pipe h = a-pipe pipe (h .long) (h .counted)
 
 pub pipe-is : (pipe : List ℕ) → isPipe pipe ≡ true → IsPipe pipe
 pipe-is pipe t = record { long = of-length pipe t; counted = counted pipe t }
+
+it-is-open : (pipe : List ℕ) → Open pipe → isOpen pipe ≡ true
+it-is-open pipe o = is-open pipe (is-pipe pipe (o .one)) (o .unanswered)
 
 no-pipe : (pipe : List ℕ) → NoPipe pipe → isPipe pipe ≡ false
 no-pipe pipe (inl h) = rw (ne-eqb (length pipe) pipeLength h)
@@ -102,22 +105,27 @@ kept-by pipe byte count left e = go (eqb byte 255)
     go true h = absurd (h refl)
     go false h = (refl, e)
 
-its-byte : (pipe : List ℕ) (byte : ℕ) → isPipe pipe ≡ true → withAnswer pipe byte ≡ withAnswer pipe (answerIn (withAnswer pipe byte))
-its-byte pipe byte t = ap (withAnswer pipe) (sym (getD-set-same pipe (suc longest) byte 0 (omega (arith, of-length pipe t))))
+its-byte : (pipe : List ℕ) (byte : ℕ) → isOpen pipe ≡ true → withAnswer pipe byte ≡ withAnswer pipe (answerIn (withAnswer pipe byte))
+its-byte pipe byte t = ap (withAnswer pipe) (sym (getD-set-same pipe (suc longest) byte 0 (omega (arith, of-length pipe (open-is pipe t .0)))))
 
 own-byte : (pipe : List ℕ) → pipe ≡ withAnswer pipe (answerIn pipe)
 own-byte pipe = sym (set-getD pipe (suc longest) 0)
 
+kept-standing : (pipe : List ℕ) → Kept pipe (standing pipe) pipe
+kept-standing pipe = go (isPipe pipe)
+  where
+    go : (a : Bool) → Kept pipe (cond a (saidBy (answerIn pipe) (countIn pipe)) noPipe) pipe
+    go true = kept-by pipe (answerIn pipe) (countIn pipe) pipe (own-byte pipe)
+    go false = λ h. (refl, own-byte pipe)
+
 kept-taking : (pipe part : List ℕ) → Kept pipe (takeOf pipe part) (takePipe pipe part)
 unfolding takeOf takePipe
-kept-taking pipe part = go (isPipe pipe) refl (eqb (answerIn pipe) 0) (givenAt pipe part)
+kept-taking pipe part = go (isOpen pipe) refl (givenAt pipe part)
   where
-    go : (a : Bool) → isPipe pipe ≡ a → (b : Bool) (m : ℕ)
-        → Kept pipe (cond a (cond b (answer m refused notYet) (saidBy (answerIn pipe) (countIn pipe))) noPipe)
-        (cond a (cond b (answer m (withAnswer pipe) (kept pipe part)) pipe) pipe)
-    go false t b m = λ h. (refl, own-byte pipe)
-    go true t false m = kept-by pipe (answerIn pipe) (countIn pipe) pipe (own-byte pipe)
-    go true t true m = split (eqb m 0)
+    go : (a : Bool) → isOpen pipe ≡ a → (m : ℕ)
+        → Kept pipe (cond a (answer m refused notYet) (standing pipe)) (cond a (answer m (withAnswer pipe) (kept pipe part)) pipe)
+    go false t m = kept-standing pipe
+    go true t m = split (eqb m 0)
       where
         split : (z : Bool) → Kept pipe (cond z notYet (refused m)) (cond z (kept pipe part) (withAnswer pipe m))
         split true h = absurd (h refl)
@@ -125,18 +133,18 @@ kept-taking pipe part = go (isPipe pipe) refl (eqb (answerIn pipe) 0) (givenAt p
 
 kept-ending : (pipe : List ℕ) → Kept pipe (endOf pipe) (endPipe pipe)
 unfolding endOf endPipe
-kept-ending pipe = go (isPipe pipe) refl
+kept-ending pipe = go (isOpen pipe) refl
   where
-    go : (a : Bool) → isPipe pipe ≡ a → Kept pipe (cond a (saidBy (endByte pipe) (countIn pipe)) noPipe) (cond a (withAnswer pipe (endByte pipe)) pipe)
-    go false t = λ h. (refl, own-byte pipe)
+    go : (a : Bool) → isOpen pipe ≡ a → Kept pipe (cond a (saidBy (endByte pipe) (countIn pipe)) (standing pipe)) (cond a (withAnswer pipe (endByte pipe)) pipe)
+    go false t = kept-standing pipe
     go true t = kept-by pipe (endByte pipe) (countIn pipe) (withAnswer pipe (endByte pipe)) (its-byte pipe (endByte pipe) t)
 
 pub any-pipe : (pipe part : List ℕ) → AnyPipe pipe part
 any-pipe pipe part =
     record {
-      none = λ h. (no-taking pipe part (no-pipe pipe h), no-ending pipe (no-pipe pipe h));
-      stays = λ h z. (taking-ignored pipe part (is-pipe pipe h) z, ending-ignored pipe (is-pipe pipe h) z);
-      atOnce = λ o n f. taking-early pipe part n (is-pipe pipe (o .one)) (o .unanswered) (sym (its-own (soFar pipe ++ part) n f))
+      none = λ h. both noPipe (shut h) (rw (no-pipe pipe h));
+      stays = λ h z. both (saidBy (answerIn pipe) (countIn pipe)) (not-open pipe z) (rw (is-pipe pipe h));
+      atOnce = λ o n f. taking-early pipe part n (it-is-open pipe o) (sym (its-own (soFar pipe ++ part) n f))
           (subst TwoOrThree (its-own (soFar pipe ++ part) n f) (one-of-two (soFar pipe ++ part) n f));
       goesOn = λ o none. goes-on o (λ e. none (refusalOf (soFar pipe ++ part)) (final (soFar pipe ++ part) e));
       ends = λ o. the-end o;
@@ -144,9 +152,17 @@ any-pipe pipe part =
       keptAtEnd = kept-ending pipe;
     }
   where
+    -- where it is not open, both calls say what stands there
+    both : (p : Piped) → isOpen pipe ≡ false → standing pipe ≡ p → Takes pipe part p pipe × Ends pipe p pipe
+    both p f e =
+        subst (λ (q : Piped). Takes pipe part q pipe × Ends pipe q pipe) e (taking-nothing pipe part f, ending-nothing pipe f)
+
+    shut : NoPipe pipe → isOpen pipe ≡ false
+    shut h = rw (no-pipe pipe h)
+
     goes-on : Open pipe → (TwoOrThree (refusalOf (soFar pipe ++ part)) → ⊥) → (takeOf pipe part ≡ notYet) × Grown pipe part (takePipe pipe part)
     goes-on o none =
-        let m = taking-on pipe part (is-pipe pipe (o .one)) (o .unanswered) none in
+        let m = taking-on pipe part (it-is-open pipe o) none in
         let h : length (soFar pipe ++ part) ≤ longest = within-longest (soFar pipe ++ part) none in
         let l : length pipe ≡ pipeLength = o .one .long in
         let e : soFar (kept pipe part) ≡ soFar pipe ++ part = grown-so-far pipe (soFar pipe ++ part) l h in (
@@ -161,7 +177,7 @@ any-pipe pipe part =
     the-end : Open pipe → Ends pipe (answerFor (soFar pipe)) (withAnswer pipe (answerByte (refusalOf (soFar pipe))))
     the-end o =
         let t : isPipe pipe ≡ true = is-pipe pipe (o .one) in
-        let m = ending pipe t (o .unanswered) in
+        let m = ending pipe (it-is-open pipe o) in
         (ap (λ (n : ℕ). answer (refusalOf (soFar pipe)) refused (accepted n)) (length-so-far pipe t) ∙ sym (said (refusalOf (soFar pipe)) (countIn pipe) (small (soFar pipe))) ∙ m .0, m .1)
 
 -- a part that is not empty and is not answered leaves more bytes in the pipe
@@ -180,28 +196,34 @@ takes-more pipe part o z h = go (either (refusalOf (soFar pipe ++ part)))
         (m .still, omega (arith, length-so-far pipe (is-pipe pipe (o .one)), length-so-far left (is-pipe left (m .still .one)), ap length (m .grown), length-append (soFar pipe) part))
 
 -- the count of an answer is within the longest request
+said-within : (pipe : List ℕ) (byte : ℕ) → isPipe pipe ≡ true → saidBy byte (countIn pipe) .count ≤ longest
+said-within pipe byte t = go (eqb byte 255)
+  where
+    go : (b : Bool) → cond b (accepted (countIn pipe)) (refused byte) .count ≤ longest
+    go true = counted pipe t
+    go false = omega arith
+
 pub end-within : (pipe : List ℕ) → endOf pipe .count ≤ longest
 unfolding endOf
-end-within pipe = go (isPipe pipe) refl
+end-within pipe = go (isOpen pipe) refl
   where
-    go : (t : Bool) → isPipe pipe ≡ t → cond t (saidBy (endByte pipe) (countIn pipe)) noPipe .count ≤ longest
-    go true t = byte (eqb (endByte pipe) 255)
+    go : (a : Bool) → isOpen pipe ≡ a → cond a (saidBy (endByte pipe) (countIn pipe)) (standing pipe) .count ≤ longest
+    go true t = said-within pipe (endByte pipe) (open-is pipe t .0)
+    go false t = other (isPipe pipe) refl
       where
-        byte : (b : Bool) → cond b (accepted (countIn pipe)) (refused (endByte pipe)) .count ≤ longest
-        byte true = counted pipe t
-        byte false = omega arith
-    go false t = omega arith
+        other : (b : Bool) → isPipe pipe ≡ b → cond b (saidBy (answerIn pipe) (countIn pipe)) noPipe .count ≤ longest
+        other true t = said-within pipe (answerIn pipe) t
+        other false t = omega arith
 
 -- a refusal that is no answer leaves every byte
 pub none-taken : (pipe part : List ℕ) → takeOf pipe part .refusal ≢ 0 → takeOf pipe part .answered ≡ 0 → takePipe pipe part ≡ pipe
 unfolding takeOf takePipe
-none-taken pipe part = go (isPipe pipe) (eqb (answerIn pipe) 0) (givenAt pipe part)
+none-taken pipe part = go (isOpen pipe) (givenAt pipe part)
   where
-    go : (a b : Bool) (m : ℕ) → let out : Piped = cond a (cond b (answer m refused notYet) (saidBy (answerIn pipe) (countIn pipe))) noPipe in
-        out .refusal ≢ 0 → out .answered ≡ 0 → cond a (cond b (answer m (withAnswer pipe) (kept pipe part)) pipe) pipe ≡ pipe
-    go false b m h z = refl
-    go true false m h z = refl
-    go true true m h z = split (eqb m 0) h z
+    go : (a : Bool) (m : ℕ) → let out : Piped = cond a (answer m refused notYet) (standing pipe) in
+        out .refusal ≢ 0 → out .answered ≡ 0 → cond a (answer m (withAnswer pipe) (kept pipe part)) pipe ≡ pipe
+    go false m h z = refl
+    go true m h z = split (eqb m 0) h z
       where
         split : (c : Bool) → cond c notYet (refused m) .refusal ≢ 0 → cond c notYet (refused m) .answered ≡ 0
             → cond c (kept pipe part) (withAnswer pipe m) ≡ pipe
@@ -210,9 +232,9 @@ none-taken pipe part = go (isPipe pipe) (eqb (answerIn pipe) 0) (givenAt pipe pa
 
 pub none-ended : (pipe : List ℕ) → endOf pipe .answered ≡ 0 → endPipe pipe ≡ pipe
 unfolding endOf endPipe
-none-ended pipe = go (isPipe pipe)
+none-ended pipe = go (isOpen pipe)
   where
-    go : (a : Bool) → cond a (saidBy (endByte pipe) (countIn pipe)) noPipe .answered ≡ 0 → cond a (withAnswer pipe (endByte pipe)) pipe ≡ pipe
+    go : (a : Bool) → cond a (saidBy (endByte pipe) (countIn pipe)) (standing pipe) .answered ≡ 0 → cond a (withAnswer pipe (endByte pipe)) pipe ≡ pipe
     go false z = refl
     go true z = split (eqb (endByte pipe) 255) z
       where

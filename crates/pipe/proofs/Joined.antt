@@ -1,18 +1,18 @@
 -- Bytes put behind one another, and what a pipe's own test says. Assumes nothing.
 use mathlib.Core.Path.{_≡_, refl, sym, ap, _∙_}
-use mathlib.Core.Logic.{_⊎_, inl, inr}
-use mathlib.Core.Bool.{true, false, _&&_}
+use mathlib.Core.Logic.{_≢_, _⊎_, inl, inr}
+use mathlib.Core.Bool.{Bool, true, false, _&&_}
 use mathlib.Core.List.{List, _++_}
 use Prim.Native.Nat.{ℕ, suc, _+_, _-_, _≤_, _<_}
 use native.Mathlib.Omega.{arith}
 use lib.Dec.{eqb, leb}
 use lib.ListN.{length, take, length-append}
 use lib.Seq.{paste, take-paste, take-append-add, take-all, length-take-le}
-use borrow.Author.Tests.{eqb-true, leb-true, eq-eqb, le-leb}
+use borrow.Author.Tests.{eqb-true, leb-true, eq-eqb, ne-eqb, le-leb}
 use Rattle.lists.proofs.Both.{both-left, both-right}
 use Rattle.request.specs.Sections.{longest}
-use Rattle.pipe.specs.Bytes.{pipeLength, countIn, soFar}
-use Rattle.pipe.specs.Found.{isPipe}
+use Rattle.pipe.specs.Bytes.{pipeLength, countIn, answerIn, soFar}
+use Rattle.pipe.specs.Found.{isPipe, isOpen}
 
 -- after the last turn: all the bytes, or as many as there is room for
 pub as-many : (room : ℕ) (d : List ℕ) (at : ℕ) (bytes : List ℕ) (i : ℕ) → length d ≡ room → i ≤ length bytes → at + i ≤ room
@@ -39,6 +39,20 @@ counted pipe t = leb-true (countIn pipe) longest (both-right (eqb (length pipe) 
 
 pub a-pipe : (pipe : List ℕ) → length pipe ≡ pipeLength → countIn pipe ≤ longest → isPipe pipe ≡ true
 a-pipe pipe l k = rw (eq-eqb (length pipe) pipeLength l, le-leb (countIn pipe) longest k)
+
+-- and that of an open one
+pub open-is : (pipe : List ℕ) → isOpen pipe ≡ true → (isPipe pipe ≡ true) × (answerIn pipe ≡ 0)
+open-is pipe t = (both-left (isPipe pipe) (eqb (answerIn pipe) 0) t, eqb-true (answerIn pipe) 0 (both-right (isPipe pipe) (eqb (answerIn pipe) 0) t))
+
+pub is-open : (pipe : List ℕ) → isPipe pipe ≡ true → answerIn pipe ≡ 0 → isOpen pipe ≡ true
+is-open pipe t z = rw (t, eq-eqb (answerIn pipe) 0 z)
+
+pub not-open : (pipe : List ℕ) → answerIn pipe ≢ 0 → isOpen pipe ≡ false
+not-open pipe z = go (isPipe pipe)
+  where
+    go : (a : Bool) → (a && eqb (answerIn pipe) 0) ≡ false
+    go true = ne-eqb (answerIn pipe) 0 z
+    go false = refl
 
 pub length-so-far : (pipe : List ℕ) → isPipe pipe ≡ true → length (soFar pipe) ≡ countIn pipe
 length-so-far pipe t = length-take-le (countIn pipe) pipe (omega (arith, of-length pipe t, counted pipe t))

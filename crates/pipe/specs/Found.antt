@@ -15,6 +15,13 @@ use Rattle.pipe.specs.Bytes.{pipeLength, countIn, answerIn, withAnswer, 
 abbrev pub isPipe : List ℕ → Bool
 isPipe pipe = eqb (length pipe) pipeLength && leb (countIn pipe) longest
 
+abbrev pub isOpen : List ℕ → Bool
+isOpen pipe = isPipe pipe && eqb (answerIn pipe) 0
+
+-- what is said where it is not open: the answer that is there, or that it is no pipe
+abbrev pub standing : List ℕ → Piped
+standing pipe = cond (isPipe pipe) (saidBy (answerIn pipe) (countIn pipe)) noPipe
+
 -- 2 and 3, else 0
 abbrev pub early : ℕ → ℕ
 early n = cond (eqb n (number countNotAllowed) || eqb n (number bytesAfter)) n 0
@@ -27,22 +34,20 @@ abbrev pub kept : List ℕ → List ℕ → List ℕ
 kept pipe part = set (over (soFar pipe ++ part) pipe) longest (length (soFar pipe ++ part))
 
 unfoldable pub takeOf : List ℕ → List ℕ → Piped
-takeOf pipe part =
-    cond (isPipe pipe) (cond (eqb (answerIn pipe) 0) (answer (givenAt pipe part) refused notYet) (saidBy (answerIn pipe) (countIn pipe))) noPipe
+takeOf pipe part = cond (isOpen pipe) (answer (givenAt pipe part) refused notYet) (standing pipe)
 
 unfoldable pub takePipe : List ℕ → List ℕ → List ℕ
-takePipe pipe part =
-    cond (isPipe pipe) (cond (eqb (answerIn pipe) 0) (answer (givenAt pipe part) (withAnswer pipe) (kept pipe part)) pipe) pipe
+takePipe pipe part = cond (isOpen pipe) (answer (givenAt pipe part) (withAnswer pipe) (kept pipe part)) pipe
 
--- the end
+-- the end: the answer's byte, what it says, and what is left in the pipe
 abbrev pub endByte : List ℕ → ℕ
-endByte pipe = cond (eqb (answerIn pipe) 0) (answerByte (refusalOf (soFar pipe))) (answerIn pipe)
+endByte pipe = answerByte (refusalOf (soFar pipe))
 
 unfoldable pub endOf : List ℕ → Piped
-endOf pipe = cond (isPipe pipe) (saidBy (endByte pipe) (countIn pipe)) noPipe
+endOf pipe = cond (isOpen pipe) (saidBy (endByte pipe) (countIn pipe)) (standing pipe)
 
 unfoldable pub endPipe : List ℕ → List ℕ
-endPipe pipe = cond (isPipe pipe) (withAnswer pipe (endByte pipe)) pipe
+endPipe pipe = cond (isOpen pipe) (withAnswer pipe (endByte pipe)) pipe
 
 -- what the two calls promise
 abbrev pub Takes : List ℕ → List ℕ → Piped → List ℕ → Type 0

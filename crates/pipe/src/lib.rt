@@ -5,9 +5,9 @@ ghost use mathlib.Core.List.{List, _++_};
 ghost use Prim.Native.Nat.{ℕ, suc, _≤_};
 ghost use lib.ListN.{length, take};
 ghost use Rattle.request.specs.Sections.{longest};
-ghost use Rattle.pipe.specs.Bytes.{answerIn, soFar, saidBy, answerByte};
-ghost use Rattle.pipe.specs.Found.{isPipe, Takes, Ends};
-ghost use Rattle.pipe.specs.Bytes as bytes;
+ghost use Rattle.pipe.specs.Bytes.{soFar, saidBy, answerByte};
+ghost use Rattle.pipe.specs.Found.{isPipe, isOpen, Takes, Ends};
+ghost use Rattle.pipe.specs.Found as found;
 ghost use Rattle.pipe.specs.Final.{Finals, Deciding};
 ghost use Rattle.pipe.specs.Pipe.{AnyPipe, HoweverCut};
 ghost use Rattle.pipe.specs.Cases.{PipeCases};
@@ -42,6 +42,16 @@ fn is_pipe(pipe: &[u8]) -> bool
     pipe[COUNT] as usize <= LONGEST
 }
 
+// A pipe with no answer yet.
+fn is_open(pipe: &[u8]) -> bool
+    ensures { λ r. ⌜ r ≡ isOpen (now (pipe .entry)) ⌝ }
+{
+    if !is_pipe(pipe) {
+        return false;
+    }
+    pipe[ANSWER] == 0
+}
+
 // Bytes from a place on, as many as there is room for, and the place after them.
 fn put(input: &mut [u8], at: usize, bytes: &[u8]) -> usize
     requires { ⌜ at ≤ length (now input) ⌝ }
@@ -59,7 +69,7 @@ fn put(input: &mut [u8], at: usize, bytes: &[u8]) -> usize
 
 // The request so far and a part, as many bytes as decide, and their count.
 fn join(pipe: &[u8], part: &[u8], input: &mut [u8]) -> usize
-    requires { ⌜ (isPipe (now pipe) ≡ true) × (length (now input) ≡ suc longest) ⌝ }
+    requires { ⌜ (isOpen (now pipe) ≡ true) × (length (now input) ≡ suc longest) ⌝ }
     ensures { λ r. ⌜ r ≤ length (now (input .exit)) ⌝ }
     ensures { λ r. ⌜ take r (now (input .exit)) ≡ take (suc longest) (soFar (now (pipe .entry)) ++ now (part .entry)) ⌝ }
 {
@@ -86,14 +96,18 @@ fn said(byte: u8, count: u8) -> Piped
     }
 }
 
-fn no_pipe() -> Piped
-    ensures { λ r. ⌜ r ≡ bytes.noPipe ⌝ }
+// What is said where the pipe is not open: the answer that is there, or 7.
+fn standing(pipe: &[u8]) -> Piped
+    ensures { λ r. ⌜ r ≡ found.standing (now (pipe .entry)) ⌝ }
 {
-    Piped {
-        refusal: Refusal::IMAGE_LENGTH,
-        answered: 0,
-        count: 0,
+    if !is_pipe(pipe) {
+        return Piped {
+            refusal: Refusal::IMAGE_LENGTH,
+            answered: 0,
+            count: 0,
+        };
     }
+    said(pipe[ANSWER], pipe[COUNT])
 }
 
 fn answer_byte(number: u8) -> u8
@@ -107,7 +121,7 @@ fn answer_byte(number: u8) -> u8
 
 // A part, where there is no answer yet: 2 and 3 at once, and else it is put behind the request so far.
 fn take_open(pipe: &mut [u8], part: &[u8]) -> Piped
-    requires { ⌜ (isPipe (now pipe) ≡ true) × (answerIn (now pipe) ≡ 0) ⌝ }
+    requires { ⌜ isOpen (now pipe) ≡ true ⌝ }
     ensures { λ r. ⌜ Takes (now (pipe .entry)) (now (part .entry)) r (now (pipe .exit)) ⌝ }
 {
     let mut input = [0u8; ENOUGH];
@@ -135,13 +149,8 @@ fn take_open(pipe: &mut [u8], part: &[u8]) -> Piped
 pub fn take(pipe: &mut [u8], part: &[u8]) -> Piped
     ensures { λ r. ⌜ Takes (now (pipe .entry)) (now (part .entry)) r (now (pipe .exit)) ⌝ }
 {
-    if !is_pipe(pipe) {
-        return no_pipe();
-    }
-    let count = pipe[COUNT];
-    let answer = pipe[ANSWER];
-    if answer != 0 {
-        return said(answer, count);
+    if !is_open(pipe) {
+        return standing(pipe);
     }
     take_open(pipe, part)
 }
@@ -150,14 +159,10 @@ pub fn take(pipe: &mut [u8], part: &[u8]) -> Piped
 pub fn end(pipe: &mut [u8]) -> Piped
     ensures { λ r. ⌜ Ends (now (pipe .entry)) r (now (pipe .exit)) ⌝ }
 {
-    if !is_pipe(pipe) {
-        return no_pipe();
+    if !is_open(pipe) {
+        return standing(pipe);
     }
     let count = pipe[COUNT];
-    let answer = pipe[ANSWER];
-    if answer != 0 {
-        return said(answer, count);
-    }
     let pair = request::ncts(&pipe[..count as usize]);
     let byte = answer_byte(pair.refusal);
     pipe[ANSWER] = byte;

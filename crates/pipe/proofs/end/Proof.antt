@@ -3,22 +3,21 @@ use mathlib.Core.Path.{_≡_, sym, ap, _∙_}
 use mathlib.Core.Bool.{true}
 use Prim.Native.Nat.{ℕ}
 use native.Mathlib.Omega.{arith}
-use lib.ListN.{length, take}
 use borrow.Author.Needs.{needs}
 use borrow.Author.Tests.{not-true, not-false}
 use Rattle.clock.specs.declared.Pair.{Pair}
 use Rattle.pipe.specs.Bytes.{answerByte, saidBy, withAnswer, countIn}
-use Rattle.pipe.specs.Found.{isPipe}
-use Rattle.pipe.proofs.Joined.{of-length, counted, length-so-far}
-use Rattle.pipe.proofs.Answers.{no-ending, ending-ignored, ending}
+use Rattle.pipe.specs.Found.{isOpen}
+use Rattle.pipe.proofs.Joined.{of-length, counted, open-is, length-so-far}
+use Rattle.pipe.proofs.Answers.{ending-nothing, ending}
 use Rattle.pipe.proofs.end.Statement.{statement}
 use Rattle.pipe.proofs.end.Tie as tie
 
-is-pipe-requires : tie.Need-is-pipe-requires
-is-pipe-requires c κs = search needs
+is-open-requires : tie.Need-is-open-requires
+is-open-requires c κs = search needs
 
-no-pipe-requires : tie.Need-no-pipe-requires
-no-pipe-requires c κs = search needs
+standing-requires : tie.Need-standing-requires
+standing-requires c κs = search needs
 
 same-length : tie.Need-same-length
 same-length c = search needs
@@ -26,57 +25,36 @@ same-length c = search needs
 returns : tie.Need-returns
 returns c =
     let p = c .before .before in
-    let m = no-ending _ (sym (p .is-pipe .ensures) ∙ not-true _ (c .before .if1 .taken)) in
-    (c .no-pipe .ensures ∙ m .0, m .1)
+    let m = ending-nothing _ (sym (p .before .is-open .ensures) ∙ not-true _ (p .if1 .taken)) in
+    (c .standing .ensures ∙ m .0, m .1)
 
 slice-read-count : tie.Need-slice-read-count
 slice-read-count c =
     let e = c .before in
     let p = e .before .before .before .before .args .pipe .now in
-    let t : isPipe p ≡ true = sym (e .before .is-pipe .ensures) ∙ not-false _ (e .if1 .left) in
-    omega (arith, of-length p t)
-
-slice-read-answer : tie.Need-slice-read-answer
-slice-read-answer c =
-    let e = c .before .before in
-    let p = e .before .before .before .before .args .pipe .now in
-    let t : isPipe p ≡ true = sym (e .before .is-pipe .ensures) ∙ not-false _ (e .if1 .left) in
-    omega (arith, of-length p t)
-
-said-requires : tie.Need-said-requires
-said-requires c κs = search needs
-
-same-length-2 : tie.Need-same-length-2
-same-length-2 c = search needs
-
-returns-2 : tie.Need-returns-2
-returns-2 c =
-    let e = c .before .before .before .before in
-    let p = e .before .before .before .before .args .pipe .now in
-    let t : isPipe p ≡ true = sym (e .before .is-pipe .ensures) ∙ not-false _ (e .if1 .left) in
-    let m = ending-ignored p t (c .before .if2 .taken) in
-    (c .said .ensures ∙ m .0, m .1)
+    let t : isOpen p ≡ true = sym (e .before .is-open .ensures) ∙ not-false _ (e .if1 .left) in
+    omega (arith, of-length p (open-is p t .0))
 
 cast-ncts : tie.Need-cast-ncts
 cast-ncts c =
-    let e = c .before .before .before in
+    let e = c .before in
     let p = e .before .before .before .before .args .pipe .now in
-    let t : isPipe p ≡ true = sym (e .before .is-pipe .ensures) ∙ not-false _ (e .if1 .left) in
-    omega (arith, counted p t)
+    let t : isOpen p ≡ true = sym (e .before .is-open .ensures) ∙ not-false _ (e .if1 .left) in
+    omega (arith, counted p (open-is p t .0))
 
 slice-reshare-prefix-ncts : tie.Need-slice-reshare-prefix-ncts
 slice-reshare-prefix-ncts c =
-    let e = c .before .before .before in
+    let e = c .before in
     let p = e .before .before .before .before .args .pipe .now in
-    let t : isPipe p ≡ true = sym (e .before .is-pipe .ensures) ∙ not-false _ (e .if1 .left) in
-    omega (arith, counted p t, of-length p t)
+    let t : isOpen p ≡ true = sym (e .before .is-open .ensures) ∙ not-false _ (e .if1 .left) in
+    omega (arith, counted p (open-is p t .0), of-length p (open-is p t .0))
 
 slice-aggregate-ncts : tie.Need-slice-aggregate-ncts
 slice-aggregate-ncts c =
-    let e = c .before .before .before .before in
+    let e = c .before .before in
     let p = e .before .before .before .before .args .pipe .now in
-    let t : isPipe p ≡ true = sym (e .before .is-pipe .ensures) ∙ not-false _ (e .if1 .left) in
-    sym (length-so-far p t)
+    let t : isOpen p ≡ true = sym (e .before .is-open .ensures) ∙ not-false _ (e .if1 .left) in
+    sym (length-so-far p (open-is p t .0))
 
 ncts-requires : tie.Need-ncts-requires
 ncts-requires c κs = search needs
@@ -86,47 +64,43 @@ answer-byte-requires c κs = search needs
 
 slice-write-pipe : tie.Need-slice-write-pipe
 slice-write-pipe c =
-    let e = c .before .before .before .before .before .before in
+    let e = c .before .before .before .before in
     let p = e .before .before .before .before .args .pipe .now in
-    let t : isPipe p ≡ true = sym (e .before .is-pipe .ensures) ∙ not-false _ (e .if1 .left) in
-    omega (arith, of-length p t)
+    let t : isOpen p ≡ true = sym (e .before .is-open .ensures) ∙ not-false _ (e .if1 .left) in
+    omega (arith, of-length p (open-is p t .0))
 
-said-requires-2 : tie.Need-said-requires-2
-said-requires-2 c κs = search needs
+said-requires : tie.Need-said-requires
+said-requires c κs = search needs
 
-same-length-3 : tie.Need-same-length-3
-same-length-3 c = search needs
+same-length-2 : tie.Need-same-length-2
+same-length-2 c = search needs
 
-returns-3 : tie.Need-returns-3
-returns-3 c =
+returns-2 : tie.Need-returns-2
+returns-2 c =
     let b = c .before in
     let n = b .before in
-    let e = n .before .before .before .before .before in
+    let e = n .before .before .before in
     let p = e .before .before .before .before .args .pipe .now in
-    let t : isPipe p ≡ true = sym (e .before .is-pipe .ensures) ∙ not-false _ (e .if1 .left) in
-    let m = ending p t (n .before .before .if2 .left) in
+    let t : isOpen p ≡ true = sym (e .before .is-open .ensures) ∙ not-false _ (e .if1 .left) in
+    let m = ending p t in
     let byte = b .answer-byte .ensures ∙ ap (λ (q : Pair). answerByte (q .refusal)) (n .ncts .ensures) in
-    (c .said2 .ensures ∙ ap (λ (k : ℕ). saidBy k (countIn p)) byte ∙ m .0, ap (withAnswer p) byte ∙ m .1)
+    (c .said .ensures ∙ ap (λ (k : ℕ). saidBy k (countIn p)) byte ∙ m .0, ap (withAnswer p) byte ∙ m .1)
 
 pub end-spec : {M : Type 1} → statement M
 end-spec =
     tie.close
     (tie.spec
-    is-pipe-requires
-    no-pipe-requires
+    is-open-requires
+    standing-requires
     same-length
     returns
     slice-read-count
-    slice-read-answer
-    said-requires
-    same-length-2
-    returns-2
     cast-ncts
     slice-reshare-prefix-ncts
     slice-aggregate-ncts
     ncts-requires
     answer-byte-requires
     slice-write-pipe
-    said-requires-2
-    same-length-3
-    returns-3)
+    said-requires
+    same-length-2
+    returns-2)

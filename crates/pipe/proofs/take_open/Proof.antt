@@ -7,7 +7,7 @@ use lib.ListN.{length, set}
 use lib.Seq.{length-take-le}
 use borrow.Author.Needs.{needs}
 use Rattle.clock.specs.declared.Pair.{Pair}
-use Rattle.pipe.proofs.Joined.{of-length}
+use Rattle.pipe.proofs.Joined.{of-length, open-is}
 use Rattle.pipe.proofs.Answers.{judged-early, judged-on}
 use Rattle.pipe.proofs.take_open.Statement.{statement}
 use Rattle.pipe.proofs.take_open.Tie as tie
@@ -30,7 +30,7 @@ ncts-requires c κs = search needs
 slice-write-pipe : tie.Need-slice-write-pipe
 slice-write-pipe c =
     let s = c .before .before .before .before .before .before .before .before .before in
-    omega (arith, of-length (s .args .pipe .now) (s .pre .0))
+    omega (arith, of-length (s .args .pipe .now) (open-is (s .args .pipe .now) (s .pre) .0))
 
 same-length : tie.Need-same-length
 same-length c = search needs
@@ -40,7 +40,7 @@ returns c =
     let n = c .before in
     let j = n .before .before .before in
     let s = j .before .before .before .before .before in
-    judged-early (s .args .pipe .now) (s .args .part .now) _ (n .ncts .result .refusal) (s .pre .0) (s .pre .1) (j .join .ensures .1) (ap (λ (p : Pair). p .refusal) (n .ncts .ensures)) (c .if1 .taken)
+    judged-early (s .args .pipe .now) (s .args .part .now) _ (n .ncts .result .refusal) (s .pre) (j .join .ensures .1) (ap (λ (p : Pair). p .refusal) (n .ncts .ensures)) (c .if1 .taken)
 
 array-share-prefix-input-2 : tie.Need-array-share-prefix-input-2
 array-share-prefix-input-2 c = search needs
@@ -59,7 +59,7 @@ slice-write-pipe-2 c =
     let s = c .before .before .before .before .before .before .before .before .before .before .before .before .before .before in
     let p = s .args .pipe .now in
     let l : length (c .before .before .copy .last .1 .0) ≡ length p = search needs in
-    omega (arith, l, of-length p (s .pre .0))
+    omega (arith, l, of-length p (open-is p (s .pre) .0))
 
 same-length-2 : tie.Need-same-length-2
 same-length-2 c = search needs
@@ -71,7 +71,7 @@ returns-2 c =
     let j = n .before .before .before in
     let s = j .before .before .before .before .before in
     let p = s .args .pipe .now in
-    let m = judged-on p (s .args .part .now) _ (n .ncts .result .refusal) (s .pre .0) (s .pre .1) (j .join .ensures .1) (ap (λ (q : Pair). q .refusal) (n .ncts .ensures)) (j .join .result) (sym (length-take-le _ _ (j .join .ensures .0))) (k .before .before .before .if1 .left) in
+    let m = judged-on p (s .args .part .now) _ (n .ncts .result .refusal) (s .pre) (j .join .ensures .1) (ap (λ (q : Pair). q .refusal) (n .ncts .ensures)) (j .join .result) (sym (length-take-le _ _ (j .join .ensures .0))) (k .before .before .before .if1 .left) in
     (m .0, ap (λ (l : List ℕ). set l 38 (j .join .result)) (k .copy .ensures) ∙ m .1)
 
 pub take-open-spec : {M : Type 1} → statement M
