@@ -1,7 +1,7 @@
 # The C programs beside the library, and its package. tools/setup finds the compiler and, on Arm, the emulator, and installs what is missing.
 #   make           the library's archive and everything below that is built of it
 #   make programs  what tools/{listing,request,meter,modes,image,picture,review} run, and accident, agree and vectors, over the library
-#   make host      the example host: then host/run --cut 25 --brief, host/run --plugin 'cat crates/desk/stdin', or host/run --chain 7 --brief
+#   make host      the example host: then host/run --cut 25 --brief, host/run --plugin COMMAND, or host/run --chain 7 --brief
 #   make bench     planning, decoding, the vet of a list and a meter's matrix, the library against plain C: times, instructions, bars;
 #                  writes and bus time of typical changes
 #   make tests     tests/run
