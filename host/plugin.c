@@ -36,8 +36,14 @@ static void rest(void) {
 /* A signal that ends the host ends the plug-in first: in a group of its own it does not hear what is typed at the terminal. */
 static volatile sig_atomic_t running;   /* the plug-in's process group; 0 for none */
 
+/* The group, and the plug-in itself, which may have left it. Until it is reaped its number is nobody else's. */
+static void kill_plugin(pid_t process) {
+    kill(-process, SIGKILL);
+    kill(process, SIGKILL);
+}
+
 static void take_along(int number) {
-    if (running) kill(-(pid_t)running, SIGKILL);
+    if (running) kill_plugin((pid_t)running);
     signal(number, SIG_DFL);
     raise(number);
 }
@@ -45,8 +51,10 @@ static void take_along(int number) {
 /* What is ignored, as it is in a job of a script, stays ignored. */
 static void on_signals(void (*handler)(int)) {
     static const int ends[] = { SIGHUP, SIGINT, SIGQUIT, SIGTERM };
-    for (size_t i = 0; i < sizeof ends / sizeof ends[0]; i++)
-        if (signal(ends[i], handler) == SIG_IGN) signal(ends[i], SIG_IGN);
+    for (size_t i = 0; i < sizeof ends / sizeof ends[0]; i++) {
+        struct sigaction now;
+        if (sigaction(ends[i], NULL, &now) == 0 && now.sa_handler != SIG_IGN) signal(ends[i], handler);
+    }
 }
 
 /* Every descriptor from 3 on: also what somebody opened without O_CLOEXEC, and what the host itself was started with. */
@@ -100,7 +108,7 @@ static int start(const char *command) {
     exit(MISUSE);
 }
 
-/* Has it exited by this time? It stays as it is: until it is reaped, its number is nobody else's. */
+/* Has it exited by this time? It is not reaped yet. */
 static int has_exited(pid_t process, long until) {
     for (;;) {
         siginfo_t how = { .si_pid = 0 };
@@ -110,18 +118,15 @@ static int has_exited(pid_t process, long until) {
     }
 }
 
-/* Kills whoever is left of the group, the plug-in itself or a child that it forgot, and reaps them all. How the plug-in ended, as waitpid
- * has it. One that cannot be killed, for it waits for a disk or has become another user's, is left: it must not hold the host up. */
+/* Kills whoever is left, the plug-in or a child that it forgot, and reaps them. How the plug-in ended, as waitpid has it. One that cannot
+ * be killed, for it waits for a disk or has become another user's, is left: it must not hold the host up. */
 static int finish(pid_t process) {
-    int how, status = 0;
-    kill(-process, SIGKILL);
+    int status = 0;
+    long until = ms() + GRACE;
+    kill_plugin(process);
     running = 0;
-    for (long until = ms() + GRACE; ms() < until; ) {
-        pid_t gone = waitpid(-process, &how, WNOHANG);
-        if (gone < 0) break;                                    /* none is left */
-        if (gone == 0) rest();
-        if (gone == process) status = how;
-    }
+    while (waitpid(process, &status, WNOHANG) == 0 && ms() < until) rest();
+    while (waitpid(-process, NULL, WNOHANG) >= 0 && ms() < until) rest();
     return status;
 }
 
@@ -163,7 +168,7 @@ static int no_request(int status, const char *why) {
 }
 
 int request_of_plugin(const char *command, long wait, struct request *asked) {
-    uint8_t taken[STATION_PIPE] = { 0 };                         /* zeros are a fresh one; it is for this request and no other */
+    uint8_t taken[STATION_PIPE] = { 0 };                        /* zeros are a fresh one; it is for this request and no other */
     struct written w = { .length = 0 };
     char why[120];
     long until = ms() + wait;                                   /* for all of it: a byte now and then buys no time */
@@ -181,7 +186,7 @@ int request_of_plugin(const char *command, long wait, struct request *asked) {
         tell(&w, "was killed");
         snprintf(why, sizeof why, "%s within %ld ms", w.ended ? "ended its output, but did not exit" : "did not end its output", wait);
         return no_request(LATE, why);
-    } else if (status) {                                        /* what it wrote may be less than it meant to write */
+    } else if (status) {                                        /* by its own word, or by a crash: not to be believed */
         tell(&w, "failed");
         if (WIFSIGNALED(status)) snprintf(why, sizeof why, "was ended by signal %d (%s)", WTERMSIG(status), strsignal(WTERMSIG(status)));
         else snprintf(why, sizeof why, "exited with status %d%s", WEXITSTATUS(status),
