@@ -1,7 +1,7 @@
 # The C programs beside the library, and its package. tools/setup finds the compiler and, on Arm, the emulator, and installs what is missing.
 #   make           the library's archive and everything below that is built of it
 #   make programs  what tools/{listing,request,meter,modes,image,picture,review} run, and accident, agree and vectors, over the library
-#   make host      the example host: then host/run --cut 25 --brief, or host/run --chain 7 --brief
+#   make host      the example host: then host/run --cut 25 --brief, host/run --plugin COMMAND, or host/run --chain 7 --brief
 #   make bench     planning, decoding, the vet of a list and a meter's matrix, the library against plain C: times, instructions, bars;
 #                  writes and bus time of typical changes
 #   make tests     tests/run
@@ -24,7 +24,8 @@ VERSION  = $(shell sed -n 's/^.define STATION_VERSION "\(.*\)"/\1/p' include/sta
 all: $(BINARIES)
 programs: $(PROGRAMS)
 host: target/c/host
-	@echo "target/c/host is built; run it by host/run [--chip FILE] [--cut K] [--vsync AT,..] [--brief] [BYTES..], or host/run --chain SEED"
+	@echo "target/c/host is built; run it by host/run [--chip FILE] [--cut K] [--vsync AT,..] [--brief] [BYTES..], host/run --plugin COMMAND,"
+	@echo "or host/run --chain SEED"
 bench:
 	@bench/run
 peers:
@@ -55,7 +56,8 @@ target/c/review: programs/review.c programs/list.c programs/judge.c programs/tab
   programs/factors.c programs/chip.c programs/words.c
 target/c/vectors: programs/vectors.c programs/clocks.c programs/fields.c programs/factors.c programs/words.c
 target/c/example: host/example.c
-target/c/host: host/host.c host/chain.c programs/chain.c programs/events.c programs/fields.c programs/factors.c programs/chip.c programs/words.c
+target/c/host: host/host.c host/chain.c host/plugin.c programs/chain.c programs/events.c programs/fields.c programs/factors.c \
+  programs/chip.c programs/words.c
 target/c/i2c: host/i2c.c programs/words.c
 target/c/i2c_fake: tests/i2c/fake.c programs/fields.c programs/factors.c programs/chip.c programs/words.c | host/i2c.c
 target/c/bench: bench/bench.c bench/plain.c programs/fields.c programs/factors.c programs/words.c

@@ -1,10 +1,9 @@
 /* An example host. It reads the chip's registers back, plans a request on them and sends the list, write by write, with one Vsync awaited
  * just before the last. The chip is simulated, in a file: its registers, buffers and waiting mark outlive the host, as a chip's do. A host
  * that is killed after any event and started again reads back, plans again and finishes. After each event it shows whether the picture is
- * muted, and whether each group in use is as it was when this host started (old) or as the list ends (new). host/chain.c plays many hosts
- * in a row. */
+ * muted, and whether each group in use is as it was when this host started (old) or as the list ends (new). host/plugin.c takes the request
+ * from a plug-in's process, host/chain.c plays many hosts in a row. */
 #include "../programs/chain.h"
-#include "../programs/fields.h"
 #include "../programs/words.h"
 #include "host.h"
 #include "station_text.h"
@@ -19,6 +18,7 @@ const char *program = "host/run";
 
 static const char help[] =
     "host/run [--chip FILE] [--cut K] [--vsync AT,..] [--brief] [BYTES..]\n"
+    "host/run --plugin COMMAND [--wait MS] [--chip FILE] [--cut K] [--vsync AT,..] [--brief]\n"
     "host/run --chain SEED [--chip FILE] [--brief]\n"
     "host/run --chain SEED --chains COUNT\n"
     "\n"
@@ -36,6 +36,14 @@ static const char help[] =
     "Of N writes the Vsync that the host waits for is event N and the last write event N + 1, with no more Vsyncs: so --cut N-1 is\n"
     "before that Vsync, --cut N at it, before the host opens the picture, and --cut N+1 after all.\n"
     "\n"
+    "  --plugin COMMAND\n"
+    "                  the request is what COMMAND writes to its standard output: the bytes themselves, not in hex. It runs by /bin/sh\n"
+    "                  -c, in a process group of its own, and has nothing of the host's: its input is empty, its error stream goes\n"
+    "                  nowhere (2>FILE in COMMAND keeps it). The request counts once the output has ended and COMMAND has exited with\n"
+    "                  status 0. What no later byte changes, 2 and 3, is refused at once. In the end what is left of the group is\n"
+    "                  killed (SIGKILL). A host that is started again after --cut runs COMMAND again\n"
+    "  --wait MS       the time for all that, 1 to 600000 ms; without it 2000\n"
+    "\n"
     "  --chain SEED    a chain of 2 to 6 requests, all drawn from this number, 0 to 999999999: the chip at the beginning, the requests,\n"
     "                  the Vsyncs, where each host is killed. A host for each, a process of its own, reads back, plans and sends, and is\n"
     "                  killed (SIGKILL) at its place or finishes; the last one finishes. At each point the chip's file is looked at. A\n"
@@ -46,10 +54,13 @@ static const char help[] =
     "                  They are played in one process, over no file, so a crash is only a cut: the rest of that list is not sent\n"
     "\n"
     "The status is 0 for a request that is on show, and for chains in which all holds; 1 for a request that is refused, and for a chain\n"
-    "with a point that fails; 2 for a command that is not as above.\n"
+    "with a point that fails; 2 for a command that is not as above; 3 for a plug-in whose time is up; 4 for one that fails, by a status\n"
+    "other than 0 or by a signal.\n"
     "\n"
     "  host/run --cut 25 --brief\n"
     "  host/run --vsync 0,22 --cut 30 --brief\n"
+    "  host/run --plugin 'cat crates/desk/stdin' --brief\n"
+    "  host/run --plugin 'cat crates/desk/stdin; sleep 60' --wait 500\n"
     "  host/run --chain 7 --brief\n"
     "  host/run --chain 1 --chains 4000\n";
 
@@ -59,7 +70,7 @@ struct chip chip;
 static int chip_file;
 
 off_t open_chip(const char *name) {
-    chip_file = open(name, O_RDWR | O_CREAT, 0666);
+    chip_file = open(name, O_RDWR | O_CREAT | O_CLOEXEC, 0666);
     if (chip_file < 0) misuse("%s cannot be opened", name);
     return lseek(chip_file, 0, SEEK_END);
 }
@@ -132,7 +143,7 @@ static void show_ages(uint32_t number, const struct event *e, const uint8_t *lis
     show(number, e, list, state, brief && e && e->kind == WRITE);
 }
 
-static void show_request(const char *what, const uint8_t *request, size_t length) {
+void show_request(const char *what, const uint8_t *request, size_t length) {
     printf("%-12s", what);
     for (size_t i = 0; i < length; i++) {
         if (i > 0 && i % 20 == 0) printf("\n%12s", "");
@@ -143,7 +154,7 @@ static void show_request(const char *what, const uint8_t *request, size_t length
 
 /* ---- The host. */
 
-enum { MOST_CHAINS = 1000000 };
+enum { MOST_CHAINS = 1000000, USUAL_WAIT = 2000, MOST_WAIT = 600000 };      /* of the two waits, ms */
 
 static void take_name(const char *word, struct option *o) { *(const char **)o->into = word; }
 
@@ -174,9 +185,9 @@ int main(int count, char **words) {
     struct request asked = request_of_text("vic 16 ycbcr422 hdmi audio 48kHz 8 coherent matrix table39");
     uint8_t image[STATION_IMAGE], list[STATION_WRITES], back[STATION_REQUEST];
     struct places besides = { .count = 0 };
-    const char *file = NULL;
+    const char *file = NULL, *command = NULL;
     size_t length;
-    long cut = -1, seed = 0, chains = 0;
+    long cut = -1, seed = 0, chains = 0, wait = USUAL_WAIT;
     int brief = 0;
     struct option options[] = {
         { "--chip", take_name, &file, 0, 0 },
@@ -185,19 +196,25 @@ int main(int count, char **words) {
         { "--brief", NULL, &brief, 0, 0 },
         { "--chain", take_number, &seed, MOST_SEEDS, 0 },
         { "--chains", take_number, &chains, MOST_CHAINS, 0 },
+        { "--plugin", take_name, &command, 0, 0 },
+        { "--wait", take_number, &wait, MOST_WAIT, 0 },
     };
-    enum { BY_CHIP, BY_CUT, BY_VSYNC, BY_BRIEF, BY_CHAIN, BY_CHAINS, OPTIONS };
+    enum { BY_CHIP, BY_CUT, BY_VSYNC, BY_BRIEF, BY_CHAIN, BY_CHAINS, BY_PLUGIN, BY_WAIT, OPTIONS };
     setvbuf(stdout, NULL, _IOLBF, 0);                       /* what was said before a kill is seen */
     uint8_t *given = request_of_command(count, words, help, options, OPTIONS, &length);
     if (options[BY_CHAIN].given && length) misuse("--chain and a request exclude each other");
     for (int o = 0; o < OPTIONS; o++) {
-        if (options[BY_CHAIN].given && options[o].given && (o == BY_CUT || o == BY_VSYNC))
+        if (options[BY_CHAIN].given && options[o].given && (o == BY_CUT || o == BY_VSYNC || o == BY_PLUGIN || o == BY_WAIT))
             misuse("--chain and %s exclude each other", options[o].name);
         if (options[BY_CHAINS].given && options[o].given && (o == BY_CHIP || o == BY_BRIEF))
             misuse("--chains and %s exclude each other", options[o].name);
     }
     if (options[BY_CHAINS].given && !options[BY_CHAIN].given) misuse("--chains is given, and no --chain with the first seed");
     if (options[BY_CHAINS].given && !chains) misuse("--chains 0: no chain is none to play");
+    if (options[BY_PLUGIN].given && length) misuse("--plugin and a request exclude each other");
+    if (options[BY_PLUGIN].given && !command[strspn(command, " \t\n")]) misuse("--plugin: a command with nothing in it");
+    if (options[BY_WAIT].given && !options[BY_PLUGIN].given) misuse("--wait is given, and no --plugin to wait for");
+    if (!wait) misuse("--wait 0: no request comes in no time");
     if (options[BY_CHAINS].given) return play_chains(seed, chains);
     if (!file) misuse("--chip FILE is missing");
     if (options[BY_CHAIN].given) return play_chain(file, seed, brief);
@@ -207,6 +224,12 @@ int main(int count, char **words) {
         asked.length = length;
     }
     free(given);
+
+    /* Before the chip is opened: nobody waits for a stranger with the chip in his hands. */
+    if (command) {
+        int status = request_of_plugin(command, wait, &asked);
+        if (status != ACCEPTED) return status;
+    }
     find_chip(file);
 
     /* Read back, ask the library, and keep the list until the last write or the first that fails. */
