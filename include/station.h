@@ -118,10 +118,10 @@ struct station_count station_meter(const float *numbers, size_t count, uint8_t *
  * far, the count of its bytes in byte STATION_REQUEST, and in the byte after it the answer, 0 for none yet, 255 for accepted, else the refusal.
  * station_pipe_take takes a part of any length, an empty one too. station_pipe_end says that the input has ended, which the host alone knows.
  * `answered` 1: `refusal` is the one that station_ncts gives for the parts joined, or 0, and then `count` bytes at the front of the pipe are
- * the request, ready for station_plan(pipe, count, ..). `answered` 0 with `refusal` 0: none yet, go on.
+ * the request, ready for station_plan(pipe, count, ..). `answered` 0 with `refusal` 0: none yet, go on. `count` is 0 wherever it is not that.
  * Refusals 2 and 3, which no later byte changes, are answered by the part that holds the deciding byte; every other answer, acceptance too, by
  * the end. An answer stays: parts and ends after it are ignored, and say it again. A part that is answered at once is not kept; the answer's
- * byte is the only one that changes.
+ * byte is the only one that changes. Who wants to show what was refused keeps the part.
  * Any bytes may be lent as a pipe. 7, with `answered` 0 and no byte changed: another length, or a count above STATION_REQUEST, which no call
  * leaves; stop there. What another hand has written into a pipe is taken as it stands: its bytes so far are judged with the next part, and an
  * answer of its own is said as it is, any number. station_plan reads the bytes again, and trusts no pipe. */
