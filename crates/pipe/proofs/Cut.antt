@@ -8,7 +8,7 @@ use native.Mathlib.Omega.{arith}
 use lib.Dec.{eqb}
 use lib.ListN.{length, getD, take, set, length-set}
 use lib.Seq.{take-set-le, getD-set-same, getD-set-other}
-use borrow.Author.Tests.{eqb-true, eqb-false, ne-eqb}
+use borrow.Author.Tests.{eqb-true, eqb-false, eq-eqb, ne-eqb}
 use Rattle.refusals.specs.Rows.{answer}
 use Rattle.request.specs.Sections.{longest, walk, walked}
 use Rattle.request.specs.Read.{readOf, nctsOf}
@@ -217,14 +217,38 @@ module _ (parts : List (List ℕ)) where
       go (inl h) = absurd (h .2 (its part n g .0))
       go (inr h) = ignores (takePipe (after parts) part) (numberWith part) (h .0) (some (numberWith part) (h .1)) later
 
+  number-of : (b : Bool) → eqb (refusalOf (joined parts)) 0 ≡ b
+      → let p : Piped = cond b (accepted (length (joined parts))) (refused (refusalOf (joined parts))) in
+      (p .refusal ≡ refusalOf (joined parts)) × (p .answered ≡ 1)
+  number-of true e = (sym (eqb-true (refusalOf (joined parts)) 0 e), refl)
+  number-of false e = (refl, refl)
+
+  its-number : (endOf (after parts) .refusal ≡ refusalOf (joined parts)) × (endOf (after parts) .answered ≡ 1)
+  its-number =
+      let n = number-of (eqb (refusalOf (joined parts)) 0) refl in
+      (ap (λ (p : Piped). p .refusal) (e .answered) ∙ n .0, ap (λ (p : Piped). p .answered) (e .answered) ∙ n .1)
+
+  one-of-three : (part : List ℕ)
+      → (takeOf (after parts) part ≡ notYet) ⊎ (takeOf (after parts) part ≡ refused 2) ⊎ (takeOf (after parts) part ≡ refused 3)
+  one-of-three part = go (either (numberWith part))
+    where
+      go : TwoOrThree (numberWith part) ⊎ (TwoOrThree (numberWith part) → ⊥)
+          → (takeOf (after parts) part ≡ notYet) ⊎ (takeOf (after parts) part ≡ refused 2) ⊎ (takeOf (after parts) part ≡ refused 3)
+      go (inl (inl h)) = inr (inl (stepped part .early (inl h) ∙ ap refused h))
+      go (inl (inr h)) = inr (inr (stepped part .early (inr h) ∙ ap refused h))
+      go (inr h) = inl (stepped part .late h)
+
   pub however-cut : HoweverCut parts
   however-cut =
       record {
-        answer = e .answered;
+        atEnd = e .answered;
+        number = its-number;
+        byte =
+            ((λ h. e .left .told ∙ rw (ne-eqb (refusalOf (joined parts)) 0 h)), (λ h. e .left .told ∙ rw (eq-eqb (refusalOf (joined parts)) 0 h)));
         front = e .front;
         atOnce = λ part n. (at-once part n, given-then part n);
-        given = λ part n g. subst TwoOrThree (its part n g .1) (its part n g .0);
-        notYet = λ part. ((λ g n f. differ n (sym g ∙ given-then part n f)), λ none. stepped part .late (λ h. none (numberWith part) (final (joined parts ++ part) h)));
+        given = one-of-three;
+        goesOn = λ part. ((λ g n f. differ n (sym g ∙ given-then part n f)), λ none. stepped part .late (λ h. none (numberWith part) (final (joined parts ++ part) h)));
         answered = answered-there;
         ended = ignores left byte (e .left) b;
         again = λ part. stays-ended part .0;

@@ -8,7 +8,7 @@ use native.Mathlib.Omega.{arith}
 use lib.Dec.{eqb, leb}
 use lib.ListN.{length, getD, take, drop, set, length-append, length-drop, length-set}
 use lib.Seq.{take-all, take-at, take-set-le, set-getD, getD-set-same, getD-set-other, getD-append-add, getD-drop, length-take-le}
-use borrow.Author.Tests.{eq-eqb, ne-eqb, leb-true, leb-false, lt-leb, le-leb}
+use borrow.Author.Tests.{eqb-true, eqb-false, eq-eqb, ne-eqb, leb-true, leb-false, lt-leb, le-leb}
 use Rattle.lists.specs.Over.{over}
 use Rattle.lists.proofs.Copied.{over-front}
 use Rattle.refusals.specs.Rows.{answer}
@@ -139,11 +139,63 @@ kept-ending pipe = go (isOpen pipe) refl
     go false t = kept-standing pipe
     go true t = kept-by pipe (endByte pipe) (countIn pipe) (withAnswer pipe (endByte pipe)) (its-byte pipe (endByte pipe) t)
 
+-- what an answer's byte says
+flagged : (byte count : ℕ) → saidBy byte count .answered ≡ 1
+flagged byte count = go (eqb byte 255)
+  where
+    go : (b : Bool) → cond b (accepted count) (refused byte) .answered ≡ 1
+    go true = refl
+    go false = refl
+
+-- a pipe, or none
+which-is : (pipe : List ℕ) → IsPipe pipe ⊎ NoPipe pipe
+which-is pipe = go (eqb (length pipe) pipeLength) refl (leb (countIn pipe) longest) refl
+  where
+    go : (a : Bool) → eqb (length pipe) pipeLength ≡ a → (b : Bool) → leb (countIn pipe) longest ≡ b → IsPipe pipe ⊎ NoPipe pipe
+    go true e true f = inl (record { long = eqb-true (length pipe) pipeLength e; counted = leb-true (countIn pipe) longest f })
+    go true e false f = inr (inr (leb-false (countIn pipe) longest f))
+    go false e b f = inr (inl (eqb-false (length pipe) pipeLength e))
+
+-- the count of an answer is within the longest request
+said-within : (pipe : List ℕ) (byte : ℕ) → isPipe pipe ≡ true → saidBy byte (countIn pipe) .count ≤ longest
+said-within pipe byte t = go (eqb byte 255)
+  where
+    go : (b : Bool) → cond b (accepted (countIn pipe)) (refused byte) .count ≤ longest
+    go true = counted pipe t
+    go false = omega arith
+
+standing-within : (pipe : List ℕ) → standing pipe .count ≤ longest
+standing-within pipe = go (isPipe pipe) refl
+  where
+    go : (b : Bool) → isPipe pipe ≡ b → cond b (saidBy (answerIn pipe) (countIn pipe)) noPipe .count ≤ longest
+    go true t = said-within pipe (answerIn pipe) t
+    go false t = omega arith
+
+take-within : (pipe part : List ℕ) → takeOf pipe part .count ≤ longest
+unfolding takeOf
+take-within pipe part = go (isOpen pipe) (eqb (givenAt pipe part) 0)
+  where
+    go : (a b : Bool) → cond a (cond b notYet (refused (givenAt pipe part))) (standing pipe) .count ≤ longest
+    go true true = omega arith
+    go true false = omega arith
+    go false b = standing-within pipe
+
+pub end-within : (pipe : List ℕ) → endOf pipe .count ≤ longest
+unfolding endOf
+end-within pipe = go (isOpen pipe) refl
+  where
+    go : (a : Bool) → isOpen pipe ≡ a → cond a (saidBy (endByte pipe) (countIn pipe)) (standing pipe) .count ≤ longest
+    go true t = said-within pipe (endByte pipe) (open-is pipe t .0)
+    go false t = standing-within pipe
+
 pub any-pipe : (pipe part : List ℕ) → AnyPipe pipe part
 any-pipe pipe part =
     record {
       none = λ h. both noPipe (shut h) (rw (no-pipe pipe h));
       stays = λ h z. both (saidBy (answerIn pipe) (countIn pipe)) (not-open pipe z) (rw (is-pipe pipe h));
+      said = λ h z. said-there h z;
+      either = which-is pipe;
+      within = (take-within pipe part, end-within pipe);
       atOnce = λ o n f. taking-early pipe part n (it-is-open pipe o) (sym (its-own (soFar pipe ++ part) n f))
           (subst TwoOrThree (its-own (soFar pipe ++ part) n f) (one-of-two (soFar pipe ++ part) n f));
       goesOn = λ o none. goes-on o (λ e. none (refusalOf (soFar pipe ++ part)) (final (soFar pipe ++ part) e));
@@ -159,6 +211,17 @@ any-pipe pipe part =
 
     shut : NoPipe pipe → isOpen pipe ≡ false
     shut h = rw (no-pipe pipe h)
+
+    said-there : IsPipe pipe → answerIn pipe ≢ 0 → (takeOf pipe part .answered ≡ 1)
+        × (answerIn pipe ≢ 255 → takeOf pipe part .refusal ≡ answerIn pipe)
+        × (answerIn pipe ≡ 255 → (takeOf pipe part .refusal ≡ 0) × (takeOf pipe part .count ≡ countIn pipe))
+    said-there h z =
+        let m : takeOf pipe part ≡ saidBy (answerIn pipe) (countIn pipe) =
+        sym (both (saidBy (answerIn pipe) (countIn pipe)) (not-open pipe z) (rw (is-pipe pipe h)) .0 .0) in (
+          ap (λ (p : Piped). p .answered) m ∙ flagged (answerIn pipe) (countIn pipe),
+          (λ k. ap (λ (p : Piped). p .refusal) m ∙ rw (ne-eqb (answerIn pipe) 255 k)),
+          (λ k. (ap (λ (p : Piped). p .refusal) m ∙ rw (eq-eqb (answerIn pipe) 255 k), ap (λ (p : Piped). p .count) m ∙ rw (eq-eqb (answerIn pipe) 255 k))),
+        )
 
     goes-on : Open pipe → (TwoOrThree (refusalOf (soFar pipe ++ part)) → ⊥) → (takeOf pipe part ≡ notYet) × Grown pipe part (takePipe pipe part)
     goes-on o none =
@@ -194,26 +257,6 @@ takes-more pipe part o z h = go (either (refusalOf (soFar pipe ++ part)))
         let m = any-pipe pipe part .goesOn o (λ n f. none (one-of-two (soFar pipe ++ part) n f)) .1 in
         let left = takePipe pipe part in
         (m .still, omega (arith, length-so-far pipe (is-pipe pipe (o .one)), length-so-far left (is-pipe left (m .still .one)), ap length (m .grown), length-append (soFar pipe) part))
-
--- the count of an answer is within the longest request
-said-within : (pipe : List ℕ) (byte : ℕ) → isPipe pipe ≡ true → saidBy byte (countIn pipe) .count ≤ longest
-said-within pipe byte t = go (eqb byte 255)
-  where
-    go : (b : Bool) → cond b (accepted (countIn pipe)) (refused byte) .count ≤ longest
-    go true = counted pipe t
-    go false = omega arith
-
-pub end-within : (pipe : List ℕ) → endOf pipe .count ≤ longest
-unfolding endOf
-end-within pipe = go (isOpen pipe) refl
-  where
-    go : (a : Bool) → isOpen pipe ≡ a → cond a (saidBy (endByte pipe) (countIn pipe)) (standing pipe) .count ≤ longest
-    go true t = said-within pipe (endByte pipe) (open-is pipe t .0)
-    go false t = other (isPipe pipe) refl
-      where
-        other : (b : Bool) → isPipe pipe ≡ b → cond b (saidBy (answerIn pipe) (countIn pipe)) noPipe .count ≤ longest
-        other true t = said-within pipe (answerIn pipe) t
-        other false t = omega arith
 
 -- a refusal that is no answer leaves every byte
 pub none-taken : (pipe part : List ℕ) → takeOf pipe part .refusal ≢ 0 → takeOf pipe part .answered ≡ 0 → takePipe pipe part ≡ pipe

@@ -13,13 +13,13 @@ abbrev pub example : List ℕ
 example = 0x07 ∷ 0x10 ∷ 0x00 ∷ 0x00 ∷ 0x01 ∷ 0x00 ∷ 0x00 ∷ 0x00 ∷ 0x03 ∷ 0x02 ∷ 0x02 ∷ 0x01 ∷ 0x00 ∷ []
 
 -- an answer's three numbers: the refusal, whether it is answered, the count
-abbrev pub three : Piped → List ℕ
-three p = p .refusal ∷ p .answered ∷ p .count ∷ []
+abbrev pub numbers : Piped → List ℕ
+numbers p = p .refusal ∷ p .answered ∷ p .count ∷ []
 
 -- what each part is answered, and the end, and the pipe that is left
 abbrev pub run : List ℕ → List (List ℕ) → List (List ℕ)
-run pipe [] = three (endOf pipe) ∷ endPipe pipe ∷ []
-run pipe (part ∷ parts) = three (takeOf pipe part) ∷ run (takePipe pipe part) parts
+run pipe [] = numbers (endOf pipe) ∷ endPipe pipe ∷ []
+run pipe (part ∷ parts) = numbers (takeOf pipe part) ∷ run (takePipe pipe part) parts
 
 -- a pipe by its bytes: those at the front, zeros behind them to byte 37, the count, the answer
 abbrev pub holding : List ℕ → ℕ → ℕ → List ℕ
@@ -27,7 +27,7 @@ holding front count byte = take 38 (front ++ replicate 38 0) ++ (count ∷ byte 
 
 -- what a part and the end are answered by any bytes lent as a pipe, and what they leave
 abbrev pub outcome : List ℕ → List ℕ → List (List ℕ)
-outcome pipe part = three (takeOf pipe part) ∷ takePipe pipe part ∷ three (endOf pipe) ∷ endPipe pipe ∷ []
+outcome pipe part = numbers (takeOf pipe part) ∷ takePipe pipe part ∷ numbers (endOf pipe) ∷ endPipe pipe ∷ []
 
 pub record PipeCases : Type 0 where
   pub length : pipeLength ≡ 40
@@ -54,14 +54,27 @@ pub record PipeCases : Type 0 where
       example ∷ set example 1 0 ∷ set example 5 2 ∷ set example 4 0 ∷ set example 6 0x12 ∷ set (set (set example 1 4) 2 1) 9 0 ∷ []
       )
       ≡ (0 ∷ 3 ∷ []) ∷ (4 ∷ 3 ∷ []) ∷ (5 ∷ 3 ∷ []) ∷ (6 ∷ 3 ∷ []) ∷ (17 ∷ 3 ∷ []) ∷ (9 ∷ 3 ∷ []) ∷ []
-  -- bytes that are no pipe: 39, 41 and none, and a count of 39
+  -- and what the end says of each, with the byte that remembers it: 1 inside a section, and the others
+  pub inside : run fresh (take 12 example ∷ []) ≡ (0 ∷ 0 ∷ 0 ∷ []) ∷ (1 ∷ 1 ∷ 0 ∷ []) ∷ holding (take 12 example) 12 1 ∷ []
+  pub atEnd : map (λ (request : List ℕ). run fresh (request ∷ []))
+      (set example 1 0 ∷ set example 5 2 ∷ set example 4 0 ∷ set example 6 0x12 ∷ set (set (set example 1 4) 2 1) 9 0 ∷ [])
+      ≡ ((0 ∷ 0 ∷ 0 ∷ []) ∷ (4 ∷ 1 ∷ 0 ∷ []) ∷ holding (set example 1 0) 13 4 ∷ []) ∷
+      ((0 ∷ 0 ∷ 0 ∷ []) ∷ (5 ∷ 1 ∷ 0 ∷ []) ∷ holding (set example 5 2) 13 5 ∷ []) ∷
+      ((0 ∷ 0 ∷ 0 ∷ []) ∷ (6 ∷ 1 ∷ 0 ∷ []) ∷ holding (set example 4 0) 13 6 ∷ []) ∷
+      ((0 ∷ 0 ∷ 0 ∷ []) ∷ (17 ∷ 1 ∷ 0 ∷ []) ∷ holding (set example 6 0x12) 13 17 ∷ []) ∷
+      ((0 ∷ 0 ∷ 0 ∷ []) ∷ (9 ∷ 1 ∷ 0 ∷ []) ∷ holding (set (set (set example 1 4) 2 1) 9 0) 13 9 ∷ []) ∷ []
+  -- bytes that are no pipe: 39, 41 and none, and a count of 39, beside an answer too
   pub short : outcome (replicate 39 0) example ≡ (7 ∷ 0 ∷ 0 ∷ []) ∷ replicate 39 0 ∷ (7 ∷ 0 ∷ 0 ∷ []) ∷ replicate 39 0 ∷ []
   pub long : outcome (replicate 41 0) example ≡ (7 ∷ 0 ∷ 0 ∷ []) ∷ replicate 41 0 ∷ (7 ∷ 0 ∷ 0 ∷ []) ∷ replicate 41 0 ∷ []
   pub empty : outcome [] example ≡ (7 ∷ 0 ∷ 0 ∷ []) ∷ [] ∷ (7 ∷ 0 ∷ 0 ∷ []) ∷ [] ∷ []
   pub above : outcome (holding example 39 0) (0x00 ∷ []) ≡ (7 ∷ 0 ∷ 0 ∷ []) ∷ holding example 39 0 ∷ (7 ∷ 0 ∷ 0 ∷ []) ∷ holding example 39 0 ∷ []
+  pub aboveAnswered : outcome (holding example 39 255) (0x00 ∷ [])
+      ≡ (7 ∷ 0 ∷ 0 ∷ []) ∷ holding example 39 255 ∷ (7 ∷ 0 ∷ 0 ∷ []) ∷ holding example 39 255 ∷ []
   -- what another hand wrote is taken as it stands: answers, a count, and bytes behind it
   pub anyNumber : outcome (holding example 13 77) example
       ≡ (77 ∷ 1 ∷ 0 ∷ []) ∷ holding example 13 77 ∷ (77 ∷ 1 ∷ 0 ∷ []) ∷ holding example 13 77 ∷ []
+  pub nextToAccepted : outcome (holding example 13 254) example
+      ≡ (254 ∷ 1 ∷ 0 ∷ []) ∷ holding example 13 254 ∷ (254 ∷ 1 ∷ 0 ∷ []) ∷ holding example 13 254 ∷ []
   pub anyCount : outcome (holding [] 38 255) example ≡ (0 ∷ 1 ∷ 38 ∷ []) ∷ holding [] 38 255 ∷ (0 ∷ 1 ∷ 38 ∷ []) ∷ holding [] 38 255 ∷ []
   pub behind : outcome (replicate 38 0xEE ++ (0 ∷ 0 ∷ [])) (take 2 example)
       ≡ (0 ∷ 0 ∷ 0 ∷ []) ∷ ((0x07 ∷ 0x10 ∷ replicate 36 0xEE) ++ (2 ∷ 0 ∷ [])) ∷ (1 ∷ 1 ∷ 0 ∷ []) ∷ (replicate 38 0xEE ++ (0 ∷ 1 ∷ [])) ∷ []

@@ -42,12 +42,19 @@ pub record AnyPipe (pipe part : List ℕ) : Type 0 where
   -- an answer stays, and no byte is changed
   pub stays : IsPipe pipe → answerIn pipe ≢ 0
       → let said : Piped = saidBy (answerIn pipe) (countIn pipe) in Takes pipe part said pipe × Ends pipe said pipe
+  -- its number is its byte; 255 is an acceptance, with the count that stands there
+  pub said : IsPipe pipe → answerIn pipe ≢ 0 → (takeOf pipe part .answered ≡ 1)
+      × (answerIn pipe ≢ 255 → takeOf pipe part .refusal ≡ answerIn pipe)
+      × (answerIn pipe ≡ 255 → (takeOf pipe part .refusal ≡ 0) × (takeOf pipe part .count ≡ countIn pipe))
   -- "A refusal that no later byte can change is given at once", and its byte is the only one that changes
   pub atOnce : Open pipe → (n : ℕ) → Final (soFar pipe ++ part) n → Takes pipe part (refused n) (withAnswer pipe n)
   -- and no other answer is
   pub goesOn : Open pipe → ((n : ℕ) → Final (soFar pipe ++ part) n → ⊥) → (takeOf pipe part ≡ notYet) × Grown pipe part (takePipe pipe part)
   -- the end: the answer for the bytes so far, and its byte is the only one that changes
   pub ends : Open pipe → Ends pipe (answerFor (soFar pipe)) (withAnswer pipe (answerByte (refusalOf (soFar pipe))))
+  -- no bytes are left out; and a count is never above the longest request
+  pub either : IsPipe pipe ⊎ NoPipe pipe
+  pub within : (takeOf pipe part .count ≤ longest) × (endOf pipe .count ≤ longest)
   -- so beside a refusal stands a count of zero, and every byte is as it was, but for the answer's
   pub kept : takeOf pipe part .refusal ≢ 0 → (takeOf pipe part .count ≡ 0) × (takePipe pipe part ≡ withAnswer pipe (answerIn (takePipe pipe part)))
   pub keptAtEnd : endOf pipe .refusal ≢ 0 → (endOf pipe .count ≡ 0) × (endPipe pipe ≡ withAnswer pipe (answerIn (endPipe pipe)))
@@ -67,14 +74,19 @@ after parts = fed fresh parts
 
 -- "in parts, none too short, the empty part included": any parts, one after another
 pub record HoweverCut (parts : List (List ℕ)) : Type 0 where
-  -- "However the request is cut, the answer must equal that for the joined bytes": at the end
-  pub answer : endOf (after parts) ≡ answerFor (joined parts)
+  -- "However the request is cut, the answer must equal that for the joined bytes": at the end, its number, and the byte that remembers it
+  pub atEnd : endOf (after parts) ≡ answerFor (joined parts)
+  pub number : (endOf (after parts) .refusal ≡ refusalOf (joined parts)) × (endOf (after parts) .answered ≡ 1)
+  pub byte : (refusalOf (joined parts) ≢ 0 → answerIn (endPipe (after parts)) ≡ refusalOf (joined parts))
+      × (refusalOf (joined parts) ≡ 0 → answerIn (endPipe (after parts)) ≡ 255)
   -- an accepted request stands at the pipe's front
   pub front : refusalOf (joined parts) ≡ 0 → take (length (joined parts)) (endPipe (after parts)) ≡ joined parts
-  -- before the end: one more part is answered exactly if no later byte can change the number, with that number, which is 2 or 3; and else not
+  -- "end-of-input is said once, by the host": before that one more part, the empty one too, is answered exactly if no later byte can change the
+  -- number, with that number, which is 2 or 3; and else not
   pub atOnce : (part : List ℕ) (n : ℕ) → (takeOf (after parts) part ≡ refused n) ↔ Final (joined parts ++ part) n
-  pub given : (part : List ℕ) (n : ℕ) → takeOf (after parts) part ≡ refused n → (n ≡ 2) ⊎ (n ≡ 3)
-  pub notYet : (part : List ℕ) → (takeOf (after parts) part ≡ notYet) ↔ ((n : ℕ) → Final (joined parts ++ part) n → ⊥)
+  pub given : (part : List ℕ)
+      → (takeOf (after parts) part ≡ notYet) ⊎ (takeOf (after parts) part ≡ refused 2) ⊎ (takeOf (after parts) part ≡ refused 3)
+  pub goesOn : (part : List ℕ) → (takeOf (after parts) part ≡ notYet) ↔ ((n : ℕ) → Final (joined parts ++ part) n → ⊥)
   -- "Parts after an answer or the end are ignored", and so is an end that is said twice
   pub answered : (part : List ℕ) (n : ℕ) → takeOf (after parts) part ≡ refused n
       → (later : List (List ℕ)) → fed (takePipe (after parts) part) later ≡ takePipe (after parts) part

@@ -109,7 +109,7 @@ module _ (parts : List (List ℕ)) where
   whole = joined parts
 
   answered : (n : ℕ) → refusalOf whole ≡ n → endOf (after parts) ≡ cond (eqb n 0) (record { refusal = 0; answered = 1; count = length whole }) (refused n)
-  answered n e = however-cut parts .answer ∙ rw e
+  answered n e = however-cut parts .atEnd ∙ rw e
 
   at-front : refusalOf whole ≡ 0 → take (endOf (after parts) .count) (endPipe (after parts)) ≡ whole
   at-front z = ap (λ (p : Piped). take (p .count) (endPipe (after parts))) (answered 0 z) ∙ however-cut parts .front z
