@@ -1,9 +1,35 @@
--- How the program's loop ends: each turn that goes on leaves more bytes in the pipe, which has room for no more than the longest request.
-use Prim.Native.Nat.{ℕ, _<_}
-use mathlib.Core.List.{List}
-use Rattle.pipe.specs.Bytes.{countIn}
-use Rattle.pipe.specs.Pipe.{Open}
+-- How the program takes its input: in parts, one after another, until the empty one, which is the end, or an answer; and what it prints then.
+-- `ThroughPipe.line` (promises) says that this is the line of the parts joined. Which bytes a part has, the operating system says.
+use mathlib.Core.Path.{_≡_}
+use mathlib.Core.Bool.{Bool, false, not, _&&_}
+use mathlib.Core.List.{List, [], _∷_, _++_}
+use Prim.Native.Nat.{ℕ}
+use lib.Dec.{eqb}
+use lib.ListN.{length, take}
+use Rattle.pipe.specs.Found.{takeOf, takePipe, endOf, endPipe}
+use Rattle.pipe.specs.Pipe.{after}
+use Rattle.line.specs.Words.{PrintsAnswer}
 
-pub record Grows (pipe left : List ℕ) : Type 0 where
-  pub still : Open left
-  pub more : countIn pipe < countIn left
+-- whether there is more to come after a part
+abbrev pub goesOn : List ℕ → List ℕ → Bool
+goesOn pipe part = not (eqb (length part) 0) && eqb (takeOf pipe part .answered) 0
+
+-- a part goes into the pipe
+abbrev pub Turns : List ℕ → List ℕ → Bool → List ℕ → Type 0
+Turns pipe part more left = (more ≡ goesOn pipe part) × (left ≡ takePipe pipe part)
+
+-- some part does, whichever was read
+pub record SomePart (pipe : List ℕ) (more : Bool) (left : List ℕ) : Type 0 where
+  pub part : List ℕ
+  pub turned : Turns pipe part more left
+
+-- some parts, the last of which is the first after which nothing is to come
+pub record AllParts (left : List ℕ) : Type 0 where
+  pub parts : List (List ℕ)
+  pub last : List ℕ
+  pub taken : left ≡ after (parts ++ (last ∷ []))
+  pub stopped : goesOn (after parts) last ≡ false
+
+-- what is printed of a pipe: the end is said, and then its answer told
+abbrev pub PrintsPipe : List ℕ → ℕ → List ℕ → Type 0
+PrintsPipe pipe count line = PrintsAnswer (endOf pipe .refusal) (take (endOf pipe .count) (endPipe pipe)) count line
