@@ -38,10 +38,10 @@ static const char help[] =
     "\n"
     "  --plugin COMMAND\n"
     "                  the request is what COMMAND writes to its standard output: the bytes themselves, not in hex. It runs by /bin/sh\n"
-    "                  -c, in a process group of its own, and has nothing of the host's: its input is empty, its error stream goes\n"
-    "                  nowhere (2>FILE in COMMAND keeps it). The request counts once the output has ended and COMMAND has exited with\n"
-    "                  status 0. What no later byte changes, 2 and 3, is refused at once. In the end what is left of the group is\n"
-    "                  killed (SIGKILL). A host that is started again after --cut runs COMMAND again\n"
+    "                  -c, in a process group of its own and in this directory, and has no descriptor of the host's: its input is\n"
+    "                  empty, its error stream goes nowhere (2>FILE in COMMAND keeps it). The request counts once the output has ended\n"
+    "                  and COMMAND has exited with status 0. What no later byte changes, 2 and 3, is refused at once. In the end what\n"
+    "                  is left of the group is killed (SIGKILL). A host that is started again after --cut runs COMMAND again\n"
     "  --wait MS       the time for all that, 1 to 600000 ms; without it 2000\n"
     "\n"
     "  --chain SEED    a chain of 2 to 6 requests, all drawn from this number, 0 to 999999999: the chip at the beginning, the requests,\n"
@@ -55,7 +55,7 @@ static const char help[] =
     "\n"
     "The status is 0 for a request that is on show, and for chains in which all holds; 1 for a request that is refused, and for a chain\n"
     "with a point that fails; 2 for a command that is not as above; 3 for a plug-in whose time is up; 4 for one that fails, by a status\n"
-    "other than 0 or by a signal.\n"
+    "other than 0 or by a signal. But 2 and 3 are refused, 1, before it is looked at how the plug-in ends.\n"
     "\n"
     "  host/run --cut 25 --brief\n"
     "  host/run --vsync 0,22 --cut 30 --brief\n"
@@ -157,6 +157,7 @@ void show_request(const char *what, const uint8_t *request, size_t length) {
 enum { MOST_CHAINS = 1000000, USUAL_WAIT = 2000, MOST_WAIT = 600000 };      /* of the two waits, ms */
 
 static void take_name(const char *word, struct option *o) { *(const char **)o->into = word; }
+static void take_wait(const char *word, struct option *o) { *(long *)o->into = number_of_word(word, o->name + 2, 1, (long)o->length); }
 
 /* The events one after the other, as far as the cut. Old is what is in use now; new is what will be, found on a copy of the chip. */
 static int run(const struct events *e, const uint8_t *list, long cut, int brief) {
@@ -197,7 +198,7 @@ int main(int count, char **words) {
         { "--chain", take_number, &seed, MOST_SEEDS, 0 },
         { "--chains", take_number, &chains, MOST_CHAINS, 0 },
         { "--plugin", take_name, &command, 0, 0 },
-        { "--wait", take_number, &wait, MOST_WAIT, 0 },
+        { "--wait", take_wait, &wait, MOST_WAIT, 0 },
     };
     enum { BY_CHIP, BY_CUT, BY_VSYNC, BY_BRIEF, BY_CHAIN, BY_CHAINS, BY_PLUGIN, BY_WAIT, OPTIONS };
     setvbuf(stdout, NULL, _IOLBF, 0);                       /* what was said before a kill is seen */
@@ -214,7 +215,6 @@ int main(int count, char **words) {
     if (options[BY_PLUGIN].given && length) misuse("--plugin and a request exclude each other");
     if (options[BY_PLUGIN].given && !command[strspn(command, " \t\n")]) misuse("--plugin: a command with nothing in it");
     if (options[BY_WAIT].given && !options[BY_PLUGIN].given) misuse("--wait is given, and no --plugin to wait for");
-    if (!wait) misuse("--wait 0: no request comes in no time");
     if (options[BY_CHAINS].given) return play_chains(seed, chains);
     if (!file) misuse("--chip FILE is missing");
     if (options[BY_CHAIN].given) return play_chain(file, seed, brief);

@@ -156,8 +156,26 @@ static struct station_piped take_parts(int from, long until, uint8_t taken[STATI
 }
 
 static void tell(const struct written *w, const char *how) {
-    printf("plug-in:     %u byte%s in %u part%s, and it %s\n", (unsigned)w->length, w->length == 1 ? "" : "s", w->parts,
-           w->parts == 1 ? "" : "s", how);
+    printf("plug-in:     %s%u byte%s in %u part%s, and it %s\n", w->length == sizeof w->bytes ? "the first " : "", (unsigned)w->length,
+           w->length == 1 ? "" : "s", w->parts, w->parts == 1 ? "" : "s", how);
+}
+
+/* What a shell means by the status of a command that it could not run, or that a signal ended. */
+static const char *by_a_shell(int status, char *text, size_t room) {
+    if (status == 126) return ", by which a shell says that it may not be executed";
+    if (status == 127) return ", by which a shell says that there is no such command";
+    if (status <= 128 || status > 128 + SIGRTMAX) return "";
+    snprintf(text, room, ", by which a shell says: signal %d (%s)", status - 128, strsignal(status - 128));
+    return text;
+}
+
+/* The two mistakes that are made most, told by the bytes themselves. */
+static const char *likely(uint32_t refusal, const struct written *w) {
+    if (!w->length) return "It wrote nothing: was its output flushed before it exited?\n";
+    if (refusal == STATION_COUNT_NOT_ALLOWED && w->bytes[0] >= '0' && w->bytes[0] <= 'f')
+        return "Its first byte is a letter or a digit: are these hex digits, in place of the bytes themselves?\n";
+    if (refusal == STATION_BYTES_AFTER && w->bytes[w->length - 1] == '\n') return "Its last byte is 0a: an end of line that was not meant?\n";
+    return "";
 }
 
 /* No number of the library's: the host's own word. */
@@ -170,7 +188,7 @@ static int no_request(int status, const char *why) {
 int request_of_plugin(const char *command, long wait, struct request *asked) {
     uint8_t taken[STATION_PIPE] = { 0 };                        /* zeros are a fresh one; it is for this request and no other */
     struct written w = { .length = 0 };
-    char why[120];
+    char why[240], text[80];
     long until = ms() + wait;                                   /* for all of it: a byte now and then buys no time */
     on_signals(take_along);
     int from = start(command);
@@ -184,21 +202,23 @@ int request_of_plugin(const char *command, long wait, struct request *asked) {
     if (!w.ended && a.refusal) tell(&w, "was killed, for no later byte changes the answer");
     else if (!exited) {
         tell(&w, "was killed");
-        snprintf(why, sizeof why, "%s within %ld ms", w.ended ? "ended its output, but did not exit" : "did not end its output", wait);
+        snprintf(why, sizeof why, "%s within %ld ms (--wait gives it more)",
+                 w.ended ? "ended its output, but did not exit" : "did not end its output, or a child of its own still holds that,", wait);
         return no_request(LATE, why);
     } else if (status) {                                        /* by its own word, or by a crash: not to be believed */
         tell(&w, "failed");
         if (WIFSIGNALED(status)) snprintf(why, sizeof why, "was ended by signal %d (%s)", WTERMSIG(status), strsignal(WTERMSIG(status)));
-        else snprintf(why, sizeof why, "exited with status %d%s", WEXITSTATUS(status),
-                      WEXITSTATUS(status) == 127 ? ", by which a shell says that there is no such command" : "");
+        else snprintf(why, sizeof why, "exited with status %d%s; 2>FILE in COMMAND keeps what it said", WEXITSTATUS(status),
+                      by_a_shell(WEXITSTATUS(status), text, sizeof text));
         return no_request(FAILED, why);
     } else tell(&w, "ended by itself");
 
     if (a.refusal) {
         if (w.length) show_request("it wrote:", w.bytes, w.length);
         printf("refused %u: %s\n", (unsigned)a.refusal, station_text(a.refusal));
-        printf("How it is mended: docs/REQUEST.md, \"When it is refused\"; tools/request --explain BYTES says more of these bytes.\n"
-               "Nothing was planned, and the chip was not touched\n");
+        printf("%s%s%s", likely(a.refusal, &w), "How it is mended: docs/REQUEST.md, \"When it is refused\" and \"From a process of its own\"",
+               w.length ? "; tools/request --explain BYTES says more of these bytes.\n" : ".\n");
+        printf("Nothing was planned, and the chip was not touched\n");
         return REFUSED;
     }
     memcpy(asked->bytes, taken, a.count);

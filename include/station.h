@@ -123,8 +123,9 @@ struct station_count station_meter(const float *numbers, size_t count, uint8_t *
  * the end. An answer stays: parts and ends after it are ignored, and say it again. A part that is answered at once is not kept; the answer's
  * byte is the only one that changes. Who wants to show what was refused keeps the part.
  * Any bytes may be lent as a pipe. 7, with `answered` 0 and no byte changed: another length, or a count above STATION_REQUEST, which no call
- * leaves; stop there. What another hand has written into a pipe is taken as it stands: its bytes so far are judged with the next part, and an
- * answer of its own is said as it is, any number. station_plan reads the bytes again, and trusts no pipe. */
+ * makes; stop there. What another hand has written into a pipe is taken as it stands: its bytes so far are judged with the next part or at the
+ * end, and an answer of its own is said as it is, any number; but `count` is never above STATION_REQUEST. station_plan reads the bytes again,
+ * and trusts no pipe. To take another request make all its bytes 0. */
 struct station_piped station_pipe_take(uint8_t *pipe, size_t pipe_length, const uint8_t *part, size_t part_length);
 struct station_piped station_pipe_end(uint8_t *pipe, size_t pipe_length);
 
