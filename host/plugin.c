@@ -202,8 +202,8 @@ int request_of_plugin(const char *command, long wait, struct request *asked) {
     if (!w.ended && a.refusal) tell(&w, "was killed, for no later byte changes the answer");
     else if (!exited) {
         tell(&w, "was killed");
-        snprintf(why, sizeof why, "%s within %ld ms (--wait gives it more)",
-                 w.ended ? "ended its output, but did not exit" : "did not end its output, or a child of its own still holds that,", wait);
+        snprintf(why, sizeof why, "%s within %ld ms%s (--wait gives more time)", w.ended ? "ended its output, but did not exit" : "did not end its output",
+                 wait, w.ended ? "" : ", or a child of its own held that open");
         return no_request(LATE, why);
     } else if (status) {                                        /* by its own word, or by a crash: not to be believed */
         tell(&w, "failed");
