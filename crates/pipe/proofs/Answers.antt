@@ -3,19 +3,17 @@ use mathlib.Core.Path.{_≡_, refl, sym, ap, subst, _∙_}
 use mathlib.Core.Logic.{_≢_, inl, inr}
 use mathlib.Core.Bool.{Bool, true, false, _||_}
 use mathlib.Core.List.{List, _++_}
-use Prim.Native.Nat.{ℕ, suc, _≤_, _<_}
+use Prim.Native.Nat.{ℕ, suc, _≤_}
 use native.Mathlib.Omega.{arith}
 use lib.Dec.{eqb, leb}
-use lib.ListN.{length, getD, take, set}
-use lib.Seq.{set-getD, take-all}
-use borrow.Author.Tests.{eq-eqb, ne-eqb, leb-true, leb-false}
+use lib.ListN.{length, take, set}
+use lib.Seq.{take-all}
+use borrow.Author.Tests.{ne-eqb, leb-true, leb-false}
 use Rattle.lists.specs.Over.{over}
 use Rattle.request.specs.Sections.{longest}
-use Rattle.request.specs.Read.{nctsOf}
 use Rattle.request.proofs.Cut.{lengths}
-use Rattle.pipe.specs.declared.Piped.{Piped}
 use Rattle.pipe.specs.Final.{refusalOf}
-use Rattle.pipe.specs.Bytes.{countIn, answerIn, soFar, refused, notYet, noPipe, saidBy, answerByte, withAnswer}
+use Rattle.pipe.specs.Bytes.{countIn, soFar, refused, notYet, saidBy, withAnswer}
 use Rattle.pipe.specs.Found.{isOpen, standing, early, kept, endByte}
 use Rattle.pipe.specs.Found.{takeOf, takePipe, endOf, endPipe, Takes, Ends}
 use Rattle.pipe.proofs.Early.{TwoOrThree, long, early-is, is-early, not-early}

@@ -1,12 +1,12 @@
 -- However a request is cut: a pipe holds the joined bytes, or the answer that no later byte changes. Assumes nothing.
 use mathlib.Core.Path.{_≡_, refl, sym, ap, subst, _∙_}
-use mathlib.Core.Logic.{_≢_, _⊎_, inl, inr, _↔_}
+use mathlib.Core.Logic.{_≢_, _⊎_, inl, inr}
 use mathlib.Core.Bool.{Bool, true, false, cond}
 use mathlib.Core.List.{List, [], _∷_, _++_, append-nil, append-assoc}
-use Prim.Native.Nat.{ℕ, suc, _+_, _≤_, _<_}
+use Prim.Native.Nat.{ℕ, suc, _+_, _<_}
 use native.Mathlib.Omega.{arith}
 use lib.Dec.{eqb}
-use lib.ListN.{length, getD, take, set, length-set}
+use lib.ListN.{length, take, length-set}
 use lib.Seq.{take-set-le, getD-set-same, getD-set-other}
 use borrow.Author.Tests.{eqb-true, eqb-false, eq-eqb, ne-eqb}
 use Rattle.refusals.specs.Rows.{answer}
@@ -14,10 +14,10 @@ use Rattle.request.specs.Sections.{longest, walk, walked}
 use Rattle.request.specs.Read.{readOf, nctsOf}
 use Rattle.pipe.specs.declared.Piped.{Piped}
 use Rattle.pipe.specs.Final.{refusalOf, Final}
-use Rattle.pipe.specs.Bytes.{pipeLength, countIn, answerIn, soFar, fresh, refused, accepted, notYet, saidBy, answerByte, withAnswer}
+use Rattle.pipe.specs.Bytes.{countIn, answerIn, soFar, fresh, refused, accepted, notYet, saidBy, answerByte, withAnswer}
 use Rattle.pipe.specs.Found.{isPipe}
 use Rattle.pipe.specs.Found.{takeOf, takePipe, endOf, endPipe, Takes, Ends}
-use Rattle.pipe.specs.Pipe.{answerFor, IsPipe, Open, Grown, AnyPipe, joined, fed, after, HoweverCut}
+use Rattle.pipe.specs.Pipe.{answerFor, IsPipe, Open, joined, fed, after, HoweverCut}
 use Rattle.pipe.proofs.Told.{small}
 use Rattle.pipe.proofs.Early.{TwoOrThree, either, more, final, its-own, one-of-two}
 use Rattle.pipe.proofs.Joined.{length-so-far}

@@ -4,21 +4,20 @@
 --     finals    so these are final, and zeros enough change every other answer
 --     deciding  the byte that decides
 use mathlib.Core.Path.{_≡_, refl, sym, ap, subst, _∙_}
-use mathlib.Core.Logic.{_≢_, _⊎_, inl, inr, _↔_}
-use mathlib.Core.Bool.{Bool, true, false, false≢true, cond, _||_}
+use mathlib.Core.Logic.{_≢_, _⊎_, inl, inr}
+use mathlib.Core.Bool.{Bool, true, false, false≢true, _||_}
 use mathlib.Core.List.{List, [], _∷_, _++_, append-nil}
 use Prim.Native.Nat.{ℕ, zero, suc, _+_, _≤_, _<_}
 use native.Mathlib.Omega.{arith}
 use lib.Dec.{eqb, leb}
-use lib.ListN.{length, getD, take, replicate, length-append, length-replicate}
+use lib.ListN.{length, take, replicate, length-append, length-replicate}
 use lib.Seq.{take-all}
 use borrow.Author.Tests.{eqb-true, eqb-false, leb-true, leb-false}
-use Rattle.lists.specs.Among.{among}
 use Rattle.matrix.specs.Matrix.{Bytes}
 use Rattle.request.specs.Sections.{Walk, ends, notAllowed, whole, walk, walked, sections, longest, laid, fits}
 use Rattle.request.proofs.Walks.{walks}
 use Rattle.request.proofs.Counted.{Counted, counted, within}
-use Rattle.pipe.specs.Final.{refusalOf, Final, Changeable, Finals, Deciding}
+use Rattle.pipe.specs.Final.{refusalOf, Final, Finals, Deciding}
 use Rattle.pipe.specs.Found.{early}
 use Rattle.pipe.proofs.More.{Longer, walk-more, Short, short}
 use Rattle.pipe.proofs.Told.{Later, Told, told}

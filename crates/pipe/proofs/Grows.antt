@@ -2,19 +2,19 @@
 use mathlib.Core.Path.{_≡_, refl, sym, ap, subst, _∙_}
 use mathlib.Core.Logic.{_≢_, _⊎_, inl, inr}
 use mathlib.Core.Bool.{Bool, true, false, cond, _&&_}
-use mathlib.Core.List.{List, [], _∷_, _++_}
+use mathlib.Core.List.{List, _++_}
 use Prim.Native.Nat.{ℕ, suc, _+_, _-_, _≤_, _<_}
 use native.Mathlib.Omega.{arith}
 use lib.Dec.{eqb, leb}
 use lib.ListN.{length, getD, take, drop, set, length-append, length-drop, length-set}
-use lib.Seq.{take-all, take-at, take-set-le, set-getD, getD-set-same, getD-set-other, getD-append-add, getD-drop, length-take-le}
-use borrow.Author.Tests.{eqb-true, eqb-false, eq-eqb, ne-eqb, leb-true, leb-false, lt-leb, le-leb}
+use lib.Seq.{take-at, take-set-le, set-getD, getD-set-same, getD-set-other, getD-append-add, getD-drop}
+use borrow.Author.Tests.{eqb-true, eqb-false, eq-eqb, ne-eqb, leb-true, leb-false, lt-leb}
 use Rattle.lists.specs.Over.{over}
 use Rattle.lists.proofs.Copied.{over-front}
 use Rattle.refusals.specs.Rows.{answer}
 use Rattle.request.specs.Sections.{longest}
 use Rattle.pipe.specs.declared.Piped.{Piped}
-use Rattle.pipe.specs.Final.{refusalOf, Final}
+use Rattle.pipe.specs.Final.{refusalOf}
 use Rattle.pipe.specs.Bytes.{pipeLength, countIn, answerIn, soFar, refused, accepted, notYet, noPipe, saidBy, answerByte, withAnswer}
 use Rattle.pipe.specs.Found.{isPipe, isOpen, standing, givenAt, kept, endByte}
 use Rattle.pipe.specs.Found.{takeOf, takePipe, endOf, endPipe, Takes, Ends}
@@ -27,9 +27,6 @@ use Rattle.pipe.proofs.Answers.{taking-nothing, ending-nothing, ending,
 -- the test says which
 pub is-pipe : (pipe : List ℕ) → IsPipe pipe → isPipe pipe ≡ true
 is-pipe pipe h = a-pipe pipe (h .long) (h .counted)
-
-pub pipe-is : (pipe : List ℕ) → isPipe pipe ≡ true → IsPipe pipe
-pipe-is pipe t = record { long = of-length pipe t; counted = counted pipe t }
 
 it-is-open : (pipe : List ℕ) → Open pipe → isOpen pipe ≡ true
 it-is-open pipe o = is-open pipe (is-pipe pipe (o .one)) (o .unanswered)

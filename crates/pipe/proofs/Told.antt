@@ -1,10 +1,10 @@
 -- What the walk of an input tells of its number: 1 where it ends too soon, 2 where a count is not allowed, 3 where bytes are left, and else
 -- none of these. Assumes nothing.
-use mathlib.Core.Path.{_≡_, refl, sym, ap, subst, _∙_}
+use mathlib.Core.Path.{_≡_, refl}
 use mathlib.Core.Logic.{_≢_, _⊎_, inl, inr}
 use mathlib.Core.Bool.{Bool, true, false, cond, not, _&&_}
-use mathlib.Core.List.{List, [], _∷_, _++_}
-use Prim.Native.Nat.{ℕ, _+_, _*_, _/_, _≤_, _<_}
+use mathlib.Core.List.{List, [], _∷_}
+use Prim.Native.Nat.{ℕ, _*_, _/_, _<_}
 use native.Mathlib.Omega.{arith}
 use lib.Dec.{eqb, ltb}
 use lib.ListN.{length, getD}
@@ -24,12 +24,10 @@ use Rattle.request.specs.declared.Sound.{Sound}
 use Rattle.request.specs.declared.Sound.the-variants.{Off, On}
 use Rattle.request.specs.declared.Request.{Request}
 use Rattle.request.specs.declared.Checked.{Checked}
-use Rattle.request.specs.Sections.{Walk, ends, notAllowed, whole, walk, walked, sections, longest}
+use Rattle.request.specs.Sections.{Walk, ends, notAllowed, whole, walk, walked, sections}
 use Rattle.request.specs.Request.{requestIn}
 use Rattle.request.specs.Read.{emptied, bodyTests, judged, checked, readOf, pairIn, pairFor, nctsOf}
-use Rattle.request.proofs.Counted.{Counted, counted, within}
 use Rattle.pipe.specs.Final.{refusalOf}
-use Rattle.pipe.proofs.More.{Short, short}
 
 -- none of rows 1 to 3, and a number of a byte that is not 255
 abbrev pub Later : ℕ → Type 0

@@ -1,28 +1,25 @@
 -- What a pipe's answer is to planning and to the line. Assumes nothing.
-use mathlib.Core.Path.{_≡_, refl, sym, ap, subst, _∙_}
+use mathlib.Core.Path.{_≡_, refl, sym, ap, _∙_}
 use mathlib.Core.Logic.{_≢_}
 use mathlib.Core.Bool.{Bool, true, false, cond, not}
 use mathlib.Core.List.{List, [], _∷_, _++_}
-use Prim.Native.Nat.{ℕ, _<_}
+use Prim.Native.Nat.{ℕ}
 use native.Mathlib.Omega.{arith}
 use lib.Dec.{eqb, ltb}
 use lib.ListN.{length, take}
 use borrow.Author.Tests.{eq-eqb, ne-eqb, eqb-true, eqb-false}
 use Rattle.lists.specs.Among.{among}
-use Rattle.refusals.specs.Rows.{lowest}
 use Rattle.refusals.proofs.Tests.{numbered}
-use Rattle.clock.specs.declared.Pair.{Pair}
-use Rattle.clock.specs.Pairs.{noPair}
 use Rattle.request.specs.Read.{readOf, pairFor, nctsOf}
 use Rattle.writes.specs.List.{ready}
-use Rattle.plan.specs.Plan.{nothing, laterRefusal, planWith, bufferWith, planOf, planBuffer}
+use Rattle.plan.specs.Plan.{nothing, laterRefusal, planWith, planOf}
 use Rattle.line.specs.Line.{lineOf}
 use Rattle.line.specs.Words.{lineText, refusedText, answerText}
 use Rattle.pipe.specs.declared.Piped.{Piped}
 use Rattle.pipe.specs.Final.{refusalOf, Final}
 use Rattle.pipe.specs.Bytes.{answerIn, withAnswer, refused}
 use Rattle.pipe.specs.Found.{endOf, endPipe}
-use Rattle.pipe.specs.Pipe.{answerFor, joined, after}
+use Rattle.pipe.specs.Pipe.{joined, after}
 use Rattle.pipe.proofs.Grows.{any-pipe, none-taken, none-ended}
 use Rattle.pipe.proofs.Cut.{however-cut}
 use Rattle.station.specs.declared.PipedOut.{PipedOut}

@@ -1,7 +1,7 @@
 -- `pipe::join` meets its contract: the bytes so far, and the part behind them. Assumes nothing.
-use mathlib.Core.Path.{_≡_, refl, sym, ap, _∙_}
+use mathlib.Core.Path.{_≡_, sym}
 use native.Mathlib.Omega.{arith}
-use lib.ListN.{length, take}
+use lib.ListN.{length}
 use borrow.Author.Needs.{needs}
 use Rattle.pipe.proofs.Joined.{of-length, open-is, length-so-far, two}
 use Rattle.pipe.proofs.join.Statement.{statement}
