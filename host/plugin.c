@@ -4,6 +4,7 @@
 #include "../programs/words.h"
 #include "host.h"
 #include "station_text.h"
+#include <ctype.h>
 #include <errno.h>
 #include <fcntl.h>
 #include <poll.h>
@@ -172,9 +173,10 @@ static const char *by_a_shell(int status, char *text, size_t room) {
 /* The two mistakes that are made most, told by the bytes themselves. */
 static const char *likely(uint32_t refusal, const struct written *w) {
     if (!w->length) return "It wrote nothing: was its output flushed before it exited?\n";
-    if (refusal == STATION_COUNT_NOT_ALLOWED && w->bytes[0] >= '0' && w->bytes[0] <= 'f')
-        return "Its first byte is a letter or a digit: are these hex digits, in place of the bytes themselves?\n";
-    if (refusal == STATION_BYTES_AFTER && w->bytes[w->length - 1] == '\n') return "Its last byte is 0a: an end of line that was not meant?\n";
+    if (refusal == STATION_COUNT_NOT_ALLOWED && isxdigit(w->bytes[0]))
+        return "Its first byte is a hex digit: were digits written in place of the bytes themselves?\n";
+    if (refusal == STATION_BYTES_AFTER && w->bytes[w->length - 1] == '\n')
+        return "Its last byte is 0a: an end of line that was not meant?\n";
     return "";
 }
 
@@ -202,8 +204,9 @@ int request_of_plugin(const char *command, long wait, struct request *asked) {
     if (!w.ended && a.refusal) tell(&w, "was killed, for no later byte changes the answer");
     else if (!exited) {
         tell(&w, "was killed");
-        snprintf(why, sizeof why, "%s within %ld ms%s (--wait gives more time)", w.ended ? "ended its output, but did not exit" : "did not end its output",
-                 wait, w.ended ? "" : ", or a child of its own held that open");
+        snprintf(why, sizeof why, "%s within %ld ms%s (--wait gives more time)",
+                 w.ended ? "ended its output, but did not exit" : "did not end its output", wait,
+                 w.ended ? "" : ", or a child of its own held that open");
         return no_request(LATE, why);
     } else if (status) {                                        /* by its own word, or by a crash: not to be believed */
         tell(&w, "failed");
@@ -216,9 +219,9 @@ int request_of_plugin(const char *command, long wait, struct request *asked) {
     if (a.refusal) {
         if (w.length) show_request("it wrote:", w.bytes, w.length);
         printf("refused %u: %s\n", (unsigned)a.refusal, station_text(a.refusal));
-        printf("%s%s%s", likely(a.refusal, &w), "How it is mended: docs/REQUEST.md, \"When it is refused\" and \"From a process of its own\"",
-               w.length ? "; tools/request --explain BYTES says more of these bytes.\n" : ".\n");
-        printf("Nothing was planned, and the chip was not touched\n");
+        printf("%sHow it is mended: docs/REQUEST.md, \"When it is refused\" and \"From a process of its own\"%s.\n"
+               "Nothing was planned, and the chip was not touched\n",
+               likely(a.refusal, &w), w.length ? "; tools/request --explain BYTES says more of these bytes" : "");
         return REFUSED;
     }
     memcpy(asked->bytes, taken, a.count);
