@@ -12,6 +12,11 @@ use Rattle.pipe.specs.Found.{takeOf, takePipe, endOf, endPipe}
 abbrev pub example : List ℕ
 example = 0x07 ∷ 0x10 ∷ 0x00 ∷ 0x00 ∷ 0x01 ∷ 0x00 ∷ 0x00 ∷ 0x00 ∷ 0x03 ∷ 0x02 ∷ 0x02 ∷ 0x01 ∷ 0x00 ∷ []
 
+-- whole requests that are refused 4, 5, 6, 17 and 9: VIC 0; range 2; DVI with audio; VIC 16 in 36 bits, twice; VIC 4 in family 1 with coherent
+-- sound at 32 kHz
+abbrev pub bad : List (List ℕ)
+bad = set example 1 0 ∷ set example 5 2 ∷ set example 4 0 ∷ set example 6 0x12 ∷ set (set (set example 1 4) 2 1) 9 0 ∷ []
+
 -- an answer's three numbers: the refusal, whether it is answered, the count
 abbrev pub numbers : Piped → List ℕ
 numbers p = p .refusal ∷ p .answered ∷ p .count ∷ []
@@ -24,6 +29,13 @@ run pipe (part ∷ parts) = numbers (takeOf pipe part) ∷ run (takePipe pipe pa
 -- a pipe by its bytes: those at the front, zeros behind them to byte 37, the count, the answer
 abbrev pub holding : List ℕ → ℕ → ℕ → List ℕ
 holding front count byte = take 38 (front ++ replicate 38 0) ++ (count ∷ byte ∷ [])
+
+-- of requests of thirteen bytes and their numbers: not yet, the number, and the pipe that remembers it
+abbrev pub remembered : List (List ℕ) → List ℕ → List (List (List ℕ))
+remembered [] ns = []
+remembered (request ∷ requests) [] = []
+remembered (request ∷ requests) (n ∷ ns) =
+    ((0 ∷ 0 ∷ 0 ∷ []) ∷ (n ∷ 1 ∷ 0 ∷ []) ∷ holding request 13 n ∷ []) ∷ remembered requests ns
 
 -- what a part and the end are answered by any bytes lent as a pipe, and what they leave
 abbrev pub outcome : List ℕ → List ℕ → List (List ℕ)
@@ -49,20 +61,11 @@ pub record PipeCases : Type 0 where
   pub nothing : run fresh [] ≡ (1 ∷ 1 ∷ 0 ∷ []) ∷ holding [] 0 1 ∷ []
   pub mended : (refusalOf (take 12 example) ≡ 1) × (refusalOf example ≡ 0)
   pub others : map (λ (request : List ℕ). refusalOf request ∷ refusalOf (request ++ (0x00 ∷ [])) ∷ [])
-      (
-      -- accepted; VIC 0; range 2; DVI with audio; VIC 16 in 36 bits, twice; VIC 4 in family 1 with coherent sound at 32 kHz
-      example ∷ set example 1 0 ∷ set example 5 2 ∷ set example 4 0 ∷ set example 6 0x12 ∷ set (set (set example 1 4) 2 1) 9 0 ∷ []
-      )
+      (example ∷ bad)
       ≡ (0 ∷ 3 ∷ []) ∷ (4 ∷ 3 ∷ []) ∷ (5 ∷ 3 ∷ []) ∷ (6 ∷ 3 ∷ []) ∷ (17 ∷ 3 ∷ []) ∷ (9 ∷ 3 ∷ []) ∷ []
   -- and what the end says of each, with the byte that remembers it: 1 inside a section, and the others
   pub inside : run fresh (take 12 example ∷ []) ≡ (0 ∷ 0 ∷ 0 ∷ []) ∷ (1 ∷ 1 ∷ 0 ∷ []) ∷ holding (take 12 example) 12 1 ∷ []
-  pub atEnd : map (λ (request : List ℕ). run fresh (request ∷ []))
-      (set example 1 0 ∷ set example 5 2 ∷ set example 4 0 ∷ set example 6 0x12 ∷ set (set (set example 1 4) 2 1) 9 0 ∷ [])
-      ≡ ((0 ∷ 0 ∷ 0 ∷ []) ∷ (4 ∷ 1 ∷ 0 ∷ []) ∷ holding (set example 1 0) 13 4 ∷ []) ∷
-      ((0 ∷ 0 ∷ 0 ∷ []) ∷ (5 ∷ 1 ∷ 0 ∷ []) ∷ holding (set example 5 2) 13 5 ∷ []) ∷
-      ((0 ∷ 0 ∷ 0 ∷ []) ∷ (6 ∷ 1 ∷ 0 ∷ []) ∷ holding (set example 4 0) 13 6 ∷ []) ∷
-      ((0 ∷ 0 ∷ 0 ∷ []) ∷ (17 ∷ 1 ∷ 0 ∷ []) ∷ holding (set example 6 0x12) 13 17 ∷ []) ∷
-      ((0 ∷ 0 ∷ 0 ∷ []) ∷ (9 ∷ 1 ∷ 0 ∷ []) ∷ holding (set (set (set example 1 4) 2 1) 9 0) 13 9 ∷ []) ∷ []
+  pub atEnd : map (λ (request : List ℕ). run fresh (request ∷ [])) bad ≡ remembered bad (4 ∷ 5 ∷ 6 ∷ 17 ∷ 9 ∷ [])
   -- bytes that are no pipe: 39, 41 and none, and a count of 39, beside an answer too
   pub short : outcome (replicate 39 0) example ≡ (7 ∷ 0 ∷ 0 ∷ []) ∷ replicate 39 0 ∷ (7 ∷ 0 ∷ 0 ∷ []) ∷ replicate 39 0 ∷ []
   pub long : outcome (replicate 41 0) example ≡ (7 ∷ 0 ∷ 0 ∷ []) ∷ replicate 41 0 ∷ (7 ∷ 0 ∷ 0 ∷ []) ∷ replicate 41 0 ∷ []
