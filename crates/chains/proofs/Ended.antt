@@ -34,7 +34,7 @@ use Rattle.promises.specs.Finished.{places, Shows}
 use Rattle.promises.specs.Rules.{asked}
 use Rattle.promises.specs.LentBytes.{enteredCuts}
 use Rattle.promises.specs.AnyCut.{listOf}
-use Rattle.promises.proofs.AnyCut.{accepted, any-cut, listed, again-fine, rules}
+use Rattle.promises.proofs.AnyCut.{accepted, listed, again-fine, rules, said}
 use Rattle.promises.proofs.Ended.{at-place}
 use Rattle.promises.proofs.Filled.{picked}
 use Rattle.chains.specs.Chain.{vendor, Accepted, pairsFor, Link, Chain, wholeAs}
@@ -123,7 +123,7 @@ module _ (ls : List Link) (s : Chip) (c : Chain ls s) (input room : List ℕ) (e
     idle = nothing;
     said = λ lent z at.
         let o = over-slices ls s lent z at in
-        any-cut input room t (l .accepted) .bytes (enteredCuts (map (λ l. l .run) ls) lent) (o .0) (o .1) .ended es (l .finished);
+        said input room t (l .accepted) (enteredCuts (map (λ l. l .run) ls) lent) (o .0) (o .1) .ended es (l .finished);
   }
 
 -- ---- a vendor's list as the last link

@@ -28,7 +28,8 @@ use Rattle.cut.specs.Run.{Event, run, cut, writesOf, allInUse, Stays}
 use Rattle.cut.specs.Vsync.{waits, waited, Finished}
 use Rattle.cut.specs.Demand.{Same, Cut}
 use Rattle.promises.specs.Finished as field
-use Rattle.promises.specs.LentBytes.{pairsLeft, entered, enteredCuts, SaidAfter}
+use Rattle.promises.specs.LentBytes.{pairsLeft, entered, enteredCuts}
+use Rattle.promises.specs.Said.{SaidAfter}
 use Rattle.chains.specs.Chain.{Hand, plugin, vendor, isPlugin, Link, left, Chain, happened, wholeAs, OneOf, allAsked, muteBy, unopened}
 
 -- ---- "any chain": `Chain` leaves none out

@@ -22,7 +22,8 @@ use Rattle.cut.specs.Retried.{Retried}
 use Rattle.cut.specs.Demand.{toItsEnd, After, Same}
 use Rattle.vendor.specs.Vendor.{pairAt, cutAt, endOf, Decodable}
 use Rattle.vendor.specs.Found.{vetOf}
-use Rattle.promises.specs.LentBytes.{bytesLeft, entered, muteSaid, Entering}
+use Rattle.promises.specs.LentBytes.{bytesLeft, entered}
+use Rattle.promises.specs.Said.{muteSaid, Entering}
 use Rattle.promises.specs.AnyCut.{listOf, AnyCut}
 
 -- "ends in an image that decodes": what decoding answers, and the request, in the family in which it ends, as bytes
