@@ -11,6 +11,7 @@ ghost use Rattle.writes.specs.Steps.{from, coefficientSteps, aviSteps, a
 ghost use Rattle.writes.specs.List.{column, standsWhole, Lists};
 ghost use Rattle.writes.specs.Columns.{keptBits, wantedBits, setBits, closed};
 ghost use Rattle.writes.specs.Parts.{Puts, withBits, moving, coefficientPairs, packetPairs, aviPairs, audioPairs, bothPairs};
+ghost use Rattle.writes.specs.Rows.{Touched};
 ghost use Rattle.writes.specs.Order.{Order};
 ghost use Rattle.writes.specs.Carried.{Entries};
 ghost use Rattle.writes.specs.Fewer.{Fewer};
@@ -301,4 +302,9 @@ pub fn list_entries()
 // Which writes are left out of it, and how many are left.
 pub fn fewer_writes()
     ensures { λ _. ⌜ ((want : ℕ → ℕ) (image : List ℕ) → Fewer want image) ⌝ }
+{}
+
+// The registers that a list may touch.
+pub fn touched()
+    ensures { λ _. ⌜ Touched ⌝ }
 {}
