@@ -5,14 +5,13 @@ use mathlib.Core.Path.{_≡_}
 use mathlib.Core.Bool.{Bool, true, cond, not, _&&_, _||_}
 use mathlib.Core.List.{List, [], _∷_, _++_, map}
 use Prim.Native.Nat.{ℕ, zero, suc, _+_}
-use lib.Dec.{eqb, ltb}
+use lib.Dec.{eqb, leb, ltb}
 use lib.ListN.{length, getD, drop}
 use Rattle.lists.specs.Among.{among}
 use Rattle.lists.specs.Those.{those}
 use Rattle.bits.specs.Merge.{merge}
 use Rattle.map.specs.Map as reg
 use Rattle.registers.specs.Classes.{readOnly, free, named, bits}
-use Rattle.registers.specs.Steps.{inRun}
 use Rattle.chip.specs.Machine.{Write, _gets_, Group, up, avi, audio, gc, packets, holdsOf}
 use Rattle.writes.specs.Rows.{from, holdMask}
 unfoldable pub use Rattle.writes.specs.Rows.{isWritten}
@@ -76,7 +75,10 @@ pairsOf (a ∷ v ∷ rest) = a gets v ∷ pairsOf rest
 abbrev pub fronted : List Write → List ℕ → List ℕ
 fronted ws buffer = flat ws ++ drop (length (flat ws)) buffer
 
--- a register of a group
+-- one of the count registers from `first` on; and so a register of a group
+abbrev pub inRun : ℕ → ℕ → ℕ → Bool
+inRun first count a = leb first a && ltb a (first + count)
+
 abbrev pub covers : Group → ℕ → Bool
 covers g = inRun (g .first) (g .count)
 

@@ -18,7 +18,15 @@ abbrev pub from : ℕ → ℕ → List ℕ
 from first zero = []
 from first (suc count) = first ∷ from (suc first) count
 
--- a row is a write: its register, and the bits of its byte that hold or mute. Here none do
+-- "Table 14 registers"
+abbrev pub table14 : List ℕ
+table14 = 0x98 ∷ 0x9A ∷ 0x9C ∷ 0x9D ∷ 0xA2 ∷ 0xA3 ∷ 0xE0 ∷ 0xF9 ∷ []
+
+-- "the other named registers, those in no other step"
+abbrev pub others : List ℕ
+others = 0x01 ∷ 0x02 ∷ 0x03 ∷ 0x07 ∷ 0x08 ∷ 0x09 ∷ 0x0A ∷ 0x0C ∷ 0x15 ∷ 0x16 ∷ 0x3B ∷ 0x3C ∷ 0x40 ∷ 0x44 ∷ 0x4C ∷ 0xAF ∷ []
+
+-- a row stands for a write: its register, and the bits of its byte that hold or mute. Plain ones have none of these
 abbrev pub plain : List ℕ → List (ℕ × ℕ)
 plain = map (λ a. (a, 0))
 
@@ -33,14 +41,10 @@ audioRows = (0x4A, 0x20) ∷ plain (from 0x70 13) ++ (0x4A, 0) ∷ []
 -- registers, those in no other step; open. Within a step addresses rise. If the audio hold is up at the start, audio goes before AVI."
 abbrev pub listRows : Bool → List (ℕ × ℕ)
 listRows audioFirst =
-    (0x4B, 0x40) ∷
-    plain (0x98 ∷ 0x9A ∷ 0x9C ∷ 0x9D ∷ 0xA2 ∷ 0xA3 ∷ 0xE0 ∷ 0xF9 ∷ []) ++
-    (0x1A, 0x20) ∷ plain (from 0x18 2) ++ (0x1A, 0x20) ∷ plain (from 0x1B 21) ++ (0x1A, 0) ∷
-    cond audioFirst (audioRows ++ aviRows) (aviRows ++ audioRows) ++
-    plain (0x01 ∷ 0x02 ∷ 0x03 ∷ 0x07 ∷ 0x08 ∷ 0x09 ∷ 0x0A ∷ 0x0C ∷ 0x15 ∷ 0x16 ∷ 0x3B ∷ 0x3C ∷ 0x40 ∷ 0x44 ∷ 0x4C ∷ 0xAF ∷ []) ++
-    (0x4B, 0x80) ∷ []
+    (0x4B, 0x40) ∷ plain table14 ++ (0x1A, 0x20) ∷ plain (from 0x18 2) ++ (0x1A, 0x20) ∷ plain (from 0x1B 21) ++ (0x1A, 0) ∷
+    cond audioFirst (audioRows ++ aviRows) (aviRows ++ audioRows) ++ plain others ++ (0x4B, 0x80) ∷ []
 
--- a register of a row
+-- a register of a row, in either order
 unfoldable pub isWritten : ℕ → Bool
 isWritten a = among a (map (λ row. row .0) (listRows false))
 

@@ -4,8 +4,7 @@ use mathlib.Core.Bool.{Bool, cond}
 use mathlib.Core.List.{List, [], _∷_, _++_}
 use Prim.Native.Nat.{ℕ, _+_, _-_}
 use Rattle.map.specs.Map as reg
-use Rattle.registers.specs.Steps.{table14, others}
-pub use Rattle.writes.specs.Rows.{from}
+pub use Rattle.writes.specs.Rows.{from, table14, others}
 
 -- a step: the register that it writes, and the bits that it raises of those that steps decide and not the request (holds, mute)
 pub record Step : Type 0 where
