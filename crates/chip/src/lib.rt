@@ -11,6 +11,7 @@ ghost use Rattle.chip.specs.Machine.{matrix, packets, converter, up};
 ghost use Rattle.chip.specs.Write.{lentAs, filled, two, markAs, Stores};
 ghost use Rattle.chip.specs.Step.{Hands, Step};
 ghost use Rattle.chip.specs.Turn.{Turned, Turn};
+ghost use Rattle.chip.specs.Cases.{MachineCases};
 use map::Map;
 use refusals::Refusal;
 
@@ -245,4 +246,9 @@ pub fn step()
 // What a Vsync does, and what is in use by the mark.
 pub fn turn()
     ensures { λ _. ⌜ ((s : Chip) → Turn s) ⌝ }
+{}
+
+// Writes and Vsyncs in bare numbers.
+pub fn machine_cases()
+    ensures { λ _. ⌜ MachineCases ⌝ }
 {}
