@@ -398,15 +398,18 @@ module _ (s : Chip) (address value : ℕ) where
           refused = stepped .refused;
           would = would-bit;
           after = stepped .after;
+          elsewhere = stepped .elsewhere;
           sized = stepped .sized;
-          avi = λ r. let k = rising packets avi r in packet-after (k .0) ∙ rw (k .2, k .1);
-          audio = λ r.
-              let k = rising packets audio r in
-              packet-after (k .0) ∙ rw (alone (up avi n) (up audio n) (up gc n) (lone (k .0)) .0 (k .2), k .2, k .1);
-          gc = λ r.
-              let k = rising packets gc r in
-              let o = alone (up avi n) (up audio n) (up gc n) (lone (k .0)) .1 (k .2) in
-              packet-after (k .0) ∙ rw (o .0, o .1, k .2, k .1);
+          copies = (
+            (λ r. let k = rising packets avi r in packet-after (k .0) ∙ rw (k .2, k .1)),
+            (λ r.
+                let k = rising packets audio r in
+                packet-after (k .0) ∙ rw (alone (up avi n) (up audio n) (up gc n) (lone (k .0)) .0 (k .2), k .2, k .1)),
+            λ r.
+                let k = rising packets gc r in
+                let o = alone (up avi n) (up audio n) (up gc n) (lone (k .0)) .1 (k .2) in
+                packet-after (k .0) ∙ rw (o .0, o .1, k .2, k .1),
+          );
           packet = packet-stays;
           matrix = λ q r. let k = rising converter matrix r in coefficients-after (k .0) ∙ rw (q, k .2, k .1);
           coefficients = coefficients-stay;

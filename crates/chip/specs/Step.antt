@@ -18,9 +18,7 @@ use Rattle.chip.specs.Write.{imageAfter, writeOf}
 
 -- "(machine) two packet holds are up, or the write would leave two up"
 abbrev pub TwoUp : List ℕ → Type 0
-TwoUp image =
-    let Up : Group → Type 0 = λ g. up g (holdsOf packets image) ≡ true in
-    (Up avi × Up audio) ⊎ (Up avi × Up gc) ⊎ (Up audio × Up gc)
+TwoUp image = let Up : Group → Type 0 = λ g. up g (holdsOf packets image) ≡ true in (Up avi × Up audio) ⊎ (Up avi × Up gc) ⊎ (Up audio × Up gc)
 
 abbrev pub writeRules : Chip → ℕ → ℕ → List Condition
 writeRules s address value = twoHolds when (TwoUp (s .image) ⊎ TwoUp (imageAfter s address value)) ∷ []
@@ -53,11 +51,10 @@ pub record Step (address value : ℕ) (s : Chip) (number : ℕ) (t : Chip) : Typ
       ≡ cond (eqb a address && eqb (bit j (readOnly a)) 0) (bit j value) (bit j (getD (s .image) a 0))
   -- that is what a write that is not refused leaves: "one byte changed in the image"
   pub after : number ≡ 0 → t .image ≡ imageAfter s address value
+  pub elsewhere : (a : ℕ) → a ≢ address → getD (t .image) a 0 ≡ getD (s .image) a 0
   pub sized : length (t .image) ≡ length (s .image)
   -- the buffers
-  pub avi : Copies packets avi s t
-  pub audio : Copies packets audio s t
-  pub gc : Copies packets gc s t
+  pub copies : Copies packets avi s t × Copies packets audio s t × Copies packets gc s t
   pub packet : Keeps packets s t
   pub matrix : s .waiting ≡ false → Copies converter matrix s t
   pub coefficients : Keeps converter s t

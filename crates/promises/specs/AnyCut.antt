@@ -17,7 +17,7 @@ use Rattle.cut.specs.Vsync.{Finished}
 use Rattle.cut.specs.Demand.{toItsEnd, Cut, cuts, PlannedAgain, Same, Demand3}
 use Rattle.cut.specs.Within.{MadeRight}
 use Rattle.views.specs.Entry.{Lent, stateOf}
-use Rattle.views.specs.Theorems.{LentSized}
+use Rattle.views.specs.Sized.{LentSized}
 use Rattle.promises.specs.Finished.{audioPacket}
 use Rattle.promises.specs.Rules.{asked, Listed}
 use Rattle.promises.specs.LentBytes.{pairsLeft, entered, enteredCuts, PlannedBytes, Headed, Followed}

@@ -14,7 +14,7 @@ use Rattle.views.specs.declared.view.Mute.{Mute}
 use Rattle.views.specs.Entry.{Lent, Entry, stateOf, enterOf, turnOf}
 use Rattle.views.specs.View.{sentOf, muteOf}
 use Rattle.views.specs.Converter.{matrixOut}
-use Rattle.views.specs.Theorems.{LentSized}
+use Rattle.views.specs.Sized.{LentSized}
 use Rattle.writes.specs.List.{pairsOf}
 use Rattle.plan.specs.Plan.{planOf, planBuffer}
 use Rattle.cut.specs.Run.{Event, write, vsync, event, writesOf, writesBy, Either}

@@ -1,4 +1,6 @@
 pub mod Entry
+pub mod Sized
 pub mod View
 pub mod Converter
 pub mod Theorems
+pub mod Cases

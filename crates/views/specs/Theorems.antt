@@ -6,6 +6,7 @@ use mathlib.Core.List.{List, [], _∷_, _++_}
 use Prim.Native.Nat.{ℕ, _≤_, _<_}
 use lib.Dec.{eqb}
 use lib.ListN.{length, getD, take, drop}
+use Rattle.bits.specs.Merge.{bit}
 use Rattle.refusals.specs.Rows.{fieldOutOfRange, imageLength, bufferShort, twoHolds, Condition, _when_, Given}
 use Rattle.matrix.specs.Coefficient.{coefficientBytes}
 use Rattle.matrix.specs.Matrix.{fields}
@@ -17,14 +18,11 @@ use Rattle.views.specs.declared.view.Part.{Part}
 use Rattle.views.specs.Entry.{marked, Lent, stateOf, slicesOf, enterOf, turnOf}
 use Rattle.views.specs.View.{viewRefusal, sentOf, sentPart, muteOf}
 use Rattle.views.specs.Converter.{matrixAnswer, matrixOut}
+use Rattle.views.specs.Sized.{Sized, LentSized}
 
 -- ---- refusals, on any slices
 
--- "image not of 256 bytes; in the machine also packet buffer not of 32, coefficient buffer not of 24"
-abbrev pub WrongLengths : Chip → Type 0
-WrongLengths s = (length (s .image) ≢ 256) ⊎ (length (s .packet) ≢ 32) ⊎ (length (s .coefficients) ≢ 24)
-
--- the same of the four slices: the mark is one byte
+-- `WrongLengths` of the four slices: the mark is one byte
 abbrev pub WrongLent : Lent → Type 0
 WrongLent l = (length (l .image) ≢ 256) ⊎ (length (l .packet) ≢ 32) ⊎ (length (l .coefficients) ≢ 24) ⊎ (length (l .mark) ≢ 1)
 
@@ -59,6 +57,12 @@ pub record VsyncRefusals (l : Lent) : Type 0 where
 abbrev pub bytesIn : Part → List ℕ → List ℕ → List ℕ
 bytesIn p image packet = take (p .len) (drop (p .start) (cond (eqb (p .held) 1) packet image))
 
+-- "whichever the chip reads", in numbers: with the bit of its hold 1 the front of the buffer, held 1, and else the registers, held 0
+abbrev pub SentFrom : ℕ → ℕ → ℕ → Part → Type 0
+SentFrom hold first count p =
+    (hold ≡ 1 → p ≡ record { refusal = 0; held = 1; start = 0; len = count })
+    × (hold ≡ 0 → p ≡ record { refusal = 0; held = 0; start = first; len = count })
+
 pub record ViewRefusals (image packet : List ℕ) : Type 0 where
   -- a packet, by "a call beside it" and with its part
   pub view : (which : ℕ) → Given (viewRules image packet which) (viewRefusal image packet which)
@@ -67,6 +71,9 @@ pub record ViewRefusals (image packet : List ℕ) : Type 0 where
   pub empty : (which : ℕ) → viewRefusal image packet which ≢ 0
       → (sentOf image packet which ≡ [])
       × (sentPart image packet which ≡ record { refusal = viewRefusal image packet which; held = 0; start = 0; len = 0 })
+  -- "16 for AVI, 13 for audio", from their versions on; "0x4A[6] AVI, [5] audio"
+  pub avi : viewRefusal image packet 0 ≡ 0 → SentFrom (bit 6 (getD image 0x4A 0)) 0x52 16 (sentPart image packet 0)
+  pub audio : viewRefusal image packet 1 ≡ 0 → SentFrom (bit 5 (getD image 0x4A 0)) 0x70 13 (sentPart image packet 1)
   -- the mute, and zero beside a refusal
   pub mute : Given (lentRules image packet) (muteOf image packet .refusal)
   pub zero : muteOf image packet .refusal ≢ 0 → muteOf image packet .mute ≡ 0
@@ -80,18 +87,6 @@ pub record MatrixRefusals (image buffer : List ℕ) (mark : ℕ) (out : List ℕ
       → (matrixAnswer image buffer out .count ≡ 0) × (matrixOut image buffer mark out ≡ out)
 
 -- ---- answers, in the machine's own words
-
--- "image .. of 256 bytes; .. packet buffer .. of 32, coefficient buffer .. of 24"
-pub record Sized (s : Chip) : Type 0 where
-  pub image : length (s .image) ≡ 256
-  pub packet : length (s .packet) ≡ 32
-  pub coefficients : length (s .coefficients) ≡ 24
-
-pub record LentSized (l : Lent) : Type 0 where
-  pub image : length (l .image) ≡ 256
-  pub packet : length (l .packet) ≡ 32
-  pub coefficients : length (l .coefficients) ≡ 24
-  pub mark : length (l .mark) ≡ 1
 
 -- what a call takes the slices for: a mark of 0 is none, and anything else waits
 pub record Takes (l : Lent) (s : Chip) : Type 0 where
@@ -132,6 +127,10 @@ pub record Faces (s : Chip) : Type 0 where
       → matrixOut (s .image) (s .coefficients) mark out ≡ (modeInUse s ∷ coefficientBytes (coefficients s)) ++ drop 25 out
   pub twelve : fields (coefficientBytes (coefficients s)) ≡ coefficients s
 
+-- whatever the state, of the lengths above
+abbrev pub AnyFaces : Type 0
+AnyFaces = (s : Chip) → Sized s → (TwoUp (s .image) → ⊥) → Faces s
+
 -- a write over slices of these lengths is the machine's own, and keeps them; where it is taken, the calls answer what the machine then has
 -- in use
 pub record Entered (l : Lent) (address value : ℕ) : Type 0 where
@@ -145,9 +144,15 @@ pub record Entered (l : Lent) (address value : ℕ) : Type 0 where
   pub sized : LentSized (enterOf l address value .slices)
   pub faces : enterOf l address value .refusal ≡ 0 → Faces (stateOf (enterOf l address value .slices))
 
+abbrev pub AnyEntered : Type 0
+AnyEntered = (l : Lent) → LentSized l → (address value : ℕ) → Entered l address value
+
 -- a Vsync likewise, which is always taken; two packet holds that are up do not matter to it
 pub record EnteredVsync (l : Lent) : Type 0 where
   pub taken : turnOf l ≡ record { refusal = 0; slices = slicesOf (vsyncOf (stateOf l)) }
   pub state : stateOf (turnOf l .slices) ≡ vsyncOf (stateOf l)
   pub sized : LentSized (turnOf l .slices)
   pub faces : two (holdsOf packets (l .image)) ≡ false → Faces (stateOf (turnOf l .slices))
+
+abbrev pub AnyEnteredVsync : Type 0
+AnyEnteredVsync = (l : Lent) → LentSized l → EnteredVsync l
