@@ -12,7 +12,8 @@ unfolding merge classAt fields inUse coefficients gcInUse put stored refuses wri
 cases =
     record {
       refusals = λ mark. refl;
-      elsewhere = refl;
+      written = refl;
+      standing = refl;
       kept = λ mark. (refl, refl);
       gcAlone = refl;
       copies = λ mark. refl;
@@ -25,6 +26,7 @@ cases =
       rise = refl;
       riseInAWait = refl;
       fall = (refl, refl);
+      marked = (refl, refl);
       leavesDown = refl;
       leavesUp = refl;
       vsyncs = λ mark. (refl, refl);

@@ -50,6 +50,13 @@ lone = 0x8A ∷ 0x9A ∷ 0xAA ∷ 0xCA ∷ []
 abbrev pub any : List ℕ
 any = 0x8A ∷ 0x9A ∷ 0xAA ∷ 0xBA ∷ 0xCA ∷ 0xDA ∷ 0xEA ∷ 0xFA ∷ []
 
+-- 13 by a byte of 0x4A, from 0x00 to 0x7F: two of [6:4] are up in 3, 5, 6 and 7
+abbrev pub thirteens : List ℕ
+thirteens = replicate 48 0 ++ replicate 16 13 ++ replicate 16 0 ++ replicate 48 13
+
+abbrev pub twice : {A : Type 0} → List A → List A
+twice l = l ++ l
+
 -- the packet buffer, filled by GC, by audio, by AVI: "a packet fills its front, the rest stays"
 abbrev pub buffer : List ℕ
 buffer = from 0x80 32
@@ -72,11 +79,11 @@ abbrev pub ofBuffer : List ℕ
 ofBuffer = 0x00C1 ∷ 0x02C3 ∷ 0x04C5 ∷ 0x06C7 ∷ 0x08C9 ∷ 0x0ACB ∷ 0x0CCD ∷ 0x0ECF ∷ 0x10D1 ∷ 0x12D3 ∷ 0x14D5 ∷ 0x16D7 ∷ []
 
 -- a change of the matrix: the hold up, 0x18 with enable 1 and mode 1 and A1 0x0708, A2's low byte; the hold down; C4's low byte while it waits
-abbrev pub written : List Write
-written = 0x1A gets 0x3A ∷ 0x18 gets 0xA7 ∷ 0x19 gets 0x08 ∷ 0x1B gets 0x09 ∷ []
+abbrev pub underHold : List Write
+underHold = 0x1A gets 0x3A ∷ 0x18 gets 0xA7 ∷ 0x19 gets 0x08 ∷ 0x1B gets 0x09 ∷ []
 
 abbrev pub lowered : List Write
-lowered = written ++ 0x1A gets 0x1A ∷ []
+lowered = underHold ++ 0x1A gets 0x1A ∷ []
 
 abbrev pub inTheWait : List Write
 inTheWait = lowered ++ 0x2F gets 0x0A ∷ []
@@ -86,12 +93,13 @@ changed = set (set (set ofRegisters 0 0x0708) 1 0x1A09) 11 0x0E0A
 
 pub record MachineCases : Type 0 where
   -- 13 by the holds before the write, a row for each, and after it: "two packet holds are up, or the write would leave two up"
-  pub refusals : let none : List ℕ = 0 ∷ 0 ∷ 0 ∷ 13 ∷ 0 ∷ 13 ∷ 13 ∷ 13 ∷ [] in
-      let all : List ℕ = replicate 8 13 in
+  pub refusals : let byTheNew : List ℕ = 0 ∷ 0 ∷ 0 ∷ 13 ∷ 0 ∷ 13 ∷ 13 ∷ 13 ∷ [] in
+      let always : List ℕ = replicate 8 13 in
       (mark : Bool) → map (λ before. map (λ left. writeOf (state before 0x1A mark) 0x4A left .refusal) any) any
-      ≡ none ∷ none ∷ none ∷ all ∷ none ∷ all ∷ all ∷ all ∷ []
-  -- with two up a write elsewhere is refused too; a refused write changes nothing
-  pub elsewhere : map (λ before. writeOf (state before 0x1A false) 0x55 0xFF .refusal) any ≡ 0 ∷ 0 ∷ 0 ∷ 13 ∷ 0 ∷ 13 ∷ 13 ∷ 13 ∷ []
+      ≡ byTheNew ∷ byTheNew ∷ byTheNew ∷ always ∷ byTheNew ∷ always ∷ always ∷ always ∷ []
+  -- by every byte that is written there, and by every byte that stands there, of a write elsewhere; a refused write changes nothing
+  pub written : map (λ byte. writeOf idle 0x4A byte .refusal) (from 0x00 256) ≡ twice thirteens
+  pub standing : map (λ byte. writeOf (state byte 0x1A false) 0x55 0xFF .refusal) (from 0x00 256) ≡ twice thirteens
   pub kept : (mark : Bool)
       → (writeOf (state 0x9A 0x1A mark) 0x4A 0xDA ≡ refused (state 0x9A 0x1A mark))
       × (writeOf (state 0xEA 0x1A mark) 0x4A 0x8A ≡ refused (state 0xEA 0x1A mark))
@@ -120,6 +128,10 @@ pub record MachineCases : Type 0 where
       × (writeOf (state 0x8A 0x3A true) 0x1A 0x05 ≡ taken (state 0x8A 0x05 true))
   pub leavesDown : map (λ mark. writeOf (state 0x8A 0x1A mark) 0x1A 0x05) marks ≡ map (λ mark. taken (state 0x8A 0x05 mark)) marks
   pub leavesUp : map (λ mark. writeOf (state 0x8A 0x3A mark) 0x1A 0x25) marks ≡ map (λ mark. taken (state 0x8A 0x25 mark)) marks
+  -- the mark by every byte: after a fall, and after a rise in a wait
+  pub marked : let by32 : List Bool = replicate 32 true ++ replicate 32 false in
+      (map (λ byte. writeOf (state 0x8A 0x3A false) 0x1A byte .chip .waiting) (from 0x00 256) ≡ twice (twice by32))
+      × (map (λ byte. writeOf (state 0x8A 0x1A true) 0x1A byte .chip .waiting) (from 0x00 256) ≡ twice (twice by32))
   -- a Vsync ends a wait, and else changes nothing: a mark beside a raised hold stays; two packet holds do not matter
   pub vsyncs : (mark : Bool)
       → (vsyncOf (state 0xFA 0x1A mark) ≡ state 0xFA 0x1A false) × (vsyncOf (state 0xFA 0x3A mark) ≡ state 0xFA 0x3A mark)
@@ -127,8 +139,8 @@ pub record MachineCases : Type 0 where
   pub twelve : (coefficients (state 0x8A 0x1A false) ≡ ofRegisters) × (coefficients (state 0x8A 0x1A true) ≡ ofBuffer)
       × (coefficients (state 0x8A 0x3A false) ≡ ofBuffer) × (coefficients (state 0x8A 0x3A true) ≡ ofBuffer)
   -- a change of the matrix, from 0x18 to C4: old until the Vsync, whatever is written in the wait; then the registers as they stand
-  pub old : map (λ ws. coefficients (after ws idle)) (written ∷ lowered ∷ inTheWait ∷ []) ≡ ofRegisters ∷ ofRegisters ∷ ofRegisters ∷ []
-  pub waits : map (λ ws. after ws idle .waiting) (written ∷ lowered ∷ inTheWait ∷ []) ≡ false ∷ true ∷ true ∷ []
+  pub old : map (λ ws. coefficients (after ws idle)) (underHold ∷ lowered ∷ inTheWait ∷ []) ≡ ofRegisters ∷ ofRegisters ∷ ofRegisters ∷ []
+  pub waits : map (λ ws. after ws idle .waiting) (underHold ∷ lowered ∷ inTheWait ∷ []) ≡ false ∷ true ∷ true ∷ []
   pub new : (coefficients (vsyncOf (after inTheWait idle)) ≡ changed) × (vsyncOf (after inTheWait idle) .waiting ≡ false)
   -- raised again in the wait: the change is dropped, the mark too, and a Vsync then changes nothing
   pub dropped : let again : Chip = after (inTheWait ++ 0x1A gets 0x3A ∷ []) idle in

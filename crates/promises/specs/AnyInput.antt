@@ -18,7 +18,7 @@ use Rattle.request.specs.Theorems.{Rows}
 use Rattle.line.specs.Line.{lineOf}
 use Rattle.chip.specs.declared.Chip.{Chip}
 use Rattle.views.specs.Entry.{Lent}
-use Rattle.views.specs.Theorems.{ViewRefusals, WriteRefusals, VsyncRefusals, MatrixRefusals}
+use Rattle.views.specs.Refusals.{ViewRefusals, WriteRefusals, VsyncRefusals, MatrixRefusals}
 use Rattle.plan.specs.Rules.{PlanRefusals}
 use Rattle.decode.specs.Theorems.{Refusals}
 use Rattle.vendor.specs.Vendor.{vetRules}

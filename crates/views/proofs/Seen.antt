@@ -18,7 +18,7 @@ use Rattle.views.specs.declared.view.Mute.{Mute}
 use Rattle.chip.specs.Machine.{Group, avi, audio, packets, up, holdsOf, inUse, gcInUse, mute, registersOf}
 use Rattle.chip.specs.Write.{two}
 use Rattle.views.specs.View.{packetAt, viewedOf, lentRefusal, viewRefusal, sentOf, placed, noPart, sentPart, startIn, muteOf, noMute, lentTests}
-use Rattle.views.specs.Theorems.{bytesIn, SentFrom, lentRules, viewRules, ViewRefusals}
+use Rattle.views.specs.Refusals.{bytesIn, SentFrom, lentRules, viewRules, ViewRefusals}
 use Rattle.bits.specs.Merge.{bit}
 use Rattle.bits.proofs.Laws.{bit-code, two-bits-code}
 use Rattle.chip.proofs.Writes.{two-up}

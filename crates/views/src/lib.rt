@@ -4,7 +4,7 @@ ghost use mathlib.Core.List.{List};
 ghost use Prim.Native.Nat.{ℕ};
 ghost use Rattle.views.specs.Cases.{ViewCases};
 ghost use Rattle.views.specs.Entry.{Lent};
-ghost use Rattle.views.specs.Theorems.{WriteRefusals, VsyncRefusals, ViewRefusals, MatrixRefusals};
+ghost use Rattle.views.specs.Refusals.{WriteRefusals, VsyncRefusals, ViewRefusals, MatrixRefusals};
 ghost use Rattle.views.specs.Theorems.{Slices, AnyFaces, AnyEntered, AnyEnteredVsync};
 
 mod converter;
