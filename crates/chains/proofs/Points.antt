@@ -23,7 +23,7 @@ use Rattle.chip.specs.Machine.{Write, Group, avi, audio, packets, held, inUse, 
 use Rattle.chip.specs.Write.{vsyncOf}
 use Rattle.chip.proofs.Writes.{turned}
 use Rattle.views.specs.Entry.{Lent, stateOf}
-use Rattle.views.specs.Theorems.{LentSized}
+use Rattle.views.specs.Sized.{LentSized}
 use Rattle.writes.proofs.Carries.{masked}
 use Rattle.plan.specs.Plan.{planOf}
 use Rattle.plan.specs.Rules.{HoldsUp}

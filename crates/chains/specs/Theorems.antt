@@ -18,7 +18,7 @@ use Rattle.chip.specs.declared.Chip.{Chip}
 use Rattle.chip.specs.Machine.{Write, Group, avi, audio, packets, inUse, coefficients, Muted, Open, mute}
 use Rattle.chip.specs.Write.{vsyncOf}
 use Rattle.views.specs.Entry.{Lent, stateOf}
-use Rattle.views.specs.Theorems.{LentSized}
+use Rattle.views.specs.Sized.{LentSized}
 use Rattle.writes.specs.Rows.{isWritten}
 use Rattle.writes.specs.List.{pairsOf}
 use Rattle.plan.specs.Plan.{planOf}
@@ -31,7 +31,7 @@ use Rattle.cut.specs.Demand.{Same, Cut}
 use Rattle.promises.specs.Finished as field
 use Rattle.promises.specs.LentBytes.{pairsLeft, entered, enteredCuts}
 use Rattle.promises.specs.Said.{SaidAfter}
-use Rattle.chains.specs.Chain.{Hand, plugin, vendor, isPlugin, Link, left, Chain, happened, wholeAs, OneOf, allAsked, muteBy, unopened}
+use Rattle.chains.specs.Chain.{Hand, plugin, vendor, isPlugin, Accepted, pairsFor, Link, left, Chain, happened, wholeAs, OneOf, allAsked, muteBy, unopened}
 
 -- ---- "any chain": `Chain` leaves none out
 
@@ -100,6 +100,10 @@ pub record Reached (k : ℕ) (ls : List Link) (s : Chip) : Type 0 where
   pub there : left links s ≡ cut (happened ls) s k
   pub point : Point links s
 
+-- where a chain ends, and inside every link, after every write and every Vsync
+abbrev pub EveryPoint : Type 0
+EveryPoint = (ls : List Link) (s : Chip) → Chain ls s → Point ls s × ((k : ℕ) → Reached k ls s)
+
 -- ---- "and the last one finished"
 
 -- where the last link ends
@@ -119,12 +123,21 @@ pub record Ended (input room : List ℕ) (es : List Event) (ls : List Link) (s :
   pub said : (lent : Lent) → LentSized lent → stateOf lent ≡ s
       → SaidAfter (readOf input .request) (entered es (enteredCuts (map (λ l. l .run) ls) lent))
 
+-- "any chain .., and the last one finished"
+abbrev pub LastFinished : Type 0
+LastFinished = (ls : List Link) (s : Chip) → Chain ls s → (input room : List ℕ) (es : List Event) → Last input room es (left ls s)
+    → Ended input room es ls s
+
 -- a vendor's list as the last link, sent whole, wherever Vsyncs come: of the request in which it ends, one Vsync later at the latest
 pub record EndedList (ending : Request) (es : List Event) (ls : List Link) (s : Chip) : Type 0 where
   pub registers : Ends ending (run es (left ls s) .image)
   pub groups : allInUse (vsyncOf (run es (left ls s))) ≡ wholeAs (s .image) ending
   pub kept : Kept s (run es (left ls s))
   pub opened : Open (run es (left ls s))
+
+abbrev pub LastList : Type 0
+LastList = (ls : List Link) (s : Chip) → Chain ls s → (list : List ℕ) (ending : Request) (es : List Event)
+    → Accepted (vendor list ending) (left ls s) → writesOf es ≡ pairsFor (vendor list ending) (left ls s) → EndedList ending es ls s
 
 -- ---- "depend on the last request alone"
 
@@ -138,3 +151,8 @@ pub record Alike (d e : Chip) : Type 0 where
   pub avi : NamedIn avi (inUse packets avi d) (inUse packets avi e)
   pub audio : NamedIn audio (inUse packets audio d) (inUse packets audio e)
   pub matrix : coefficients d ≡ coefficients e
+
+-- two chains from two beginnings, with the same last request, whatever the buffers
+abbrev pub LastAlone : Type 0
+LastAlone = (ls ms : List Link) (s t : Chip) → Chain ls s → Chain ms t → (input room other : List ℕ) (es fs : List Event)
+    → Last input room es (left ls s) → Last input other fs (left ms t) → Alike (run es (left ls s)) (run fs (left ms t))

@@ -5,24 +5,24 @@ use mathlib.Core.Bool.{Bool, true, false, false≢true, cond, not, _&&_, _||_}
 use mathlib.Core.List.{List, [], _∷_, _++_}
 use Prim.Native.Nat.{ℕ, _+_, _%_, _<_, _≤_}
 use native.Mathlib.Omega.{arith}
-use lib.Dec.{eqb, leb, ltb, lit<}
+use lib.Dec.{eqb, leb, lit<}
 use lib.ListN.{length, getD, set, drop, length-set, length-append, length-take, length-drop}
-use lib.Seq.{getD-set-same, getD-set-other, set-out}
-use borrow.Author.Tests.{eq-eqb, ne-eqb, eqb-true, eqb-false, leb-true, ltb-true, ltb-false, not-true}
+use lib.Seq.{getD-set-same, getD-set-other}
+use borrow.Author.Tests.{eq-eqb, ne-eqb, eqb-true, eqb-false, leb-true, not-true}
 use Rattle.lists.specs.Find.{every}
 use Rattle.lists.proofs.Both.{both-left, both-right, neither-right}
 use Rattle.lists.proofs.Decides.{Decides, itself, either, together}
 use Rattle.refusals.specs.Rows.{Given, lowest}
 use Rattle.refusals.proofs.Tests.{lowest-given, answer-given}
 use Rattle.bits.specs.Merge.{bit}
-use Rattle.bits.proofs.Laws.{merge-bit, bit-code}
+use Rattle.bits.proofs.Laws.{merge-bit, bit-code, two-bits-code}
 use Rattle.registers.specs.Classes.{readOnly}
 use Rattle.chip.specs.declared.Chip.{Chip}
 use Rattle.chip.specs.declared.Wrote.{Wrote}
 use Rattle.chip.specs.Machine.{Group, Buffer, avi, audio, gc, matrix, packets, converter, up, registersOf, holdsOf, held, inUse}
 use Rattle.chip.specs.Write.{filled, bufferAfter, markAs, put, vsyncOf, lentAs, stored, imageAfter, two, refuses, writeTests, refusedWrite, writeOf, holdsAfter, Stores}
-use Rattle.chip.specs.Step.{TwoUp, writeRules, Keeps, Step}
-use Rattle.chip.specs.Turn.{Turn}
+use Rattle.chip.specs.Step.{TwoUp, writeRules, rises, Keeps, Step}
+use Rattle.chip.specs.Turn.{Turn, AtOnce}
 
 -- a test for two packet holds decides that two are up
 pub two-up : (image : List ℕ) → Decides (two (holdsOf packets image)) (TwoUp image)
@@ -92,6 +92,21 @@ holds-stored image address byte whole = go (eqb address (packets .register)) ref
 odd : (n : ℕ) → n % 2 ≢ 0 → n % 2 ≡ 1
 odd n h = omega arith
 
+-- what the crates above cite of a write; `Step` has it in the document's words
+pub record Stepped (s : Chip) (address value : ℕ) : Type 0 where
+  pub refusals : Given (writeRules s address value) (writeOf s address value .refusal)
+  pub refused : writeOf s address value .refusal ≢ 0 → writeOf s address value .chip ≡ s
+  pub after : writeOf s address value .refusal ≡ 0 → writeOf s address value .chip .image ≡ imageAfter s address value
+  pub elsewhere : (a : ℕ) → a ≢ address → getD (writeOf s address value .chip .image) a 0 ≡ getD (s .image) a 0
+  pub sized : length (writeOf s address value .chip .image) ≡ length (s .image)
+  pub packetSized : length (s .packet) ≡ 32 → length (writeOf s address value .chip .packet) ≡ 32
+  pub coefficientsSized : length (s .coefficients) ≡ 24 → length (writeOf s address value .chip .coefficients) ≡ 24
+  pub packet : Keeps packets s (writeOf s address value .chip)
+  pub coefficients : Keeps converter s (writeOf s address value .chip)
+  pub falls : writeOf s address value .refusal ≡ 0 → held s ≡ true → held (writeOf s address value .chip) ≡ false
+      → writeOf s address value .chip .waiting ≡ true
+  pub waits : held (writeOf s address value .chip) ≡ held s → writeOf s address value .chip .waiting ≡ s .waiting
+
 module _ (s : Chip) (address value : ℕ) where
   -- a refused write, and one that is taken
   abbrev pub wrote : Bool → Wrote
@@ -140,16 +155,6 @@ module _ (s : Chip) (address value : ℕ) where
   unfolding stored
   new-bit j h r = merge-bit 8 j (readOnly address) (getD (s .image) address 0) value h ∙ rw (ne-eqb (bit j (readOnly address)) 1 (λ e. omega arith))
 
-  kept-bit : (j : ℕ) → j < 8 → bit j (readOnly address) ≡ 1 → (b : Bool) → bit j (getD (wrote b .chip .image) address 0) ≡ bit j (getD (s .image) address 0)
-  unfolding put
-  kept-bit j h r true = refl
-  kept-bit j h r false = go (ltb address (length (s .image))) refl
-    where
-      go : (t : Bool) → ltb address (length (s .image)) ≡ t
-          → bit j (getD (set (s .image) address (stored address value (s .image))) address 0) ≡ bit j (getD (s .image) address 0)
-      go true e = ap (bit j) (getD-set-same (s .image) address _ 0 (ltb-true _ _ e)) ∙ same-bit j h r
-      go false e = ap (λ (l : _). bit j (getD l address 0)) (set-out (s .image) address _ (ltb-false _ _ e))
-
   would-bit : (a j : ℕ) → a < length (s .image) → j < 8 → bit j (getD (imageAfter s address value) a 0)
       ≡ cond (eqb a address && eqb (bit j (readOnly a)) 0) (bit j value) (bit j (getD (s .image) a 0))
   would-bit a j l h = go (eqb a address) refl
@@ -171,11 +176,6 @@ module _ (s : Chip) (address value : ℕ) where
   unfolding put
   other-byte a h true = refl
   other-byte a h false = getD-set-other (s .image) address a _ 0 h
-
-  taken-bit : address < length (s .image) → (j : ℕ) → j < 8 → bit j (readOnly address) ≡ 0
-      → bit j (getD (wrote false .chip .image) address 0) ≡ bit j value
-  unfolding put
-  taken-bit l j h r = ap (bit j) (getD-set-same (s .image) address _ 0 l) ∙ new-bit j h r
 
   image-sized : (b : Bool) → length (wrote b .chip .image) ≡ length (s .image)
   unfolding put
@@ -261,7 +261,7 @@ module _ (s : Chip) (address value : ℕ) where
     unfolding refuses
     lone e = neither-right (two (holdsOf packets (s .image))) _ e
 
-    packet-stays : Keeps packets s address value
+    packet-stays : Keeps packets s (writeOf s address value .chip)
     packet-stays t = go (refuses s address value) refl
       where
         go : (b : Bool) → refuses s address value ≡ b → writeOf s address value .chip .packet ≡ s .packet
@@ -271,7 +271,7 @@ module _ (s : Chip) (address value : ℕ) where
             ∙ filled-none (packets .groups) (holdsOf packets (s .image)) (holdsOf packets (imageAfter s address value)) (s .image) (s .packet)
             (rw (image-after e) at t)
 
-    coefficients-stay : Keeps converter s address value
+    coefficients-stay : Keeps converter s (writeOf s address value .chip)
     coefficients-stay t = go (refuses s address value) refl
       where
         go : (b : Bool) → refuses s address value ≡ b → writeOf s address value .chip .coefficients ≡ s .coefficients
@@ -339,37 +339,82 @@ module _ (s : Chip) (address value : ℕ) where
         go true e = ap (λ (w : Wrote). w .chip .coefficients) (written-as true e)
         go false e = coefficients-after e ∙ rw w
 
-    pub stepped : Step s address value
-    stepped =
+    -- a hold that rises does so in a write that is taken
+    rising : (b : Buffer) (g : Group) → rises b g s (writeOf s address value .chip) ≡ true
+        → (refuses s address value ≡ false) × (up g (holdsOf b (s .image)) ≡ false) × (up g (holdsOf b (imageAfter s address value)) ≡ true)
+    rising b g r = go (refuses s address value) refl
+      where
+        u : up g (holdsOf b (writeOf s address value .chip .image)) ≡ true
+        u = both-left _ (not (up g (holdsOf b (s .image)))) r
+
+        d : up g (holdsOf b (s .image)) ≡ false
+        d = not-true _ (both-right (up g (holdsOf b (writeOf s address value .chip .image))) _ r)
+
+        go : (t : Bool) → refuses s address value ≡ t → (refuses s address value ≡ false) × (up g (holdsOf b (s .image)) ≡ false)
+            × (up g (holdsOf b (imageAfter s address value)) ≡ true)
+        go true e =
+            absurd (false≢true (sym d ∙ sym (ap (λ (w : Wrote). up g (holdsOf b (w .chip .image))) (written-as true e)) ∙ u))
+        go false e = (e, d, risen b g e u)
+
+    -- the mark, taken or refused
+    marked-as : (h t w : Bool) → markAs h t w ≡ cond t (h && w) (h || w)
+    marked-as true true w = refl
+    marked-as true false w = refl
+    marked-as false true w = refl
+    marked-as false false w = refl
+
+    mark-then : let t : Chip = writeOf s address value .chip in t .waiting ≡ cond (held t) (held s && s .waiting) (held s || s .waiting)
+    mark-then = go (refuses s address value) refl
+      where
+        same : (h w : Bool) → w ≡ cond h (h && w) (h || w)
+        same true w = refl
+        same false w = refl
+
+        go : (b : Bool) → refuses s address value ≡ b → let t : Chip = writeOf s address value .chip in
+            t .waiting ≡ cond (held t) (held s && s .waiting) (held s || s .waiting)
+        go true e = rw (written-as true e) (same (held s) (s .waiting))
+        go false e = mark-after e ∙ marked-as (held s) (held (writeOf s address value .chip)) (s .waiting)
+
+    pub stepped : Stepped s address value
+    stepped = record {
+      refusals = given;
+      refused = rw (written-as (refuses s address value) refl) (unchanged (refuses s address value));
+      after = λ z. image-after (allowed z);
+      elsewhere = λ a h. rw (written-as (refuses s address value) refl) (other-byte a h (refuses s address value));
+      sized = rw (written-as (refuses s address value) refl) (image-sized (refuses s address value));
+      packetSized = packet-long;
+      coefficientsSized = coefficients-long;
+      packet = packet-stays;
+      coefficients = coefficients-stay;
+      falls = λ z b a. mark-after (allowed z) ∙ rw (b, a);
+      waits = mark-stays;
+    }
+
+    pub step : Step address value s (writeOf s address value .refusal) (writeOf s address value .chip)
+    step =
         let n : ℕ = holdsOf packets (imageAfter s address value) in
         record {
           refusals = given;
-          refused = rw (written-as (refuses s address value) refl) (unchanged (refuses s address value));
-          kept = λ j h r. rw (written-as (refuses s address value) refl) (kept-bit j h r (refuses s address value));
+          refused = stepped .refused;
           would = would-bit;
-          after = λ z. image-after (allowed z);
-          written = λ z l j h r. rw (written-as false (allowed z)) (taken-bit l j h r);
-          elsewhere = λ a h. rw (written-as (refuses s address value) refl) (other-byte a h (refuses s address value));
-          sized = rw (written-as (refuses s address value) refl) (image-sized (refuses s address value));
-          packetSized = packet-long;
-          coefficientsSized = coefficients-long;
-          avi = λ z d u. let e = allowed z in packet-after e ∙ rw (risen packets avi e u, d);
-          audio = λ z d u.
-              let e = allowed z in
-              let v = risen packets audio e u in
-              packet-after e ∙ rw (alone (up avi n) (up audio n) (up gc n) (lone e) .0 v, v, d);
-          gc = λ z d u.
-              let e = allowed z in
-              let v = risen packets gc e u in
-              let o = alone (up avi n) (up audio n) (up gc n) (lone e) .1 v in
-              packet-after e ∙ rw (o .0, o .1, v, d);
+          after = stepped .after;
+          elsewhere = stepped .elsewhere;
+          sized = stepped .sized;
+          copies = (
+            (λ r. let k = rising packets avi r in packet-after (k .0) ∙ rw (k .2, k .1)),
+            (λ r.
+                let k = rising packets audio r in
+                packet-after (k .0) ∙ rw (alone (up avi n) (up audio n) (up gc n) (lone (k .0)) .0 (k .2), k .2, k .1)),
+            λ r.
+                let k = rising packets gc r in
+                let o = alone (up avi n) (up audio n) (up gc n) (lone (k .0)) .1 (k .2) in
+                packet-after (k .0) ∙ rw (o .0, o .1, k .2, k .1),
+          );
           packet = packet-stays;
-          matrix = λ q z d u. let e = allowed z in coefficients-after e ∙ rw (q, risen converter matrix e u, d);
+          matrix = λ q r. let k = rising converter matrix r in coefficients-after (k .0) ∙ rw (q, k .2, k .1);
           coefficients = coefficients-stay;
-          falls = λ z b a. mark-after (allowed z) ∙ rw (b, a);
-          rises = λ z b a. mark-after (allowed z) ∙ rw (b, a);
           dropped = rise-drops;
-          waits = mark-stays;
+          mark = mark-then;
         }
 
 -- ---- a Vsync
@@ -399,3 +444,7 @@ module _ (s : Chip) where
       and-false : (h : Bool) → (h && false) ≡ false
       and-false true = refl
       and-false false = refl
+
+-- enable and mode in use
+pub at-once : (s : Chip) → AtOnce s
+at-once s = let byte : ℕ = getD (s .image) 0x18 0 in record { enable = bit-code 7 byte; mode = two-bits-code 5 byte }

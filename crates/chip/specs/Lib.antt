@@ -2,3 +2,4 @@ pub mod Machine
 pub mod Write
 pub mod Step
 pub mod Turn
+pub mod Cases

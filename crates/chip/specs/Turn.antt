@@ -2,9 +2,10 @@
 use mathlib.Core.Path.{_≡_}
 use mathlib.Core.Bool.{true, false}
 use mathlib.Core.List.{List}
-use lib.ListN.{take}
+use lib.ListN.{getD, take}
+use Rattle.bits.specs.Merge.{bitsIn}
 use Rattle.chip.specs.declared.Chip.{Chip}
-use Rattle.chip.specs.Machine.{matrix, converter, registersOf, held, inUse}
+use Rattle.chip.specs.Machine.{matrix, converter, registersOf, held, inUse, enableInUse, modeInUse}
 use Rattle.chip.specs.Write.{vsyncOf}
 
 -- what a Vsync promises
@@ -25,3 +26,8 @@ pub record Turn (s : Chip) : Type 0 where
   -- until its Vsync a lowered hold leaves the buffer in use, whatever stands in the registers; where none waits, the registers are in use
   pub waiting : s .waiting ≡ true → inUse converter matrix s ≡ take (matrix .count) (s .coefficients)
   pub idle : s .waiting ≡ false → (vsyncOf s ≡ s) × (held s ≡ false → inUse converter matrix s ≡ registersOf matrix (s .image))
+
+-- "Enable and mode in 0x18[7:5] act at once": in every state, whatever the hold and the mark, they are those of the register
+pub record AtOnce (s : Chip) : Type 0 where
+  pub enable : enableInUse s ≡ bitsIn 7 7 (getD (s .image) 0x18 0)
+  pub mode : modeInUse s ≡ bitsIn 6 5 (getD (s .image) 0x18 0)

@@ -9,8 +9,9 @@ ghost use Rattle.map.specs.Map.{infoframeUpdate, coefficientUpdate};
 ghost use Rattle.chip.specs.declared.Chip.{Chip};
 ghost use Rattle.chip.specs.Machine.{matrix, packets, converter, up};
 ghost use Rattle.chip.specs.Write.{lentAs, filled, two, markAs, Stores};
-ghost use Rattle.chip.specs.Step.{Hands, Step};
-ghost use Rattle.chip.specs.Turn.{Turned, Turn};
+ghost use Rattle.chip.specs.Step.{Hands, AnyStep};
+ghost use Rattle.chip.specs.Turn.{Turned, Turn, AtOnce};
+ghost use Rattle.chip.specs.Cases.{MachineCases};
 use map::Map;
 use refusals::Refusal;
 
@@ -239,10 +240,20 @@ impl Chip {
 
 // What each write does and leaves alone.
 pub fn step()
-    ensures { λ _. ⌜ ((s : Chip) → length (s .image) ≡ 256 → (address value : ℕ) → Step s address value) ⌝ }
+    ensures { λ _. ⌜ AnyStep ⌝ }
 {}
 
 // What a Vsync does, and what is in use by the mark.
 pub fn turn()
     ensures { λ _. ⌜ ((s : Chip) → Turn s) ⌝ }
+{}
+
+// Enable and mode wait for nothing.
+pub fn at_once()
+    ensures { λ _. ⌜ ((s : Chip) → AtOnce s) ⌝ }
+{}
+
+// Writes and Vsyncs in bare numbers.
+pub fn machine_cases()
+    ensures { λ _. ⌜ MachineCases ⌝ }
 {}

@@ -11,7 +11,7 @@ use Rattle.matrix.specs.Matrix.{Bytes}
 use Rattle.chip.specs.declared.Chip.{Chip}
 use Rattle.chip.specs.Machine.{Write, avi, audio, packets, inUse, coefficients, modeInUse}
 use Rattle.views.specs.Entry.{Lent, stateOf}
-use Rattle.views.specs.Theorems.{LentSized}
+use Rattle.views.specs.Sized.{LentSized}
 use Rattle.clock.specs.declared.Pair.{Pair}
 use Rattle.request.specs.declared.Request.{Request}
 use Rattle.request.specs.declared.Checked.{Checked}

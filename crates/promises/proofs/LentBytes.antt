@@ -22,7 +22,8 @@ use Rattle.chip.specs.Machine.{Write, _gets_, avi, audio, matrix, packets, hold
 use Rattle.chip.specs.Write.{two, vsyncOf}
 use Rattle.chip.proofs.Writes.{turned}
 use Rattle.views.specs.Entry.{Lent, Entry, stateOf, slicesOf, enterOf, turnOf}
-use Rattle.views.specs.Theorems.{LentSized, Faces}
+use Rattle.views.specs.Sized.{LentSized}
+use Rattle.views.specs.Theorems.{Faces}
 use Rattle.views.proofs.Shown as views
 use Rattle.views.proofs.Lent.{state-sized}
 use Rattle.writes.specs.List.{flat, pairsOf, writeList, finishedImage, ready}

@@ -22,7 +22,8 @@ use Rattle.chip.specs.Machine.{Write, Group, Buffer, avi, audio, gc, matrix, pa
 use Rattle.chip.specs.Write.{two, vsyncOf}
 use Rattle.chip.proofs.Writes.{turned}
 use Rattle.views.specs.Entry.{isSized, Lent, stateOf}
-use Rattle.views.specs.Theorems.{Sized, LentSized, Faces}
+use Rattle.views.specs.Sized.{Sized, LentSized}
+use Rattle.views.specs.Theorems.{Faces}
 use Rattle.writes.specs.List.{pairsOf, flat, writeList, finished, finishedImage, ready}
 use Rattle.writes.proofs.Pairs.{length-flat, length-pairs, pairs-flat}
 use Rattle.writes.proofs.Image.{image-length, image-at, is-image}

@@ -7,7 +7,8 @@ use lib.ListN.{length, take}
 use Rattle.chip.specs.declared.Chip.{Chip}
 use Rattle.chip.specs.Machine.{Write}
 use Rattle.views.specs.Entry.{Lent, Entry, stateOf, enterOf, turnOf}
-use Rattle.views.specs.Theorems.{LentSized, Faces}
+use Rattle.views.specs.Sized.{LentSized}
+use Rattle.views.specs.Theorems.{Faces}
 use Rattle.writes.specs.List.{pairsOf}
 use Rattle.plan.specs.Plan.{planOf, planBuffer}
 use Rattle.cut.specs.Run.{Event, write, vsync, cut, event}

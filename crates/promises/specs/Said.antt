@@ -15,7 +15,7 @@ use Rattle.views.specs.declared.view.Mute.{Mute}
 use Rattle.views.specs.Entry.{Lent, stateOf, turnOf}
 use Rattle.views.specs.View.{sentOf, muteOf}
 use Rattle.views.specs.Converter.{matrixOut}
-use Rattle.views.specs.Theorems.{LentSized}
+use Rattle.views.specs.Sized.{LentSized}
 use Rattle.plan.specs.Plan.{planOf}
 use Rattle.cut.specs.Run.{Event, event, writesOf, writesBy, Either}
 use Rattle.cut.specs.Vsync.{waits, turnedOver, waited, Finished}

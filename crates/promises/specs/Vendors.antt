@@ -12,7 +12,7 @@ use Rattle.chip.specs.declared.Chip.{Chip}
 use Rattle.chip.specs.Machine.{avi, audio, gc, matrix, packets, converter, held, inUse, Muted, Open}
 use Rattle.chip.specs.Write.{vsyncOf}
 use Rattle.views.specs.Entry.{Lent, stateOf}
-use Rattle.views.specs.Theorems.{Sized, LentSized}
+use Rattle.views.specs.Sized.{Sized, LentSized}
 use Rattle.writes.specs.List.{pairsOf}
 use Rattle.plan.specs.Plan.{planOf}
 use Rattle.plan.specs.Rules.{HoldsUp}

@@ -11,7 +11,7 @@ use Rattle.chip.specs.declared.Chip.{Chip}
 use Rattle.chip.specs.Machine.{Write, _gets_}
 use Rattle.chip.specs.Write.{imageAfter, writeOf}
 use Rattle.chip.proofs.Writes.{two-up}
-use Rattle.views.specs.Theorems.{Sized}
+use Rattle.views.specs.Sized.{Sized}
 use Rattle.writes.specs.List.{pairsOf, ready}
 use Rattle.cut.specs.Run.{Event, write, vsync, event, happens, cut, writesOf, writesBy, allInUse, Between, Careful, Fair, IsFair}
 use Rattle.cut.specs.Vsync.{sent, waited}

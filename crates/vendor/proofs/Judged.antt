@@ -18,7 +18,7 @@ use Rattle.chip.specs.Machine.{Write, packets, holdsOf}
 use Rattle.chip.specs.Write.{imageAfter, two, refuses, writeOf}
 use Rattle.chip.proofs.Writes.{two-up, allowed}
 use Rattle.views.specs.Entry.{isSized}
-use Rattle.views.specs.Theorems.{Sized, WrongLengths}
+use Rattle.views.specs.Sized.{Sized, WrongLengths}
 use Rattle.views.proofs.Lent.{sized, wrong-lengths}
 use Rattle.writes.specs.List.{pairsOf, ready}
 use Rattle.plan.specs.Rules.{HoldsUp}

@@ -18,7 +18,8 @@ use Rattle.chip.specs.declared.Wrote.{Wrote}
 use Rattle.chip.specs.Write.{writeOf, vsyncOf}
 use Rattle.chip.specs.Step.{writeRules}
 use Rattle.views.specs.Entry.{isSized, Lent, stateOf, Entry, refusedEntry, takenEntry, wroteIn, isLent, Gathers, enterTests, enterOf, turnOf}
-use Rattle.views.specs.Theorems.{WrongLengths, WrongLent, turnRules, WriteRefusals, VsyncRefusals, Sized, LentSized}
+use Rattle.views.specs.Sized.{WrongLengths, Sized, LentSized}
+use Rattle.views.specs.Refusals.{WrongLent, turnRules, WriteRefusals, VsyncRefusals}
 use Rattle.chip.proofs.Writes.{stepped}
 use Rattle.views.proofs.Seen.{unlike}
 

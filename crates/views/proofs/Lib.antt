@@ -2,3 +2,4 @@ pub mod Seen
 pub mod Used
 pub mod Lent
 pub mod Shown
+pub mod Cases

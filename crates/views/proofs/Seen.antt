@@ -18,7 +18,8 @@ use Rattle.views.specs.declared.view.Mute.{Mute}
 use Rattle.chip.specs.Machine.{Group, avi, audio, packets, up, holdsOf, inUse, gcInUse, mute, registersOf}
 use Rattle.chip.specs.Write.{two}
 use Rattle.views.specs.View.{packetAt, viewedOf, lentRefusal, viewRefusal, sentOf, placed, noPart, sentPart, startIn, muteOf, noMute, lentTests}
-use Rattle.views.specs.Theorems.{bytesIn, lentRules, viewRules, ViewRefusals}
+use Rattle.views.specs.Refusals.{bytesIn, SentFrom, lentRules, viewRules, ViewRefusals}
+use Rattle.bits.specs.Merge.{bit}
 use Rattle.bits.proofs.Laws.{bit-code, two-bits-code}
 use Rattle.chip.proofs.Writes.{two-up}
 
@@ -131,6 +132,11 @@ module _ (image packet : List ℕ) where
         let n : p .start + p .len - p .start ≡ p .len = omega arith in
         (rw (n, ← f .0) (ap (λ (q : Part). bytesIn q image packet) e ∙ bytes), rw (← f .1) (ap (λ (q : Part). startIn q i k) e))
 
+  -- which slice, by the bit of the packet's hold
+  from-slice : (which : ℕ) → viewRefusal image packet which ≡ 0 → let g : Group = packetAt which in
+      SentFrom (bit (g .hold) (holdsOf packets image)) (g .first) (g .count) (sentPart image packet which)
+  from-slice which e = ((λ h. taken which e ∙ rw h), λ h. taken which e ∙ rw h)
+
   -- the mute bits, off the buffer's first byte where the GC hold is up, else off the register
   pub mute-refused : lentRefusal image packet ≢ 0 → noMute (lentRefusal image packet) ≡ muteOf image packet
   unfolding muteOf
@@ -163,4 +169,6 @@ module _ (image packet : List ℕ) where
     mute = rw mute-numbered lent-given;
     zero = λ h. ap (λ (m : Mute). m .mute) (sym (mute-refused (λ e. h (mute-numbered ∙ e))));
     bytes = bytes;
+    avi = from-slice 0;
+    audio = from-slice 1;
   }

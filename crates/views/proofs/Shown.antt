@@ -16,7 +16,8 @@ use Rattle.chip.proofs.Writes.{allowed, stepped}
 use Rattle.views.specs.declared.view.Mute.{Mute}
 use Rattle.views.specs.Entry.{marked, markByte, Lent, stateOf, slicesOf, Entry, refusedEntry, takenEntry, wroteIn, enterOf, turnOf}
 use Rattle.views.specs.View.{lentRefusal, viewRefusal, sentOf, muteOf}
-use Rattle.views.specs.Theorems.{Sized, LentSized, Slices, Faces, Entered, EnteredVsync}
+use Rattle.views.specs.Sized.{Sized, LentSized}
+use Rattle.views.specs.Theorems.{Slices, Faces, Entered, EnteredVsync}
 use Rattle.views.proofs.Seen.{cleared, later}
 use Rattle.views.proofs.Used as used
 use Rattle.views.proofs.Lent.{is-lent, turn-in, let-in, wrote-number, wrote-refused, wrote-taken}

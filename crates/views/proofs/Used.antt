@@ -21,7 +21,7 @@ use Rattle.views.specs.declared.converter.Count.{Count}
 use Rattle.chip.specs.Machine.{matrix, converter, registersOf, up, holdsOf, inUse, coefficients, modeInUse}
 use Rattle.views.specs.Entry.{marked}
 use Rattle.views.specs.Converter.{askedOf, matrixBytes, matrixTests, matrixRefusal, noCount, matrixAnswer, matrixOut}
-use Rattle.views.specs.Theorems.{matrixRules, MatrixRefusals}
+use Rattle.views.specs.Refusals.{matrixRules, MatrixRefusals}
 use Rattle.bits.proofs.Laws.{two-bits-code}
 use Rattle.views.proofs.Seen.{unlike}
 

@@ -1,5 +1,5 @@
--- What the converter goes by, asked for over slices, as the code finds it. `MatrixRefusals` and `Faces` (Theorems) tie it to documents 01,
--- "The chip machine", and 02, request 04.
+-- What the converter goes by, asked for over slices, as the code finds it. `MatrixRefusals` (Refusals) and `Faces` (Theorems) tie it to
+-- documents 01, "The chip machine", and 02, request 04.
 use mathlib.Core.Path.{_≡_}
 use mathlib.Core.Bool.{not, _&&_}
 use mathlib.Core.List.{List, [], _∷_, _++_}

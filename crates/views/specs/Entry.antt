@@ -1,5 +1,5 @@
--- A write and a Vsync over the slices that the host lends, as the code does them. `WriteRefusals`, `VsyncRefusals`, `Slices`, `Entered` and
--- `EnteredVsync` (Theorems) tie them to documents 01, "The chip machine", and 02, request 04.
+-- A write and a Vsync over the slices that the host lends, as the code does them. `WriteRefusals` and `VsyncRefusals` (Refusals), `Slices`,
+-- `Entered` and `EnteredVsync` (Theorems) tie them to documents 01, "The chip machine", and 02, request 04.
 use mathlib.Core.Path.{_≡_}
 use mathlib.Core.Bool.{Bool, cond, not, _&&_}
 use mathlib.Core.List.{List, [], _∷_}

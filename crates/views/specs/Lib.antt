@@ -1,4 +1,7 @@
 pub mod Entry
+pub mod Sized
 pub mod View
 pub mod Converter
+pub mod Refusals
 pub mod Theorems
+pub mod Cases

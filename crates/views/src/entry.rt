@@ -2,7 +2,7 @@
 ghost use mathlib.Core.Path.{_≡_};
 ghost use Rattle.chip.specs.Write.{lentAs};
 ghost use Rattle.views.specs.Entry.{marked, markByte, lent, slicesOf, isLent, Gathers, Writes, Turns};
-ghost use Rattle.views.specs.Theorems.{LentSized};
+ghost use Rattle.views.specs.Sized.{LentSized};
 use chip::Chip;
 use chip::still_waits;
 use map::Map;

@@ -1,15 +1,11 @@
 // The faces of the chip machine over lent slices: a write, a Vsync, what is sent, the mute, the matrix in use. Documents 01, "The chip
 // machine", and 02, request 04.
-ghost use mathlib.Core.Path.{_≡_};
-ghost use mathlib.Core.Bool.{false};
 ghost use mathlib.Core.List.{List};
 ghost use Prim.Native.Nat.{ℕ};
-ghost use Rattle.chip.specs.declared.Chip.{Chip};
-ghost use Rattle.chip.specs.Machine.{packets, holdsOf};
-ghost use Rattle.chip.specs.Write.{two};
+ghost use Rattle.views.specs.Cases.{ViewCases};
 ghost use Rattle.views.specs.Entry.{Lent};
-ghost use Rattle.views.specs.Theorems.{WriteRefusals, VsyncRefusals, ViewRefusals, MatrixRefusals};
-ghost use Rattle.views.specs.Theorems.{Sized, LentSized, Slices, Faces, Entered, EnteredVsync};
+ghost use Rattle.views.specs.Refusals.{WriteRefusals, VsyncRefusals, ViewRefusals, MatrixRefusals};
+ghost use Rattle.views.specs.Theorems.{Slices, AnyFaces, AnyEntered, AnyEnteredVsync};
 
 mod converter;
 mod entry;
@@ -55,15 +51,20 @@ pub fn slices()
 
 // The views of a state are what the machine has in use.
 pub fn faces()
-    ensures { λ _. ⌜ ((s : Chip) → Sized s → two (holdsOf packets (s .image)) ≡ false → Faces s) ⌝ }
+    ensures { λ _. ⌜ AnyFaces ⌝ }
 {}
 
 // A write over slices is the machine's own, and keeps their lengths; the views follow it.
 pub fn entered()
-    ensures { λ _. ⌜ ((l : Lent) → LentSized l → (address value : ℕ) → Entered l address value) ⌝ }
+    ensures { λ _. ⌜ AnyEntered ⌝ }
 {}
 
 // So is a Vsync.
 pub fn entered_vsync()
-    ensures { λ _. ⌜ ((l : Lent) → LentSized l → EnteredVsync l) ⌝ }
+    ensures { λ _. ⌜ AnyEnteredVsync ⌝ }
+{}
+
+// The answers of the calls in bare numbers.
+pub fn view_cases()
+    ensures { λ _. ⌜ ViewCases ⌝ }
 {}

@@ -12,7 +12,7 @@ use Rattle.chip.specs.declared.Chip.{Chip}
 use Rattle.chip.specs.Write.{lentAs}
 use Rattle.chip.specs.Machine.{packets, holdsOf}
 use Rattle.views.specs.Entry.{marked}
-use Rattle.views.specs.Theorems.{Sized}
+use Rattle.views.specs.Sized.{Sized}
 use Rattle.views.proofs.Lent.{sized, gathered-whole}
 use Rattle.writes.specs.List.{pairsOf, ready}
 use Rattle.writes.proofs.Pairs.{length-pairs}

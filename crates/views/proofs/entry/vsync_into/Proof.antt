@@ -7,7 +7,7 @@ use native.Mathlib.Omega.{arith}
 use lib.ListN.{set}
 use Rattle.chip.specs.Write.{vsyncOf}
 use Rattle.views.specs.Entry.{markByte, Lent, lent, stateOf, slicesOf, Entry, isLent}
-use Rattle.views.specs.Theorems.{LentSized}
+use Rattle.views.specs.Sized.{LentSized}
 use Rattle.views.proofs.Lent.{stored-alone, lent-sized, turn-away, turn-in}
 use borrow.Author.Needs.{needs}
 use borrow.Author.Tests.{not-true, not-false}

@@ -5,7 +5,7 @@ use native.Mathlib.Omega.{arith}
 use Rattle.chip.specs.declared.Chip.{Chip}
 use Rattle.chip.specs.Write.{writeOf}
 use Rattle.views.specs.Entry.{Lent, lent, stateOf, Entry, wroteIn, isLent, enterOf}
-use Rattle.views.specs.Theorems.{LentSized}
+use Rattle.views.specs.Sized.{LentSized}
 use Rattle.views.proofs.Lent.{gathered-whole, lent-sized, state-sized, turned-away, let-in, wrote-refused, wrote-taken}
 use borrow.Author.Needs.{needs}
 use borrow.Author.Tests.{not-true, not-false}
