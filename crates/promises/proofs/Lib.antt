@@ -1,4 +1,5 @@
 pub mod Cases
+pub mod EachByte
 pub mod Ended
 pub mod LentBytes
 pub mod Only

@@ -1,5 +1,6 @@
 pub mod Worked
 pub mod Cases
+pub mod EachByte
 pub mod AnyInput
 pub mod Settled
 pub mod Rules

@@ -9,6 +9,7 @@ ghost use Rattle.plan.specs.Plan.{planOf};
 ghost use Rattle.promises.specs.AnyCut.{AnyCut};
 ghost use Rattle.promises.specs.AnyInput.{Demand1};
 ghost use Rattle.promises.specs.Cases.{MarkedCases};
+ghost use Rattle.promises.specs.EachByte.{EachByte};
 ghost use Rattle.promises.specs.Example.{Example};
 ghost use Rattle.promises.specs.Finished.{AllNamed};
 ghost use Rattle.promises.specs.Metered.{FromMeter};
@@ -82,4 +83,9 @@ pub fn vendor_cases()
 // "Take an accepted request": demands 2 and 3 are not empty.
 pub fn worked_example()
     ensures { λ _. ⌜ Example ⌝ }
+{}
+
+// In bare numbers: for each byte of a request, whatever else is asked, what is answered for each of its values.
+pub fn each_byte()
+    ensures { λ _. ⌜ EachByte ⌝ }
 {}
