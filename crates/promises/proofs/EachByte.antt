@@ -105,9 +105,9 @@ module _ (vic family encoding link range pixel edition : ℕ) (h : Bytes (vic �
       let b : ltb 1 link ≡ not (among link (0 ∷ 1 ∷ [])) = alike (ltb 1) (λ n. not (among n (0 ∷ 1 ∷ []))) refl link (h 3) in
       let c : ltb 1 range ≡ not (among range (0 ∷ 1 ∷ [])) = alike (ltb 1) (λ n. not (among n (0 ∷ 1 ∷ []))) refl range (h 4) in
       let d : (ltb 2 (pixel % 16) || ltb 2 (pixel / 16)) ≡ not (among pixel depthBytes) =
-          alike (λ n. ltb 2 (n % 16) || ltb 2 (n / 16)) (λ n. not (among n depthBytes)) refl pixel (h 5) in
+      alike (λ n. ltb 2 (n % 16) || ltb 2 (n / 16)) (λ n. not (among n depthBytes)) refl pixel (h 5) in
       let e : editionOutside v ≡ not (among edition (editionBytes ++ underD)) =
-          alike (λ n. ltb 1 (n % 4) || (ltb 1 (n / 4 % 4) || ltb 0 (n / 64))) (λ n. not (among n (editionBytes ++ underD))) refl edition (h 6) in
+      alike (λ n. ltb 1 (n % 4) || (ltb 1 (n / 4 % 4) || ltb 0 (n / 64))) (λ n. not (among n (editionBytes ++ underD))) refl edition (h 6) in
       in-order (ltb 1 link) (ltb 2 (pixel % 16)) (ltb 2 encoding) (ltb 1 range) (ltb 2 (pixel / 16)) (editionOutside v)
       ∙ rw (a, b, c, d, e)
       (five-bytes (among encoding (0 ∷ 1 ∷ 2 ∷ [])) (among link (0 ∷ 1 ∷ [])) (among range (0 ∷ 1 ∷ [])) (among pixel depthBytes)
@@ -120,9 +120,9 @@ sound-inside (r ∷ []) t h = absurd (false≢true t)
 sound-inside (r ∷ c ∷ []) t h = absurd (false≢true t)
 sound-inside (r ∷ c ∷ k ∷ []) t h =
     let x : ltb 6 r ≡ not (among r (0 ∷ 1 ∷ 2 ∷ 3 ∷ 4 ∷ 5 ∷ 6 ∷ [])) =
-        alike (ltb 6) (λ n. not (among n (0 ∷ 1 ∷ 2 ∷ 3 ∷ 4 ∷ 5 ∷ 6 ∷ []))) refl r (h 0) in
+    alike (ltb 6) (λ n. not (among n (0 ∷ 1 ∷ 2 ∷ 3 ∷ 4 ∷ 5 ∷ 6 ∷ []))) refl r (h 0) in
     let y : (not (eqb c 2) && not (eqb c 8)) ≡ not (among c (2 ∷ 8 ∷ [])) =
-        alike (λ n. not (eqb n 2) && not (eqb n 8)) (λ n. not (among n (2 ∷ 8 ∷ []))) refl c (h 1) in
+    alike (λ n. not (eqb n 2) && not (eqb n 8)) (λ n. not (among n (2 ∷ 8 ∷ []))) refl c (h 1) in
     let z : ltb 1 k ≡ not (among k (0 ∷ 1 ∷ [])) = alike (ltb 1) (λ n. not (among n (0 ∷ 1 ∷ []))) refl k (h 2) in
     rw (x, y, z) (three-bytes (among r (0 ∷ 1 ∷ 2 ∷ 3 ∷ 4 ∷ 5 ∷ 6 ∷ [])) (among c (2 ∷ 8 ∷ [])) (among k (0 ∷ 1 ∷ [])))
 sound-inside (r ∷ c ∷ k ∷ x ∷ more) t h =
@@ -227,140 +227,140 @@ all-paired = refl
 module _ (vic family encoding link range pixel edition : ℕ) (sound matrix : List ℕ)
     (h : Bytes (vic ∷ family ∷ encoding ∷ link ∷ range ∷ pixel ∷ edition ∷ [])) (hs : Bytes sound) (hm : Bytes matrix)
     (s : among (length sound) (0 ∷ 3 ∷ []) ≡ true) (m : among (length matrix) (0 ∷ 25 ∷ []) ≡ true)
-    where
-  abbrev asked : Video
-  asked = videoIn (vic ∷ family ∷ encoding ∷ link ∷ range ∷ pixel ∷ edition ∷ [])
+  where
+    abbrev asked : Video
+    asked = videoIn (vic ∷ family ∷ encoding ∷ link ∷ range ∷ pixel ∷ edition ∷ [])
 
-  abbrev five : List ℕ
-  five = encoding ∷ link ∷ range ∷ pixel ∷ edition ∷ []
+    abbrev five : List ℕ
+    five = encoding ∷ link ∷ range ∷ pixel ∷ edition ∷ []
 
-  abbrev input : List ℕ
-  input = bytesOf vic family encoding link range pixel edition sound matrix
+    abbrev input : List ℕ
+    input = bytesOf vic family encoding link range pixel edition sound matrix
 
-  read-judged : readOf input ≡ judged asked sound matrix
-  unfolding readOf walked
-  read-judged =
-      let bodies : List (List ℕ) = (vic ∷ family ∷ five) ∷ sound ∷ matrix ∷ [] in
-      let f : fits sections bodies ≡ true = rw (s, m) in
-      ap checked (walks sections input .whole bodies [] .1 (f, rw (append-nil matrix)))
+    read-judged : readOf input ≡ judged asked sound matrix
+    unfolding readOf walked
+    read-judged =
+        let bodies : List (List ℕ) = (vic ∷ family ∷ five) ∷ sound ∷ matrix ∷ [] in
+        let f : fits sections bodies ≡ true = rw (s, m) in
+        ap checked (walks sections input .whole bodies [] .1 (f, rw (append-nil matrix)))
 
-  abbrev inside : Bool
-  inside = inTheirs videoBytes five && (inTheirs soundBytes sound && matrixInside matrix)
+    abbrev inside : Bool
+    inside = inTheirs videoBytes five && (inTheirs soundBytes sound && matrixInside matrix)
 
-  not-all : (a b c : Bool) → (not a || (not b || not c)) ≡ not (a && (b && c))
-  not-all false b c = refl
-  not-all true false c = refl
-  not-all true true c = refl
+    not-all : (a b c : Bool) → (not a || (not b || not c)) ≡ not (a && (b && c))
+    not-all false b c = refl
+    not-all true false c = refl
+    not-all true true c = refl
 
-  is-inside : outside asked sound matrix ≡ not inside
-  unfolding outside
-  is-inside =
-      rw (video-inside vic family encoding link range pixel edition h, sound-inside sound s hs, matrix-inside matrix m hm)
-      (not-all (inTheirs videoBytes five) (inTheirs soundBytes sound) (matrixInside matrix))
+    is-inside : outside asked sound matrix ≡ not inside
+    unfolding outside
+    is-inside =
+        rw (video-inside vic family encoding link range pixel edition h, sound-inside sound s hs, matrix-inside matrix m hm)
+        (not-all (inTheirs videoBytes five) (inTheirs soundBytes sound) (matrixInside matrix))
 
-  its-depth : inTheirs videoBytes five ≡ true → among pixel depthBytes ≡ true
-  its-depth i =
-      let t = both-right (among range (0 ∷ 1 ∷ [])) _ (both-right (among link (0 ∷ 1 ∷ [])) _ (both-right (among encoding (0 ∷ 1 ∷ 2 ∷ [])) _ i)) in
-      both-left (among pixel depthBytes) _ t
+    its-depth : inTheirs videoBytes five ≡ true → among pixel depthBytes ≡ true
+    its-depth i =
+        let t = both-right (among range (0 ∷ 1 ∷ [])) _ (both-right (among link (0 ∷ 1 ∷ [])) _ (both-right (among encoding (0 ∷ 1 ∷ 2 ∷ [])) _ i)) in
+        both-left (among pixel depthBytes) _ t
 
-  goes-together : inTheirs videoBytes five ≡ true → combined asked sound matrix ≡ inNone together (five ++ (length sound ∷ length matrix ∷ []))
-  unfolding combined videoCombined shownCombined
-  goes-together i =
-      let t = chosen videoBytes (λ five. choices ((0 ∷ 3 ∷ []) ∷ (0 ∷ 25 ∷ []) ∷ []) (apart five)) five refl all-apart i in
-      beq-true _ _ (chosen ((0 ∷ 3 ∷ []) ∷ (0 ∷ 25 ∷ []) ∷ []) (apart five) (length sound ∷ length matrix ∷ []) refl t (rw (s, m)))
+    goes-together : inTheirs videoBytes five ≡ true → combined asked sound matrix ≡ inNone together (five ++ (length sound ∷ length matrix ∷ []))
+    unfolding combined videoCombined shownCombined
+    goes-together i =
+        let t = chosen videoBytes (λ five. choices ((0 ∷ 3 ∷ []) ∷ (0 ∷ 25 ∷ []) ∷ []) (apart five)) five refl all-apart i in
+        beq-true _ _ (chosen ((0 ∷ 3 ∷ []) ∷ (0 ∷ 25 ∷ []) ∷ []) (apart five) (length sound ∷ length matrix ∷ []) refl t (rw (s, m)))
 
-  too-fast : (f : ℕ) → family ≡ f → among vic (vics f) ≡ true → among pixel depthBytes ≡ true
-      → aboveLimit (tmds asked) ≡ not (inNone tooFast (vic ∷ pixel ∷ []))
-  unfolding tmds
-  too-fast zero e o p =
-      rw e (beq-true _ _ (chosen (vics 0 ∷ depthBytes ∷ []) (fast 0) (vic ∷ pixel ∷ []) refl (both-left _ _ all-fast) (rw (o, p))))
-  too-fast (suc zero) e o p =
-      rw e (beq-true _ _ (chosen (vics 1 ∷ depthBytes ∷ []) (fast 1) (vic ∷ pixel ∷ []) refl
-      (both-right (choices (vics 0 ∷ depthBytes ∷ []) (fast 0)) _ all-fast) (rw (o, p))))
-  too-fast (suc (suc n)) e o p = absurd (false≢true o)
+    too-fast : (f : ℕ) → family ≡ f → among vic (vics f) ≡ true → among pixel depthBytes ≡ true
+        → aboveLimit (tmds asked) ≡ not (inNone tooFast (vic ∷ pixel ∷ []))
+    unfolding tmds
+    too-fast zero e o p =
+        rw e (beq-true _ _ (chosen (vics 0 ∷ depthBytes ∷ []) (fast 0) (vic ∷ pixel ∷ []) refl (both-left _ _ all-fast) (rw (o, p))))
+    too-fast (suc zero) e o p =
+        rw e (beq-true _ _ (chosen (vics 1 ∷ depthBytes ∷ []) (fast 1) (vic ∷ pixel ∷ []) refl
+        (both-right (choices (vics 0 ∷ depthBytes ∷ []) (fast 0)) _ all-fast) (rw (o, p))))
+    too-fast (suc (suc n)) e o p = absurd (false≢true o)
 
-  read : readOf input .refusal ≡ answerTo vic family encoding link range pixel edition sound matrix
-  unfolding judged
-  read = ap (λ (c : Checked). c .refusal) read-judged ∙ numbered emptied _ (λ c. c .refusal) (lowest (bodyTests asked sound matrix)) (λ _. refl) refl
-      ∙ go (among vic (vics family)) refl inside refl
-    where
-      go : (a : Bool) → among vic (vics family) ≡ a → (b : Bool) → inside ≡ b → lowest (bodyTests asked sound matrix)
-          ≡ cond (not a) 4 (cond (not b) 5
-          (cond (inNone together (five ++ (length sound ∷ length matrix ∷ []))) 6 (cond (not (inNone tooFast (vic ∷ pixel ∷ []))) 17 0)))
-      go false o b i = rw (offers vic family (h 0) ∙ o)
-      go true o false i = rw (offers vic family (h 0) ∙ o, is-inside ∙ ap not i)
-      go true o true i =
-          let v = both-left (inTheirs videoBytes five) _ i in
-          rw (offers vic family (h 0) ∙ o, is-inside ∙ ap not i, goes-together v, too-fast family refl o (its-depth v))
+    read : readOf input .refusal ≡ answerTo vic family encoding link range pixel edition sound matrix
+    unfolding judged
+    read = ap (λ (c : Checked). c .refusal) read-judged ∙ numbered emptied _ (λ c. c .refusal) (lowest (bodyTests asked sound matrix)) (λ _. refl) refl
+        ∙ go (among vic (vics family)) refl inside refl
+      where
+        go : (a : Bool) → among vic (vics family) ≡ a → (b : Bool) → inside ≡ b → lowest (bodyTests asked sound matrix)
+            ≡ cond (not a) 4 (cond (not b) 5
+            (cond (inNone together (five ++ (length sound ∷ length matrix ∷ []))) 6 (cond (not (inNone tooFast (vic ∷ pixel ∷ []))) 17 0)))
+        go false o b i = rw (offers vic family (h 0) ∙ o)
+        go true o false i = rw (offers vic family (h 0) ∙ o, is-inside ∙ ap not i)
+        go true o true i =
+            let v = both-left (inTheirs videoBytes five) _ i in
+            rw (offers vic family (h 0) ∙ o, is-inside ∙ ap not i, goes-together v, too-fast family refl o (its-depth v))
 
-  -- none is given: the VIC, every byte, and the clock
-  none : (a b c d : Bool) → _≡_ {A = ℕ} (cond (not a) 4 (cond (not b) 5 (cond c 6 (cond d 17 0)))) 0 → (a ≡ true) × (b ≡ true) × (d ≡ false)
-  none false b c d z = absurd (omega arith)
-  none true false c d z = absurd (omega arith)
-  none true true true d z = absurd (omega arith)
-  none true true false true z = absurd (omega arith)
-  none true true false false z = (refl, refl, refl)
+    -- none is given: the VIC, every byte, and the clock
+    none : (a b c d : Bool) → _≡_ {A = ℕ} (cond (not a) 4 (cond (not b) 5 (cond c 6 (cond d 17 0)))) 0 → (a ≡ true) × (b ≡ true) × (d ≡ false)
+    none false b c d z = absurd (omega arith)
+    none true false c d z = absurd (omega arith)
+    none true true true d z = absurd (omega arith)
+    none true true false true z = absurd (omega arith)
+    none true true false false z = (refl, refl, refl)
 
-  module _ (z : answerTo vic family encoding link range pixel edition sound matrix ≡ 0) where
-    abbrev permitted : (among vic (vics family) ≡ true) × (inside ≡ true) × (not (inNone tooFast (vic ∷ pixel ∷ [])) ≡ false)
-    permitted =
-        none (among vic (vics family)) inside (inNone together (five ++ (length sound ∷ length matrix ∷ [])))
-        (not (inNone tooFast (vic ∷ pixel ∷ []))) z
+    module _ (z : answerTo vic family encoding link range pixel edition sound matrix ≡ 0) where
+      abbrev permitted : (among vic (vics family) ≡ true) × (inside ≡ true) × (not (inNone tooFast (vic ∷ pixel ∷ [])) ≡ false)
+      permitted =
+          none (among vic (vics family)) inside (inNone together (five ++ (length sound ∷ length matrix ∷ [])))
+          (not (inNone tooFast (vic ∷ pixel ∷ []))) z
 
-    request : readOf input .request ≡ requestIn asked sound matrix
-    request =
-        ap (λ (c : Checked). c .request) read-judged
-        ∙ accepted asked sound matrix (ap (λ (c : Checked). c .refusal) (sym read-judged) ∙ read ∙ z) .request
+      request : readOf input .request ≡ requestIn asked sound matrix
+      request =
+          ap (λ (c : Checked). c .request) read-judged
+          ∙ accepted asked sound matrix (ap (λ (c : Checked). c .refusal) (sym read-judged) ∙ read ∙ z) .request
 
-    abbrev numberFor : ℕ → ℕ → ℕ
-    numberFor rate coherent = cond (eqb coherent 1 && not (inNone noPair (vic ∷ family ∷ pixel ∷ rate ∷ []))) 9 0
+      abbrev numberFor : ℕ → ℕ → ℕ
+      numberFor rate coherent = cond (eqb coherent 1 && not (inNone noPair (vic ∷ family ∷ pixel ∷ rate ∷ []))) 9 0
 
-    second : (a b : Bool) → a ≡ false → (a || b) ≡ true → b ≡ true
-    second true b e t = absurd (false≢true (sym e))
-    second false b e t = t
+      second : (a b : Bool) → a ≡ false → (a || b) ≡ true → b ≡ true
+      second true b e t = absurd (false≢true (sym e))
+      second false b e t = t
 
-    pair-of : (f rate coherent : ℕ) → family ≡ f → inTheirs (vics f ∷ depthBytes ∷ soundRows) (vic ∷ pixel ∷ rate ∷ coherent ∷ []) ≡ true
-        → pairOf asked rate coherent .refusal ≡ numberFor rate coherent
-    unfolding pairOf clockOf tmds
-    pair-of zero rate coherent e i =
-        let t = chosen (vics 0 ∷ depthBytes ∷ soundRows) (paired 0) (vic ∷ pixel ∷ rate ∷ coherent ∷ []) refl (both-left _ _ all-paired) i in
-        rw e (eqb-true (pairOf (videoIn (vic ∷ 0 ∷ 0 ∷ 0 ∷ 0 ∷ pixel ∷ 0 ∷ [])) rate coherent .refusal) _
-        (second (not (inNone tooFast (vic ∷ pixel ∷ []))) _ (permitted .2) t))
-    pair-of (suc zero) rate coherent e i =
-        let t = chosen (vics 1 ∷ depthBytes ∷ soundRows) (paired 1) (vic ∷ pixel ∷ rate ∷ coherent ∷ []) refl
-                (both-right (choices (vics 0 ∷ depthBytes ∷ soundRows) (paired 0)) _ all-paired) i in
-        rw e (eqb-true (pairOf (videoIn (vic ∷ 1 ∷ 0 ∷ 0 ∷ 0 ∷ pixel ∷ 0 ∷ [])) rate coherent .refusal) _
-        (second (not (inNone tooFast (vic ∷ pixel ∷ []))) _ (permitted .2) t))
-    pair-of (suc (suc n)) rate coherent e i = absurd (false≢true i)
+      pair-of : (f rate coherent : ℕ) → family ≡ f → inTheirs (vics f ∷ depthBytes ∷ soundRows) (vic ∷ pixel ∷ rate ∷ coherent ∷ []) ≡ true
+          → pairOf asked rate coherent .refusal ≡ numberFor rate coherent
+      unfolding pairOf clockOf tmds
+      pair-of zero rate coherent e i =
+          let t = chosen (vics 0 ∷ depthBytes ∷ soundRows) (paired 0) (vic ∷ pixel ∷ rate ∷ coherent ∷ []) refl (both-left _ _ all-paired) i in
+          rw e (eqb-true (pairOf (videoIn (vic ∷ 0 ∷ 0 ∷ 0 ∷ 0 ∷ pixel ∷ 0 ∷ [])) rate coherent .refusal) _
+          (second (not (inNone tooFast (vic ∷ pixel ∷ []))) _ (permitted .2) t))
+      pair-of (suc zero) rate coherent e i =
+          let t = chosen (vics 1 ∷ depthBytes ∷ soundRows) (paired 1) (vic ∷ pixel ∷ rate ∷ coherent ∷ []) refl
+          (both-right (choices (vics 0 ∷ depthBytes ∷ soundRows) (paired 0)) _ all-paired) i in
+          rw e (eqb-true (pairOf (videoIn (vic ∷ 1 ∷ 0 ∷ 0 ∷ 0 ∷ pixel ∷ 0 ∷ [])) rate coherent .refusal) _
+          (second (not (inNone tooFast (vic ∷ pixel ∷ []))) _ (permitted .2) t))
+      pair-of (suc (suc n)) rate coherent e i = absurd (false≢true i)
 
-    sound-pair : (x : List ℕ) → among (length x) (0 ∷ 3 ∷ []) ≡ true → inTheirs soundBytes x ≡ true
-        → pairFor (requestIn asked x matrix) .refusal ≡ numberFor (getD x 0 0) (getD x 2 0)
-    unfolding pairFor
-    sound-pair [] t i = refl
-    sound-pair (r ∷ []) t i = absurd (false≢true t)
-    sound-pair (r ∷ c ∷ []) t i = absurd (false≢true t)
-    sound-pair (r ∷ c ∷ k ∷ []) t i =
-        let d : among pixel depthBytes ≡ true = its-depth (both-left (inTheirs videoBytes five) _ (permitted .1)) in
-        let more = both-right (among r (0 ∷ 1 ∷ 2 ∷ 3 ∷ 4 ∷ 5 ∷ 6 ∷ [])) _ i in
-        pair-of family r k refl
-        (rw (permitted .0, d, both-left (among r (0 ∷ 1 ∷ 2 ∷ 3 ∷ 4 ∷ 5 ∷ 6 ∷ [])) _ i, both-left (among k (0 ∷ 1 ∷ [])) _ (both-right (among c (2 ∷ 8 ∷ [])) _ more)))
-    sound-pair (r ∷ c ∷ k ∷ x ∷ more) t i =
-        let n : ℕ = length (r ∷ c ∷ k ∷ x ∷ more) in
-        absurd (false≢true (rw (ne-eqb n 0 (omega arith), ne-eqb n 3 (omega arith)) at t))
+      sound-pair : (x : List ℕ) → among (length x) (0 ∷ 3 ∷ []) ≡ true → inTheirs soundBytes x ≡ true
+          → pairFor (requestIn asked x matrix) .refusal ≡ numberFor (getD x 0 0) (getD x 2 0)
+      unfolding pairFor
+      sound-pair [] t i = refl
+      sound-pair (r ∷ []) t i = absurd (false≢true t)
+      sound-pair (r ∷ c ∷ []) t i = absurd (false≢true t)
+      sound-pair (r ∷ c ∷ k ∷ []) t i =
+          let d : among pixel depthBytes ≡ true = its-depth (both-left (inTheirs videoBytes five) _ (permitted .1)) in
+          let more = both-right (among r (0 ∷ 1 ∷ 2 ∷ 3 ∷ 4 ∷ 5 ∷ 6 ∷ [])) _ i in
+          pair-of family r k refl
+          (rw (permitted .0, d, both-left (among r (0 ∷ 1 ∷ 2 ∷ 3 ∷ 4 ∷ 5 ∷ 6 ∷ [])) _ i, both-left (among k (0 ∷ 1 ∷ [])) _ (both-right (among c (2 ∷ 8 ∷ [])) _ more)))
+      sound-pair (r ∷ c ∷ k ∷ x ∷ more) t i =
+          let n : ℕ = length (r ∷ c ∷ k ∷ x ∷ more) in
+          absurd (false≢true (rw (ne-eqb n 0 (omega arith), ne-eqb n 3 (omega arith)) at t))
 
-    pair : nctsOf input .refusal ≡ pairTo vic family encoding link range pixel edition sound matrix
-    unfolding nctsOf
-    pair = rw (read ∙ z, request) (sound-pair sound s (both-left (inTheirs soundBytes sound) _ (both-right (inTheirs videoBytes five) _ (permitted .1))))
+      pair : nctsOf input .refusal ≡ pairTo vic family encoding link range pixel edition sound matrix
+      unfolding nctsOf
+      pair = rw (read ∙ z, request) (sound-pair sound s (both-left (inTheirs soundBytes sound) _ (both-right (inTheirs videoBytes five) _ (permitted .1))))
 
-  answers : Answers vic family encoding link range pixel edition sound matrix
-  answers =
-      record {
-        read = read;
-        pair = pair;
-        video = λ z. ap (λ (r : Request). r .video) (request z);
-        silent = λ z e. ap (λ (r : Request). r .sound) (request z) ∙ rw (eq-eqb (length sound) 0 e);
-        sounding = λ z e. ap (λ (r : Request). r .sound) (request z) ∙ rw (ne-eqb (length sound) 0 (omega arith));
-      }
+    answers : Answers vic family encoding link range pixel edition sound matrix
+    answers =
+        record {
+          read = read;
+          pair = pair;
+          video = λ z. ap (λ (r : Request). r .video) (request z);
+          silent = λ z e. ap (λ (r : Request). r .sound) (request z) ∙ rw (eq-eqb (length sound) 0 e);
+          sounding = λ z e. ap (λ (r : Request). r .sound) (request z) ∙ rw (ne-eqb (length sound) 0 (omega arith));
+        }
 
 -- ---- the counts
 
