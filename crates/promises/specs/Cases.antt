@@ -36,7 +36,7 @@ use Rattle.promises.specs.Rules.{asked}
 use Rattle.promises.specs.Worked.{example, zeros, Few, FewDeep, FewEditions}
 
 -- Table 39 as a request has it: mode 1, A 3155, 2048, 0, -1578; B -938, 2048, -376, 657; C -1, 2048, 3717, -1858
-abbrev table39 : List ℕ
+abbrev pub table39 : List ℕ
 table39 =
     1 ∷ 0x0C ∷ 0x53 ∷ 0x08 ∷ 0x00 ∷ 0x00 ∷ 0x00 ∷ 0xF9 ∷ 0xD6 ∷ 0xFC ∷ 0x56 ∷ 0x08 ∷ 0x00 ∷ 0xFE ∷ 0x88 ∷ 0x02 ∷ 0x91 ∷
     0xFF ∷ 0xFF ∷ 0x08 ∷ 0x00 ∷ 0x0E ∷ 0x85 ∷ 0xF8 ∷ 0xBE ∷ []

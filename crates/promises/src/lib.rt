@@ -12,6 +12,7 @@ ghost use Rattle.promises.specs.Cases.{MarkedCases};
 ghost use Rattle.promises.specs.EachByte.{EachByte};
 ghost use Rattle.promises.specs.Example.{Example};
 ghost use Rattle.promises.specs.Finished.{AllNamed};
+ghost use Rattle.promises.specs.InNumbers.{InNumbers};
 ghost use Rattle.promises.specs.Metered.{FromMeter};
 ghost use Rattle.promises.specs.Piped.{ThroughPipe};
 ghost use Rattle.promises.specs.Rules.{Demand2, OnSomeImage, FieldByField};
@@ -88,4 +89,9 @@ pub fn worked_example()
 // In bare numbers: for each byte of a request, whatever else is asked, what is answered for each of its values.
 pub fn each_byte()
     ensures { λ _. ⌜ EachByte ⌝ }
+{}
+
+// In bare numbers: the refusals of each call, N and CTS, the preview, the lengths of what is lent, two whole lists.
+pub fn in_numbers()
+    ensures { λ _. ⌜ InNumbers ⌝ }
 {}
