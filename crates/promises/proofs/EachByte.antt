@@ -19,7 +19,7 @@ use Rattle.refusals.proofs.Tests.{numbered}
 use Rattle.ratio.specs.Lowest.{steps, divisorOf}
 use Rattle.video.specs.declared.Video.{Video}
 use Rattle.video.specs.Video.{videoIn}
-use Rattle.video.specs.Modes.{modeOf, offered}
+use Rattle.video.specs.Modes.{modeOf}
 use Rattle.video.specs.Tests.{editionOutside, videoOutside, shownOutside, videoCombined, shownCombined}
 use Rattle.clock.specs.Clocks.{tmds, aboveLimit, clockOf}
 use Rattle.clock.specs.Pairs.{reference, recommendedOf}
@@ -33,7 +33,7 @@ use Rattle.request.specs.Request.{present, requestIn}
 use Rattle.request.specs.Read.{emptied, audioOutside, outside, combined, bodyTests, judged, checked, readOf, pairFor, nctsOf}
 use Rattle.request.proofs.Walks.{walks}
 use Rattle.request.proofs.Ordered.{accepted}
-use Rattle.promises.specs.EachByte.{inTheirs, inNone, vics, depthBytes, editionBytes, underD, videoBytes, soundBytes}
+use Rattle.promises.specs.EachByte.{inTheirs, inNone, vics, depthBytes, editionBytes, bitsUnderD, videoBytes, soundBytes}
 use Rattle.promises.specs.EachByte.{modes, highBytes, highInside, matrixInside, together, tooFast, noPair, bytesOf, answerTo, pairTo, Answers, EachByte}
 
 -- two tests that are alike at every number below 256
@@ -106,12 +106,12 @@ module _ (vic family encoding link range pixel edition : ℕ) (h : Bytes (vic �
       let c : ltb 1 range ≡ not (among range (0 ∷ 1 ∷ [])) = alike (ltb 1) (λ n. not (among n (0 ∷ 1 ∷ []))) refl range (h 4) in
       let d : (ltb 2 (pixel % 16) || ltb 2 (pixel / 16)) ≡ not (among pixel depthBytes) =
       alike (λ n. ltb 2 (n % 16) || ltb 2 (n / 16)) (λ n. not (among n depthBytes)) refl pixel (h 5) in
-      let e : editionOutside v ≡ not (among edition (editionBytes ++ underD)) =
-      alike (λ n. ltb 1 (n % 4) || (ltb 1 (n / 4 % 4) || ltb 0 (n / 64))) (λ n. not (among n (editionBytes ++ underD))) refl edition (h 6) in
+      let e : editionOutside v ≡ not (among edition (editionBytes ++ bitsUnderD)) =
+      alike (λ n. ltb 1 (n % 4) || (ltb 1 (n / 4 % 4) || ltb 0 (n / 64))) (λ n. not (among n (editionBytes ++ bitsUnderD))) refl edition (h 6) in
       in-order (ltb 1 link) (ltb 2 (pixel % 16)) (ltb 2 encoding) (ltb 1 range) (ltb 2 (pixel / 16)) (editionOutside v)
       ∙ rw (a, b, c, d, e)
       (five-bytes (among encoding (0 ∷ 1 ∷ 2 ∷ [])) (among link (0 ∷ 1 ∷ [])) (among range (0 ∷ 1 ∷ [])) (among pixel depthBytes)
-      (among edition (editionBytes ++ underD)))
+      (among edition (editionBytes ++ bitsUnderD)))
 
 sound-inside : (sound : List ℕ) → among (length sound) (0 ∷ 3 ∷ []) ≡ true → Bytes sound
     → (present sound && audioOutside sound) ≡ not (inTheirs soundBytes sound)

@@ -1,7 +1,7 @@
 -- What the papers say in numbers: each computes, but for the preview's rounding, which is a law of the matrix. Assumes nothing.
-use mathlib.Core.Path.{_≡_, refl, sym, ap, _∙_}
-use mathlib.Core.Bool.{Bool, true, false, cond}
-use mathlib.Core.List.{List, [], _∷_, map, flatMap}
+use mathlib.Core.Path.{_≡_, refl}
+use mathlib.Core.Bool.{Bool, true, false}
+use mathlib.Core.List.{List, flatMap}
 use Prim.Native.Nat.{ℕ, _+_, _*_, _<_}
 use native.Mathlib.Omega.{arith}
 use lib.IntN.{ℤ}
@@ -66,7 +66,20 @@ calls =
 
 pairs : Pairs
 unfolding flatMap steps divisorOf modeOf tmds clockOf reference recommendedOf nearestK nearestIn nearestOf exactly coherentOf pairOf total aviFrame aviOf audioFrame audioOf audioOffFrame fields inRange isAllowed walk walked videoOutside shownOutside videoCombined shownCombined outside combined judged readOf pairFor nctsOf lineOf digits acceptedText refusedText
-pairs = record { coherent = refl; others = refl; line = refl; exact = refl }
+pairs =
+    record {
+      coherent = refl;
+      others = refl;
+      line = refl;
+      leastN = refl;
+      belowIt = refl;
+      mostN = refl;
+      aboveIt = refl;
+      aboveCts = refl;
+      tie = refl;
+      nearer = refl;
+      exact = refl;
+    }
 
 -- ---- the preview
 

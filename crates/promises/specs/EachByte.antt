@@ -36,12 +36,12 @@ depthBytes = 0x00 ∷ 0x01 ∷ 0x02 ∷ 0x10 ∷ 0x11 ∷ 0x12 ∷ 0x20 ∷ 0x21
 abbrev pub editionBytes : List ℕ
 editionBytes = 0x00 ∷ 0x01 ∷ 0x05 ∷ 0x11 ∷ 0x15 ∷ 0x21 ∷ 0x25 ∷ 0x31 ∷ 0x35 ∷ []
 
-abbrev pub underD : List ℕ
-underD = 0x04 ∷ 0x10 ∷ 0x14 ∷ 0x20 ∷ 0x24 ∷ 0x30 ∷ 0x34 ∷ []
+abbrev pub bitsUnderD : List ℕ
+bitsUnderD = 0x04 ∷ 0x10 ∷ 0x14 ∷ 0x20 ∷ 0x24 ∷ 0x30 ∷ 0x34 ∷ []
 
 -- encoding, link, range, depth byte, edition byte; rate, channels, coherent
 abbrev pub videoBytes : List (List ℕ)
-videoBytes = (0 ∷ 1 ∷ 2 ∷ []) ∷ (0 ∷ 1 ∷ []) ∷ (0 ∷ 1 ∷ []) ∷ depthBytes ∷ (editionBytes ++ underD) ∷ []
+videoBytes = (0 ∷ 1 ∷ 2 ∷ []) ∷ (0 ∷ 1 ∷ []) ∷ (0 ∷ 1 ∷ []) ∷ depthBytes ∷ (editionBytes ++ bitsUnderD) ∷ []
 
 abbrev pub soundBytes : List (List ℕ)
 soundBytes = (0 ∷ 1 ∷ 2 ∷ 3 ∷ 4 ∷ 5 ∷ 6 ∷ []) ∷ (2 ∷ 8 ∷ []) ∷ (0 ∷ 1 ∷ []) ∷ []

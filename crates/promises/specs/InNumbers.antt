@@ -7,13 +7,15 @@ use Prim.Native.Nat.{ℕ, _+_, _*_, _^_}
 use lib.Dec.{eqb}
 use lib.IntN.{ℤ, pos, _+ℤ_, _*ℤ_}
 use lib.Ieee.{Float}
-use lib.ListN.{getD, length, take, set, replicate}
+use lib.ListN.{getD, take, set, replicate}
 use Rattle.lists.specs.Find.{every}
 use Rattle.lists.specs.Same.{sameList}
 use Rattle.refusals.specs.Rows.{number, order, Condition}
 use Rattle.video.specs.declared.Video.{Video}
+use Rattle.clock.specs.declared.Clock.{Clock}
 use Rattle.clock.specs.Tables as tables
-use Rattle.clock.specs.Pairs.{reference, thePair}
+use Rattle.clock.specs.Pairs.{reference, thePair, noPair}
+use Rattle.clock.specs.Found.{coherentOf}
 use Rattle.clock.specs.Theorems.{clockRules, pairRules}
 use Rattle.frames.specs.Theorems.{aviRules, audioRules}
 use Rattle.matrix.specs.Matrix.{Bytes, numberAt}
@@ -136,6 +138,10 @@ answersPairs m =
 abbrev pub exactIn : tables.Recommended → List Bool
 exactIn r = map (λ rate. eqb (reference rate * getD (r .cts) rate 0 * r .den) (r .num * getD (r .n) rate 0)) (0 ∷ 1 ∷ 2 ∷ 3 ∷ 4 ∷ 5 ∷ 6 ∷ [])
 
+-- a clock of u/v times 128·48000 Hz
+abbrev pub clockOf48 : ℕ → ℕ → Clock
+clockOf48 u v = record { refusal = 0; num = 6144000 * u; den = v }
+
 pub record Pairs : Type 0 where
   -- coherent; and not, where N is the "Other" row's
   pub coherent : every answersPairs modePairs ≡ true
@@ -143,6 +149,16 @@ pub record Pairs : Type 0 where
       ≡ map (λ n. thePair n 0) (4096 ∷ 6272 ∷ 6144 ∷ 12544 ∷ 12288 ∷ 25088 ∷ 24576 ∷ [])
   -- eight channels at 192 kHz, in the program's line
   pub line : lineText (sounding 16 0 0x00 6 8 1) ≡ ascii "accepted vic 16 n 24576 cts 148500 avi 23 audio 57\n"
+  -- "N lies between 128·fs/1500 and 128·fs/300, ends included. CTS is at most 1,048,575": on both sides of each, at 48 kHz, where N lies
+  -- between 4096 and 20480, for clocks of u/v times 128·fs, whose exact pairs are N = k·v, CTS = k·u
+  pub leastN : coherentOf (clockOf48 1048575 4096) 2 ≡ thePair 4096 1048575
+  pub belowIt : coherentOf (clockOf48 1048574 4095) 2 ≡ noPair 9
+  pub mostN : coherentOf (clockOf48 1048573 20480) 2 ≡ thePair 20480 1048573
+  pub aboveIt : coherentOf (clockOf48 1048573 20481) 2 ≡ noPair 9
+  pub aboveCts : coherentOf (clockOf48 1048576 4097) 2 ≡ noPair 9
+  -- "nearest to 128·fs/1000, the smaller N on a tie": to 6144, with 8192 as near, and with 4914 less near by 3
+  pub tie : coherentOf (clockOf48 1 4096) 2 ≡ thePair 4096 1
+  pub nearer : coherentOf (clockOf48 1 2457) 2 ≡ thePair 7371 3
   -- the recommended pairs, for the ten clocks in the tables' order: all are exact but that of 74.25/1.001 MHz at 32 kHz
   pub exact : map exactIn tables.recommended
       ≡ set (replicate 10 (replicate 7 true)) 6 (false ∷ replicate 6 true)
