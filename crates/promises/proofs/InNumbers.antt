@@ -40,7 +40,7 @@ use Rattle.views.specs.Converter.{matrixRefusal, matrixAnswer}
 use Rattle.decode.specs.Extract.{extract}
 use Rattle.decode.specs.Decode.{endsIn, someEnds, decodeRefusal, decodeOf}
 use Rattle.vendor.specs.Found.{vetRefusal, vetOf}
-use Rattle.promises.specs.InNumbers.{Rounds, formula, Calls, Pairs, Converts, Lengths, Lists, InNumbers}
+use Rattle.promises.specs.InNumbers.{Rounds, formula, Calls, Pairs, Converts, Lengths, Lists, Landed, InNumbers}
 
 calls : Calls
 calls =
@@ -151,5 +151,9 @@ lists : Lists
 unfolding flatMap steps divisorOf modeOf tmds clockOf reference recommendedOf nearestK nearestIn nearestOf exactly coherentOf pairOf total aviFrame audioFrame audioOffFrame fields inRange isAllowed walk walked videoOutside shownOutside videoCombined shownCombined outside combined judged readOf pairFor merge classAt decided byte written middle isWritten finished column flat alreadyThere wantedImage wanted laterRefusal planWith bufferWith planOf planBuffer
 lists = record { onZeros = (refl, refl); onOnes = (refl, refl) }
 
+landed : Landed
+unfolding flatMap steps divisorOf modeOf tmds clockOf reference recommendedOf nearestK nearestIn nearestOf exactly coherentOf pairOf total aviFrame audioFrame audioOffFrame fields inRange isAllowed walk walked videoOutside shownOutside videoCombined shownCombined outside combined judged readOf pairFor merge classAt decided byte written middle isWritten finished column flat alreadyThere wantedImage wanted laterRefusal planWith bufferWith planOf planBuffer
+landed = refl
+
 pub in-numbers : InNumbers
-in-numbers = record { calls = calls; pairs = pairs; converts = converts; lengths = lengths; lists = lists }
+in-numbers = record { calls = calls; pairs = pairs; converts = converts; lengths = lengths; lists = lists; landed = landed }

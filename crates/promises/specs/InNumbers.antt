@@ -1,5 +1,5 @@
 -- What the papers say in numbers, in bare numbers, beside a request's own bytes (`EachByte`): the refusals of each call in their order, N and
--- CTS, the preview, a matrix, the lengths of what is lent, and two whole lists.
+-- CTS, the preview, a matrix, the lengths of what is lent, two whole lists, and where each byte of a request lands.
 use mathlib.Core.Path.{_≡_}
 use mathlib.Core.Bool.{Bool, true, false, _&&_}
 use mathlib.Core.List.{List, [], _∷_, map}
@@ -31,13 +31,16 @@ use Rattle.views.specs.Entry.{Lent, lent, enterOf, turnOf}
 use Rattle.views.specs.View.{viewRefusal, muteOf}
 use Rattle.views.specs.Converter.{matrixAnswer}
 use Rattle.views.specs.Theorems.{enterRules, turnRules, lentRules, viewRules, matrixRules}
+use Rattle.writes.specs.List.{finished}
+use Rattle.plan.specs.Wanted.{wanted}
 use Rattle.plan.specs.Plan.{planOf, planBuffer}
 use Rattle.plan.specs.Rules.{planRules}
 use Rattle.decode.specs.Decode.{decodeOf}
 use Rattle.decode.specs.Theorems.{decodeRules}
 use Rattle.vendor.specs.Vendor.{vetRules}
 use Rattle.vendor.specs.Found.{vetOf}
-use Rattle.promises.specs.Worked.{example, zeros}
+use Rattle.promises.specs.Worked.{example, zeros, vic2}
+use Rattle.promises.specs.EachByte.{vics, depthBytes, editionBytes}
 use Rattle.promises.specs.Cases.{table39}
 
 -- the numbers of a call's conditions, in their order
@@ -284,9 +287,86 @@ pub record Lists : Type 0 where
   pub onZeros : (planOf busy zeros zeros .count ≡ 59) × (take 118 (planBuffer busy zeros zeros) ≡ listOnZeros)
   pub onOnes : (planOf busy ones zeros .count ≡ 82) × (take 164 (planBuffer busy ones zeros) ≡ listOnOnes)
 
+-- ---- where each byte of a request lands
+
+-- the byte at a place of a request, its values, and for each the byte of a register in the finished image, from zeros
+pub record Lands : Type 0 where
+  pub request : List ℕ
+  pub place : ℕ
+  pub register : ℕ
+  pub values : List ℕ
+  pub left : List ℕ
+
+abbrev pub lands : List ℕ → ℕ → ℕ → List ℕ → List ℕ → Lands
+lands request place register values left = record { request = request; place = place; register = register; values = values; left = left }
+
+-- `busy` in family 0, at 24 bits and no repetition, E that asks for nothing; and VIC 2 without sound or matrix
+abbrev pub sounded : List ℕ
+sounded = set (set (set busy 2 0) 6 0x00) 7 0x01
+
+abbrev pub silent : List ℕ
+silent = vic2 0x00 0x00
+
+abbrev pub landings : List Lands
+landings =
+    -- the VIC: in 0x3C and data byte 4; C and M; the checksum
+    lands sounded 1 0x3C (vics 0) (0x01 ∷ 0x02 ∷ 0x03 ∷ 0x04 ∷ 0x05 ∷ 0x10 ∷ 0x11 ∷ 0x12 ∷ 0x13 ∷ 0x14 ∷ 0x1F ∷ 0x20 ∷ 0x22 ∷ 0x3C ∷ 0x3E ∷ []) ∷
+    lands sounded 1 0x54 (vics 0) (0xC6 ∷ 0xC5 ∷ 0xB4 ∷ 0x73 ∷ 0x72 ∷ 0x67 ∷ 0xB6 ∷ 0xA5 ∷ 0x64 ∷ 0x63 ∷ 0x58 ∷ 0x57 ∷ 0x55 ∷ 0x3B ∷ 0x39 ∷ []) ∷
+    lands sounded 1 0x56 (vics 0) (0x58 ∷ 0x58 ∷ 0x68 ∷ 0xA8 ∷ 0xA8 ∷ 0xA8 ∷ 0x58 ∷ 0x68 ∷ 0xA8 ∷ 0xA8 ∷ 0xA8 ∷ 0xA8 ∷ 0xA8 ∷ 0xA8 ∷ 0xA8 ∷ []) ∷
+    lands sounded 1 0x58 (vics 0) (0x01 ∷ 0x02 ∷ 0x03 ∷ 0x04 ∷ 0x05 ∷ 0x10 ∷ 0x11 ∷ 0x12 ∷ 0x13 ∷ 0x14 ∷ 0x1F ∷ 0x20 ∷ 0x22 ∷ 0x3C ∷ 0x3E ∷ []) ∷
+    -- the encoding: the output format; Y, C and Q
+    lands sounded 3 0x16 (0 ∷ 1 ∷ 2 ∷ []) (0x00 ∷ 0x80 ∷ 0x00 ∷ []) ∷
+    lands sounded 3 0x54 (0 ∷ 1 ∷ 2 ∷ []) (0x41 ∷ 0xE5 ∷ 0xC5 ∷ []) ∷
+    lands sounded 3 0x55 (0 ∷ 1 ∷ 2 ∷ []) (0x10 ∷ 0x30 ∷ 0x50 ∷ []) ∷
+    lands sounded 3 0x56 (0 ∷ 1 ∷ 2 ∷ []) (0x18 ∷ 0x58 ∷ 0x58 ∷ []) ∷
+    lands sounded 3 0x57 (0 ∷ 1 ∷ 2 ∷ []) (0x04 ∷ 0x00 ∷ 0x00 ∷ []) ∷
+    -- the link: the GC and AVI enables, HDMI/DVI; and, silent and without a matrix, the I2S inputs, the rate code, the mode
+    lands silent 4 0x40 (0 ∷ 1 ∷ []) (0x00 ∷ 0x80 ∷ []) ∷
+    lands silent 4 0x44 (0 ∷ 1 ∷ []) (0x00 ∷ 0x10 ∷ []) ∷
+    lands silent 4 0xAF (0 ∷ 1 ∷ []) (0x04 ∷ 0x06 ∷ []) ∷
+    lands silent 4 0x0C (0 ∷ 1 ∷ []) (0x00 ∷ 0x00 ∷ []) ∷
+    lands silent 4 0x15 (0 ∷ 1 ∷ []) (0x20 ∷ 0x20 ∷ []) ∷
+    lands silent 4 0x18 (0 ∷ 1 ∷ []) (0x28 ∷ 0x28 ∷ []) ∷
+    -- the range: Q
+    lands silent 5 0x54 (0 ∷ 1 ∷ []) (0x41 ∷ 0x3D ∷ []) ∷
+    lands silent 5 0x57 (0 ∷ 1 ∷ []) (0x04 ∷ 0x08 ∷ []) ∷
+    -- the depth byte: 0x3B[4:1], the depth code, PR
+    lands silent 6 0x3B depthBytes (0xC0 ∷ 0xC0 ∷ 0xC0 ∷ 0xCA ∷ 0xCA ∷ 0xCA ∷ 0xD4 ∷ 0xD4 ∷ 0xD4 ∷ []) ∷
+    lands silent 6 0x4C depthBytes (0x00 ∷ 0x05 ∷ 0x06 ∷ 0x00 ∷ 0x05 ∷ 0x06 ∷ 0x00 ∷ 0x05 ∷ 0x06 ∷ []) ∷
+    lands silent 6 0x54 depthBytes (0x41 ∷ 0x41 ∷ 0x41 ∷ 0x40 ∷ 0x40 ∷ 0x40 ∷ 0x3E ∷ 0x3E ∷ 0x3E ∷ []) ∷
+    lands silent 6 0x59 depthBytes (0x00 ∷ 0x00 ∷ 0x00 ∷ 0x01 ∷ 0x01 ∷ 0x01 ∷ 0x03 ∷ 0x03 ∷ 0x03 ∷ []) ∷
+    -- the edition byte: YQ and CN
+    lands silent 7 0x54 editionBytes (0x41 ∷ 0x41 ∷ 0x01 ∷ 0x31 ∷ 0xF1 ∷ 0x21 ∷ 0xE1 ∷ 0x11 ∷ 0xD1 ∷ []) ∷
+    lands silent 7 0x59 editionBytes (0x00 ∷ 0x00 ∷ 0x40 ∷ 0x10 ∷ 0x50 ∷ 0x20 ∷ 0x60 ∷ 0x30 ∷ 0x70 ∷ []) ∷
+    -- the rate: N, CTS and its code
+    lands sounded 9 0x01 (0 ∷ 1 ∷ 2 ∷ 3 ∷ 4 ∷ 5 ∷ 6 ∷ []) (0x00 ∷ 0x00 ∷ 0x00 ∷ 0x00 ∷ 0x00 ∷ 0x00 ∷ 0x00 ∷ []) ∷
+    lands sounded 9 0x02 (0 ∷ 1 ∷ 2 ∷ 3 ∷ 4 ∷ 5 ∷ 6 ∷ []) (0x10 ∷ 0x18 ∷ 0x18 ∷ 0x31 ∷ 0x30 ∷ 0x62 ∷ 0x60 ∷ []) ∷
+    lands sounded 9 0x03 (0 ∷ 1 ∷ 2 ∷ 3 ∷ 4 ∷ 5 ∷ 6 ∷ []) (0x00 ∷ 0x80 ∷ 0x00 ∷ 0x00 ∷ 0x00 ∷ 0x00 ∷ 0x00 ∷ []) ∷
+    lands sounded 9 0x07 (0 ∷ 1 ∷ 2 ∷ 3 ∷ 4 ∷ 5 ∷ 6 ∷ []) (0x00 ∷ 0x00 ∷ 0x00 ∷ 0x00 ∷ 0x00 ∷ 0x00 ∷ 0x00 ∷ []) ∷
+    lands sounded 9 0x08 (0 ∷ 1 ∷ 2 ∷ 3 ∷ 4 ∷ 5 ∷ 6 ∷ []) (0x69 ∷ 0x75 ∷ 0x69 ∷ 0x75 ∷ 0x69 ∷ 0x75 ∷ 0x69 ∷ []) ∷
+    lands sounded 9 0x09 (0 ∷ 1 ∷ 2 ∷ 3 ∷ 4 ∷ 5 ∷ 6 ∷ []) (0x93 ∷ 0x4E ∷ 0x93 ∷ 0x4E ∷ 0x93 ∷ 0x4E ∷ 0x93 ∷ []) ∷
+    lands sounded 9 0x15 (0 ∷ 1 ∷ 2 ∷ 3 ∷ 4 ∷ 5 ∷ 6 ∷ []) (0x30 ∷ 0x00 ∷ 0x20 ∷ 0x80 ∷ 0xA0 ∷ 0xC0 ∷ 0xE0 ∷ []) ∷
+    -- the channels: the I2S inputs; the audio packet
+    lands sounded 10 0x0C (2 ∷ 8 ∷ []) (0x04 ∷ 0x3C ∷ []) ∷
+    lands sounded 10 0x72 (2 ∷ 8 ∷ []) (0x70 ∷ 0x57 ∷ []) ∷
+    lands sounded 10 0x73 (2 ∷ 8 ∷ []) (0x01 ∷ 0x07 ∷ []) ∷
+    lands sounded 10 0x76 (2 ∷ 8 ∷ []) (0x00 ∷ 0x13 ∷ []) ∷
+    -- coherent: CTS, and 0x0A[7]
+    lands sounded 11 0x08 (0 ∷ 1 ∷ []) (0x00 ∷ 0x69 ∷ []) ∷
+    lands sounded 11 0x0A (0 ∷ 1 ∷ []) (0x00 ∷ 0x80 ∷ []) ∷
+    -- the mode
+    lands sounded 13 0x18 (0 ∷ 1 ∷ 2 ∷ []) (0x8C ∷ 0xAC ∷ 0xCC ∷ []) ∷ []
+
+abbrev pub leftBy : Lands → List ℕ
+leftBy l = map (λ value. finished (wanted (readOf (set (l .request) (l .place) value) .request)) zeros (l .register)) (l .values)
+
+abbrev pub Landed : Type 0
+Landed = map leftBy landings ≡ map (λ l. l .left) landings
+
 pub record InNumbers : Type 0 where
   pub calls : Calls
   pub pairs : Pairs
   pub converts : Converts
   pub lengths : Lengths
   pub lists : Lists
+  pub landed : Landed

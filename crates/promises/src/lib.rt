@@ -91,7 +91,7 @@ pub fn each_byte()
     ensures { λ _. ⌜ EachByte ⌝ }
 {}
 
-// In bare numbers: the refusals of each call, N and CTS, the preview, the lengths of what is lent, two whole lists.
+// In bare numbers: the refusals of each call, N and CTS, the preview, the lengths of what is lent, two whole lists, where each byte lands.
 pub fn in_numbers()
     ensures { λ _. ⌜ InNumbers ⌝ }
 {}
