@@ -1,12 +1,15 @@
 // The small program: one request on standard input, one line on standard output (document 01, "What the station's library does"). It takes
 // its input in parts, as `read` delivers them (document 02, request 08).
 ghost use mathlib.Core.Path.{_≡_};
-ghost use Prim.Native.Nat.{_≤_};
+ghost use Prim.Native.Nat.{_≤_, _<_};
 ghost use lib.ListN.{length};
+ghost use Rattle.io.specs.Counts.{Counts};
+ghost use Rattle.request.specs.Sections.{longest};
 ghost use Rattle.pipe.specs.Bytes.{fresh, pipeLength};
 ghost use Rattle.desk.specs.Turns.{Turns, SomePart, AllParts, PrintsPipe};
 use libc::STDIN_FILENO;
 use libc::STDOUT_FILENO;
+use pipe::ENOUGH;
 use pipe::PIPE;
 
 // A part goes into the pipe. Whether to go on: not after the empty part, the end of the input, and not after an answer.
@@ -17,13 +20,22 @@ fn turn(pipe: &mut [u8], part: &[u8]) -> bool
     (part.len() != 0) & (piped.answered == 0)
 }
 
-// What is there to be read goes into the pipe.
+// What is there to be read, in a room for one byte more than the longest request: that much decides. In a room of no bytes every input would be
+// at its end.
+fn read_part(room: &mut [u8]) -> usize
+    requires { ⌜ longest < length (now room) ⌝ }
+    ensures { λ r. ⌜ Counts r (now (room .exit)) ⌝ }
+{
+    let got = libc::read(STDIN_FILENO, room);
+    io::count(got, room)
+}
+
+// It goes into the pipe.
 fn take_some(pipe: &mut [u8]) -> bool
     ensures { λ r. ⌜ SomePart (now (pipe .entry)) r (now (pipe .exit)) ⌝ }
 {
-    let mut part = [0u8; 64];
-    let got = libc::read(STDIN_FILENO, &mut part);
-    let n = io::count(got, &part);
+    let mut part = [0u8; ENOUGH];
+    let n = read_part(&mut part);
     turn(pipe, &part[..n])
 }
 

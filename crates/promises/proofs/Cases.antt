@@ -35,11 +35,7 @@ use Rattle.writes.specs.Steps.{middle}
 use Rattle.writes.specs.List.{decided, byte, written, isWritten, finished, column, flat, alreadyThere}
 use Rattle.plan.specs.Wanted.{wantedImage, wanted}
 use Rattle.plan.specs.Plan.{laterRefusal, planWith, bufferWith, planOf, planBuffer}
-use Rattle.request.specs.declared.Request.{Request}
-use Rattle.request.specs.Bytes.{asBytes, asReadBack}
-use Rattle.request.specs.Bytes as request
-use Rattle.request.specs.Theorems.{Shaped}
-use Rattle.request.proofs.Alone.{answered-by-edition}
+use Rattle.request.specs.Bytes.{asReadBack}
 use Rattle.writes.proofs.Image.{image-length, image-at}
 use Rattle.decode.specs.Theorems.{Answered}
 use Rattle.decode.proofs.Answers.{read-back}
@@ -68,10 +64,6 @@ by-byte : (edition : ℕ) → edition < 256 → let v : Video = inEdition editio
     cond (editionOutside v) 5 (cond (askedUnderD v) 6 0) ≡ editionRefusal edition
 by-byte edition h = eqb-true _ _ (at-below (λ e. let v : Video = inEdition e noVideo in
     eqb (cond (editionOutside v) 5 (cond (askedUnderD v) 6 0)) (editionRefusal e)) 256 edition refl h)
-
-editions : (r : Request) → Shaped (r .matrix) → readOf (asBytes (request.inEdition 0x00 r)) .refusal ≡ 0
-    → (edition : ℕ) → edition < 256 → readOf (asBytes (request.inEdition edition r)) .refusal ≡ editionRefusal edition
-editions r s z edition h = answered-by-edition (request.inEdition edition r) s z ∙ by-byte edition h
 
 editions-avi : (v : Video) → aviOf (inEdition 0x00 v) .refusal ≡ 0
     → (edition : ℕ) → edition < 256 → aviOf (inEdition edition v) .refusal ≡ editionRefusal edition
@@ -113,13 +105,6 @@ cases =
       case9 = refl;
       case9For = multiple;
       recommended = refl;
-      leastN = refl;
-      belowIt = refl;
-      mostN = refl;
-      aboveIt = refl;
-      aboveCts = refl;
-      tie = refl;
-      nearer = refl;
       case10 = refl;
       case10Full = refl;
       case10YCbCr = refl;
@@ -137,21 +122,14 @@ cases =
       afterSix = refl;
       nineDeep = refl;
       oneFamily = (refl, refl);
-      depths = (refl, refl);
       depthsAlone = (refl, refl, refl);
       rates = refl;
-      deepWith422 = (refl, refl);
-      deepWith444 = (refl, refl);
-      repeatedYCbCr = (refl, refl);
-      deepOverDvi = (refl, refl);
       fourTimes = refl;
-      deepRgb30 = refl;
       bothHalves = refl;
       factors = refl;
       bothRow = refl;
       aviAlone = refl;
       fewDeep = few-deep;
-      editions = editions;
       editionsAvi = editions-avi;
       clockAlone = λ v. refl;
       plain = refl;
@@ -164,17 +142,7 @@ cases =
       readsAsE = reads 0x11 refl refl refl;
       withMeter = refl;
       few = few;
-      encodings = refl;
-      links = refl;
-      ranges = refl;
-      rangesOfYCbCr = refl;
-      dviWithAudio = refl;
-      dviWithEncoding = refl;
-      fullWithYCbCr = refl;
       fullWithYCbCrAvi = refl;
-      limitedWithYCbCr = refl;
-      fullWithYCbCr422 = refl;
-      fullWithMatrix = refl;
       fullOverDvi = refl;
       fullWithVic1 = refl;
       lengths = refl;

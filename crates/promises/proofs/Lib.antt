@@ -1,4 +1,6 @@
 pub mod Cases
+pub mod EachByte
+pub mod InNumbers
 pub mod Ended
 pub mod LentBytes
 pub mod Only

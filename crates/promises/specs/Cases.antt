@@ -1,6 +1,6 @@
 -- Document 01, "Marked cases, proved together as one table", the worked example of "What the station's library does", and the lengths that
 -- "The request" says in numbers; with request 01 in: "Count 4 is no longer allowed, cases and example follow"; those of requests 06 and
--- 11, and two of request 09.
+-- 11, and two of request 09. What each byte of a request is answered stands in `EachByte`, other numbers in `InNumbers`.
 use mathlib.Core.Path.{_≡_}
 use mathlib.Core.Bool.{true, false, cond}
 use mathlib.Core.List.{List, [], _∷_, map}
@@ -15,28 +15,26 @@ use Rattle.video.specs.Video.{videoIn}
 use Rattle.video.specs.Video as video
 use Rattle.clock.specs.declared.Clock.{Clock}
 use Rattle.clock.specs.Clocks.{aboveLimit, clockOf}
-use Rattle.clock.specs.Pairs.{reference, thePair, noPair}
-use Rattle.clock.specs.Found.{coherentOf, pairOf}
+use Rattle.clock.specs.Pairs.{reference, thePair}
+use Rattle.clock.specs.Found.{pairOf}
 use Rattle.frames.specs.Frames.{audioOffFrame}
 use Rattle.frames.specs.Answers.{aviOf, audioOf}
 use Rattle.frames.specs.Editions.{readByE, underD}
 use Rattle.matrix.specs.Coefficient.{word, field, valueOf}
 use Rattle.matrix.specs.Preview.{previewOf}
 use Rattle.request.specs.Sections.{lengths, longest}
-use Rattle.request.specs.declared.Request.{Request}
 use Rattle.request.specs.Read.{readOf}
-use Rattle.request.specs.Bytes.{asBytes, inEdition}
-use Rattle.request.specs.Theorems.{Shaped}
 use Rattle.writes.specs.List.{finishedImage}
 use Rattle.plan.specs.Plan.{planOf}
 use Rattle.decode.specs.Theorems.{Answered}
 use Rattle.line.specs.Words.{ascii, lineText}
+use Rattle.promises.specs.EachByte.{editionBytes, bitsUnderD}
 use Rattle.promises.specs.Metered.{bytesWith}
 use Rattle.promises.specs.Rules.{asked}
 use Rattle.promises.specs.Worked.{example, zeros, Few, FewDeep, FewEditions}
 
 -- Table 39 as a request has it: mode 1, A 3155, 2048, 0, -1578; B -938, 2048, -376, 657; C -1, 2048, 3717, -1858
-abbrev table39 : List ℕ
+abbrev pub table39 : List ℕ
 table39 =
     1 ∷ 0x0C ∷ 0x53 ∷ 0x08 ∷ 0x00 ∷ 0x00 ∷ 0x00 ∷ 0xF9 ∷ 0xD6 ∷ 0xFC ∷ 0x56 ∷ 0x08 ∷ 0x00 ∷ 0xFE ∷ 0x88 ∷ 0x02 ∷ 0x91 ∷
     0xFF ∷ 0xFF ∷ 0x08 ∷ 0x00 ∷ 0x0E ∷ 0x85 ∷ 0xF8 ∷ 0xBE ∷ []
@@ -52,19 +50,13 @@ rgbOverHdmi vic family = deepRgb vic family 0x00
 abbrev pub asked16 : ℕ → ℕ → ℕ → List ℕ
 asked16 encoding link pixel = 0x07 ∷ 0x10 ∷ 0x00 ∷ encoding ∷ link ∷ 0x00 ∷ pixel ∷ 0x00 ∷ 0x00 ∷ 0x00 ∷ []
 
--- a request for VIC 2, family 0, over HDMI with that matrix: the encoding and the depth byte
-abbrev converted2 : ℕ → ℕ → List ℕ
-converted2 encoding pixel = 0x07 ∷ 0x02 ∷ 0x00 ∷ encoding ∷ 0x01 ∷ 0x00 ∷ pixel ∷ 0x00 ∷ 0x00 ∷ 0x19 ∷ table39
-
 -- the same with an edition byte
 abbrev pub withEdition : ℕ → List ℕ → List ℕ
 withEdition edition input = set input 7 edition
 
 -- what is answered for each: D, and E with any of its bits; E's bits under D; the others
 abbrev pub editionRefusal : ℕ → ℕ
-editionRefusal edition =
-    cond (among edition (0x00 ∷ 0x01 ∷ 0x05 ∷ 0x11 ∷ 0x15 ∷ 0x21 ∷ 0x25 ∷ 0x31 ∷ 0x35 ∷ [])) 0
-    (cond (among edition (0x04 ∷ 0x10 ∷ 0x14 ∷ 0x20 ∷ 0x24 ∷ 0x30 ∷ 0x34 ∷ [])) 6 5)
+editionRefusal edition = cond (among edition editionBytes) 0 (cond (among edition bitsUnderD) 6 5)
 
 -- the image that it ends in, from zeros
 abbrev pub done16 : ℕ → List ℕ
@@ -105,16 +97,6 @@ pub record MarkedCases : Type 0 where
   pub case9For : (n cts : ℕ) → reference 0 * cts * clockOf (rgbOverHdmi 4 1) .den ≡ clockOf (rgbOverHdmi 4 1) .num * n → 23296 ∣ n
   -- "the recommended pair .., if there is one and it is exact", where another is nearer: VIC 1, family 0, 44.1 kHz
   pub recommended : pairOf (rgbOverHdmi 1 0) 1 1 ≡ thePair 6272 28000
-  -- "N lies between 128·fs/1500 and 128·fs/300, ends included. CTS is at most 1,048,575": on both sides of each, at 48 kHz, where N lies
-  -- between 4096 and 20480, for clocks of u/v times 128·fs, whose exact pairs are N = k·v, CTS = k·u
-  pub leastN : coherentOf (record { refusal = 0; num = reference 2 * 1048575; den = 4096 }) 2 ≡ thePair 4096 1048575
-  pub belowIt : coherentOf (record { refusal = 0; num = reference 2 * 1048574; den = 4095 }) 2 ≡ noPair 9
-  pub mostN : coherentOf (record { refusal = 0; num = reference 2 * 1048573; den = 20480 }) 2 ≡ thePair 20480 1048573
-  pub aboveIt : coherentOf (record { refusal = 0; num = reference 2 * 1048573; den = 20481 }) 2 ≡ noPair 9
-  pub aboveCts : coherentOf (record { refusal = 0; num = reference 2 * 1048576; den = 4097 }) 2 ≡ noPair 9
-  -- "nearest to 128·fs/1000, the smaller N on a tie": to 6144, with 8192 as near, and with 4914 less near by 3
-  pub tie : coherentOf (record { refusal = 0; num = reference 2; den = 4096 }) 2 ≡ thePair 4096 1
-  pub nearer : coherentOf (record { refusal = 0; num = reference 2; den = 2457 }) 2 ≡ thePair 7371 3
   -- 10. AVI, VIC 16, RGB: checksum; request 01: "case 10 becomes 0x23 when limited"; and in full range
   pub case10 : getD (aviOf (rgbOverHdmi 16 0) .bytes) 3 0 ≡ 0x23
   pub case10Full : getD (aviOf (videoIn (0x10 ∷ 0x00 ∷ 0x00 ∷ 0x01 ∷ 0x01 ∷ 0x00 ∷ 0x00 ∷ [])) .bytes) 3 0 ≡ 0x1F
@@ -126,27 +108,14 @@ pub record MarkedCases : Type 0 where
   pub case12 : (valueOf (field (word 0x19 0xD6)) ≡ negsuc 1577) × (valueOf (field (word 0x1F 0xFF)) ≡ negsuc 0)
   -- 13. Table 39 on 2048, 3760, 2048: 3759, 3760, 3760
   pub case13 : previewOf table39 2048 3760 2048 ≡ record { refusal = 0; a = 3759; b = 3760; c = 3760 }
-  -- "encoding (0 RGB, 1 YCbCr 4:2:2, 2 YCbCr 4:4:4); link (0 DVI, 1 HDMI)"; "range above 1": the next number of each is refused 5, the
-  -- range's with RGB and, before 6, with YCbCr, and in the AVI call
-  pub encodings : readOf (0x07 ∷ 0x10 ∷ 0x00 ∷ 0x03 ∷ 0x01 ∷ 0x00 ∷ 0x00 ∷ 0x00 ∷ 0x00 ∷ 0x00 ∷ []) .refusal ≡ 5
-  pub links : readOf (0x07 ∷ 0x10 ∷ 0x00 ∷ 0x00 ∷ 0x02 ∷ 0x00 ∷ 0x00 ∷ 0x00 ∷ 0x00 ∷ 0x00 ∷ []) .refusal ≡ 5
-  pub ranges : readOf (0x07 ∷ 0x10 ∷ 0x00 ∷ 0x00 ∷ 0x01 ∷ 0x02 ∷ 0x00 ∷ 0x00 ∷ 0x00 ∷ 0x00 ∷ []) .refusal ≡ 5
-  pub rangesOfYCbCr : readOf (0x07 ∷ 0x10 ∷ 0x00 ∷ 0x02 ∷ 0x01 ∷ 0x02 ∷ 0x00 ∷ 0x00 ∷ 0x00 ∷ 0x00 ∷ []) .refusal ≡ 5
+  -- request 01, in the AVI call: "range above 1 is refusal 5; range 1 with YCbCr is refusal 6" (of a request: `EachByte`)
   pub rangesAvi : aviOf (videoIn (0x10 ∷ 0x00 ∷ 0x00 ∷ 0x01 ∷ 0x02 ∷ 0x00 ∷ 0x00 ∷ [])) .refusal ≡ 5
-  -- "DVI with audio or with encoding not 0", "range 1 with YCbCr": refused 6, with a matrix too
-  pub dviWithAudio : readOf (0x07 ∷ 0x10 ∷ 0x00 ∷ 0x00 ∷ 0x00 ∷ 0x00 ∷ 0x00 ∷ 0x00 ∷ 0x03 ∷ 0x02 ∷ 0x02 ∷ 0x01 ∷ 0x00 ∷ []) .refusal ≡ 6
-  pub dviWithEncoding : readOf (0x07 ∷ 0x10 ∷ 0x00 ∷ 0x02 ∷ 0x00 ∷ 0x00 ∷ 0x00 ∷ 0x00 ∷ 0x00 ∷ 0x19 ∷ table39) .refusal ≡ 6
-  pub fullWithYCbCr : readOf (0x07 ∷ 0x10 ∷ 0x00 ∷ 0x02 ∷ 0x01 ∷ 0x01 ∷ 0x00 ∷ 0x00 ∷ 0x00 ∷ 0x19 ∷ table39) .refusal ≡ 6
-  pub fullWithYCbCr422 : readOf (0x07 ∷ 0x10 ∷ 0x00 ∷ 0x01 ∷ 0x01 ∷ 0x01 ∷ 0x00 ∷ 0x00 ∷ 0x00 ∷ 0x19 ∷ table39) .refusal ≡ 6
   pub fullWithYCbCrAvi : aviOf (videoIn (0x10 ∷ 0x00 ∷ 0x02 ∷ 0x01 ∷ 0x01 ∷ 0x00 ∷ 0x00 ∷ [])) .refusal ≡ 6
-  -- full range is accepted with RGB: with a matrix ("our matrix gives full-range RGB"), and over DVI and with VIC 1, with Q 2; and YCbCr,
-  -- limited
-  pub fullWithMatrix : readOf (0x07 ∷ 0x10 ∷ 0x00 ∷ 0x00 ∷ 0x01 ∷ 0x01 ∷ 0x00 ∷ 0x00 ∷ 0x00 ∷ 0x19 ∷ table39) .refusal ≡ 0
+  -- full range over DVI and with VIC 1, with Q 2
   pub fullOverDvi : lineText (0x07 ∷ 0x10 ∷ 0x00 ∷ 0x00 ∷ 0x00 ∷ 0x01 ∷ 0x00 ∷ 0x00 ∷ 0x00 ∷ 0x00 ∷ [])
       ≡ ascii "accepted vic 16 n 6144 cts 0 avi 1f audio 71\n"
   pub fullWithVic1 : lineText (0x07 ∷ 0x01 ∷ 0x00 ∷ 0x00 ∷ 0x01 ∷ 0x01 ∷ 0x00 ∷ 0x00 ∷ 0x00 ∷ 0x00 ∷ [])
       ≡ ascii "accepted vic 1 n 6144 cts 0 avi 3e audio 71\n"
-  pub limitedWithYCbCr : readOf (0x07 ∷ 0x10 ∷ 0x00 ∷ 0x02 ∷ 0x01 ∷ 0x00 ∷ 0x00 ∷ 0x00 ∷ 0x00 ∷ 0x19 ∷ table39) .refusal ≡ 0
   -- request 06: every depth and every repetition, "under the same fraction": the clocks of VIC 1
   pub factors : map (λ pixel. clockOf (deepRgb 1 0 pixel)) (0x00 ∷ 0x01 ∷ 0x02 ∷ 0x10 ∷ 0x11 ∷ 0x12 ∷ 0x20 ∷ 0x21 ∷ 0x22 ∷ [])
       ≡ map hertz (25200000 ∷ 31500000 ∷ 37800000 ∷ 50400000 ∷ 63000000 ∷ 75600000 ∷ 100800000 ∷ 126000000 ∷ 151200000 ∷ [])
@@ -169,30 +138,23 @@ pub record MarkedCases : Type 0 where
   pub nineDeep : every (λ rate. eqb (pairOf (deepRgb 4 1 0x01) rate 1 .refusal) 9) (0 ∷ 1 ∷ 2 ∷ 3 ∷ 4 ∷ 5 ∷ 6 ∷ []) ≡ true
   -- "Family is answered as 0", and that may be refused 9 where family 1 is accepted: VIC 2, 30 bits, 32 kHz, coherent
   pub oneFamily : (pairOf (deepRgb 2 0 0x01) 0 1 .refusal ≡ 9) × (pairOf (deepRgb 2 1 0x01) 0 1 ≡ thePair 4096 33750)
-  -- "a value outside its range is 5": the next number of each half, the repetition's in the AVI call too; and before 17, a rate of 7
-  pub depths : (readOf (asked16 0 1 0x03) .refusal ≡ 5) × (readOf (asked16 0 1 0x30) .refusal ≡ 5)
+  -- "a value outside its range is 5", in the calls on single fields: the next number of each half, the repetition's in the AVI call too; and
+  -- before 17, a rate of 7
   pub depthsAlone : (clockOf (deepRgb 16 0 0x03) .refusal ≡ 5) × (clockOf (deepRgb 16 0 0x30) .refusal ≡ 5) × (aviOf (deepRgb 16 0 0x30) .refusal ≡ 5)
   pub rates : pairOf (deepRgb 16 0 0x10) 7 1 .refusal ≡ 5
-  -- "more than 24 bits with 4:2:2 or DVI is 6", and not with 4:4:4; repetition is refused with neither. VIC 2 over DVI, four times, shows PR 3
-  pub deepWith422 : (readOf (converted2 1 0x01) .refusal ≡ 6) × (readOf (converted2 1 0x02) .refusal ≡ 6)
-  pub deepWith444 : (readOf (converted2 2 0x01) .refusal ≡ 0) × (readOf (converted2 2 0x02) .refusal ≡ 0)
-  pub repeatedYCbCr : (readOf (converted2 1 0x20) .refusal ≡ 0) × (readOf (converted2 2 0x21) .refusal ≡ 0)
-  pub deepOverDvi : (readOf (asked16 0 0 0x01) .refusal ≡ 6) × (readOf (asked16 0 0 0x02) .refusal ≡ 6)
+  -- VIC 2 over DVI, four times, shows PR 3
   pub fourTimes : lineText (0x07 ∷ 0x02 ∷ 0x00 ∷ 0x00 ∷ 0x00 ∷ 0x00 ∷ 0x20 ∷ 0x00 ∷ 0x00 ∷ 0x00 ∷ [])
       ≡ ascii "accepted vic 2 n 6144 cts 0 avi 3e audio 71\n"
-  -- RGB at 30 bits; and in both halves, VIC 2, family 1, 36 bits, four times, 48 kHz, coherent: 162 MHz
-  pub deepRgb30 : readOf (asked16 0 1 0x01) .refusal ≡ 0
+  -- in both halves, VIC 2, family 1, 36 bits, four times, 48 kHz, coherent: 162 MHz
   pub bothHalves : lineText (0x07 ∷ 0x02 ∷ 0x01 ∷ 0x00 ∷ 0x01 ∷ 0x00 ∷ 0x22 ∷ 0x00 ∷ 0x03 ∷ 0x02 ∷ 0x02 ∷ 0x01 ∷ 0x00 ∷ [])
       ≡ ascii "accepted vic 2 n 6144 cts 162000 avi 3e audio 70\n"
   -- the AVI call looks neither at the depth nor at the clock
   pub aviAlone : aviOf (deepRgb 16 0 0x13) .refusal ≡ 0
   -- its lists in bare bytes
   pub fewDeep : FewDeep
-  -- request 11: "edition or quantisation above 1, or bits 7:6, is 5; E's bits under D are 6", and nothing else is refused: where a request is
-  -- accepted with 0x00, each edition byte is answered so, whatever else is asked; and in the AVI call. Type 1 under D, 0x10, is 6; edition 2,
-  -- 0x02, is 5
-  pub editions : (r : Request) → Shaped (r .matrix) → readOf (asBytes (inEdition 0x00 r)) .refusal ≡ 0
-      → (edition : ℕ) → edition < 256 → readOf (asBytes (inEdition edition r)) .refusal ≡ editionRefusal edition
+  -- request 11: "edition or quantisation above 1, or bits 7:6, is 5; E's bits under D are 6", and nothing else is refused: where a video is
+  -- shown with 0x00, each edition byte is answered so by the AVI call (of a request: `EachByte`). Type 1 under D, 0x10, is 6; edition 2, 0x02,
+  -- is 5
   pub editionsAvi : (v : Video) → aviOf (underD v) .refusal ≡ 0
       → (edition : ℕ) → edition < 256 → aviOf (video.inEdition edition v) .refusal ≡ editionRefusal edition
   -- the clock looks at the mode, the family, the depth and the repetition, and at nothing else

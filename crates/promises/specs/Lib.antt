@@ -1,5 +1,7 @@
 pub mod Worked
 pub mod Cases
+pub mod EachByte
+pub mod InNumbers
 pub mod AnyInput
 pub mod OtherCalls
 pub mod Settled

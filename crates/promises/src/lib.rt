@@ -8,8 +8,10 @@ ghost use Rattle.chip.specs.declared.Chip.{Chip};
 ghost use Rattle.promises.specs.AnyCut.{EveryCut};
 ghost use Rattle.promises.specs.AnyInput.{Demand1};
 ghost use Rattle.promises.specs.Cases.{MarkedCases};
+ghost use Rattle.promises.specs.EachByte.{EachByte};
 ghost use Rattle.promises.specs.Example.{Example};
 ghost use Rattle.promises.specs.Finished.{AllNamed};
+ghost use Rattle.promises.specs.InNumbers.{InNumbers};
 ghost use Rattle.promises.specs.Metered.{FromMeter};
 ghost use Rattle.promises.specs.Piped.{ThroughPipe};
 ghost use Rattle.promises.specs.FieldByField.{FieldByField};
@@ -106,4 +108,14 @@ pub fn vendor_cases()
 // "Take an accepted request": demands 2 and 3 are not empty.
 pub fn worked_example()
     ensures { λ _. ⌜ Example ⌝ }
+{}
+
+// In bare numbers: for each byte of a request, whatever else is asked, what is answered for each of its values.
+pub fn each_byte()
+    ensures { λ _. ⌜ EachByte ⌝ }
+{}
+
+// In bare numbers: the refusals of each call, N and CTS, the preview, the lengths of what is lent, two whole lists, where each byte lands.
+pub fn in_numbers()
+    ensures { λ _. ⌜ InNumbers ⌝ }
 {}

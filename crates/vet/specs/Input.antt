@@ -2,7 +2,7 @@
 use mathlib.Core.Path.{_≡_}
 use mathlib.Core.Bool.{cond}
 use mathlib.Core.List.{List, _∷_, _++_}
-use Prim.Native.Nat.{ℕ, _+_, _*_, _<_}
+use Prim.Native.Nat.{ℕ, _+_, _*_, _<_, _≤_}
 use lib.Dec.{ltb}
 use lib.ListN.{length, getD, take, drop}
 use Rattle.chip.specs.declared.Chip.{Chip}
@@ -11,6 +11,7 @@ use Rattle.views.specs.Entry.{marked}
 use Rattle.vendor.specs.declared.Verdict.{Verdict}
 use Rattle.vendor.specs.Vendor.{mostPairs}
 use Rattle.vendor.specs.Found.{vetOf}
+use Rattle.line.specs.Verdict.{PrintsVerdict}
 
 -- the registers, the packet buffer, the coefficient buffer and the mark, a byte: 0 for none, anything else for one that waits
 abbrev pub ahead : ℕ
@@ -26,6 +27,12 @@ verdictOf input = cond (ltb (length input) ahead) (record { refusal = 7; place =
 -- the longest input: "At most 512 pairs."
 abbrev pub longest : ℕ
 longest = ahead + 2 * mostPairs
+
+-- what is printed: the line of the bytes that were read, which stand at the front of the room
+pub record PrintsInput (room : List ℕ) (count : ℕ) (line : List ℕ) : Type 0 where
+  pub read : ℕ
+  pub within : read ≤ length room
+  pub prints : let v : Verdict = verdictOf (take read room) in PrintsVerdict (v .refusal) (v .place) count line
 
 pub record Inputs (input : List ℕ) : Type 0 where
   pub parts : (image packet coefficients : List ℕ) (mark : ℕ) (list : List ℕ)

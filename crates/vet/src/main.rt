@@ -2,8 +2,9 @@
 // 02, requests 03 and 04).
 ghost use mathlib.Core.Path.{_≡_};
 ghost use mathlib.Core.List.{List};
-ghost use Prim.Native.Nat.{ℕ};
-ghost use Rattle.vet.specs.Input.{verdictOf, Inputs};
+ghost use Prim.Native.Nat.{ℕ, _<_, _≤_};
+ghost use lib.ListN.{length};
+ghost use Rattle.vet.specs.Input.{verdictOf, longest, PrintsInput, Inputs};
 use libc::STDIN_FILENO;
 use libc::STDOUT_FILENO;
 use refusals::Refusal;
@@ -34,13 +35,21 @@ fn judged(input: &[u8]) -> Verdict
     )
 }
 
-// What follows the first bytes of an input, one more than the longest has, changes nothing (`Inputs.enough`).
+// The line of what is read, in a room for more than the longest input: what follows one byte more changes nothing (`Inputs.enough`).
+fn print(room: &mut [u8], line: &mut [u8; 80]) -> usize
+    requires { ⌜ longest < length (now room) ⌝ }
+    ensures { λ r. ⌜ PrintsInput (now (room .exit)) r (now (line .exit)) ⌝ }
+    ensures { λ r. ⌜ r ≤ length (now (line .exit)) ⌝ }
+{
+    let n = io::read_full(STDIN_FILENO, room);
+    let verdict = judged(&room[..n]);
+    line::print_verdict(verdict.refusal, verdict.place, line)
+}
+
 fn main() {
-    let mut input = [0u8; ENOUGH];
-    let n = io::read_full(STDIN_FILENO, &mut input);
-    let verdict = judged(&input[..n]);
+    let mut room = [0u8; ENOUGH];
     let mut line = [0u8; 80];
-    let count = line::print_verdict(verdict.refusal, verdict.place, &mut line);
+    let count = print(&mut room, &mut line);
     io::write_all(STDOUT_FILENO, &line[..count]);
 }
 

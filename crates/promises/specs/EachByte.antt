@@ -1,0 +1,140 @@
+-- Documents 01, "The request", "Refusal numbers" and "Modes and clocks", and 02, requests 01, 06 and 11, in bare numbers: for each byte of a
+-- request, whatever else is asked, what is answered for each of its values. Nothing here is made of the definitions that the code follows.
+use mathlib.Core.Path.{_≡_}
+use mathlib.Core.Logic.{_≢_}
+use mathlib.Core.Bool.{Bool, true, false, cond, not, _&&_}
+use mathlib.Core.List.{List, [], _∷_, _++_}
+use Prim.Native.Nat.{ℕ, _<_}
+use lib.Dec.{eqb}
+use lib.ListN.{getD, length}
+use Rattle.lists.specs.Among.{among}
+use Rattle.lists.specs.Find.{every}
+use Rattle.matrix.specs.Matrix.{Bytes}
+use Rattle.request.specs.declared.Sound.the-variants.{Off, On}
+use Rattle.request.specs.Read.{readOf, nctsOf}
+
+-- each of some bytes stands in its row
+abbrev pub inTheirs : List (List ℕ) → List ℕ → Bool
+inTheirs (row ∷ rows) (byte ∷ bytes) = among byte row && inTheirs rows bytes
+inTheirs (row ∷ rows) [] = true
+inTheirs [] bytes = true
+
+-- they do in none of some tables
+abbrev pub inNone : List (List (List ℕ)) → List ℕ → Bool
+inNone tables bytes = every (λ rows. not (inTheirs rows bytes)) tables
+
+-- ---- 4: the VICs of family 0, and of family 1; there is no other family
+abbrev pub vics : ℕ → List ℕ
+vics family =
+    getD ((1 ∷ 2 ∷ 3 ∷ 4 ∷ 5 ∷ 16 ∷ 17 ∷ 18 ∷ 19 ∷ 20 ∷ 31 ∷ 32 ∷ 34 ∷ 60 ∷ 62 ∷ []) ∷
+    (1 ∷ 2 ∷ 3 ∷ 4 ∷ 5 ∷ 16 ∷ 32 ∷ 34 ∷ 60 ∷ 62 ∷ []) ∷ []) family []
+
+-- ---- 5: a row for each byte: the depth byte; the edition byte, D, and E with any of its bits, and E's bits under D; then all
+abbrev pub depthBytes : List ℕ
+depthBytes = 0x00 ∷ 0x01 ∷ 0x02 ∷ 0x10 ∷ 0x11 ∷ 0x12 ∷ 0x20 ∷ 0x21 ∷ 0x22 ∷ []
+
+abbrev pub editionBytes : List ℕ
+editionBytes = 0x00 ∷ 0x01 ∷ 0x05 ∷ 0x11 ∷ 0x15 ∷ 0x21 ∷ 0x25 ∷ 0x31 ∷ 0x35 ∷ []
+
+abbrev pub bitsUnderD : List ℕ
+bitsUnderD = 0x04 ∷ 0x10 ∷ 0x14 ∷ 0x20 ∷ 0x24 ∷ 0x30 ∷ 0x34 ∷ []
+
+-- encoding, link, range, depth byte, edition byte; rate, channels, coherent
+abbrev pub videoBytes : List (List ℕ)
+videoBytes = (0 ∷ 1 ∷ 2 ∷ []) ∷ (0 ∷ 1 ∷ []) ∷ (0 ∷ 1 ∷ []) ∷ depthBytes ∷ (editionBytes ++ bitsUnderD) ∷ []
+
+abbrev pub soundBytes : List (List ℕ)
+soundBytes = (0 ∷ 1 ∷ 2 ∷ 3 ∷ 4 ∷ 5 ∷ 6 ∷ []) ∷ (2 ∷ 8 ∷ []) ∷ (0 ∷ 1 ∷ []) ∷ []
+
+-- the matrix' mode; the high byte of each coefficient, whatever its low byte is
+abbrev pub modes : List ℕ
+modes = 0 ∷ 1 ∷ 2 ∷ []
+
+abbrev pub highBytes : List ℕ
+highBytes =
+    0x00 ∷ 0x01 ∷ 0x02 ∷ 0x03 ∷ 0x04 ∷ 0x05 ∷ 0x06 ∷ 0x07 ∷ 0x08 ∷ 0x09 ∷ 0x0A ∷ 0x0B ∷ 0x0C ∷ 0x0D ∷ 0x0E ∷ 0x0F ∷
+    0xF0 ∷ 0xF1 ∷ 0xF2 ∷ 0xF3 ∷ 0xF4 ∷ 0xF5 ∷ 0xF6 ∷ 0xF7 ∷ 0xF8 ∷ 0xF9 ∷ 0xFA ∷ 0xFB ∷ 0xFC ∷ 0xFD ∷ 0xFE ∷ 0xFF ∷ []
+
+abbrev pub highInside : List ℕ → Bool
+highInside [] = true
+highInside (high ∷ []) = true
+highInside (high ∷ low ∷ more) = among high highBytes && highInside more
+
+abbrev pub matrixInside : List ℕ → Bool
+matrixInside [] = true
+matrixInside (mode ∷ coefficients) = among mode modes && highInside coefficients
+
+-- ---- 6: what goes together, in rows: encoding, link, range, depth byte, edition byte, and the counts of the sound and of the matrix
+abbrev pub together : List (List (List ℕ))
+together =
+    ((0 ∷ []) ∷ (1 ∷ []) ∷ (0 ∷ 1 ∷ []) ∷ depthBytes ∷ editionBytes ∷ (0 ∷ 3 ∷ []) ∷ (0 ∷ 25 ∷ []) ∷ []) ∷
+    ((0 ∷ []) ∷ (0 ∷ []) ∷ (0 ∷ 1 ∷ []) ∷ (0x00 ∷ 0x10 ∷ 0x20 ∷ []) ∷ editionBytes ∷ (0 ∷ []) ∷ (0 ∷ 25 ∷ []) ∷ []) ∷
+    ((1 ∷ []) ∷ (1 ∷ []) ∷ (0 ∷ []) ∷ (0x00 ∷ 0x10 ∷ 0x20 ∷ []) ∷ editionBytes ∷ (0 ∷ 3 ∷ []) ∷ (25 ∷ []) ∷ []) ∷
+    ((2 ∷ []) ∷ (1 ∷ []) ∷ (0 ∷ []) ∷ depthBytes ∷ editionBytes ∷ (0 ∷ 3 ∷ []) ∷ (25 ∷ []) ∷ []) ∷ []
+
+-- ---- 17: VIC and depth byte
+abbrev pub tooFast : List (List (List ℕ))
+tooFast =
+    ((16 ∷ 31 ∷ []) ∷ (0x10 ∷ 0x11 ∷ 0x12 ∷ 0x20 ∷ 0x21 ∷ 0x22 ∷ []) ∷ []) ∷
+    ((4 ∷ 5 ∷ 19 ∷ 20 ∷ 32 ∷ 34 ∷ 60 ∷ 62 ∷ []) ∷ (0x20 ∷ 0x21 ∷ 0x22 ∷ []) ∷ []) ∷ []
+
+-- ---- 9: VIC, family, depth byte, rate, of sound that is coherent
+abbrev pub noPair : List (List (List ℕ))
+noPair =
+    ((4 ∷ 5 ∷ 32 ∷ 34 ∷ 62 ∷ []) ∷ (1 ∷ []) ∷ (0x00 ∷ 0x12 ∷ []) ∷ (0 ∷ []) ∷ []) ∷
+    ((4 ∷ 5 ∷ 32 ∷ 34 ∷ 62 ∷ []) ∷ (1 ∷ []) ∷ (0x01 ∷ 0x02 ∷ 0x11 ∷ []) ∷ (0 ∷ 1 ∷ 2 ∷ 3 ∷ 4 ∷ 5 ∷ 6 ∷ []) ∷ []) ∷
+    ((16 ∷ []) ∷ (1 ∷ []) ∷ (0x01 ∷ []) ∷ (0 ∷ 1 ∷ 2 ∷ 3 ∷ 4 ∷ 5 ∷ 6 ∷ []) ∷ []) ∷
+    ((16 ∷ []) ∷ (1 ∷ []) ∷ (0x02 ∷ []) ∷ (0 ∷ []) ∷ []) ∷
+    ((1 ∷ 60 ∷ []) ∷ (1 ∷ []) ∷ (0x01 ∷ []) ∷ (0 ∷ []) ∷ []) ∷
+    ((2 ∷ 3 ∷ []) ∷ (0 ∷ []) ∷ (0x01 ∷ []) ∷ (0 ∷ []) ∷ []) ∷ []
+
+-- a request, byte by byte, and what is answered for it: by reading 4, 5, 6, 17 or none; where that is none, by N and CTS 9 or none
+module _ (vic family encoding link range pixel edition : ℕ) (sound matrix : List ℕ) where
+  abbrev pub bytesOf : List ℕ
+  bytesOf = 7 ∷ vic ∷ family ∷ encoding ∷ link ∷ range ∷ pixel ∷ edition ∷ length sound ∷ (sound ++ (length matrix ∷ matrix))
+
+  abbrev pub answerTo : ℕ
+  answerTo =
+      cond (not (among vic (vics family))) 4
+      (cond (not (inTheirs videoBytes (encoding ∷ link ∷ range ∷ pixel ∷ edition ∷ []) && (inTheirs soundBytes sound && matrixInside matrix))) 5
+      (cond (inNone together (encoding ∷ link ∷ range ∷ pixel ∷ edition ∷ length sound ∷ length matrix ∷ [])) 6
+      (cond (not (inNone tooFast (vic ∷ pixel ∷ []))) 17 0)))
+
+  abbrev pub pairTo : ℕ
+  pairTo = cond (eqb (getD sound 2 0) 1 && not (inNone noPair (vic ∷ family ∷ pixel ∷ getD sound 0 0 ∷ []))) 9 0
+
+  pub record Answers : Type 0 where
+    pub read : readOf bytesOf .refusal ≡ answerTo
+    pub pair : answerTo ≡ 0 → nctsOf bytesOf .refusal ≡ pairTo
+    -- and what is read: each byte at its place
+    pub video : answerTo ≡ 0
+        → readOf bytesOf .request .video
+        ≡ record { vic = vic; family = family; encoding = encoding; link = link; range = range; pixel = pixel; edition = edition }
+    pub silent : answerTo ≡ 0 → length sound ≡ 0 → readOf bytesOf .request .sound ≡ Off
+    pub sounding : answerTo ≡ 0 → length sound ≡ 3 → readOf bytesOf .request .sound ≡ On (getD sound 0 0) (getD sound 1 0) (getD sound 2 0)
+
+pub record EachByte : Type 0 where
+  -- the seven bytes of the video section, the three of the sound or none, the 25 of the matrix or none
+  pub bytes : (vic family encoding link range pixel edition : ℕ) (sound matrix : List ℕ)
+      → Bytes (vic ∷ family ∷ encoding ∷ link ∷ range ∷ pixel ∷ edition ∷ []) → Bytes sound → Bytes matrix
+      → among (length sound) (0 ∷ 3 ∷ []) ≡ true → among (length matrix) (0 ∷ 25 ∷ []) ≡ true
+      → Answers vic family encoding link range pixel edition sound matrix
+  -- the three counts, whatever follows: 7; 0 or 3; 0 or 25
+  pub videoCount : (n : ℕ) (rest : List ℕ) → n ≢ 7 → readOf (n ∷ rest) .refusal ≡ 2
+  pub soundCount : (video : List ℕ) (n : ℕ) (rest : List ℕ) → length video ≡ 7 → among n (0 ∷ 3 ∷ []) ≡ false
+      → readOf (7 ∷ (video ++ (n ∷ rest))) .refusal ≡ 2
+  pub matrixCount : (video sound : List ℕ) (n : ℕ) (rest : List ℕ) → length video ≡ 7 → among (length sound) (0 ∷ 3 ∷ []) ≡ true
+      → among n (0 ∷ 25 ∷ []) ≡ false → readOf (7 ∷ (video ++ (length sound ∷ (sound ++ (n ∷ rest))))) .refusal ≡ 2
+  -- an input that ends before a count, or inside a section
+  pub noVideo : readOf [] .refusal ≡ 1
+  pub inVideo : (rest : List ℕ) → length rest < 7 → readOf (7 ∷ rest) .refusal ≡ 1
+  pub noSound : (video : List ℕ) → length video ≡ 7 → readOf (7 ∷ video) .refusal ≡ 1
+  pub inSound : (video rest : List ℕ) → length video ≡ 7 → length rest < 3 → readOf (7 ∷ (video ++ (3 ∷ rest))) .refusal ≡ 1
+  pub noMatrix : (video sound : List ℕ) → length video ≡ 7 → among (length sound) (0 ∷ 3 ∷ []) ≡ true
+      → readOf (7 ∷ (video ++ (length sound ∷ sound))) .refusal ≡ 1
+  pub inMatrix : (video sound rest : List ℕ) → length video ≡ 7 → among (length sound) (0 ∷ 3 ∷ []) ≡ true → length rest < 25
+      → readOf (7 ∷ (video ++ (length sound ∷ (sound ++ (25 ∷ rest))))) .refusal ≡ 1
+  -- a byte after the matrix
+  pub after : (video sound matrix : List ℕ) (byte : ℕ) (rest : List ℕ)
+      → length video ≡ 7 → among (length sound) (0 ∷ 3 ∷ []) ≡ true → among (length matrix) (0 ∷ 25 ∷ []) ≡ true
+      → readOf (7 ∷ (video ++ (length sound ∷ (sound ++ (length matrix ∷ (matrix ++ (byte ∷ rest))))))) .refusal ≡ 3
