@@ -21,7 +21,8 @@ use Rattle.video.specs.Tests.{videoOutside}
 use Rattle.video.proofs.Bodies as video
 use Rattle.request.specs.declared.Request.{Request}
 use Rattle.request.specs.declared.Checked.{Checked}
-use Rattle.request.specs.Sections.{audioCount, matrixCount, Walk, ends, notAllowed, whole, walked, audioSection, matrixSection, laid, Sectioned}
+use Rattle.request.specs.Sections.{audioCount, matrixCount, Walk, ends, notAllowed, whole, walked, audioSection, matrixSection, laid}
+use Rattle.request.specs.Walks.{Sectioned}
 use Rattle.request.specs.Request.{present, videoOf, soundOf, requestIn}
 use Rattle.request.specs.Read.{audioOutside, outside, emptied, judged, checked, readOf}
 use Rattle.request.specs.Bytes.{audioBody, matrixBody, asBytes, answeredAs, asReadBack}

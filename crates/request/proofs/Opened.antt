@@ -16,7 +16,8 @@ use Rattle.lists.specs.Among.{among}
 use Rattle.lists.proofs.Both.{both-left, both-right}
 use Rattle.video.specs.Video.{videoCount, videoIn}
 use Rattle.request.specs.declared.sections.Places.{Places}
-use Rattle.request.specs.Sections.{Walk, ends, notAllowed, whole, walk, walked, sections, audioCount, matrixCount, laid, fits, Sectioned, RequestWalks}
+use Rattle.request.specs.Sections.{Walk, ends, notAllowed, whole, walk, walked, sections, audioCount, matrixCount, laid}
+use Rattle.request.specs.Walks.{fits, Sectioned, RequestWalks}
 use Rattle.request.specs.Places.{endsFrom, placesOf}
 use Rattle.request.specs.Read.{emptied, judged, checked, readOf}
 use Rattle.request.proofs.Walks.{as-many, walks}

@@ -16,7 +16,8 @@ use Rattle.request.specs.declared.Sound.{Sound}
 use Rattle.request.specs.declared.Sound.the-variants.{Off, On}
 use Rattle.request.specs.declared.Request.{Request}
 use Rattle.request.specs.declared.Checked.{Checked}
-use Rattle.request.specs.Sections.{audioCount, matrixCount, whole, walked, sections, fits}
+use Rattle.request.specs.Sections.{audioCount, matrixCount, whole, walked, sections}
+use Rattle.request.specs.Walks.{fits}
 use Rattle.request.specs.Request.{present, soundOf, requestIn}
 use Rattle.request.specs.Read.{judged, checked, readOf}
 use Rattle.request.specs.Bytes.{audioBody, matrixBody, bodiesOf, asBytes}
