@@ -12,7 +12,7 @@ use Rattle.matrix.specs.Coefficient.{coefficientBytes}
 use Rattle.request.specs.declared.Sound.{Sound}
 use Rattle.request.specs.declared.Sound.the-variants.{Off, On}
 use Rattle.request.specs.declared.Request.{Request}
-use Rattle.request.specs.Sections.{laid}
+use Rattle.request.specs.Sections.{Bodies, inTurn, laid}
 
 -- the body of each section: "rate ..; channels ..; coherent .."; "CSC mode, then A1 to A4, B1 to B4, C1 to C4, each two bytes"
 abbrev pub audioBody : Sound → List ℕ
@@ -23,14 +23,16 @@ abbrev pub matrixBody : Matrix → List ℕ
 matrixBody m = cond (eqb (m .on) 0) [] (m .mode ∷ coefficientBytes (m .coefficients))
 
 -- "Three sections in this order, each after a one-byte count": a line for each section
-abbrev pub bodiesOf : Request → List (List ℕ)
+abbrev pub bodiesOf : Request → Bodies
 bodiesOf r =
-    videoBody (r .video) ∷
-    audioBody (r .sound) ∷
-    matrixBody (r .matrix) ∷ []
+    record {
+      video = videoBody (r .video);
+      audio = audioBody (r .sound);
+      matrix = matrixBody (r .matrix);
+    }
 
 unfoldable pub asBytes : Request → List ℕ
-asBytes r = laid (bodiesOf r) []
+asBytes r = laid (inTurn (bodiesOf r)) []
 
 -- "that request in one of its families"; and with another edition byte
 abbrev pub inFamily : ℕ → Request → Request

@@ -15,9 +15,23 @@ audioCount = 3
 abbrev pub matrixCount : ℕ
 matrixCount = 25
 
--- the counts that each section allows: a row for each section, and the section's body by its name, below
+-- the counts that each section allows, "in this order"; the sections' bodies by name, and in that order: a line in each for each section
 abbrev pub sections : List (List ℕ)
-sections = (videoCount ∷ []) ∷ (0 ∷ audioCount ∷ []) ∷ (0 ∷ matrixCount ∷ []) ∷ []
+sections =
+    (videoCount ∷ []) ∷
+    (0 ∷ audioCount ∷ []) ∷
+    (0 ∷ matrixCount ∷ []) ∷ []
+
+pub record Bodies : Type 0 where
+  pub video : List ℕ
+  pub audio : List ℕ
+  pub matrix : List ℕ
+
+abbrev pub inTurn : Bodies → List (List ℕ)
+inTurn b = b .video ∷ b .audio ∷ b .matrix ∷ []
+
+abbrev pub byName : List (List ℕ) → Bodies
+byName bodies = record { video = getD bodies 0 []; audio = getD bodies 1 []; matrix = getD bodies 2 [] }
 
 -- what a walk finds: the input ends before a count or inside a section; a count that the section does not allow; or the bodies of the
 -- sections, and the bytes after the last
@@ -43,26 +57,16 @@ walk (counts ∷ more) (n ∷ input) =
 unfoldable pub walked : List ℕ → Walk
 walked = walk sections
 
--- the body of section k, and the bytes after the last section
-abbrev pub bodyOf : ℕ → Walk → List ℕ
-bodyOf k ends = []
-bodyOf k notAllowed = []
-bodyOf k (whole bodies rest) = getD bodies k []
+-- the bodies that it finds, and the bytes after the last
+abbrev pub bodiesIn : Walk → Bodies
+bodiesIn ends = byName []
+bodiesIn notAllowed = byName []
+bodiesIn (whole bodies rest) = byName bodies
 
 abbrev pub restOf : Walk → List ℕ
 restOf ends = []
 restOf notAllowed = []
 restOf (whole bodies rest) = rest
-
--- the bodies by name
-abbrev pub videoSection : Walk → List ℕ
-videoSection = bodyOf 0
-
-abbrev pub audioSection : Walk → List ℕ
-audioSection = bodyOf 1
-
-abbrev pub matrixSection : Walk → List ℕ
-matrixSection = bodyOf 2
 
 -- the longest input that sections take: of each its count, and a body of its largest count
 abbrev pub largest : List ℕ → ℕ

@@ -8,7 +8,7 @@ use Prim.Native.Nat.{ℕ, _≤_, _<_}
 use lib.ListN.{getD, length, take}
 use Rattle.lists.specs.Among.{among}
 use Rattle.video.specs.Video.{videoCount}
-use Rattle.request.specs.Sections.{audioCount, matrixCount, Walk, ends, notAllowed, whole, walk, walked, laid}
+use Rattle.request.specs.Sections.{audioCount, matrixCount, Bodies, inTurn, byName, Walk, ends, notAllowed, whole, walk, walked, laid}
 
 -- a body for each section, and each of a count that its section allows
 abbrev pub fits : List (List ℕ) → List (List ℕ) → Bool
@@ -47,14 +47,13 @@ pub record Walks (table : List (List ℕ)) (input : List ℕ) : Type 0 where
   pub ends : (walk table input ≡ ends) ↔ InputEnds table input
   pub notAllowed : (walk table input ≡ notAllowed) ↔ NotAllowed table input
 
--- the same of a request, section by section
-pub record Sectioned (input video audio matrix rest : List ℕ) : Type 0 where
-  pub videoCounted : length video ≡ videoCount
-  pub audioCounted : (length audio ≡ 0) ⊎ (length audio ≡ audioCount)
-  pub matrixCounted : (length matrix ≡ 0) ⊎ (length matrix ≡ matrixCount)
-  pub made : input ≡ length video ∷ (video ++ (length audio ∷ (audio ++ (length matrix ∷ (matrix ++ rest)))))
+-- the same of a request, section by section; a walk finds a body for each
+pub record Sectioned (input : List ℕ) (b : Bodies) (rest : List ℕ) : Type 0 where
+  pub videoCounted : length (b .video) ≡ videoCount
+  pub audioCounted : (length (b .audio) ≡ 0) ⊎ (length (b .audio) ≡ audioCount)
+  pub matrixCounted : (length (b .matrix) ≡ 0) ⊎ (length (b .matrix) ≡ matrixCount)
+  pub made : input ≡ laid (inTurn b) rest
 
 pub record RequestWalks (input : List ℕ) : Type 0 where
-  pub three : (bodies : List (List ℕ)) (rest : List ℕ) → walked input ≡ whole bodies rest → length bodies ≡ 3
-  pub whole : (video audio matrix rest : List ℕ)
-      → (walked input ≡ whole (video ∷ audio ∷ matrix ∷ []) rest) ↔ Sectioned input video audio matrix rest
+  pub each : (bodies : List (List ℕ)) (rest : List ℕ) → walked input ≡ whole bodies rest → inTurn (byName bodies) ≡ bodies
+  pub whole : (b : Bodies) (rest : List ℕ) → (walked input ≡ whole (inTurn b) rest) ↔ Sectioned input b rest
