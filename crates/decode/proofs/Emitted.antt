@@ -18,9 +18,9 @@ use Rattle.matrix.proofs.Pairs.{length-bytes}
 use Rattle.request.specs.declared.Sound.{Sound}
 use Rattle.request.specs.declared.Sound.the-variants.{Off, On}
 use Rattle.request.specs.declared.Request.{Request}
-use Rattle.request.specs.Sections.{audioCount, matrixCount, longest, laid}
+use Rattle.request.specs.Sections.{audioCount, matrixCount, longest}
+use Rattle.request.specs.Bytes.{laid, audioBody, matrixBody, bodiesOf, asBytes}
 use Rattle.request.specs.Sections as sections
-use Rattle.request.specs.Bytes.{audioBody, matrixBody, bodiesOf, asBytes}
 use Rattle.decode.specs.Decode.{inFront}
 
 pub one-more : (body d : List ℕ) (at i n : ℕ) → i < length body → at + i ≡ n

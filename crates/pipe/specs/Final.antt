@@ -7,7 +7,8 @@ use Prim.Native.Nat.{ℕ, _<_, _≤_}
 use lib.ListN.{length, getD, take}
 use Rattle.lists.specs.Among.{among}
 use Rattle.matrix.specs.Matrix.{Bytes}
-use Rattle.request.specs.Sections.{sections, laid}
+use Rattle.request.specs.Sections.{sections}
+use Rattle.request.specs.Bytes.{laid}
 use Rattle.request.specs.Walks.{fits}
 use Rattle.request.specs.Read.{nctsOf}
 

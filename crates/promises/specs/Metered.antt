@@ -1,16 +1,15 @@
 -- Document 02, request 07: the bytes of a meter's matrix are a request's matrix section, and a matrix for the preview.
 use mathlib.Core.Path.{_≡_}
-use mathlib.Core.List.{List, [], _∷_}
+use mathlib.Core.List.{List, []}
 use Prim.Native.Nat.{ℕ, _≤_}
 use lib.ListN.{take}
 use lib.Ieee.{Float}
-use Rattle.video.specs.Video.{videoBody}
 use Rattle.matrix.specs.Matrix.{matrixOf}
 use Rattle.matrix.specs.Preview.{previewOf}
 use Rattle.meter.specs.Found.{meterOf, meterBuffer}
 use Rattle.request.specs.declared.Request.{Request}
-use Rattle.request.specs.Sections.{inTurn, laid}
-use Rattle.request.specs.Bytes.{bodiesOf, asBytes}
+use Rattle.request.specs.Sections.{inTurn}
+use Rattle.request.specs.Bytes.{laid, bodiesOf, asBytes}
 use Rattle.request.specs.Read.{readOf}
 use Rattle.request.specs.Theorems.{Shaped}
 

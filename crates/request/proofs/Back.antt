@@ -16,20 +16,21 @@ use Rattle.matrix.specs.Matrix.{fields, matrixOf, noMatrix, Bytes}
 use Rattle.matrix.specs.Tests.{inRange, isAllowed}
 use Rattle.matrix.proofs.Pairs.{ranged}
 use Rattle.refusals.specs.Rows.{answer}
-use Rattle.video.specs.Video.{videoIn}
+use Rattle.video.specs.Video.{videoIn, videoBody, answered}
 use Rattle.video.specs.Tests.{videoOutside}
 use Rattle.video.proofs.Bodies as video
 use Rattle.request.specs.declared.Request.{Request}
 use Rattle.request.specs.declared.Checked.{Checked}
-use Rattle.request.specs.Sections.{audioCount, matrixCount, Bodies, inTurn, byName, bodiesIn, Walk, ends, notAllowed, whole, walked, laid}
+use Rattle.request.specs.Sections.{audioCount, matrixCount, Bodies, inTurn, byName, bodiesIn, Walk, ends, notAllowed, whole, walked}
+use Rattle.request.specs.Bytes.{laid, audioBody, matrixBody, asBytes, answeredAs, withVideo, asReadBack}
 use Rattle.request.specs.Walks.{Sectioned}
 use Rattle.request.specs.Request.{present, soundOf, requestIn}
 use Rattle.request.specs.Read.{audioOutside, outside, emptied, judged, checked, readOf}
-use Rattle.request.specs.Bytes.{audioBody, matrixBody, asBytes, answeredAs, asReadBack}
-use Rattle.request.specs.Theorems.{ThereAndBack}
+use Rattle.request.specs.Theorems.{Shaped, ThereAndBack}
 use Rattle.request.proofs.Opened.{sectioned, request-walks}
 use Rattle.request.proofs.Ordered.{both, passed}
-use Rattle.request.proofs.Said.{said}
+use Rattle.request.proofs.Said.{bytes-walked, said}
+use Rattle.request.proofs.Fits.{fits}
 
 none : (l : List ℕ) → length l ≡ 0 → l ≡ []
 none [] e = refl
@@ -128,14 +129,17 @@ module _ (input : List ℕ) (bytes : Bytes input) where
       let j = passed (walked input) z in
       ap asBytes (j .request) ∙ found (walked input) refl (both (checked (walked input)) z .0) (j .inside)
 
-reads-back : (r : Request) → asBytes (answeredAs r) ≡ asReadBack (asBytes r)
+-- of an input as it is answered the video section alone is another
+reads-back : (r : Request) → Shaped (r .matrix) → asBytes (answeredAs r) ≡ asReadBack (asBytes r)
 unfolding asBytes
-reads-back r = refl
+reads-back r s =
+    let at : Walk → List ℕ = λ w. laid (inTurn (withVideo (videoBody (answered (videoIn (bodiesIn w .video)))) (bodiesIn w))) [] in
+    ap at (sym (bytes-walked r s))
 
 pub there-and-back : ThereAndBack
 there-and-back =
     record {
       there = λ r s z. ap (λ (c : Checked). c .request) (said r s z);
       back = back;
-      answered = λ input b z. reads-back (readOf input .request) ∙ ap asReadBack (back input b z);
+      answered = λ input b z. reads-back (readOf input .request) (fits input z .matrix) ∙ ap asReadBack (back input b z);
     }

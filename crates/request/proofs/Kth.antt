@@ -6,7 +6,7 @@ use Prim.Native.Nat.{ℕ, zero, suc, _+_, _-_, _≤_, _<_}
 use native.Mathlib.Omega.{arith}
 use lib.ListN.{length, take, drop, getD, length-append}
 use lib.Seq.{take-append-seam, drop-append-add}
-use Rattle.request.specs.Sections.{laid}
+use Rattle.request.specs.Bytes.{laid}
 use Rattle.request.specs.Places.{endsFrom}
 
 -- where the count of section k stands, and where its body ends

@@ -15,7 +15,8 @@ use Rattle.lists.specs.Among.{among}
 use Rattle.lists.proofs.Both.{both-left, both-right}
 use Rattle.video.specs.Video.{videoCount}
 use Rattle.request.specs.declared.sections.Places.{Places}
-use Rattle.request.specs.Sections.{Bodies, inTurn, byName, bodiesIn, Walk, ends, notAllowed, whole, walked, sections, audioCount, matrixCount, laid}
+use Rattle.request.specs.Sections.{Bodies, inTurn, byName, bodiesIn, Walk, ends, notAllowed, whole, walked, sections, audioCount, matrixCount}
+use Rattle.request.specs.Bytes.{laid}
 use Rattle.request.specs.Walks.{fits, Sectioned, RequestWalks}
 use Rattle.request.specs.Places.{endsFrom, placesOf, EndsAt}
 use Rattle.request.specs.Read.{emptied, judged, checked, askOf}

@@ -47,7 +47,7 @@ matrix-said m (inr f) =
     rw (f .on, ne-eqb (length (m .mode ∷ coefficientBytes (m .coefficients))) 0 (omega arith), fields-said (m .coefficients) (f .small), ← f .on)
 
 module _ (r : Request) (s : Shaped (r .matrix)) where
-  bytes-walked : walked (asBytes r) ≡ whole (inTurn (bodiesOf r)) []
+  pub bytes-walked : walked (asBytes r) ≡ whole (inTurn (bodiesOf r)) []
   unfolding walked asBytes
   bytes-walked =
       let f : fits sections (inTurn (bodiesOf r)) ≡ true = rw (audio-counted (r .sound), matrix-counted (r .matrix) s) in

@@ -1,7 +1,7 @@
 -- Document 01, "The request": three sections in this order, each after a one-byte count; and "Refusal numbers": how they are walked. `Walks`
 -- (Walks) says of each thing that a walk finds what then stands in the input.
 use mathlib.Core.Bool.{cond}
-use mathlib.Core.List.{List, [], _∷_, _++_, map, flatMap}
+use mathlib.Core.List.{List, [], _∷_, map, flatMap}
 use Prim.Native.Nat.{ℕ, suc, _+_, max}
 use lib.Dec.{leb}
 use lib.ListN.{getD, length, take, drop}
@@ -15,12 +15,9 @@ audioCount = 3
 abbrev pub matrixCount : ℕ
 matrixCount = 25
 
--- the counts that each section allows, "in this order"; the sections' bodies by name, and in that order: a line in each for each section
+-- the table: the counts that each section allows, "in this order"; the sections' bodies by name; and these in that order
 abbrev pub sections : List (List ℕ)
-sections =
-    (videoCount ∷ []) ∷
-    (0 ∷ audioCount ∷ []) ∷
-    (0 ∷ matrixCount ∷ []) ∷ []
+sections = (videoCount ∷ []) ∷ (0 ∷ audioCount ∷ []) ∷ (0 ∷ matrixCount ∷ []) ∷ []
 
 pub record Bodies : Type 0 where
   pub video : List ℕ
@@ -89,8 +86,3 @@ lengths = lengthsOf sections
 -- "the longest request"
 abbrev pub longest : ℕ
 longest = longestOf sections
-
--- count and body, count and body, and so on, and then the rest
-abbrev pub laid : List (List ℕ) → List ℕ → List ℕ
-laid [] rest = rest
-laid (body ∷ bodies) rest = length body ∷ (body ++ laid bodies rest)
