@@ -257,7 +257,7 @@ any-chain s = record {
   list = λ ls k list c a e r ends. one-more (vendor list r) c ls s k (a, ends) e;
   last = λ input room a. (
     λ es f. record { accepted = a; finished = f },
-    subst (λ (ws : List Write). Finished ws (waited ws)) (sym (pairs input room s a)) (d input room s a .room .waits),
+    subst (λ (ws : List Write). Finished ws (waited ws)) (sym (pairs input room s a)) (d input room s a .waits),
   );
 }
 

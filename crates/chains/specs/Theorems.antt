@@ -19,7 +19,8 @@ use Rattle.chip.specs.Machine.{Write, Group, avi, audio, packets, inUse, coeffi
 use Rattle.chip.specs.Write.{vsyncOf}
 use Rattle.views.specs.Entry.{Lent, stateOf}
 use Rattle.views.specs.Theorems.{LentSized}
-use Rattle.writes.specs.List.{isWritten, pairsOf}
+use Rattle.writes.specs.Rows.{isWritten}
+use Rattle.writes.specs.List.{pairsOf}
 use Rattle.plan.specs.Plan.{planOf}
 use Rattle.decode.specs.Ends.{Ends}
 use Rattle.vendor.specs.Found.{vetOf}
@@ -28,7 +29,8 @@ use Rattle.cut.specs.Run.{Event, run, cut, writesOf, allInUse, Stays}
 use Rattle.cut.specs.Vsync.{waits, waited, Finished}
 use Rattle.cut.specs.Demand.{Same, Cut}
 use Rattle.promises.specs.Finished as field
-use Rattle.promises.specs.LentBytes.{pairsLeft, entered, enteredCuts, SaidAfter}
+use Rattle.promises.specs.LentBytes.{pairsLeft, entered, enteredCuts}
+use Rattle.promises.specs.Said.{SaidAfter}
 use Rattle.chains.specs.Chain.{Hand, plugin, vendor, isPlugin, Link, left, Chain, happened, wholeAs, OneOf, allAsked, muteBy, unopened}
 
 -- ---- "any chain": `Chain` leaves none out

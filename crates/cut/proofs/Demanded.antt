@@ -17,7 +17,8 @@ use Rattle.chip.specs.Machine.{Write, _gets_, matrix, up}
 use Rattle.writes.specs.Steps.{Step, _raising_, steps}
 use Rattle.writes.specs.List.{decided, written, listWith, finishedImage, ready}
 use Rattle.cut.specs.Run.{Event, write, vsync, run, cut, writesOf, writesBy, Fair}
-use Rattle.cut.specs.Vsync.{sent, waited, leavesHold, Finished, Room}
+use Rattle.cut.specs.Vsync.{sent, waited, leavesHold, Finished}
+use Rattle.cut.specs.Room.{Room}
 use Rattle.cut.specs.Demand.{Cut, cuts, PlannedAgain, Same, Clauses, Demand3}
 use Rattle.cut.proofs.Bytes.{clean, mute-byte}
 use Rattle.cut.proofs.Turning.{hold-seen}
@@ -125,8 +126,25 @@ module _ (want : ℕ → ℕ) (image : List ℕ) where
             (e ∙ ap (λ (x : List Write). f first ∷ x ++ f last ∷ []) m
             ∙ ap (λ (x : List Write). f first ∷ x) (append-assoc (map f (l .front)) (f low ∷ map f (l .back)) (f last ∷ []))) refl
             (away-last (map f (l .back)) (f last) refl (away-list (l .back) (l .lowered)));
-        waits = subst (λ (ws : List Write). Finished ws (waited ws)) (sym e) (waited-finishes (f first ∷ map f ms) (f last) refl);
       }
+
+  -- with one Vsync before the last write a run is finished
+  pub waits-for : (ms : List Step) → Finished (map f (steps ms)) (waited (map f (steps ms)))
+  unfolding written
+  waits-for ms =
+      let first : Step = reg.avMute raising reg.setAvMuteMask in
+      let last : Step = reg.avMute raising reg.clearAvMuteMask in
+      subst (λ (ws : List Write). Finished ws (waited ws)) (ap (λ (x : List Write). f first ∷ x) (sym (map-append f ms (last ∷ []))))
+      (waited-finishes (f first ∷ map f ms) (f last) refl)
+
+-- ---- `PlannedAgain` leaves no cuts out
+
+one-more : (planned : List ℕ → List Write) (cs : List Cut) (s : Chip) → PlannedAgain planned cs s → (c : Cut)
+    → writesOf (c .events) ≡ planned (cuts cs s .image)
+    → PlannedAgain planned (cs ++ c ∷ []) s × (cuts (cs ++ c ∷ []) s ≡ cut (c .events) (cuts cs s) (c .place))
+one-more planned [] s p c e = ((e, tt), refl)
+one-more planned (d ∷ cs) s p c e =
+    let q = one-more planned cs (cut (d .events) s (d .place)) (p .1) c e in ((p .0, q .0), q .1)
 
 -- ---- planned again
 
@@ -159,10 +177,15 @@ module _ (mid : (ℕ → ℕ) → List ℕ → List Step)
       (b .registers ∙ sym (image-end mid good want u (n .ready)) ∙ cut.ends-alike mid good want s u r n ∙ image-end mid good want s r
       ∙ sym (a .registers))
 
+  pub room : (image : List ℕ) → Ready image → Room (P image)
+  room image r = room-for want image (mid want image) (good want image r .lowers)
+
   pub demand3 : (s : Chip) → Ready (s .image) → Demand3 P want s
   demand3 s r = record {
     runs = all-runs s r;
-    room = room-for want (s .image) (mid want (s .image)) (good want (s .image) r .lowers);
+    waits = waits-for want (s .image) (mid want (s .image));
+    none = tt;
+    more = λ cs p c e. one-more P cs s p c e;
     whole = λ cs p. near-cuts s s cs p (near-self s r) .ready .whole;
     ready = λ cs p. near-cuts s s cs p (near-self s r) .ready .holds;
     again = λ cs p es fs e f. same-end s (cuts cs s) r (near-cuts s s cs p (near-self s r)) es fs e f;

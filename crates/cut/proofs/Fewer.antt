@@ -21,6 +21,7 @@ use Rattle.writes.proofs.Last.{last, last-zero, read}
 use Rattle.writes.proofs.Fewer.{plain, raises-none, every-plain, there-bytes, leftSteps, steps-left, by-steps}
 use Rattle.cut.specs.Run.{Event, run, Fair}
 use Rattle.cut.specs.Vsync.{Finished}
+use Rattle.cut.specs.Room.{Room}
 use Rattle.cut.specs.Demand.{Same, Demand3}
 use Rattle.cut.proofs.Latch.{View, nexts, walk}
 use Rattle.cut.proofs.Skipped.{nexts-those, walk-those}
@@ -29,7 +30,7 @@ use Rattle.cut.proofs.Bytes.{clean}
 use Rattle.cut.proofs.Taken.{tidy}
 use Rattle.cut.proofs.Turning.{mark, safe, lead, safe-those, lead-those}
 use Rattle.cut.proofs.Cut.{Ready, Near, Walked, Lowers, elsewhere-or-up, not-hold, Good}
-use Rattle.cut.proofs.Demanded.{demand3, same-end}
+use Rattle.cut.proofs.Demanded.{demand3, room, same-end}
 use Rattle.cut.proofs.Fairness.{each-fair}
 use Rattle.cut.proofs.WriteList.{planned-good}
 
@@ -225,6 +226,9 @@ module _ (want : ℕ → ℕ) (s : Chip) (whole : length (s .image) ≡ 256) (cl
   holds =
       subst (λ (plan : List ℕ → List Write). Demand3 plan want s) (fun-ext (λ image. sym (by-steps want image)))
       (demand3 leftSteps fewer-good left-fair want s fit)
+
+  pub room-left : Room (writeList want (s .image))
+  room-left = subst Room (sym (by-steps want (s .image))) (room leftSteps fewer-good left-fair want (s .image) fit)
 
   -- a finished run from a near state ends as one from this
   pub ends-same : (u : Chip) → Near s u → (es fs : List Event) → Finished (writeList want (s .image)) es

@@ -12,7 +12,8 @@ use lib.Seq.{take-append-le, take-length}
 use Rattle.lists.proofs.Both.{both-left, both-right}
 use Rattle.chip.specs.Machine.{Write}
 use Rattle.cut.specs.Run.{Event, vsync, event, writesOf, writesBy}
-use Rattle.cut.specs.Vsync.{leavesHold, Finished, Turns}
+use Rattle.cut.specs.Vsync.{leavesHold, Finished}
+use Rattle.cut.specs.Room.{Turns}
 use Rattle.cut.proofs.Erased.{writes-append}
 
 split-at : (es : List Event) (k : ℕ) → k < length es → es ≡ take k es ++ event es k ∷ drop (suc k) es

@@ -11,6 +11,7 @@ use lib.ListN.{length, getD, take, drop, length-map, length-append}
 use lib.Seq.{take-append-le, take-length, take-all}
 use borrow.Author.Tests.{eqb-false, not-true}
 use Rattle.lists.proofs.Both.{both-left, both-right}
+use Rattle.bits.proofs.Laws.{bit-code, two-bits-code}
 use Rattle.map.specs.Map as reg
 use Rattle.bits.specs.Merge.{under}
 use Rattle.registers.specs.Classes.{free}
@@ -26,13 +27,12 @@ use Rattle.writes.proofs.Image.{is-image}
 use Rattle.cut.specs.Run.{Event, write, vsync, happens, run, cut, event, writesOf, writesBy, standing, Either, Fair, IsFair, Careful}
 use Rattle.cut.specs.Run.{Covered}
 use Rattle.cut.specs.Vsync.{waits, turnedOver, old, sent, leavesHold, Finished}
-use Rattle.cut.specs.Retried.{begun, Retried}
 use Rattle.cut.specs.Demand.{After, Same, Clauses}
 use Rattle.cut.proofs.Planned.{Planner, cutOf, endOf}
 use Rattle.cut.proofs.Latch.{acts}
 use Rattle.cut.proofs.Bank.{store, down-part}
 use Rattle.cut.proofs.Bytes.{agree-free}
-use Rattle.cut.proofs.Retry.{retries, sized-happens}
+use Rattle.cut.proofs.Retry.{sized-happens}
 use Rattle.cut.proofs.FairRun.{untouched}
 use Rattle.cut.proofs.Turning.{act, shown, oldBytes, old-or-new}
 use Rattle.cut.proofs.Taken.{Fit, head-taken, tail-fit}
@@ -330,9 +330,6 @@ module _ (mid : (ℕ → ℕ) → List ℕ → List Step)
                   alike-muted (cut es s (suc k)) _ (alike (suc k)) (subst (λ (j : ℕ). Muted (cutOf P want s j)) (sym q) (o .1)),
                 )
 
-        again : (n : ℕ → ℕ) → Retried n es s
-        again = retries es s (r .whole) all-taken
-
         pub clauses : Clauses end ws es s
         clauses = record {
           before = before-first es s;
@@ -346,6 +343,5 @@ module _ (mid : (ℕ → ℕ) → List ℕ → List Step)
           whole = subst (λ (l : List Event). Either (old l s .matrix) (standing end .matrix) (coefficients (run l s))) (take-length es)
               (matrix-cut (length es) (le-refl (length es)));
           late = late;
-          retries = again;
-          retriesBetween = λ n k lo hi. rw (again n .cuts k) (careful .between (begun n es k) lo hi);
+          atOnce = λ k. let byte : ℕ = getD (cut es s k .image) reg.csc 0 in (bit-code 7 byte, two-bits-code 5 byte);
         }

@@ -3,17 +3,17 @@
 use mathlib.Core.Path.{_≡_}
 use mathlib.Core.Logic.{_⊎_}
 use mathlib.Core.Bool.{true}
-use mathlib.Core.List.{List, [], _∷_}
+use mathlib.Core.List.{List, [], _∷_, _++_}
 use Prim.Native.Nat.{ℕ, _<_}
-use lib.ListN.{length, take}
+use lib.ListN.{length, getD}
+use Rattle.bits.specs.Merge.{bitsIn}
 use Rattle.matrix.specs.Matrix.{fields}
 use Rattle.chip.specs.declared.Chip.{Chip}
-use Rattle.chip.specs.Machine.{Write, avi, audio, matrix, packets, registersOf, inUse, coefficients, Open}
+use Rattle.chip.specs.Machine.{Write, avi, audio, matrix, packets, registersOf, inUse, coefficients, enableInUse, modeInUse, Open}
 use Rattle.chip.specs.Write.{vsyncOf}
 use Rattle.writes.specs.List.{finishedImage, ready}
-use Rattle.cut.specs.Run.{Event, run, cut, writesOf, writesBy, standing, Either, Between, Careful, Covered, Untouched}
-use Rattle.cut.specs.Vsync.{old, waited, Finished, Room}
-use Rattle.cut.specs.Retried.{retried, begun, Retried}
+use Rattle.cut.specs.Run.{Event, run, cut, writesOf, writesBy, standing, Either, Careful, Covered, Untouched}
+use Rattle.cut.specs.Vsync.{old, waited, Finished}
 
 -- planned on the registers as they stand, "and run to its end", with its Vsync
 abbrev pub toItsEnd : (List ℕ → List Write) → Chip → Chip
@@ -71,17 +71,19 @@ pub record Clauses (end : List ℕ) (ws : List Write) (es : List Event) (s : Chi
   pub opened : Open (run es s)
   pub whole : Either (old es s .matrix) (standing end .matrix) (coefficients (run es s))
   pub late : After (vsyncOf (run es s))
-  -- each event again any number of times, as a bus that retries does: the same states in the same order; and so muted, each group old or
-  -- new, until the last write of the list is sent
-  pub retries : (n : ℕ → ℕ) → Retried n es s
-  pub retriesBetween : (n : ℕ → ℕ) (k : ℕ) → let j : ℕ = begun n es k in 0 < writesBy es j → writesBy es j < length (writesOf es)
-      → Between (old (take j es) s) (standing end) (cut (retried n es) s k)
+  -- "Enable and mode in 0x18[7:5] act at once": at every cut they are what that register has
+  pub atOnce : (k : ℕ) → let t : Chip = cut es s k in
+      (enableInUse t ≡ bitsIn 7 7 (getD (t .image) 0x18 0)) × (modeInUse t ≡ bitsIn 6 5 (getD (t .image) 0x18 0))
 
 pub record Demand3 (planned : List ℕ → List Write) (want : ℕ → ℕ) (s : Chip) : Type 0 where
   -- every run of the list: "Vsync events anywhere between the writes"
   pub runs : (es : List Event) → writesOf es ≡ planned (s .image) → Clauses (finishedImage want (s .image)) (planned (s .image)) es s
-  -- the list leaves room for its Vsync
-  pub room : Room (planned (s .image))
+  -- with one Vsync just before its last write a run is finished
+  pub waits : Finished (planned (s .image)) (waited (planned (s .image)))
+  -- `PlannedAgain` leaves no cuts out: from none on, any run of the list that is planned where some cuts left off, cut anywhere, is one more
+  pub none : PlannedAgain planned [] s
+  pub more : (cs : List Cut) → PlannedAgain planned cs s → (c : Cut) → writesOf (c .events) ≡ planned (cuts cs s .image)
+      → PlannedAgain planned (cs ++ c ∷ []) s × (cuts (cs ++ c ∷ []) s ≡ cut (c .events) (cuts cs s) (c .place))
   -- after one cut, two, or any number of them the registers can be planned on: not refused by (7) or (8)
   pub whole : (cs : List Cut) → PlannedAgain planned cs s → length (cuts cs s .image) ≡ 256
   pub ready : (cs : List Cut) → PlannedAgain planned cs s → ready (cuts cs s .image) ≡ true

@@ -7,6 +7,7 @@ ghost use lib.ListN.{length};
 ghost use Rattle.chip.specs.declared.Chip.{Chip};
 ghost use Rattle.writes.specs.List.{fullList, writeList, ready};
 ghost use Rattle.cut.specs.Run.{Event, event, happens, cut, writesOf, IsFair, Untouched};
+ghost use Rattle.cut.specs.Room.{Room};
 ghost use Rattle.cut.specs.Retried.{Retried};
 ghost use Rattle.cut.specs.Demand.{Demand3};
 ghost use Rattle.cut.specs.Mended.{Mended};
@@ -17,6 +18,12 @@ ghost use Rattle.cut.specs.Within.{MadeRight, NoLonger};
 pub fn any_cut()
     ensures { λ _. ⌜ ((want : ℕ → ℕ) (s : Chip) → length (s .image) ≡ 256 → ready (s .image) ≡ true
         → Demand3 (writeList want) want s) ⌝ }
+{}
+
+// Document 02, request 04: the list leaves room for its Vsync.
+pub fn room_for_vsync()
+    ensures { λ _. ⌜ ((want : ℕ → ℕ) (s : Chip) → length (s .image) ≡ 256 → ready (s .image) ≡ true
+        → Room (writeList want (s .image))) ⌝ }
 {}
 
 // The same of the list with nothing left out, by which decoding tests.

@@ -51,9 +51,12 @@ use Rattle.promises.proofs.Only.{same-but-two, shown-alike}
 use Rattle.promises.proofs.Ended.{avi-head, audio-head, enable-in, mode-in}
 use Rattle.promises.proofs.Filled.{filled, paired, never-three}
 use Rattle.promises.proofs.Places.{audio-frame}
-use Rattle.promises.specs.LentBytes.{pairsLeft, entered, enteredCuts, PlannedBytes, Headed, Followed}
-use Rattle.promises.proofs.LentBytes.{left, sized-entered, entered-run, followed}
-use Rattle.promises.specs.AnyCut.{listOf, Again, AnyCut}
+use Rattle.promises.specs.LentBytes.{enteredCuts, OverSlices}
+use Rattle.promises.proofs.LentBytes.{left, slices-run, followed}
+use Rattle.promises.specs.AnyCut.{listOf, Headed, EveryCut}
+use Rattle.promises.specs.Said.{Followed, Said}
+use Rattle.promises.specs.MadeRight.{MadeRightAgain}
+use Rattle.promises.specs.Readers.{Readers}
 
 pub listed : (input image buffer : List ℕ) → Fine input image buffer → Listed input image buffer
 listed input image buffer f =
@@ -77,58 +80,6 @@ pub again-fine : (input image buffer : List ℕ) → Fine input image buffer →
 again-fine input image buffer f after room whole clear long =
     record { read = f .read; whole = whole; clear = clear; paired = f .paired; long = le-ltb (length room) 256 long }
 
--- the bytes written up to each of some cuts are the lists cut there
-record CutBytes (input : List ℕ) (cs : List Cut) (l : Lent) : Type 0 where
-  planned : PlannedAgain (listOf input) cs (stateOf l)
-  there : stateOf (enteredCuts cs l) ≡ cuts cs (stateOf l)
-  sized : LentSized (enteredCuts cs l)
-
-cut-bytes : (input image buffer : List ℕ) → Fine input image buffer → (cs : List Cut) (buffers : ℕ → List ℕ)
-    → ((i : ℕ) → 256 ≤ length (buffers i)) → (l : Lent) → LentSized l → ready (l .image) ≡ true → PlannedBytes input cs buffers l → CutBytes input cs l
-cut-bytes input image buffer f [] buffers long l z c p = record { planned = tt; there = refl; sized = z }
-cut-bytes input image buffer f (x ∷ cs) buffers long l z c p =
-    let y = listed input (l .image) (buffers 0) (again-fine input image buffer f (l .image) (buffers 0) (z .image) c (long 0)) in
-    let d : Demand3 (listOf input) (asked input) (stateOf l) = holds (asked input) (stateOf l) (z .image) c in
-    let e : writesOf (x .events) ≡ listOf input (l .image) = p .0 ∙ y .pairs in
-    let m : Lent = entered (take (x .place) (x .events)) l in
-    let q : stateOf m ≡ cut (x .events) (stateOf l) (x .place) = entered-run (take (x .place) (x .events)) l z in
-    let clear : ready (m .image) ≡ true = ap (λ (t : Chip). ready (t .image)) q ∙ d .ready (x ∷ []) (e, tt) in
-    let rest = cut-bytes input image buffer f cs (λ i. buffers (suc i)) (λ i. long (suc i)) m (sized-entered (take (x .place) (x .events)) l z) clear (p .1) in
-    record {
-      planned = (e, subst (PlannedAgain (listOf input) cs) q (rest .planned));
-      there = rest .there ∙ ap (cuts cs) q;
-      sized = rest .sized;
-    }
-
--- over slices that hold the state
-module _ (input buffer : List ℕ) (l : Lent) (z : LentSized l) (f : Fine input (l .image) buffer) where
-  its-demand : Demand3 (listOf input) (asked input) (stateOf l)
-  its-demand = holds (asked input) (stateOf l) (f .whole) (f .clear)
-
-  bytes-again : (cs : List Cut) (buffers : ℕ → List ℕ) (room : List ℕ) → ((i : ℕ) → 256 ≤ length (buffers i)) → 256 ≤ length room
-      → PlannedBytes input cs buffers l
-      → let t : Lent = enteredCuts cs l in
-      Again input (t .image) room
-      × ((es fs : List Event) → Finished (pairsLeft input (l .image) buffer) es → Finished (pairsLeft input (t .image) room) fs
-      → Same (stateOf (entered es l)) (stateOf (entered fs t)))
-  bytes-again cs buffers room many long p =
-      let b : CutBytes input cs l = cut-bytes input (l .image) buffer f cs buffers many l z (f .clear) p in
-      let t : Lent = enteredCuts cs l in
-      let u : Chip = cuts cs (stateOf l) in
-      let image : t .image ≡ u .image = ap (λ (c : Chip). c .image) (b .there) in
-      let y : Fine input (t .image) room =
-      again-fine input (l .image) buffer f (t .image) room (ap length image ∙ its-demand .whole cs (b .planned))
-      (ap ready image ∙ its-demand .ready cs (b .planned)) long in
-      let m : Listed input (t .image) room = listed input (t .image) room y in
-      let k : Listed input (l .image) buffer = listed input (l .image) buffer f in (
-        record { accepted = accepted input (t .image) room y; listed = m },
-        λ es fs e g.
-            subst (λ (x : Chip). Same x (stateOf (entered fs t))) (sym (entered-run es l z))
-            (subst (λ (x : Chip). Same (run es (stateOf l)) x) (sym (entered-run fs t (b .sized) ∙ ap (run fs) (b .there)))
-            (its-demand .again cs (b .planned) es fs (subst (λ (ws : List Write). Finished ws es) (k .pairs) e)
-            (subst (λ (ws : List Write). Finished ws fs) (m .pairs ∙ ap (listOf input) image) g))),
-      )
-
 -- the end of a run
 record AtEnd (input : List ℕ) (s : Chip) : Type 0 where
   ended : After (toItsEnd (listOf input) s)
@@ -142,7 +93,7 @@ at-end input buffer s f =
     let e : Chip = toItsEnd (listOf input) s in
     let run-end = d .runs (waited ws) (waited-writes ws) in
     record {
-      ended = run-end .ended (d .room .waits);
+      ended = run-end .ended (d .waits);
       sized = ap length (run-end .registers) ∙ image-length (asked input) (s .image);
       stands =
           λ a h. finished-again (asked input) (s .image) (e .image) a
@@ -185,37 +136,73 @@ module _ (input image buffer : List ℕ) (f : Fine input image buffer) (b : Byte
         long = f .long;
       }
 
-pub any-cut : (input buffer : List ℕ) (s : Chip) → planOf input (s .image) buffer .refusal ≡ 0 → AnyCut input buffer s
+pub any-cut : EveryCut
 any-cut input buffer s z =
     let f = fine input (s .image) buffer z in
     let d : Demand3 (listOf input) (asked input) s = holds (asked input) s (f .whole) (f .clear) in
     let q : Request = readOf input .request in
+    let e : Chip = toItsEnd (listOf input) s in
+    let end = at-end input buffer s f in
+    let g : Fits q = request.fits input (f .read) in
+    record {
+      listed = listed input (s .image) buffer f;
+      demand = d;
+      again = λ cs room p long.
+          let image : List ℕ = cuts cs s .image in
+          let y : Fine input image room = again-fine input (s .image) buffer f image room (d .whole cs p) (d .ready cs p) long in
+          record { accepted = accepted input image room y; listed = listed input image room y };
+      headAvi = rw (end .ended .avi) (avi-head q (e .image) g (end .stands));
+      headAudio = rw (end .ended .audio) (audio-head q (e .image) g (end .stands));
+      newAvi = new-avi input buffer s f;
+      newAudio = ap (drop 2) (end .ended .audio) ∙ audio-in q (e .image) (end .sized) g (end .stands) ∙ ap (drop 3) (audio-frame (q .sound));
+      newMatrix = end .ended .matrix ∙ matrix-in q (e .image) (end .sized) g (end .stands);
+      newEnable = enable-in q (e .image) g (end .stands);
+      newMode = mode-in q (e .image) g (end .stands);
+      slices = λ l sized at.
+          subst (λ (c : Chip). (cs : List Cut) → PlannedAgain (listOf input) cs c → (es : List Event)
+          → writesOf es ≡ listOf input (cuts cs c .image) → OverSlices es (enteredCuts cs l) (cuts cs c)) at
+          (λ cs p es w. slices-run input l sized (subst (Demand3 (listOf input) (asked input)) (sym at) d) cs p
+          (λ u whole clear. holds (asked input) u whole clear) es w);
+    }
+
+-- the same by the calls
+pub said : Said
+said input buffer s z l sized at =
+    let a = any-cut input buffer s z in
+    let e : Chip = toItsEnd (listOf input) s in
+    let x : toItsEnd (listOf input) (stateOf l) ≡ e = ap (toItsEnd (listOf input)) at in
+    let i : l .image ≡ s .image = ap (λ (c : Chip). c .image) at in
+    subst (λ (ps : List Write). Followed (readOf input .request) ps l) (ap (listOf input) i ∙ sym (a .listed .pairs))
+    (followed input l sized (subst (Demand3 (listOf input) (asked input)) (sym at) (a .demand)) (ap (λ (c : Chip). drop 2 (inUse packets avi c)) x ∙ a .newAvi)
+    (ap (λ (c : Chip). drop 2 (inUse packets audio c)) x ∙ a .newAudio) (subst (λ (c : Chip). Headed 0x02 0x0D (inUse packets avi c)) (sym x) (a .headAvi))
+    (subst (λ (c : Chip). Headed 0x01 0x0A (inUse packets audio c)) (sym x) (a .headAudio)) (ap coefficients x ∙ a .newMatrix) (ap modeInUse x ∙ a .newMode))
+
+-- request 09
+pub always-right : MadeRightAgain
+always-right input buffer s z =
+    let f = fine input (s .image) buffer z in
+    let d : Demand3 (listOf input) (asked input) s = holds (asked input) s (f .whole) (f .clear) in
     let ws : List Write = listOf input (s .image) in
     let e : Chip = toItsEnd (listOf input) s in
     let end = at-end input buffer s f in
-    let ended : After e = end .ended in
-    let sized : length (e .image) ≡ 256 = end .sized in
-    let stands : Stands q (e .image) = end .stands in
-    let g : Fits q = request.fits input (f .read) in
-    let l : Listed input (s .image) buffer = listed input (s .image) buffer f in
-    let newAvi = new-avi input buffer s f in
-    let newAudio = ap (drop 2) (ended .audio) ∙ audio-in q (e .image) sized g stands ∙ ap (drop 3) (audio-frame (q .sound)) in
-    let headAvi : Headed 0x02 0x0D (inUse packets avi e) = rw (ended .avi) (avi-head q (e .image) g stands) in
-    let headAudio : Headed 0x01 0x0A (inUse packets audio e) = rw (ended .audio) (audio-head q (e .image) g stands) in
-    let newMatrix = ended .matrix ∙ matrix-in q (e .image) sized g stands in
-    let newMode = mode-in q (e .image) g stands in
     record {
-      listed = l;
-      demand = d;
       madeRight = made-right (asked input) s (f .whole) (f .clear);
       unchanged = λ room long.
           let es : List Event = waited ws in
           let last : cut es s (length es) ≡ e = ap (λ (l : List Event). run l s) (take-length es) in
           let clear : ready (e .image) ≡ true =
           subst (λ (t : Chip). ready (t .image) ≡ true) last (d .ready (record { events = es; place = length es } ∷ []) (waited-writes ws, tt)) in
-          let y : Fine input (e .image) room = again-fine input (s .image) buffer f (e .image) room sized clear long in
-          reported input (e .image) room y ∙ ap (λ (n : ℕ). n + 9) (none-differ (asked input) (e .image) stands);
-      newAvi = newAvi;
+          let y : Fine input (e .image) room = again-fine input (s .image) buffer f (e .image) room (end .sized) clear long in
+          reported input (e .image) room y ∙ ap (λ (n : ℕ). n + 9) (none-differ (asked input) (e .image) (end .stands));
+    }
+
+-- request 11
+pub readers : Readers
+readers input buffer s z =
+    let f = fine input (s .image) buffer z in
+    let q : Request = readOf input .request in
+    let g : Fits q = request.fits input (f .read) in
+    record {
       shownToD = λ b.
           let u : Fine (set input 7 0x00) (s .image) buffer = fine-under input (s .image) buffer f b in (
             accepted (set input 7 0x00) (s .image) buffer u,
@@ -227,31 +214,6 @@ any-cut input buffer s z =
       shownToE =
           let x = shown input buffer s f ∙ editions (q .video) (g .video) .asked in
           (ap (λ (y : ByE). y .yq) x, ap (λ (y : ByE). y .cn) x);
-      newAudio = newAudio;
-      newMatrix = newMatrix;
-      headAvi = headAvi;
-      headAudio = headAudio;
-      newEnable = enable-in q (e .image) g stands;
-      newMode = newMode;
-      bytes = λ m z at.
-          let h : (t : Chip) → t ≡ s → toItsEnd (listOf input) t ≡ e = λ t p. ap (toItsEnd (listOf input)) p in
-          let x : toItsEnd (listOf input) (stateOf m) ≡ e = h (stateOf m) at in
-          let i : m .image ≡ s .image = ap (λ (c : Chip). c .image) at in
-          subst (λ (ps : List Write). Followed q ps m) (ap (listOf input) i ∙ sym (l .pairs))
-          (followed input m z (subst (Demand3 (listOf input) (asked input)) (sym at) d) (ap (λ (c : Chip). drop 2 (inUse packets avi c)) x ∙ newAvi)
-          (ap (λ (c : Chip). drop 2 (inUse packets audio c)) x ∙ newAudio) (subst (λ (c : Chip). Headed 0x02 0x0D (inUse packets avi c)) (sym x) headAvi)
-          (subst (λ (c : Chip). Headed 0x01 0x0A (inUse packets audio c)) (sym x) headAudio) (ap coefficients x ∙ newMatrix) (ap modeInUse x ∙ newMode));
-      bytesAgain = λ m z at.
-          let i : m .image ≡ s .image = ap (λ (c : Chip). c .image) at in
-          subst (λ (image : List ℕ). (cs : List Cut) (buffers : ℕ → List ℕ) (room : List ℕ) → ((i : ℕ) → 256 ≤ length (buffers i)) → 256 ≤ length room
-          → PlannedBytes input cs buffers m → Again input (enteredCuts cs m .image) room
-          × ((es fs : List Event) → Finished (pairsLeft input image buffer) es → Finished (pairsLeft input (enteredCuts cs m .image) room) fs
-          → Same (stateOf (entered es m)) (stateOf (entered fs (enteredCuts cs m))))) i
-          (bytes-again input buffer m z (subst (λ (image : List ℕ). Fine input image buffer) (sym i) f));
-      again = λ cs room p long.
-          let image : List ℕ = cuts cs s .image in
-          let y : Fine input image room = again-fine input (s .image) buffer f image room (d .whole cs p) (d .ready cs p) long in
-          record { accepted = accepted input image room y; listed = listed input image room y };
     }
 
 pub rules : (input buffer : List ℕ) (s : Chip) → Demand2 input buffer s

@@ -8,14 +8,11 @@ use lib.Dec.{eqb}
 use Rattle.clock.specs.declared.Pair.{Pair}
 use Rattle.clock.specs.Pairs.{noPair}
 use Rattle.clock.proofs.Rows as clocks
-use Rattle.frames.proofs.Refused as frames
 use Rattle.matrix.proofs.Codes as preview
 use Rattle.meter.proofs.Rule as meter
 use Rattle.request.specs.declared.Sound.{Sound}
 use Rattle.request.specs.declared.Sound.the-variants.{Off, On}
 use Rattle.request.specs.Read.{readOf, nctsOf, pairIn, pairFor}
-use Rattle.request.proofs.Coherent.{rows}
-use Rattle.line.proofs.Given.{lines}
 use Rattle.chip.specs.Write.{lentAs}
 use Rattle.views.specs.Entry.{marked}
 use Rattle.views.specs.View.{viewRefusal, sentPart, noPart}
@@ -34,6 +31,7 @@ use Rattle.plan.specs.Plan.{planOf}
 use Rattle.plan.proofs.Ordered as planning
 use Rattle.decode.proofs.Answers as decoding
 use Rattle.promises.specs.AnyInput.{Demand1}
+use Rattle.promises.specs.OtherCalls.{OtherCalls}
 use Rattle.promises.proofs.Piped.{pipe-refusals}
 
 -- ---- zeros beside a refusal
@@ -60,19 +58,6 @@ pub any-input : Demand1
 any-input = record {
   planning = λ request image buffer b. planning.refusals request b image buffer;
   decoding = decoding.refusals;
-  request = rows;
-  line = λ request. lines request .given;
-  pair = ncts-zeroed;
-  clock = clocks.refusals;
-  frames = frames.refusals;
-  preview = preview.refusals;
-  meter = meter.rule;
-  pipe = pipe-refusals;
-  write = entry.refusals;
-  vsync = entry.turn-refusals;
-  view = view.refusals;
-  matrix = converter.refusals;
-  vet = λ s list. vetted s list .given;
   stationPlan = λ request image writes left out b p h.
       let r = planning.refusals request b image writes in
       let n : planOf request image writes .refusal ≢ 0 = λ z. h (ap (λ (o : CountOut). o .refusal) (p .0) ∙ z) in
@@ -83,12 +68,6 @@ any-input = record {
   stationNcts = λ request out p h.
       let u = ncts-zeroed request (λ z. h (ap (λ (o : PairOut). o .refusal) p ∙ z)) in
       (ap (λ (o : PairOut). o .n) p ∙ u .0, ap (λ (o : PairOut). o .cts) p ∙ u .1);
-  stationPreview = λ matrix a b c out d p h.
-      let u = preview.refusals matrix d a b c .zeros (λ z. h (ap (λ (o : PixelOut). o .refusal) p ∙ z)) in
-      (ap (λ (o : PixelOut). o .a) p ∙ u .0, ap (λ (o : PixelOut). o .b) p ∙ u .1, ap (λ (o : PixelOut). o .c) p ∙ u .2);
-  stationMeter = λ numbers matrix left out p h.
-      let u = meter.rule numbers matrix .nothing (λ z. h (ap (λ (o : CountOut). o .refusal) (p .0) ∙ z)) in
-      (ap (λ (o : CountOut). o .count) (p .0) ∙ u .0, p .1 ∙ u .1);
   stationWrite = λ l left address value out p h. p .1 ∙ entry.refusals l address value .kept (λ z. h (p .0 ∙ z));
   stationVsync = λ l left out p h. p .1 ∙ entry.turn-refusals l .kept (λ z. h (p .0 ∙ z));
   stationSent = λ image packet which out p h.
@@ -104,6 +83,17 @@ any-input = record {
   stationMatrix = λ image coefficients matrix left mark out p h.
       let u = converter.refusals image coefficients mark matrix .kept (λ z. h (ap (λ (o : CountOut). o .refusal) (p .0) ∙ z)) in
       (ap (λ (o : CountOut). o .count) (p .0) ∙ u .0, p .1 ∙ u .1);
+}
+
+pub other-calls : OtherCalls
+other-calls = record {
+  stationPreview = λ matrix a b c out d p h.
+      let u = preview.refusals matrix d a b c .zeros (λ z. h (ap (λ (o : PixelOut). o .refusal) p ∙ z)) in
+      (ap (λ (o : PixelOut). o .a) p ∙ u .0, ap (λ (o : PixelOut). o .b) p ∙ u .1, ap (λ (o : PixelOut). o .c) p ∙ u .2);
+  stationMeter = λ numbers matrix left out p h.
+      let u = meter.rule numbers matrix .nothing (λ z. h (ap (λ (o : CountOut). o .refusal) (p .0) ∙ z)) in
+      (ap (λ (o : CountOut). o .count) (p .0) ∙ u .0, p .1 ∙ u .1);
+  pipe = pipe-refusals;
   stationVet = λ image packet coefficients mark list out p h.
       ap (λ (o : VerdictOut). o .place) p ∙ vetted (lentAs image packet coefficients (marked mark)) list .zero (λ z. h (ap (λ (o : VerdictOut). o .refusal) p ∙ z));
 }

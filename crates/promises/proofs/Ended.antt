@@ -24,7 +24,7 @@ use Rattle.plan.specs.Wanted.{wanted}
 use Rattle.decode.specs.Ends.{Stands}
 use Rattle.decode.proofs.Stored.{stored, wants}
 use Rattle.decode.proofs.Standing.{reads}
-use Rattle.promises.specs.LentBytes.{Headed}
+use Rattle.promises.specs.AnyCut.{Headed}
 
 module _ (r : Request) where
   abbrev pub sounding : Sound → Request

@@ -25,12 +25,12 @@ use Rattle.views.specs.Entry.{Lent, Entry, stateOf, slicesOf, enterOf, turnOf}
 use Rattle.views.specs.Theorems.{LentSized, Faces}
 use Rattle.views.proofs.Shown as views
 use Rattle.views.proofs.Lent.{state-sized}
-use Rattle.writes.specs.List.{flat, pairsOf, writeList, finishedImage}
+use Rattle.writes.specs.List.{flat, pairsOf, writeList, finishedImage, ready}
 use Rattle.plan.specs.Plan.{planOf, planBuffer}
 use Rattle.writes.proofs.Pairs.{length-flat, pairs-flat}
 use Rattle.cut.specs.Run.{Event, write, vsync, run, cut, event, happens, writesOf, writesBy, InUse, allInUse, standing, Between, Careful}
 use Rattle.cut.specs.Vsync.{waits, turnedOver, old, waited, Finished}
-use Rattle.cut.specs.Demand.{Cut, toItsEnd, After, Same, Clauses, Demand3}
+use Rattle.cut.specs.Demand.{Cut, cuts, PlannedAgain, toItsEnd, After, Same, Clauses, Demand3}
 use Rattle.cut.proofs.Taken.{neat-two}
 use Rattle.cut.proofs.Retry.{turned-again}
 use Rattle.cut.proofs.Runs.{after-same}
@@ -38,8 +38,9 @@ use Rattle.cut.proofs.Demanded.{waited-writes}
 use Rattle.vendor.proofs.Moved.{vsync-use}
 use Rattle.promises.specs.Finished.{audioPacket}
 use Rattle.promises.specs.Rules.{asked}
-use Rattle.promises.specs.AnyCut.{listOf}
-use Rattle.promises.specs.LentBytes.{pairsLeft, enters, entered, oldSlices, aviSent, audioSent, muteSaid, matrixSaid, Headed, SaidBetween, SaidAfter, Entering, Followed}
+use Rattle.promises.specs.AnyCut.{listOf, Headed}
+use Rattle.promises.specs.LentBytes.{pairsLeft, enters, entered, enteredCuts, OverSlices}
+use Rattle.promises.specs.Said.{oldSlices, aviSent, audioSent, muteSaid, matrixSaid, SaidBetween, SaidAfter, Entering, Followed}
 
 pub left : (input image buffer : List ℕ) → let ws : List Write = writeList (asked input) image in
     planOf input image buffer .count ≡ length ws → planBuffer input image buffer ≡ flat ws ++ drop (length (flat ws)) buffer
@@ -92,6 +93,17 @@ only-turned (write w ∷ es) l (suc k) z h = absurd (suc-ne-zero _ h)
 only-turned (vsync ∷ es) l (suc k) z h =
     ⊎-elim (λ e. inr e) (λ e. inr (e ∙ turned-twice l z)) (only-turned es (turnOf l .slices) k (views.entered-vsync l z .sized) h)
 
+-- so are any cuts of runs over them
+pub sized-cuts : (cs : List Cut) (l : Lent) → LentSized l → LentSized (enteredCuts cs l)
+sized-cuts [] l z = z
+sized-cuts (c ∷ cs) l z = sized-cuts cs (entered (take (c .place) (c .events)) l) (sized-entered (take (c .place) (c .events)) l z)
+
+pub entered-cuts : (cs : List Cut) (l : Lent) → LentSized l → stateOf (enteredCuts cs l) ≡ cuts cs (stateOf l)
+entered-cuts [] l z = refl
+entered-cuts (c ∷ cs) l z =
+    let m : Lent = entered (take (c .place) (c .events)) l in
+    entered-cuts cs m (sized-entered (take (c .place) (c .events)) l z) ∙ ap (cuts cs) (entered-run (take (c .place) (c .events)) l z)
+
 -- ---- what the calls answer of slices is what the machine has in use
 
 abbrev Single : Chip → Type 0
@@ -117,6 +129,20 @@ said-between was new t f g h b = record {
 said-open : (l : Lent) → Faces (stateOf l) → Open (stateOf l) → muteSaid l ≡ record { refusal = 0; mute = 2 }
 said-open l f o = f .mute ∙ ap (λ (m : ℕ). record { refusal = 0; mute = m }) (two-of (stateOf l) o)
 
+-- any run of which no event is refused, and no cut has two packet holds up
+pub over-slices : (l : Lent) → LentSized l → (es : List Event) → ((k : ℕ) → Single (cut es (stateOf l) k))
+    → ((k : ℕ) → k < length es → happens (event es k) (cut es (stateOf l) k) .refusal ≡ 0) → OverSlices es l (stateOf l)
+over-slices l z es single takes = record {
+  taken = λ k h.
+      number-next (event es k) (entered (take k es) l) (sized-entered (take k es) l z)
+      ∙ ap (λ (t : Chip). happens (event es k) t .refusal) (entered-run (take k es) l z) ∙ takes k h;
+  sized = λ k. sized-entered (take k es) l z;
+  state = λ k. entered-run (take k es) l z;
+  answers = λ k.
+      subst Faces (entered-run (take k es) l z)
+      (faced (entered (take k es) l) (sized-entered (take k es) l z) (subst Single (sym (entered-run (take k es) l z)) (single k)));
+}
+
 -- ---- a careful run, whoever made the list, of which no cut has two packet holds up
 
 module _ (l : Lent) (z : LentSized l) (es : List Event) (single : (k : ℕ) → Single (cut es (stateOf l) k)) where
@@ -137,10 +163,8 @@ module _ (l : Lent) (z : LentSized l) (es : List Event) (single : (k : ℕ) → 
       (newFaces : Faces (stateOf (entered (waited (writesOf es)) l))) (newSaid : allInUse (stateOf (entered (waited (writesOf es)) l)) ≡ new) where
     pub enters-so : Entering wasSlices es l
     enters-so = record {
-      taken = λ k h.
-          number-next (event es k) (entered (take k es) l) (sized-entered (take k es) l z)
-          ∙ ap (λ (t : Chip). happens (event es k) t .refusal) (cut-state k) ∙ c .taken k h;
-      sized = λ k. sized-entered (take k es) l z;
+      taken = over-slices l z es single (c .taken) .taken;
+      sized = over-slices l z es single (c .taken) .sized;
       before = λ k h. only-turned es l k z h;
       between = λ k lo hi.
           said-between (wasSlices (take k es)) (entered (waited (writesOf es)) l) (entered (take k es) l) (wasSaid (take k es) .0) newFaces
@@ -204,7 +228,7 @@ module _ (input : List ℕ) (l : Lent) (z : LentSized l) (d : Demand3 (listOf in
   with-vsync = d .runs (waited own) (waited-writes own)
 
   ended : After ending
-  ended = with-vsync .ended (d .room .waits)
+  ended = with-vsync .ended (d .waits)
 
   ending-faces : Faces (stateOf (entered (waited own) l))
   ending-faces = end-faces l z (waited own) (one-hold (waited own) (waited-writes own))
@@ -245,7 +269,7 @@ module _ (input : List ℕ) (l : Lent) (z : LentSized l) (d : Demand3 (listOf in
     said-after : (es : List Event) → Finished own es → SaidAfter r (entered es l)
     said-after es f =
         said (entered es l) (run es start) (entered-run es l z) (end-faces l z es (one-hold es (f .runs)))
-        (d .again [] tt (waited own) es (d .room .waits) f) (d .runs es (f .runs) .opened)
+        (d .again [] tt (waited own) es (d .waits) f) (d .runs es (f .runs) .opened)
 
     -- and so does every run with one Vsync more
     said-late : (es : List Event) → writesOf es ≡ own → SaidAfter r (turnOf (entered es l) .slices)
@@ -263,3 +287,21 @@ module _ (input : List ℕ) (l : Lent) (z : LentSized l) (d : Demand3 (listOf in
 
     pub followed : Followed r own l
     followed = record { entering = enters-own; ended = said-after; opened = said-opened; late = said-late }
+
+-- ---- any cuts, and any run of the list that is planned there
+
+pub slices-run : (input : List ℕ) (l : Lent) → LentSized l → (d : Demand3 (listOf input) (asked input) (stateOf l)) → (cs : List Cut)
+    → PlannedAgain (listOf input) cs (stateOf l)
+    → ((u : Chip) → length (u .image) ≡ 256 → ready (u .image) ≡ true → Demand3 (listOf input) (asked input) u)
+    → (es : List Event) → writesOf es ≡ listOf input (cuts cs (stateOf l) .image) → OverSlices es (enteredCuts cs l) (cuts cs (stateOf l))
+slices-run input l z d cs p always es e =
+    let u : Chip = cuts cs (stateOf l) in
+    let t : Lent = enteredCuts cs l in
+    let q : stateOf t ≡ u = entered-cuts cs l z in
+    let here : Demand3 (listOf input) (asked input) u = always u (d .whole cs p) (d .ready cs p) in
+    let single : (k : ℕ) → Single (cut es u k) =
+    λ k. neat-two (holdsOf packets (cut es u k .image)) (here .ready (record { events = es; place = k } ∷ []) (e, tt)) in
+    let taken : (k : ℕ) → k < length es → happens (event es k) (cut es u k) .refusal ≡ 0 = here .runs es e .careful .taken in
+    subst (OverSlices es t) q
+    (over-slices t (sized-cuts cs l z) es (λ k. subst (λ (c : Chip). Single (cut es c k)) (sym q) (single k))
+    (λ k h. subst (λ (c : Chip). happens (event es k) (cut es c k) .refusal ≡ 0) (sym q) (taken k h)))

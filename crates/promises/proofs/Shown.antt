@@ -30,7 +30,7 @@ use Rattle.decode.specs.Decode.{decodeOf}
 use Rattle.decode.specs.Theorems.{decodeRules}
 use Rattle.decode.proofs.Answers.{exactly, refusals}
 use Rattle.promises.specs.Finished.{place, places, Shows, inQ, inPR, depthNumbers, inCD, Finished}
-use Rattle.promises.specs.Rules.{FieldByField}
+use Rattle.promises.specs.FieldByField.{FieldByField}
 use Rattle.promises.proofs.Filled.{filled, picked}
 
 -- the Q that an encoding allows

@@ -37,7 +37,8 @@ use Rattle.lists.proofs.Both.{both-left, both-right}
 use Rattle.lists.proofs.Decides.{refuted}
 use Rattle.decode.proofs.Answers.{read-back}
 use Rattle.cut.specs.Run.{Event, run, cut, writesOf, writesBy, InUse, allInUse, standing, Either, Between}
-use Rattle.cut.specs.Vsync.{waits, turnedOver, old, sent, waited, leavesHold, Finished, Room}
+use Rattle.cut.specs.Vsync.{waits, turnedOver, old, sent, waited, leavesHold, Finished}
+use Rattle.cut.specs.Room.{Room}
 use Rattle.cut.specs.Demand.{toItsEnd, After, Same, Clauses, Demand3}
 use Rattle.cut.specs.Mended.{Mended}
 use Rattle.cut.proofs.Bank.{down-part}
@@ -51,7 +52,7 @@ use Rattle.cut.proofs.Erased.{alike-self, alike-use, alike-muted, run-alike, cu
 use Rattle.cut.proofs.Erased as packets-alike
 use Rattle.cut.proofs.Runs.{nothing-waits, after-same}
 use Rattle.cut.proofs.Demanded.{waited-writes, waited-finishes}
-use Rattle.cut.proofs.Fewer.{holds}
+use Rattle.cut.proofs.Fewer.{holds, room-left}
 use Rattle.vendor.specs.declared.Verdict.{Verdict}
 use Rattle.vendor.specs.Vendor.{pairAt, cutAt, endOf, pairsBy, Inside, Decodable, Passes, WrongLength}
 use Rattle.vendor.specs.Found.{vetOf}
@@ -63,7 +64,8 @@ use Rattle.vendor.proofs.Ended.{last-of}
 use Rattle.vendor.proofs.Careful.{CarefulList, pairs-first, last-event, cut-by-pairs, careful-passes, passes-careful}
 use Rattle.promises.specs.Finished.{places, Shows}
 use Rattle.promises.specs.Rules.{asked, Listed}
-use Rattle.promises.specs.LentBytes.{bytesLeft, entered, muteSaid, Entering}
+use Rattle.promises.specs.LentBytes.{bytesLeft, entered}
+use Rattle.promises.specs.Said.{muteSaid, Entering}
 use Rattle.promises.specs.AnyCut.{listOf}
 use Rattle.promises.specs.Vendors.{inputOf, Passing, Vendors}
 use Rattle.promises.proofs.AnyCut.{any-cut, accepted, listed, again-fine}
@@ -105,7 +107,7 @@ module _ (want : ℕ → ℕ) (s : Chip) (d : Demand3 (writeList want) want s) w
 
   never-turned : (k : ℕ) → turnedOver (take k (waited list)) ≡ false
   never-turned k =
-      let r : Room list = d .room in
+      let r : Room list = room-left want s (d .whole [] tt) (d .ready [] tt) in
       subst (λ (l : List Write). turnedOver (take k (waited l)) ≡ false)
       (sym (r .split ∙ append-assoc (r .front) (r .lowering ∷ r .back) (r .opening ∷ [])))
       (not-turned (r .front) (r .back ++ r .opening ∷ []) (r .lowering) k (r .risen) (r .raised))
@@ -114,7 +116,7 @@ module _ (want : ℕ → ℕ) (s : Chip) (d : Demand3 (writeList want) want s) w
   runs-so = d .runs (waited list) (waited-writes list)
 
   ends-so : After (endOf list s)
-  ends-so = runs-so .ended (d .room .waits)
+  ends-so = runs-so .ended (d .waits)
 
   ended-use : standing (finishedImage want (s .image)) ≡ allInUse (endOf list s)
   ended-use = sym ((λ j. record { avi = ends-so .avi j; audio = ends-so .audio j; matrix = ends-so .matrix j }) ∙ ap standing (runs-so .registers))
@@ -444,10 +446,11 @@ buffers : (s t : Chip) (list : List ℕ) → Sized s → Sized t → t .image �
     → bitsIn 5 5 (getD (s .image) 0x1A 0) ≡ 0 → s .waiting ≡ false → t .waiting ≡ false → vetOf t list ≡ vetOf s list
 buffers s t list z y e h k i j = same-verdict s t list (alike s t e h k i j) (z .image) (sized-alike s t z y)
 
-asks : (s t : Chip) (list : List ℕ) → Sized s → Sized t → t .image ≡ s .image → ((g : Group) → inUse packets g t ≡ inUse packets g s)
+asks : (s t : Chip) (list : List ℕ) → Sized s → Sized t → t .image ≡ s .image → inUse packets avi t ≡ inUse packets avi s
+    → inUse packets audio t ≡ inUse packets audio s → inUse packets gc t ≡ inUse packets gc s
     → inUse converter matrix t ≡ inUse converter matrix s → (held s ≡ false → t .waiting ≡ s .waiting) → vetOf t list ≡ vetOf s list
-asks s t list z y e g m w =
-    same-verdict s t list (record { image = e; avi = g avi; audio = g audio; gc = g gc; matrix = m; waiting = w }) (z .image) (sized-alike s t z y)
+asks s t list z y e i a g m w =
+    same-verdict s t list (record { image = e; avi = i; audio = a; gc = g; matrix = m; waiting = w }) (z .image) (sized-alike s t z y)
 
 pub vendors : Vendors
 vendors = record { own = own; sizes = sizes; empty = empty; buffers = buffers; asks = asks; passing = passing }

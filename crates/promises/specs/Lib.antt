@@ -1,10 +1,15 @@
 pub mod Worked
 pub mod Cases
 pub mod AnyInput
+pub mod OtherCalls
 pub mod Settled
 pub mod Rules
+pub mod FieldByField
 pub mod LentBytes
 pub mod AnyCut
+pub mod Said
+pub mod MadeRight
+pub mod Readers
 pub mod Example
 pub mod Finished
 pub mod Metered

@@ -14,7 +14,7 @@ use Rattle.pipe.specs.Pipe.{AnyPipe, joined, after}
 use Rattle.line.specs.Words.{lineText, answerText}
 use Rattle.plan.specs.Plan.{planOf}
 use Rattle.station.specs.declared.PipedOut.{PipedOut}
-use Rattle.station.specs.Face.{StationPipeTake, StationPipeEnd}
+use Rattle.station.specs.Pipe.{StationPipeTake, StationPipeEnd}
 
 -- demand 1: what any bytes make of a part and of the end (`kept`, `keptAtEnd`); and of the exported calls, beside a refusal a count of zero, every
 -- byte as it was but for the answer's, and that one too where there is no answer

@@ -1,33 +1,27 @@
 -- Demand 2, of the planning and the decoding entry.
 use mathlib.Core.Path.{_≡_}
 use mathlib.Core.Logic.{_↔_, _≢_, _⊎_}
-use mathlib.Core.Bool.{false, cond}
-use mathlib.Core.List.{List, [], _∷_, _++_}
+use mathlib.Core.List.{List, [], _++_}
 use Prim.Native.Nat.{ℕ, _+_, _<_, _≤_}
-use lib.Dec.{eqb}
 use lib.ListN.{length, getD, drop}
-use Rattle.lists.specs.Among.{among}
 use Rattle.refusals.specs.Rows.{Condition, at}
-use Rattle.bits.specs.Merge.{bitsIn}
 use Rattle.matrix.specs.Matrix.{Bytes}
 use Rattle.chip.specs.declared.Chip.{Chip}
 use Rattle.request.specs.declared.Request.{Request}
 use Rattle.request.specs.Sections.{walked, bodiesIn, longest}
 use Rattle.request.specs.Read.{readOf, nctsOf}
-use Rattle.video.specs.Video.{editionNumber}
-use Rattle.request.specs.Bytes.{asBytes, inFamily, withVideo, asReadBack}
+use Rattle.request.specs.Bytes.{asBytes, withVideo, asReadBack}
 use Rattle.plan.specs.Wanted.{wanted}
 use Rattle.writes.specs.List.{writeList, flat, finishedImage}
 use Rattle.writes.specs.Fewer.{differing, Fewer}
 use Rattle.plan.specs.Plan.{planOf, planBuffer}
 use Rattle.plan.specs.Rules.{planRules}
-use Rattle.decode.specs.Ends.{Acceptable, Ends}
-use Rattle.decode.specs.Decode.{decodeOf}
+use Rattle.decode.specs.Ends.{Acceptable}
 use Rattle.decode.specs.Theorems.{Answered}
 use Rattle.cut.specs.Run.{Event, run, writesOf}
 use Rattle.writes.specs.Order.{Order}
 use Rattle.writes.specs.Carried.{Entries}
-use Rattle.promises.specs.Finished.{depthNumbers, Finished, Paired, NeverThree}
+use Rattle.promises.specs.Finished.{Finished, Paired, NeverThree}
 use Rattle.promises.specs.LentBytes.{pairsLeft}
 
 -- what the request wants in each register
@@ -98,22 +92,3 @@ pub record Accepted (r : Request) : Type 0 where
 -- decoding's `Acceptable`, which speaks of the request alone, is that
 abbrev pub OnSomeImage : Request → Type 0
 OnSomeImage r = Acceptable r ↔ Accepted r
-
--- an image in which a request ends has that request's numbers in its named fields, in the family in which it ends
-pub record FieldByField (image : List ℕ) : Type 0 where
-  pub stands : length image ≡ 256 → (r : Request) (e : Ends r image)
-      → let q : Request = inFamily (e .family) r in Finished q (nctsOf (asBytes q)) image
-  -- so RGB with a Q of neither 1 nor 2, as a list made before request 01 left it, decodes to nothing, and YCbCr with a Q that is not 0
-  pub noRange : length image ≡ 256
-      → among (bitsIn 3 2 (getD image 0x57 0)) (cond (eqb (bitsIn 6 5 (getD image 0x55 0)) 0) (1 ∷ 2 ∷ []) (0 ∷ [])) ≡ false
-      → (room : List ℕ) → longest ≤ length room → decodeOf image room .refusal ≡ 11
-  -- and so do a depth other than that of 24, 30 or 36 bits, a PR of no repetition, and two fields of 0x3B that differ
-  pub noDepth : length image ≡ 256 → among (bitsIn 3 0 (getD image 0x4C 0)) depthNumbers ≡ false
-      → (room : List ℕ) → longest ≤ length room → decodeOf image room .refusal ≡ 11
-  pub noRepetition : length image ≡ 256
-      → (among (bitsIn 3 0 (getD image 0x59 0)) (0 ∷ 1 ∷ 3 ∷ []) ≡ false) ⊎ (bitsIn 4 3 (getD image 0x3B 0) ≢ bitsIn 2 1 (getD image 0x3B 0))
-      → (room : List ℕ) → longest ≤ length room → decodeOf image room .refusal ≡ 11
-  -- and a YQ above 1; otherwise the edition that is answered is E exactly where YQ or CN is not 0
-  pub noQuantisation : length image ≡ 256 → 1 < bitsIn 7 6 (getD image 0x59 0)
-      → (room : List ℕ) → longest ≤ length room → decodeOf image room .refusal ≡ 11
-  pub whichEdition : length image ≡ 256 → (r : Request) → Ends r image → editionNumber (r .video) ≡ cond (eqb (bitsIn 7 4 (getD image 0x59 0)) 0) 0 1

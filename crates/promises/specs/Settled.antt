@@ -52,8 +52,11 @@ use Rattle.station.specs.declared.machine.PartOut.{PartOut}
 use Rattle.station.specs.declared.machine.StateOut.{StateOut}
 use Rattle.station.specs.declared.machine.VerdictOut.{VerdictOut}
 use Rattle.station.specs.declared.machine.ClassOut.{ClassOut}
-use Rattle.station.specs.Face.{StationPlan, StationDecode, StationNcts, StationPreview, StationMeter, StationPipeTake, StationPipeEnd}
-use Rattle.station.specs.Machine.{StationWrite, StationVsync, StationSent, StationMute, StationMatrix, StationVet, StationClass}
+use Rattle.station.specs.Face.{StationPlan, StationDecode, StationNcts}
+use Rattle.station.specs.Matrices.{StationPreview, StationMeter}
+use Rattle.station.specs.Pipe.{StationPipeTake, StationPipeEnd}
+use Rattle.station.specs.Vet.{StationVet}
+use Rattle.station.specs.Machine.{StationWrite, StationVsync, StationSent, StationMute, StationMatrix, StationClass}
 
 -- "the result and each lent byte are settled by the promise: any two outcomes it allows are proved equal"
 abbrev pub Settles : {A : Type 0} → (A → Type 0) → Type 0

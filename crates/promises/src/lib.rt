@@ -5,15 +5,19 @@ ghost use Prim.Native.Nat.{ℕ};
 ghost use lib.Ieee.{Float};
 ghost use Rattle.request.specs.declared.Request.{Request};
 ghost use Rattle.chip.specs.declared.Chip.{Chip};
-ghost use Rattle.plan.specs.Plan.{planOf};
-ghost use Rattle.promises.specs.AnyCut.{AnyCut};
+ghost use Rattle.promises.specs.AnyCut.{EveryCut};
 ghost use Rattle.promises.specs.AnyInput.{Demand1};
 ghost use Rattle.promises.specs.Cases.{MarkedCases};
 ghost use Rattle.promises.specs.Example.{Example};
 ghost use Rattle.promises.specs.Finished.{AllNamed};
 ghost use Rattle.promises.specs.Metered.{FromMeter};
 ghost use Rattle.promises.specs.Piped.{ThroughPipe};
-ghost use Rattle.promises.specs.Rules.{Demand2, OnSomeImage, FieldByField};
+ghost use Rattle.promises.specs.FieldByField.{FieldByField};
+ghost use Rattle.promises.specs.MadeRight.{MadeRightAgain};
+ghost use Rattle.promises.specs.OtherCalls.{OtherCalls};
+ghost use Rattle.promises.specs.Readers.{Readers};
+ghost use Rattle.promises.specs.Rules.{Demand2, OnSomeImage};
+ghost use Rattle.promises.specs.Said.{Said};
 ghost use Rattle.promises.specs.Settled.{Settled};
 ghost use Rattle.promises.specs.VendorCases.{VendorCases};
 ghost use Rattle.promises.specs.Vendors.{Vendors};
@@ -26,6 +30,11 @@ pub fn marked_cases()
 // Demand 1: a refusal has its number, a count of zero, and every lent byte as it was.
 pub fn demand_1()
     ensures { λ _. ⌜ Demand1 ⌝ }
+{}
+
+// The same of the preview, a colour meter's matrix, a pipe and a vendor's list.
+pub fn other_calls()
+    ensures { λ _. ⌜ OtherCalls ⌝ }
 {}
 
 // Document 01, "What each entry point owes": each promise allows its outcome, and no other.
@@ -56,7 +65,22 @@ pub fn field_by_field()
 // Demand 3: whatever request is accepted, whatever the chip's two buffers hold, whether a matrix change waits or not, wherever Vsyncs come,
 // and wherever the run is cut.
 pub fn demand_3()
-    ensures { λ _. ⌜ ((input buffer : List ℕ) (s : Chip) → planOf input (s .image) buffer .refusal ≡ 0 → AnyCut input buffer s) ⌝ }
+    ensures { λ _. ⌜ EveryCut ⌝ }
+{}
+
+// The same in what the calls answer over the lent slices.
+pub fn said()
+    ensures { λ _. ⌜ Said ⌝ }
+{}
+
+// Document 02, request 09: "always made right".
+pub fn always_right()
+    ensures { λ _. ⌜ MadeRightAgain ⌝ }
+{}
+
+// Document 02, request 11: what two readers find in the packet that is then in use.
+pub fn two_readers()
+    ensures { λ _. ⌜ Readers ⌝ }
 {}
 
 // Document 02, request 07: what a meter's matrix is to a request and to the preview.

@@ -1,23 +1,19 @@
--- The C face of the chip machine, of a vendor's list on it and of the class table: what each exported call promises, as in `Face`.
+-- The C face of the chip machine and of the class table: what each exported call promises, as in `Face`.
 -- `Settled` says which outcome this is.
 use mathlib.Core.Path.{_≡_}
 use mathlib.Core.List.{List}
 use Prim.Native.Nat.{ℕ}
 use Rattle.registers.specs.declared.Class.{Class}
 use Rattle.registers.specs.Classes.{classAt}
-use Rattle.chip.specs.Write.{lentAs}
 use Rattle.views.specs.declared.view.Part.{Part}
 use Rattle.views.specs.declared.view.Mute.{Mute}
 use Rattle.views.specs.declared.converter.Count.{Count}
-use Rattle.views.specs.Entry.{marked, Lent, enterOf, turnOf}
+use Rattle.views.specs.Entry.{Lent, enterOf, turnOf}
 use Rattle.views.specs.View.{sentPart, muteOf}
 use Rattle.views.specs.Converter.{matrixAnswer, matrixOut}
-use Rattle.vendor.specs.declared.Verdict.{Verdict}
-use Rattle.vendor.specs.Found.{vetOf}
 use Rattle.station.specs.declared.CountOut.{CountOut}
 use Rattle.station.specs.declared.machine.PartOut.{PartOut}
 use Rattle.station.specs.declared.machine.StateOut.{StateOut}
-use Rattle.station.specs.declared.machine.VerdictOut.{VerdictOut}
 use Rattle.station.specs.declared.machine.ClassOut.{ClassOut}
 
 abbrev pub partOut : Part → PartOut
@@ -28,9 +24,6 @@ muteOut m = record { refusal = m .refusal; mute = m .mute }
 
 abbrev pub bytesOut : Count → CountOut
 bytesOut c = record { refusal = c .refusal; count = c .count }
-
-abbrev pub verdictOut : Verdict → VerdictOut
-verdictOut v = record { refusal = v .refusal; place = v .place }
 
 abbrev pub classOut : Class → ClassOut
 classOut c = record { «read_only» = c .«read_only»; mandated = c .mandated; named = c .named; free = c .free; bits = c .bits }
@@ -50,9 +43,6 @@ StationMute image packet out = out ≡ muteOut (muteOf image packet)
 abbrev pub StationMatrix : List ℕ → List ℕ → ℕ → List ℕ → CountOut → List ℕ → Type 0
 StationMatrix image coefficients mark matrix out left =
     (out ≡ bytesOut (matrixAnswer image coefficients matrix)) × (left ≡ matrixOut image coefficients mark matrix)
-
-abbrev pub StationVet : List ℕ → List ℕ → List ℕ → ℕ → List ℕ → VerdictOut → Type 0
-StationVet image packet coefficients mark list out = out ≡ verdictOut (vetOf (lentAs image packet coefficients (marked mark)) list)
 
 abbrev pub StationClass : ℕ → ClassOut → Type 0
 StationClass address out = out ≡ classOut (classAt address)

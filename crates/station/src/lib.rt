@@ -1,5 +1,7 @@
 // The C face: each call is a call of the library, taken apart. No logic. The C declarations are in include/station.h.
-ghost use Rattle.station.specs.Face.{StationPlan, StationDecode, StationNcts, StationPreview, StationMeter, StationPipeTake, StationPipeEnd};
+ghost use Rattle.station.specs.Face.{StationPlan, StationDecode, StationNcts};
+ghost use Rattle.station.specs.Matrices.{StationPreview, StationMeter};
+ghost use Rattle.station.specs.Pipe.{StationPipeTake, StationPipeEnd};
 
 mod machine;
 

@@ -1,6 +1,7 @@
 // The C face of the chip machine, of a vendor's list on it and of the class table: each call is a call of the library, taken apart.
 ghost use Rattle.views.specs.Entry.{lent};
-ghost use Rattle.station.specs.Machine.{StationWrite, StationVsync, StationSent, StationMute, StationMatrix, StationVet, StationClass};
+ghost use Rattle.station.specs.Machine.{StationWrite, StationVsync, StationSent, StationMute, StationMatrix, StationClass};
+ghost use Rattle.station.specs.Vet.{StationVet};
 use crate::CountOut;
 
 // struct station_part

@@ -1,6 +1,6 @@
 -- `station::station_meter` meets its contract: the library's answer, field by field. Assumes nothing.
 use mathlib.Core.Path.{ap}
-use Rattle.station.specs.Face.{meterOut}
+use Rattle.station.specs.Matrices.{meterOut}
 use borrow.Author.Needs.{needs}
 use Rattle.station.proofs.station_meter.Statement.{statement}
 use Rattle.station.proofs.station_meter.Tie as tie

@@ -1,6 +1,6 @@
 -- `station::machine::station_vet` meets its contract: the library's answer, field by field. Assumes nothing.
 use mathlib.Core.Path.{ap}
-use Rattle.station.specs.Machine.{verdictOut}
+use Rattle.station.specs.Vet.{verdictOut}
 use borrow.Author.Needs.{needs}
 use Rattle.station.proofs.machine.station_vet.Statement.{statement}
 use Rattle.station.proofs.machine.station_vet.Tie as tie
