@@ -12,12 +12,12 @@ use borrow.Author.Tests.{eqb-true}
 use Rattle.lists.specs.Find.{every}
 use Rattle.lists.proofs.Both.{both-left, both-right}
 use Rattle.bits.specs.Merge.{bit}
-use Rattle.refusals.specs.Rows.{number, at, imageLength, holdsUp, noExactPair, bufferShort, Condition, _when_, Given}
+use Rattle.refusals.specs.Rows.{number, at, imageLength, holdsUp, Condition, _when_, Given}
 use Rattle.refusals.proofs.Tests.{without}
 use Rattle.registers.specs.Classes.{readOnly, free}
 use Rattle.matrix.specs.Matrix.{Bytes}
 use Rattle.request.specs.Sections.{walked}
-use Rattle.request.specs.Request.{readRules, NoPair}
+use Rattle.request.specs.Request.{requestOf, readRules, pairRows}
 use Rattle.chip.specs.declared.Chip.{Chip}
 use Rattle.chip.specs.Machine.{Write, Group, avi, audio, packets, held, inUse, coefficients, mute}
 use Rattle.chip.specs.Write.{vsyncOf}
@@ -26,7 +26,7 @@ use Rattle.views.specs.Entry.{Lent, stateOf}
 use Rattle.views.specs.Sized.{LentSized}
 use Rattle.writes.proofs.Carries.{masked}
 use Rattle.plan.specs.Plan.{planOf}
-use Rattle.plan.specs.Rules.{HoldsUp}
+use Rattle.plan.specs.Rules.{HoldsUp, bufferRows}
 use Rattle.plan.proofs.Ordered.{holds-up, refusals}
 use Rattle.vendor.specs.Vendor.{vetRules}
 use Rattle.vendor.specs.Found.{vetOf}
@@ -163,7 +163,7 @@ muted-since (l ∷ ls) was b t = go (eqb (n l one) 0) refl (λ h. muted-since ls
 
 next-given : (t : Chip) → Ready (t .image) → (input room : List ℕ) → Bytes input → Given (ownRules input room) (planOf input (t .image) room .refusal)
 next-given t r input room b =
-    let rest : List Condition = noExactPair when NoPair (walked input) ∷ bufferShort when (length room < 256) ∷ [] in
+    let rest : List Condition = pairRows (requestOf (walked input)) ++ bufferRows 256 room in
     let n : ℕ = planOf input (t .image) room .refusal in
     without (readRules (walked input)) (holdsUp when HoldsUp (t .image)) rest n
     (without (readRules (walked input)) (imageLength when (length (t .image) ≢ 256)) (holdsUp when HoldsUp (t .image) ∷ rest) n

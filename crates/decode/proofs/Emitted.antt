@@ -18,8 +18,9 @@ use Rattle.matrix.proofs.Pairs.{length-bytes}
 use Rattle.request.specs.declared.Sound.{Sound}
 use Rattle.request.specs.declared.Sound.the-variants.{Off, On}
 use Rattle.request.specs.declared.Request.{Request}
-use Rattle.request.specs.Sections.{audioCount, matrixCount, longest, laid}
-use Rattle.request.specs.Bytes.{audioBody, matrixBody, bodiesOf, asBytes}
+use Rattle.request.specs.Sections.{audioCount, matrixCount, longest}
+use Rattle.request.specs.Bytes.{laid, audioBody, matrixBody, bodiesOf, asBytes}
+use Rattle.request.specs.Sections as sections
 use Rattle.decode.specs.Decode.{inFront}
 
 pub one-more : (body d : List ℕ) (at i n : ℕ) → i < length body → at + i ≡ n
@@ -75,7 +76,8 @@ unfolding asBytes
 requested q d room twelve v e f g =
     let a : List ℕ = audioBody (q .sound) in
     let m : List ℕ = matrixBody (q .matrix) in
-    let n : length (laid (bodiesOf q) []) ≡ total (bodiesOf q) = laid-length (bodiesOf q) in
+    let bs : List (List ℕ) = sections.inTurn (bodiesOf q) in
+    let n : length (laid bs []) ≡ total bs = laid-length bs in
     let l = ap length v in
     let x = audio-room (q .sound) in
     let y = matrix-room (q .matrix) twelve in (
@@ -84,7 +86,7 @@ requested q d room twelve v e f g =
           ∙ ap₂ (λ (b : List ℕ) (p : ℕ). sets b p (length m ∷ m)) (f .1) (f .0)
           ∙ ap₂ (λ (b : List ℕ) (p : ℕ). sets (sets b p (length a ∷ a)) (p + suc (length a)) (length m ∷ m)) (e .1) (e .0)
           ∙ ap (λ (u : List ℕ). inTurn d 0 (u ∷ a ∷ m ∷ [])) v
-          ∙ emitted d 0 (bodiesOf q) ∙ sets-front (laid (bodiesOf q) []) d (omega arith),
+          ∙ emitted d 0 bs ∙ sets-front (laid bs []) d (omega arith),
     )
 
 -- what stands in front

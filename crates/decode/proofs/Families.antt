@@ -25,12 +25,12 @@ use Rattle.request.specs.declared.Sound.{Sound}
 use Rattle.request.specs.declared.Sound.the-variants.{Off, On}
 use Rattle.request.specs.declared.Request.{Request}
 use Rattle.request.specs.declared.Checked.{Checked}
-use Rattle.request.specs.Read.{outside, combined, judged, readOf, pairIn, pairFor}
-use Rattle.request.specs.Bytes.{audioBody, matrixBody, asBytes, inFamily}
+use Rattle.request.specs.Read.{outside, combined, judged, limited, readOf, pairIn, pairFor}
+use Rattle.request.specs.Bytes.{bodiesOf, asBytes, inFamily}
 use Rattle.request.specs.Theorems.{Shaped}
 use Rattle.request.specs.Fits.{SoundFits, Fits}
 use Rattle.request.proofs.Fits.{fits}
-use Rattle.request.proofs.Ordered.{accepted}
+use Rattle.request.proofs.Ordered.{accepted, not-refused}
 use Rattle.request.proofs.Said.{read-judged, said}
 use Rattle.plan.specs.Wanted.{laid, stores, clockBytes, inputBytes, cscBytes, enableBytes, frameBytes, wantedImage, wanted}
 use Rattle.writes.specs.List.{standsBelow}
@@ -48,21 +48,19 @@ first-within v o x w =
     refuted (is-above (video.inFamily 0 v))
     (λ h. is-above (video.inFamily 1 v) .fails w (families v o (is-pixel-outside v .fails (pixel-inside v x)) .0 h))
 
-judged-first : (v : Video) (a m : List ℕ) → judged (video.inFamily 1 v) a m .refusal ≡ 0 → judged (video.inFamily 0 v) a m .refusal ≡ 0
-unfolding judged outside combined videoOutside shownOutside videoCombined shownCombined
-judged-first v a m z =
-    let j = accepted (video.inFamily 1 v) a m z in
-    let x : outside (video.inFamily 0 v) a m ≡ false = j .inside in
-    let c : combined (video.inFamily 0 v) a m ≡ false = j .apart in
-    let i : videoOutside v ≡ false = neither-left (videoOutside v) _ (j .inside) in
-    rw (first-offered v (j .mode), x, c, first-within v (j .mode) i (j .within))
-
 module _ (r : Request) (s : Shaped (r .matrix)) where
+  judged-first : limited (judged (bodiesOf (inFamily 1 r))) .refusal ≡ 0 → limited (judged (bodiesOf (inFamily 0 r))) .refusal ≡ 0
+  unfolding outside combined videoOutside shownOutside videoCombined shownCombined
+  judged-first z =
+      let v : Video = r .video in
+      let j = accepted (bodiesOf (inFamily 1 r)) z in
+      let i : videoOutside v ≡ false = neither-left (videoOutside v) _ (j .inside) in
+      not-refused (bodiesOf (inFamily 0 r)) (first-offered v (j .mode)) (j .inside) (j .apart) (first-within v (j .mode) i (j .within))
+
   read-first : readOf (asBytes (inFamily 1 r)) .refusal ≡ 0 → readOf (asBytes (inFamily 0 r)) .refusal ≡ 0
   read-first z =
       let n : Checked → ℕ = λ c. c .refusal in
-      ap n (read-judged (inFamily 0 r) s)
-      ∙ judged-first (r .video) (audioBody (r .sound)) (matrixBody (r .matrix)) (sym (ap n (read-judged (inFamily 1 r) s)) ∙ z)
+      ap n (read-judged (inFamily 0 r) s) ∙ judged-first (sym (ap n (read-judged (inFamily 1 r) s)) ∙ z)
 
   -- ---- N and CTS
 

@@ -3,9 +3,9 @@ use mathlib.Core.Path.{_≡_}
 use mathlib.Core.Bool.{Bool, false, not, _&&_, _||_}
 use mathlib.Core.List.{List, [], _∷_, _++_}
 use Prim.Native.Nat.{ℕ}
-use lib.Dec.{eqb, ltb}
+use lib.Dec.{eqb}
 use lib.ListN.{length, drop}
-use Rattle.refusals.specs.Rows.{imageLength, bufferShort, noRequest, Test, _if_, lowest, answer}
+use Rattle.refusals.specs.Rows.{noRequest, Test, _if_, lowest, answer}
 use Rattle.request.specs.declared.Sound.{Sound}
 use Rattle.request.specs.declared.Sound.the-variants.{Off, On}
 use Rattle.request.specs.declared.Request.{Request}
@@ -13,6 +13,7 @@ use Rattle.request.specs.Sections.{longest}
 use Rattle.request.specs.Read.{readOf, pairFor}
 use Rattle.request.specs.Bytes.{asBytes, inFamily}
 use Rattle.plan.specs.Wanted.{wanted}
+use Rattle.plan.specs.Plan.{sizeTests, bufferTests}
 use Rattle.writes.specs.List.{standsBelow}
 use Rattle.decode.specs.declared.Decoded.{Decoded}
 use Rattle.decode.specs.Extract.{extract}
@@ -33,10 +34,7 @@ someEnds image = endsIn (extract image) 0 image || endsIn (extract image) 1 imag
 
 -- the tests of rows 7, 10 and 11
 abbrev pub decodeTests : List ℕ → List ℕ → List Test
-decodeTests image buffer =
-    imageLength if not (eqb (length image) 256) ∷
-    bufferShort if ltb (length buffer) longest ∷
-    noRequest if not (someEnds image) ∷ []
+decodeTests image buffer = sizeTests image ++ bufferTests longest buffer ++ noRequest if not (someEnds image) ∷ []
 
 unfoldable pub decodeRefusal : List ℕ → List ℕ → ℕ
 decodeRefusal image buffer = lowest (decodeTests image buffer)

@@ -5,7 +5,7 @@ use mathlib.Core.Bool.{true}
 use mathlib.Core.List.{List, [], _∷_, _++_}
 use Prim.Native.Nat.{ℕ, _<_, _≤_}
 use lib.ListN.{length, getD, drop}
-use Rattle.refusals.specs.Rows.{imageLength, bufferShort, noRequest, Condition, _when_, Given}
+use Rattle.refusals.specs.Rows.{noRequest, Condition, _when_, Given}
 use Rattle.bits.specs.Merge.{bit}
 use Rattle.registers.specs.Classes.{named, mandated}
 use Rattle.matrix.specs.Matrix.{Bytes}
@@ -14,6 +14,7 @@ use Rattle.request.specs.Sections.{longest}
 use Rattle.request.specs.Read.{readOf, pairFor}
 use Rattle.request.specs.Bytes.{asBytes, answeredAs, asReadBack}
 use Rattle.plan.specs.Wanted.{wanted}
+use Rattle.plan.specs.Rules.{sizeRows, bufferRows}
 use Rattle.lists.specs.Among.{among}
 use Rattle.writes.specs.List.{fullList, finished}
 use Rattle.writes.specs.Order.{addresses}
@@ -64,10 +65,7 @@ pub record AtMostOne (image : List ℕ) : Type 0 where
 
 -- "decoding 7, 10 and 11": when each applies
 abbrev pub decodeRules : List ℕ → List ℕ → List Condition
-decodeRules image buffer =
-    imageLength when (length image ≢ 256) ∷
-    bufferShort when (length buffer < longest) ∷
-    noRequest when ((r : Request) → Ends r image → ⊥) ∷ []
+decodeRules image buffer = sizeRows image ++ bufferRows longest buffer ++ noRequest when ((r : Request) → Ends r image → ⊥) ∷ []
 
 -- "the lowest that applies is given"; it "returns its number and count 0 and changes no lent byte"
 pub record Refusals (image buffer : List ℕ) : Type 0 where

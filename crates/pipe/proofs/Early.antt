@@ -14,7 +14,9 @@ use lib.ListN.{length, take, replicate, length-append, length-replicate}
 use lib.Seq.{take-all}
 use borrow.Author.Tests.{eqb-true, eqb-false, leb-true, leb-false}
 use Rattle.matrix.specs.Matrix.{Bytes}
-use Rattle.request.specs.Sections.{Walk, ends, notAllowed, whole, walk, walked, sections, longest, laid, fits}
+use Rattle.request.specs.Sections.{Walk, ends, notAllowed, whole, walk, walked, sections, longest}
+use Rattle.request.specs.Bytes.{laid}
+use Rattle.request.specs.Walks.{fits}
 use Rattle.request.proofs.Walks.{walks}
 use Rattle.request.proofs.Counted.{Counted, counted, within}
 use Rattle.pipe.specs.Final.{refusalOf, Final, Finals, Deciding}

@@ -7,13 +7,12 @@ use mathlib.Core.List.{List, [], _∷_}
 use Prim.Native.Nat.{ℕ, _*_, _/_, _<_}
 use native.Mathlib.Omega.{arith}
 use lib.Dec.{eqb, ltb}
-use lib.ListN.{length, getD}
+use lib.ListN.{length}
 use borrow.Author.Tests.{ltb-true, eqb-true, eqb-false}
 use Rattle.lists.specs.Find.{every}
 use Rattle.lists.proofs.Both.{both-left, both-right}
 use Rattle.refusals.specs.Rows.{number, Test, lowest, answer}
 use Rattle.video.specs.declared.Video.{Video}
-use Rattle.video.specs.Video.{videoIn}
 use Rattle.clock.specs.declared.Clock.{Clock}
 use Rattle.clock.specs.declared.Pair.{Pair}
 use Rattle.clock.specs.declared.NCts.{NCts}
@@ -24,9 +23,9 @@ use Rattle.request.specs.declared.Sound.{Sound}
 use Rattle.request.specs.declared.Sound.the-variants.{Off, On}
 use Rattle.request.specs.declared.Request.{Request}
 use Rattle.request.specs.declared.Checked.{Checked}
-use Rattle.request.specs.Sections.{Walk, ends, notAllowed, whole, walk, walked, sections}
+use Rattle.request.specs.Sections.{Bodies, byName, Walk, ends, notAllowed, whole, walk, walked, sections}
 use Rattle.request.specs.Request.{requestIn}
-use Rattle.request.specs.Read.{emptied, bodyTests, judged, checked, readOf, pairIn, pairFor, nctsOf}
+use Rattle.request.specs.Read.{emptied, fieldsTests, limitsTests, judged, checked, limitOf, limited, readOf, pairIn, pairFor, nctsOf}
 use Rattle.pipe.specs.Final.{refusalOf}
 
 -- none of rows 1 to 3, and a number of a byte that is not 255
@@ -94,23 +93,27 @@ pair-later r = go (r .sound)
     go Off = none
     go (On rate channels coherent) = single-later (r .video) rate coherent
 
-judged-later : (video : Video) (audio matrix : List ℕ) → Later (judged video audio matrix .refusal)
+judged-later : (b : Bodies) → Later (judged b .refusal)
 unfolding judged
-judged-later video audio matrix = go (lowest (bodyTests video audio matrix)) (lowest-later (bodyTests video audio matrix) refl)
+judged-later b = go (lowest (fieldsTests b)) (lowest-later (fieldsTests b) refl)
   where
-    go : (n : ℕ) → Later n → Later (answer n emptied (record { refusal = 0; request = requestIn video audio matrix }) .refusal)
+    go : (n : ℕ) → Later n → Later (answer n emptied (record { refusal = 0; request = requestIn b }) .refusal)
     go n h = split (eqb n 0)
       where
-        split : (t : Bool) → Later (cond t (record { refusal = 0; request = requestIn video audio matrix }) (emptied n) .refusal)
+        split : (t : Bool) → Later (cond t (record { refusal = 0; request = requestIn b }) (emptied n) .refusal)
         split true = none
         split false = h
 
+limited-later : (c : Checked) → Later (c .refusal) → Later (limited c .refusal)
+limited-later c h =
+    either (eqb (c .refusal) 0) (limitOf (c .request .video)) (c .refusal) (lowest-later (limitsTests (c .request .video)) refl) h
+
 -- of the number that N and CTS gives: that of the sections, or that of the pair
 abbrev numberIn : Checked → ℕ
-numberIn c = answer (c .refusal) noPair (pairFor (c .request)) .refusal
+numberIn c = answer (limited c .refusal) noPair (pairFor (c .request)) .refusal
 
 later : (c : Checked) → Later (c .refusal) → Later (numberIn c)
-later c h = answered (c .refusal) (pairFor (c .request)) h (pair-later (c .request))
+later c h = answered (limited c .refusal) (pairFor (c .request)) (limited-later c h) (pair-later (c .request))
 
 -- by what the walk finds
 abbrev pub Told : Walk → ℕ → Type 0
@@ -123,15 +126,12 @@ of-walk ends = refl
 of-walk notAllowed = refl
 of-walk (whole bodies rest) = go (eqb (length rest) 0) refl
   where
-    video : Video
-    video = videoIn (getD bodies 0 [])
-
     said : Checked
-    said = judged video (getD bodies 1 []) (getD bodies 2 [])
+    said = judged (byName bodies)
 
     go : (b : Bool) → eqb (length rest) 0 ≡ b
         → ((length rest ≢ 0) × (numberIn (answer (cond (not b) 3 0) emptied said) ≡ 3)) ⊎ ((length rest ≡ 0) × Later (numberIn (answer (cond (not b) 3 0) emptied said)))
-    go true e = inr (eqb-true (length rest) 0 e, later said (judged-later video (getD bodies 1 []) (getD bodies 2 [])))
+    go true e = inr (eqb-true (length rest) 0 e, later said (judged-later (byName bodies)))
     go false e = inl (eqb-false (length rest) 0 e, refl)
 
 pub told : (input : List ℕ) → Told (walked input) (refusalOf input)

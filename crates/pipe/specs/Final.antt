@@ -7,7 +7,9 @@ use Prim.Native.Nat.{ℕ, _<_, _≤_}
 use lib.ListN.{length, getD, take}
 use Rattle.lists.specs.Among.{among}
 use Rattle.matrix.specs.Matrix.{Bytes}
-use Rattle.request.specs.Sections.{sections, laid, fits}
+use Rattle.request.specs.Sections.{sections}
+use Rattle.request.specs.Bytes.{laid}
+use Rattle.request.specs.Walks.{fits}
 use Rattle.request.specs.Read.{nctsOf}
 
 -- "the answer .. for the joined bytes": the number that N and CTS gives them, rows 1 to 6, 17 and 9, or 0 (`Rows`, request)

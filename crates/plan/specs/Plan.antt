@@ -2,7 +2,7 @@
 -- `Demand2.listed` (promises) the count and the buffer to the list, `ExactlyWhen` (decode) `standsIn`.
 use mathlib.Core.Path.{_≡_}
 use mathlib.Core.Bool.{Bool, not, _&&_}
-use mathlib.Core.List.{List, [], _∷_}
+use mathlib.Core.List.{List, [], _∷_, _++_}
 use Prim.Native.Nat.{ℕ}
 use lib.Dec.{eqb, ltb}
 use lib.ListN.{length}
@@ -13,13 +13,21 @@ use Rattle.writes.specs.List.{writeList, fronted, standsBelow, ready}
 use Rattle.plan.specs.declared.Planned.{Planned}
 use Rattle.plan.specs.Wanted.{wanted}
 
--- rows 7 to 10 as the code tests them, for a request that was read
+-- the stages of rows 7 to 10 as the code tests them, for a request that was read
+abbrev pub sizeTests : List ℕ → List Test
+sizeTests image = imageLength if not (eqb (length image) 256) ∷ []
+
+abbrev pub imageTests : List ℕ → List Test
+imageTests image = sizeTests image ++ holdsUp if not (ready image) ∷ []
+
+abbrev pub noPairTests : Request → List Test
+noPairTests r = noExactPair if not (eqb (pairFor r .refusal) 0) ∷ []
+
+abbrev pub bufferTests : ℕ → List ℕ → List Test
+bufferTests least buffer = bufferShort if ltb (length buffer) least ∷ []
+
 abbrev pub laterTests : Request → List ℕ → List ℕ → List Test
-laterTests r image buffer =
-    imageLength if not (eqb (length image) 256) ∷
-    holdsUp if not (ready image) ∷
-    noExactPair if not (eqb (pairFor r .refusal) 0) ∷
-    bufferShort if ltb (length buffer) 256 ∷ []
+laterTests r image buffer = imageTests image ++ noPairTests r ++ bufferTests 256 buffer
 
 unfoldable pub laterRefusal : Request → List ℕ → List ℕ → ℕ
 laterRefusal r image buffer = lowest (laterTests r image buffer)

@@ -12,7 +12,7 @@ use borrow.Author.Tests.{le-ltb, ne-eqb}
 use Rattle.lists.proofs.Both.{neither-left, neither-right}
 use Rattle.refusals.specs.Rows.{lowest}
 use Rattle.refusals.proofs.Tests.{numbered}
-use Rattle.video.specs.declared.Video.{Video}
+use Rattle.video.specs.Video.{videoIn}
 use Rattle.video.specs.Tests.{videoOutside}
 use Rattle.matrix.specs.declared.Matrix.{Matrix}
 use Rattle.matrix.specs.Coefficient.{coefficientBytes}
@@ -24,40 +24,43 @@ use Rattle.matrix.proofs.Pairs.{sized}
 use Rattle.meter.proofs.Rule.{laid-matrix}
 use Rattle.request.specs.declared.Request.{Request}
 use Rattle.request.specs.declared.Checked.{Checked}
+use Rattle.request.specs.Sections.{Bodies}
 use Rattle.request.specs.Request.{present}
-use Rattle.request.specs.Read.{emptied, audioOutside, outside, combined, bodyTests, judged, readOf}
-use Rattle.request.specs.Bytes.{audioBody, matrixBody, asBytes}
+use Rattle.request.specs.Read.{audioOutside, outside, combined, judged, limited, readOf}
+use Rattle.request.specs.Bytes.{matrixBody, bodiesOf, asBytes}
 use Rattle.request.specs.Theorems.{Filled, Shaped}
-use Rattle.request.proofs.Ordered.{accepted}
+use Rattle.request.proofs.Ordered.{accepted, not-refused}
 use Rattle.request.proofs.Said.{read-judged, said}
 use Rattle.promises.specs.Metered.{bytesWith, askedWith, FromMeter}
 
 -- ---- another matrix section in an accepted request
-module _ (v : Video) (a m n : List ℕ) (allowed : isAllowed n ≡ true) where
+module _ (b : Bodies) (n : List ℕ) (allowed : isAllowed n ≡ true) where
+  abbrev with : Bodies
+  with = record { video = b .video; audio = b .audio; matrix = n }
+
   has : eqb (length n) 0 ≡ false
   has = ne-eqb (length n) 0 (omega (arith, sized n allowed))
 
-  still-inside : outside v a m ≡ false → outside v a n ≡ false
+  still-inside : outside b ≡ false → outside with ≡ false
   unfolding outside
   still-inside e =
-      let o = neither-left (videoOutside v) _ e in
-      let s = neither-left (present a && audioOutside a) _ (neither-right (videoOutside v) _ e) in
+      let v : Bool = videoOutside (videoIn (b .video)) in
+      let o = neither-left v _ e in
+      let s = neither-left (present (b .audio) && audioOutside (b .audio)) _ (neither-right v _ e) in
       rw (o, s, allowed) (ap (λ (t : Bool). not t && false) has)
 
-  still-apart : combined v a m ≡ false → combined v a n ≡ false
+  still-apart : combined b ≡ false → combined with ≡ false
   unfolding combined
-  still-apart e = rw has (last (not (eqb (v .encoding) 0)) (neither-right (not (eqb (v .encoding) 0) && eqb (length m) 0) _ e))
+  still-apart e =
+      let c : Bool = not (eqb (videoIn (b .video) .encoding) 0) in
+      rw has (last c (neither-right (c && eqb (length (b .matrix)) 0) _ e))
     where
       last : (b : Bool) {c : Bool} → c ≡ false → ((b && false) || c) ≡ false
       last true e = e
       last false e = e
 
-  another : judged v a m .refusal ≡ 0 → judged v a n .refusal ≡ 0
-  unfolding judged
-  another z =
-      let j = accepted v a m z in
-      numbered emptied _ (λ c. c .refusal) (lowest (bodyTests v a n)) (λ _. refl) refl
-      ∙ rw (j .mode, still-inside (j .inside), still-apart (j .apart), j .within) refl
+  another : limited (judged b) .refusal ≡ 0 → limited (judged with) .refusal ≡ 0
+  another z = let j = accepted b z in not-refused with (j .mode) (still-inside (j .inside)) (still-apart (j .apart)) (j .within)
 
 -- a whole matrix in place of a request's own
 put : Matrix → Request → Request
@@ -74,10 +77,8 @@ taken : (r : Request) (m : Matrix) → Shaped (r .matrix) → Whole m → readOf
 unfolding put
 taken r m s w z =
     let number : Checked → ℕ = λ c. c .refusal in
-    let v = r .video in
-    let a = audioBody (r .sound) in
     let shaped : Shaped m = inr (filled m w) in
-    let judgedWith = another v a (matrixBody (r .matrix)) (matrixBody m) (ap isAllowed (own-body m w) ∙ body-back m w .allowed)
+    let judgedWith = another (bodiesOf r) (matrixBody m) (ap isAllowed (own-body m w) ∙ body-back m w .allowed)
     (sym (ap number (read-judged r s)) ∙ z)
     in
     said (put m r) shaped (ap number (read-judged (put m r) shaped) ∙ judgedWith)

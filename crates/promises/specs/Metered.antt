@@ -1,22 +1,21 @@
 -- Document 02, request 07: the bytes of a meter's matrix are a request's matrix section, and a matrix for the preview.
 use mathlib.Core.Path.{_≡_}
-use mathlib.Core.List.{List, [], _∷_}
+use mathlib.Core.List.{List, []}
 use Prim.Native.Nat.{ℕ, _≤_}
 use lib.ListN.{take}
 use lib.Ieee.{Float}
-use Rattle.video.specs.Video.{videoBody}
 use Rattle.matrix.specs.Matrix.{matrixOf}
 use Rattle.matrix.specs.Preview.{previewOf}
 use Rattle.meter.specs.Found.{meterOf, meterBuffer}
 use Rattle.request.specs.declared.Request.{Request}
-use Rattle.request.specs.Sections.{laid}
-use Rattle.request.specs.Bytes.{audioBody, asBytes}
+use Rattle.request.specs.Sections.{inTurn}
+use Rattle.request.specs.Bytes.{laid, bodiesOf, asBytes}
 use Rattle.request.specs.Read.{readOf}
 use Rattle.request.specs.Theorems.{Shaped}
 
 -- a request with a matrix section of these bytes, in place of its own or where it had none: its bytes, and what they say
 abbrev pub bytesWith : List ℕ → Request → List ℕ
-bytesWith body r = laid (videoBody (r .video) ∷ audioBody (r .sound) ∷ body ∷ []) []
+bytesWith body r = laid (inTurn (record { video = bodiesOf r .video; audio = bodiesOf r .audio; matrix = body })) []
 
 abbrev pub askedWith : List ℕ → Request → Request
 askedWith body r = record { video = r .video; sound = r .sound; matrix = matrixOf body }

@@ -1,16 +1,16 @@
 -- Demand 2, of the planning and the decoding entry.
 use mathlib.Core.Path.{_≡_}
 use mathlib.Core.Logic.{_↔_, _≢_, _⊎_}
-use mathlib.Core.List.{List, _++_}
+use mathlib.Core.List.{List, [], _++_}
 use Prim.Native.Nat.{ℕ, _+_, _<_, _≤_}
 use lib.ListN.{length, getD, drop}
 use Rattle.refusals.specs.Rows.{Condition, at}
 use Rattle.matrix.specs.Matrix.{Bytes}
 use Rattle.chip.specs.declared.Chip.{Chip}
 use Rattle.request.specs.declared.Request.{Request}
-use Rattle.request.specs.Sections.{longest}
+use Rattle.request.specs.Sections.{walked, bodiesIn, longest}
 use Rattle.request.specs.Read.{readOf, nctsOf}
-use Rattle.request.specs.Bytes.{asBytes, asReadBack}
+use Rattle.request.specs.Bytes.{asBytes, withVideo, asReadBack}
 use Rattle.plan.specs.Wanted.{wanted}
 use Rattle.writes.specs.List.{writeList, flat, finishedImage}
 use Rattle.writes.specs.Fewer.{differing, Fewer}
@@ -40,11 +40,15 @@ pub record Listed (input image buffer : List ℕ) : Type 0 where
   -- so the pairs in it, by that count, are the list
   pub pairs : pairsLeft input image buffer ≡ writeList (asked input) image
 
--- two requests with the same bytes, but for byte 2, and for byte 7 where each of the two is 0x00 or 0x01: the exception in bare bytes
+-- two requests with the same bytes, but for the video section's byte 1, and for its byte 6 where each of the two is 0x00 or 0x01: the
+-- exception in bare bytes
+abbrev pub videoAt : List ℕ → ℕ → ℕ
+videoAt input i = getD (bodiesIn (walked input) .video) i 0
+
 pub record SameBytesBut (input other : List ℕ) : Type 0 where
-  pub long : length input ≡ length other
-  pub bytes : (i : ℕ) → i ≢ 2 → i ≢ 7 → getD input i 0 ≡ getD other i 0
-  pub edition : (getD input 7 0 ≡ getD other 7 0) ⊎ ((getD input 7 0 ≤ 0x01) × (getD other 7 0 ≤ 0x01))
+  pub others : withVideo [] (bodiesIn (walked input)) ≡ withVideo [] (bodiesIn (walked other))
+  pub bytes : (i : ℕ) → i ≢ 1 → i ≢ 6 → videoAt input i ≡ videoAt other i
+  pub edition : (videoAt input 6 ≡ videoAt other 6) ⊎ ((videoAt input 6 ≤ 0x01) × (videoAt other 6 ≤ 0x01))
 
 pub record Demand2 (input buffer : List ℕ) (s : Chip) : Type 0 where
   -- "A request is accepted exactly when document 01's rules .. permit it."
@@ -69,8 +73,8 @@ pub record Demand2 (input buffer : List ℕ) (s : Chip) : Type 0 where
   -- "Mode 3 is never written"
   pub neverThree : planOf input (s .image) buffer .refusal ≡ 0 → NeverThree (writeList (asked input) (s .image))
   -- "and the finished image reads back as the same request, but for the frame-rate family, which no register names"; request 11: "an E
-  -- request that asks for none of them reads back as D; that one exception is added": the bytes that were asked, with byte 2, the family,
-  -- 0, and byte 7, the edition byte, 0x00 where it is 0x01
+  -- request that asks for none of them reads back as D; that one exception is added": the bytes that were asked, but that the video
+  -- section's family is 0, and its edition byte 0x00 where it is 0x01
   pub readBack : Bytes input → planOf input (s .image) buffer .refusal ≡ 0
       → (room : List ℕ) → longest ≤ length room → Answered (asReadBack input) (finishedImage (asked input) (s .image)) room
   -- there is no other: a request that leaves the same finished image is the same, byte for byte, but for these two

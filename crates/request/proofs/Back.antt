@@ -16,19 +16,21 @@ use Rattle.matrix.specs.Matrix.{fields, matrixOf, noMatrix, Bytes}
 use Rattle.matrix.specs.Tests.{inRange, isAllowed}
 use Rattle.matrix.proofs.Pairs.{ranged}
 use Rattle.refusals.specs.Rows.{answer}
-use Rattle.video.specs.Video.{videoIn}
+use Rattle.video.specs.Video.{videoIn, videoBody, answered}
 use Rattle.video.specs.Tests.{videoOutside}
 use Rattle.video.proofs.Bodies as video
 use Rattle.request.specs.declared.Request.{Request}
 use Rattle.request.specs.declared.Checked.{Checked}
-use Rattle.request.specs.Sections.{audioCount, matrixCount, Walk, ends, notAllowed, whole, walked, audioSection, matrixSection, laid, Sectioned}
-use Rattle.request.specs.Request.{present, videoOf, soundOf, requestIn}
+use Rattle.request.specs.Sections.{audioCount, matrixCount, Bodies, inTurn, byName, bodiesIn, Walk, ends, notAllowed, whole, walked}
+use Rattle.request.specs.Bytes.{laid, audioBody, matrixBody, asBytes, answeredAs, withVideo, asReadBack}
+use Rattle.request.specs.Walks.{Sectioned}
+use Rattle.request.specs.Request.{present, soundOf, requestIn}
 use Rattle.request.specs.Read.{audioOutside, outside, emptied, judged, checked, readOf}
-use Rattle.request.specs.Bytes.{audioBody, matrixBody, asBytes, answeredAs, asReadBack}
-use Rattle.request.specs.Theorems.{ThereAndBack}
+use Rattle.request.specs.Theorems.{Shaped, ThereAndBack}
 use Rattle.request.proofs.Opened.{sectioned, request-walks}
-use Rattle.request.proofs.Ordered.{Judged, passed}
-use Rattle.request.proofs.Said.{said}
+use Rattle.request.proofs.Ordered.{both, passed}
+use Rattle.request.proofs.Said.{bytes-walked, said}
+use Rattle.request.proofs.Fits.{fits}
 
 none : (l : List ℕ) → length l ≡ 0 → l ≡ []
 none [] e = refl
@@ -100,39 +102,44 @@ nothing-after rest c = go (eqb (length rest) 0) refl
     go true e z = none rest (eqb-true _ _ e)
     go false e z = absurd (omega arith)
 
-module _ (input : List ℕ) (b : Bytes input) where
-  bodies : (v a m rest : List ℕ) → Sectioned input v a m rest → rest ≡ [] → outside (videoIn v) a m ≡ false → asBytes (requestIn (videoIn v) a m) ≡ input
+module _ (input : List ℕ) (bytes : Bytes input) where
+  bodies : (b : Bodies) (rest : List ℕ) → Sectioned input b rest → rest ≡ [] → outside b ≡ false → asBytes (requestIn b) ≡ input
   unfolding asBytes outside
-  bodies v a m rest s n o =
+  bodies b rest s n o =
+      let v : List ℕ = b .video in
+      let a : List ℕ = b .audio in
+      let m : List ℕ = b .matrix in
       let x : (present m && not (isAllowed m)) ≡ false = neither-right (present a && audioOutside a) _ (neither-right (videoOutside (videoIn v)) _ o) in
-      let whole : Bytes (length v ∷ (v ++ (length a ∷ (a ++ (length m ∷ (m ++ rest)))))) = subst Bytes (s .made) b in
-      let end : Bytes m = front (length m) m rest (past (length a) a _ (past (length v) v _ whole)) in
+      let end : Bytes m = front (length m) m rest (past (length a) a _ (past (length v) v _ (subst Bytes (s .made) bytes))) in
       let made : matrixBody (cond (present m) (matrixOf m) noMatrix) ≡ m = matrix-back m end (s .matrixCounted) x in
       ap₂ (λ (x y : List ℕ). laid (x ∷ y ∷ matrixBody (cond (present m) (matrixOf m) noMatrix) ∷ []) []) (video.bodies .whole v (s .videoCounted)) (audio-back a (s .audioCounted))
       ∙ ap₂ (λ (z r : List ℕ). laid (v ∷ a ∷ z ∷ []) r) made (sym n) ∙ sym (s .made)
 
-  found : (w : Walk) → walked input ≡ w → checked w .refusal ≡ 0 → Judged (videoOf w) (audioSection w) (matrixSection w) (checked w) → asBytes (checked w .request) ≡ input
-  found ends e z j = absurd (omega arith)
-  found notAllowed e z j = absurd (omega arith)
-  found (whole [] rest) e z j = let t = request-walks input .three [] rest e in absurd (omega arith)
-  found (whole (v ∷ []) rest) e z j = let t = request-walks input .three (v ∷ []) rest e in absurd (omega arith)
-  found (whole (v ∷ a ∷ []) rest) e z j = let t = request-walks input .three (v ∷ a ∷ []) rest e in absurd (omega arith)
-  found (whole (v ∷ a ∷ m ∷ []) rest) e z j =
-      ap asBytes (j .request) ∙ bodies v a m rest (sectioned input v a m rest e) (nothing-after rest (judged (videoIn v) a m) z) (j .inside)
-  found (whole (v ∷ a ∷ m ∷ x ∷ l) rest) e z j = let t = request-walks input .three (v ∷ a ∷ m ∷ x ∷ l) rest e in absurd (omega arith)
+  found : (w : Walk) → walked input ≡ w → checked w .refusal ≡ 0 → outside (bodiesIn w) ≡ false → asBytes (requestIn (bodiesIn w)) ≡ input
+  found ends e z o = absurd (omega arith)
+  found notAllowed e z o = absurd (omega arith)
+  found (whole bs rest) e z o =
+      let n : rest ≡ [] = nothing-after rest (judged (byName bs)) z in
+      let w : walked input ≡ whole (inTurn (byName bs)) rest = e ∙ ap (λ (l : List (List ℕ)). whole l rest) (sym (request-walks input .each bs rest e)) in
+      bodies (byName bs) rest (sectioned input (byName bs) rest w) n o
 
   pub back : readOf input .refusal ≡ 0 → asBytes (readOf input .request) ≡ input
   unfolding readOf
-  back z = found (walked input) refl z (passed (walked input) z)
+  back z =
+      let j = passed (walked input) z in
+      ap asBytes (j .request) ∙ found (walked input) refl (both (checked (walked input)) z .0) (j .inside)
 
-reads-back : (r : Request) → asBytes (answeredAs r) ≡ asReadBack (asBytes r)
+-- of an input as it is answered the video section alone is another
+reads-back : (r : Request) → Shaped (r .matrix) → asBytes (answeredAs r) ≡ asReadBack (asBytes r)
 unfolding asBytes
-reads-back r = refl
+reads-back r s =
+    let at : Walk → List ℕ = λ w. laid (inTurn (withVideo (videoBody (answered (videoIn (bodiesIn w .video)))) (bodiesIn w))) [] in
+    ap at (sym (bytes-walked r s))
 
 pub there-and-back : ThereAndBack
 there-and-back =
     record {
       there = λ r s z. ap (λ (c : Checked). c .request) (said r s z);
       back = back;
-      answered = λ input b z. reads-back (readOf input .request) ∙ ap asReadBack (back input b z);
+      answered = λ input b z. reads-back (readOf input .request) (fits input z .matrix) ∙ ap asReadBack (back input b z);
     }

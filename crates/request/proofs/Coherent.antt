@@ -5,59 +5,47 @@ use mathlib.Core.Bool.{Bool, true, false, false≢true, cond}
 use mathlib.Core.List.{List, [], _∷_}
 use Prim.Native.Nat.{ℕ, zero, suc, _+_, _<_}
 use lib.Dec.{eqb, leb, lit<}
-use lib.ListN.{length, take, drop}
+use lib.ListN.{length, take, drop, getD}
 use lib.Seq.{getD-drop}
 use Rattle.lists.specs.Among.{among}
 use Rattle.refusals.specs.Rows.{noExactPair, _when_, Given, _if_, lowest}
-use Rattle.refusals.proofs.Tests.{lowest-given, answer-beside, in-stages, later, reworded}
+use Rattle.refusals.proofs.Tests.{lowest-given, answer-beside, in-stages, later}
 use Rattle.clock.specs.declared.Pair.{Pair}
-use Rattle.video.specs.declared.Video.{Video}
-use Rattle.video.specs.Video.{noVideo, PixelOutside}
+use Rattle.video.specs.Video.{noVideo, videoIn, PixelOutside}
 use Rattle.video.proofs.Fits.{outside-too}
 use Rattle.clock.specs.Pairs.{noPair}
 use Rattle.clock.proofs.Rows.{refusals, is-above}
+use Rattle.request.specs.declared.Sound.{Sound}
 use Rattle.request.specs.declared.Sound.the-variants.{Off, On}
 use Rattle.request.specs.declared.Checked.{Checked}
 use Rattle.matrix.specs.Matrix.{noMatrix, Bytes}
-use Rattle.request.specs.Sections.{Walk, ends, notAllowed, whole, after, walk, walked, sections, bodyOf, audioSection, matrixSection}
-use Rattle.request.specs.Request.{Present, present, videoOf, rate, channels, coherent, Outside, requestIn, NoPair, readRules}
-use Rattle.request.specs.Read.{emptied, bodyTests, judged, walkTests, checked, pairIn, pairFor, readOf, nctsOf}
+use Rattle.request.specs.Sections.{Bodies, bodiesIn, Walk, ends, notAllowed, whole, after, walk, walked, sections}
+use Rattle.request.specs.Request.{Present, present, rate, channels, coherent, Outside, requestIn, requestOf, NoPair, pairRows, readRules}
+use Rattle.request.specs.Read.{emptied, bytesTests, fieldsTests, judged, checked, limited, pairIn, pairFor, readOf, nctsOf}
 use Rattle.request.specs.Theorems.{Rows}
-use Rattle.request.proofs.Ordered.{read-given, Judged, passed, full, is-outside}
+use Rattle.request.proofs.Ordered.{asks-given, read-given, asked-there, Judged, passed, full, is-outside}
 
 -- where row 5 does not apply, the depth byte, the rate and the coherent byte of an audio section are in range
-in-range : (v : Video) (a m : List ℕ) → (Outside v a m → ⊥) → Present a → PixelOutside v ⊎ (6 < rate a) ⊎ (1 < coherent a) → ⊥
-in-range v a m o p (inl h) = o (inl (outside-too v h))
-in-range v a m o p (inr (inl h)) = o (inr (inl (p, inl h)))
-in-range v a m o p (inr (inr h)) = o (inr (inl (p, inr (inr h))))
+in-range : (b : Bodies) → (Outside b → ⊥) → Present (b .audio) → PixelOutside (videoIn (b .video)) ⊎ (6 < rate (b .audio)) ⊎ (1 < coherent (b .audio)) → ⊥
+in-range b o p (inl h) = o (inl (outside-too (videoIn (b .video)) h))
+in-range b o p (inr (inl h)) = o (inr (inl (p, inl h)))
+in-range b o p (inr (inr h)) = o (inr (inl (p, inr (inr h))))
 
--- row 9 of a walk that rows 1 to 6 and 17 let pass: the rows of the call on single fields, past rows 4, 5 and 17
-module _ (w : Walk) where
-  abbrev v : Video
-  v = videoOf w
-
-  abbrev a : List ℕ
-  a = audioSection w
-
-  abbrev m : List ℕ
-  m = matrixSection w
-
-  nine : Bytes m → Judged v a m (checked w) → Given (noExactPair when NoPair w ∷ []) (pairFor (requestIn v a m) .refusal)
-  unfolding pairFor
-  nine bytes j = go (present a) refl
-    where
-      go : (b : Bool) → present a ≡ b
-          → Given (noExactPair when NoPair w ∷ []) (pairIn (requestIn v a m) (cond b (On (rate a) (channels a) (coherent a)) Off) .refusal)
-      go true e =
-          let p = full a .passes e in
-          let outside : Outside v a m → ⊥ = is-outside v a m bytes .fails (j .inside) in
-          let past4 = later _ _ _ (refusals .pair v (rate a) (coherent a)) refl (λ f. false≢true (sym f ∙ j .mode)) in
-          let past5 = later _ _ _ past4 refl (in-range v a m outside p) in
-          let past17 = later _ _ _ past5 refl (is-above v .fails (j .within)) in
-          reworded noExactPair _ (NoPair w) _ (λ x. (p, x .0, x .1)) (λ x. (x .1, x .2)) past17
-      go false e =
-          lowest-given (noExactPair if false ∷ []) (noExactPair when NoPair w ∷ []) refl
-          (refl, record { passes = λ t. absurd (false≢true t); fails = λ _ x. full a .fails e (x .0) }, λ _. tt)
+-- the pair's stage, past rows 4 to 6 and 17: row 9 of the call on single fields
+pub nine : (b : Bodies) (c : Checked) → Bytes (b .matrix) → Judged b c → Given (pairRows (requestIn b)) (pairFor (requestIn b) .refusal)
+unfolding pairFor
+nine b c bytes j = go (present (b .audio)) refl
+  where
+    go : (t : Bool) → present (b .audio) ≡ t
+        → let s : Sound = cond t (On (rate (b .audio)) (channels (b .audio)) (coherent (b .audio))) Off in
+        Given (noExactPair when NoPair (videoIn (b .video)) s ∷ []) (pairIn (requestIn b) s .refusal)
+    go true e =
+        let past4 = later _ _ _ (refusals .pair (videoIn (b .video)) (rate (b .audio)) (coherent (b .audio))) refl (λ f. false≢true (sym f ∙ j .mode)) in
+        let past5 = later _ _ _ past4 refl (in-range b (is-outside b bytes .fails (j .inside)) (full (b .audio) .passes e)) in
+        later _ _ _ past5 refl (is-above (videoIn (b .video)) .fails (j .within))
+    go false e =
+        lowest-given (noExactPair if false ∷ []) (noExactPair when ⊥ ∷ []) refl
+        (refl, record { passes = λ t. absurd (false≢true t); fails = λ _ x. x }, λ _. tt)
 
 abbrev numberOf : Pair → ℕ
 numberOf p = p .refusal
@@ -74,6 +62,12 @@ taken (suc n) (x ∷ s) b = go (taken n s (λ j. b (suc j)))
     go : Bytes (take n s) → Bytes (x ∷ take n s)
     go t zero = b zero
     go t (suc i) = t i
+
+-- the body of section k
+abbrev bodyOf : ℕ → Walk → List ℕ
+bodyOf k ends = []
+bodyOf k notAllowed = []
+bodyOf k (whole bodies rest) = getD bodies k []
 
 left : (n : ℕ) (s : List ℕ) → Bytes s → Bytes (drop n s)
 left n s b i = rw (getD-drop n s i 0) (b (n + i))
@@ -99,35 +93,45 @@ parts (c ∷ cs) (n ∷ s) b k = go (among n c) (leb n (length s)) (joined (take
     go true false h = none-there
     go false u h = none-there
 
+matrix-bytes : (w : Walk) → ((k : ℕ) → Bytes (bodyOf k w)) → Bytes (bodiesIn w .matrix)
+matrix-bytes ends f = none-there
+matrix-bytes notAllowed f = none-there
+matrix-bytes (whole bodies rest) f = f 2
+
+pub matrix-there : (input : List ℕ) → Bytes input → Bytes (bodiesIn (walked input) .matrix)
+unfolding walked
+matrix-there input b = matrix-bytes (walk sections input) (parts sections input b)
+
 -- beside a refusal, of the walk or of the bodies
 beside : (w : Walk) → checked w .refusal ≢ 0 → checked w .request ≡ record { video = noVideo; sound = Off; matrix = noMatrix }
 unfolding judged
-beside w = go (eqb (lowest (walkTests w)) 0)
+beside w = go (eqb (lowest (bytesTests w)) 0)
   where
     bodies : Checked
-    bodies = judged (videoOf w) (audioSection w) (matrixSection w)
+    bodies = judged (bodiesIn w)
 
-    go : (b : Bool) → cond b bodies (emptied (lowest (walkTests w))) .refusal ≢ 0
-        → cond b bodies (emptied (lowest (walkTests w))) .request ≡ record { video = noVideo; sound = Off; matrix = noMatrix }
-    go true h = ap (λ (c : Checked). c .request) (answer-beside emptied _ (λ (c : Checked). c .refusal) (lowest (bodyTests (videoOf w) (audioSection w) (matrixSection w))) (λ _. refl) h)
+    go : (b : Bool) → cond b bodies (emptied (lowest (bytesTests w))) .refusal ≢ 0
+        → cond b bodies (emptied (lowest (bytesTests w))) .request ≡ record { video = noVideo; sound = Off; matrix = noMatrix }
+    go true h = ap (λ (c : Checked). c .request) (answer-beside emptied _ (λ (c : Checked). c .refusal) (lowest (fieldsTests (bodiesIn w))) (λ _. refl) h)
     go false h = refl
-
-pub rows : (input : List ℕ) → Rows input
-unfolding readOf nctsOf walked
-rows input =
-    let w : Walk = walked input in
-    let bytes : Bytes input → Bytes (matrixSection w) = λ b. parts sections input b 2 in
-    record {
-      read = λ b. read-given w (bytes b);
-      ncts = λ b.
-          in-stages noPair (pairFor (checked w .request)) numberOf (readRules w) (noExactPair when NoPair w ∷ []) (checked w .refusal) refl refl (read-given w (bytes b))
-          (λ z. let j = passed w z in rw (j .request) (nine w (bytes b) j));
-      said = λ z. passed w z .request;
-      none = beside w;
-    }
 
 -- row 9 of an input that is read
 pub pair-given : (input : List ℕ) → Bytes input → readOf input .refusal ≡ 0
-    → Given (noExactPair when NoPair (walked input) ∷ []) (pairFor (readOf input .request) .refusal)
-unfolding readOf walked
-pair-given input b z = let j = passed (walked input) z in rw (j .request) (nine (walked input) (parts sections input b 2) j)
+    → Given (pairRows (requestOf (walked input))) (pairFor (readOf input .request) .refusal)
+unfolding readOf
+pair-given input b z = let j = passed (walked input) z in rw (j .request) (nine (bodiesIn (walked input)) _ (matrix-there input b) j)
+
+pub rows : (input : List ℕ) → Rows input
+unfolding readOf nctsOf
+rows input =
+    let w : Walk = walked input in
+    record {
+      asks = λ b. asks-given w (matrix-there input b);
+      read = λ b. read-given w (matrix-there input b);
+      ncts = λ b.
+          in-stages noPair (pairFor (checked w .request)) numberOf (readRules w) (pairRows (requestOf w)) (limited (checked w) .refusal) refl refl
+          (read-given w (matrix-there input b)) (pair-given input b);
+      said = λ z. asked-there w z .request;
+      known = refl;
+      none = beside w;
+    }

@@ -7,15 +7,15 @@ use native.Mathlib.Nat.{sub-zero, zero-sub}
 use native.Mathlib.Numerals.{unary-clauses}
 use native.Mathlib.Omega.{arith}
 use lib.Dec.{eqb, leb, eqb·suc-zero}
-use lib.ListN.{length, take, drop, getD, length-take}
+use lib.ListN.{length, take, drop, length-take}
 use lib.Seq.{length-take-le, take-take, take-nil}
 use borrow.Author.Tests.{leb-true, leb-false, le-leb, lt-leb, eqb-true}
 use Rattle.lists.specs.Among.{among}
 use Rattle.refusals.specs.Rows.{answer}
-use Rattle.video.specs.Video.{videoIn}
-use Rattle.request.specs.Sections.{Walk, ends, notAllowed, whole, after, walk, walked, sections, longestOf, lengthsOf}
-use Rattle.request.specs.Read.{emptied, judged, checked, readOf, nctsOf}
+use Rattle.request.specs.Sections.{byName, Walk, ends, notAllowed, whole, after, walk, walked, sections, longestOf, lengthsOf}
+use Rattle.request.specs.Read.{emptied, judged, checked, limited, readOf, nctsOf}
 use Rattle.request.specs.Theorems.{Lengths}
+use Rattle.request.proofs.Ordered.{both}
 use Rattle.request.proofs.Counted.{span, Counted, counted, spanned, at-most, within}
 
 -- what is left of a walk where the input is cut after n bytes: of the bytes after the sections, those that are not cut off
@@ -78,7 +78,7 @@ one-of-them cs k ends c z = absurd (omega arith)
 one-of-them cs k notAllowed c z = absurd (omega arith)
 one-of-them cs k (whole bodies rest) c z = go (eqb (length rest) 0) refl z
   where
-    go : (b : Bool) → eqb (length rest) 0 ≡ b → answer (cond (not b) 3 0) emptied (judged (videoIn (getD bodies 0 [])) (getD bodies 1 []) (getD bodies 2 [])) .refusal ≡ 0 → among k (lengthsOf cs) ≡ true
+    go : (b : Bool) → eqb (length rest) 0 ≡ b → answer (cond (not b) 3 0) emptied (judged (byName bodies)) .refusal ≡ 0 → among k (lengthsOf cs) ≡ true
     go true e z =
         let l : length rest ≡ 0 = eqb-true (length rest) 0 e in
         walked-length cs k bodies (omega arith, c .1)
@@ -87,7 +87,7 @@ one-of-them cs k (whole bodies rest) c z = go (eqb (length rest) 0) refl z
 read-cut : (input : List ℕ) (n : ℕ) → longestOf sections < n → readOf (take n input) ≡ readOf input
 unfolding readOf walked
 read-cut input n h =
-    ap checked (walk-cut sections n input (omega arith)) ∙ checked-cut sections n (length input) (walk sections input) h (counted sections input)
+    ap (λ (w : Walk). limited (checked w)) (walk-cut sections n input (omega arith)) ∙ ap limited (checked-cut sections n (length input) (walk sections input) h (counted sections input))
 
 ncts-cut : (input : List ℕ) (n : ℕ) → longestOf sections < n → nctsOf (take n input) ≡ nctsOf input
 unfolding nctsOf
@@ -97,7 +97,7 @@ pub lengths : (input : List ℕ) → Lengths input
 unfolding readOf walked
 lengths input =
     record {
-      accepted = one-of-them sections (length input) (walk sections input) (counted sections input);
+      accepted = λ z. one-of-them sections (length input) (walk sections input) (counted sections input) (both (checked (walk sections input)) z .0);
       walked = λ table bodies e. walked-length table (length input) bodies (subst (Counted table (length input)) e (counted table input));
       read = λ n h. read-cut input n h;
       ncts = λ n h. ncts-cut input n h;

@@ -10,22 +10,22 @@ use lib.ListN.{length, getD, drop, length-drop}
 use borrow.Author.Tests.{eqb-true, ltb-false}
 use Rattle.lists.proofs.Both.{neither-left, neither-right}
 use Rattle.video.specs.declared.Video.{Video}
+use Rattle.video.specs.Video.{videoIn}
 use Rattle.video.specs.Tests.{videoOutside, videoCombined}
-use Rattle.video.specs.Modes.{offered}
 use Rattle.video.proofs.Fits.{is-outside, is-combined, pixel-inside}
-use Rattle.clock.specs.Clocks.{tmds, aboveLimit}
 use Rattle.clock.proofs.Offered.{number-is}
 use Rattle.matrix.specs.declared.Matrix.{Matrix}
 use Rattle.matrix.specs.Matrix.{matrixOf, noMatrix}
 use Rattle.matrix.specs.Tests.{isAllowed}
 use Rattle.matrix.proofs.Pairs.{sized, mode-small, fields-small, none-small, length-fields}
 use Rattle.request.specs.declared.Sound.the-variants.{Off, On}
-use Rattle.request.specs.Sections.{Walk, walked, audioSection, matrixSection}
-use Rattle.request.specs.Request.{present, videoOf, rate, channels, coherent, requestIn}
+use Rattle.request.specs.declared.Checked.{Checked}
+use Rattle.request.specs.Sections.{Bodies, walked, bodiesIn}
+use Rattle.request.specs.Request.{present, rate, channels, coherent, requestIn}
 use Rattle.request.specs.Read.{audioOutside, outside, combined, readOf}
 use Rattle.request.specs.Theorems.{Filled, Shaped}
 use Rattle.request.specs.Fits.{SoundFits, Fits}
-use Rattle.request.proofs.Ordered.{passed}
+use Rattle.request.proofs.Ordered.{Judged, passed}
 
 -- not neither of two
 one-of : (a b : Bool) (m n k : ℕ) → eqb k m ≡ a → eqb k n ≡ b → (not a && not b) ≡ false → (k ≡ m) ⊎ (k ≡ n)
@@ -58,20 +58,23 @@ matrix-fits m false s e f = (inl refl, lit≤ tt)
 matrix-fits m true true e f = (inr (filled m e), mode-small m e)
 matrix-fits m true false e f = absurd (false≢true (sym f))
 
-in-range : (v : Video) (a m : List ℕ) → offered v ≡ true → outside v a m ≡ false → combined v a m ≡ false → aboveLimit (tmds v) ≡ false
-    → Fits (requestIn v a m)
+in-range : (b : Bodies) (c : Checked) → Judged b c → Fits (requestIn b)
 unfolding outside combined
-in-range v a m o x c w =
+in-range b c j =
+    let v : Video = videoIn (b .video) in
+    let a : List ℕ = b .audio in
+    let m : List ℕ = b .matrix in
     let later : Bool = present m && not (isAllowed m) in
-    let y : ((present a && audioOutside a) || later) ≡ false = neither-right (videoOutside v) _ x in
+    let x = neither-left (videoOutside v) _ (j .inside) in
+    let y : ((present a && audioOutside a) || later) ≡ false = neither-right (videoOutside v) _ (j .inside) in
     let f = matrix-fits m (present m) (isAllowed m) refl (neither-right (present a && audioOutside a) _ y) in
     record {
       video = record {
-        offered = o;
-        inside = is-outside v .fails (neither-left (videoOutside v) _ x);
-        apart = is-combined v .fails (neither-right (eqb (v .link) 0 && present a) _ (neither-right (not (eqb (v .encoding) 0) && eqb (length m) 0) _ c));
+        offered = j .mode;
+        inside = is-outside v .fails x;
+        apart = is-combined v .fails (neither-right (eqb (v .link) 0 && present a) _ (neither-right (not (eqb (v .encoding) 0) && eqb (length m) 0) _ (j .apart)));
       };
-      clock = rw (number-is v, o, pixel-inside v (neither-left (videoOutside v) _ x), w);
+      clock = rw (number-is v, j .mode, pixel-inside v x, j .within);
       sound = sound-fits a (present a) (neither-left (present a && audioOutside a) later y);
       matrix = f .0;
       mode = f .1;
@@ -79,10 +82,7 @@ in-range v a m o x c w =
 
 pub fits : (input : List ℕ) → readOf input .refusal ≡ 0 → Fits (readOf input .request)
 unfolding readOf
-fits input z =
-    let w : Walk = walked input in
-    let j = passed w z in
-    subst Fits (sym (j .request)) (in-range (videoOf w) (audioSection w) (matrixSection w) (j .mode) (j .inside) (j .apart) (j .within))
+fits input z = let j = passed (walked input) z in subst Fits (sym (j .request)) (in-range (bodiesIn (walked input)) _ j)
 
 -- a matrix that is none or filled: its enable is one bit, and each coefficient has 13
 pub on-small : (m : Matrix) → Shaped m → m .on ≤ 1

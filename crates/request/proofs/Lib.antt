@@ -1,6 +1,7 @@
 pub mod Walks
 pub mod Counted
 pub mod Turns
+pub mod Kth
 pub mod Opened
 pub mod Judged
 pub mod Ordered

@@ -1,25 +1,28 @@
--- What the code's walk says of a request: the three bodies by their places in the input. Assumes nothing.
---     sectioned     document 01's sentence, of three sections
---     read-refused  what is read where a section is refused
---     opened        the bodies, where none is
-use mathlib.Core.Path.{_≡_, refl, sym, ap, _∙_}
+-- What the code's walk says of a request: its bodies by their places in the input. Assumes nothing.
+--     sectioned    document 01's sentence, of the sections of a request
+--     there        the body of each section at its place, where none is refused
+--     asked, ask-refused    what is asked, by the code's walk
+use mathlib.Core.Path.{_≡_, refl, sym, ap, subst, _∙_}
 use mathlib.Core.Logic.{_≢_, _⊎_, inl, inr}
-use mathlib.Core.Bool.{Bool, true, false, false≢true, cond, _&&_, _||_, or-false}
-use mathlib.Core.List.{List, [], _∷_, _++_}
-use Prim.Native.Nat.{ℕ, suc, _+_, _-_}
+use mathlib.Core.Bool.{Bool, true, false, cond, _&&_, _||_, or-false}
+use mathlib.Core.List.{List, [], _∷_}
+use Prim.Native.Nat.{ℕ, suc, _+_, _-_, _%_, _≤_, _<_}
 use native.Mathlib.Omega.{arith}
 use lib.Dec.{eqb}
-use lib.ListN.{length, take, drop, getD, length-append}
-use lib.Seq.{take-append-seam, drop-append-seam, drop-drop}
-use borrow.Author.Tests.{eqb-true, eq-eqb, ne-eqb}
+use lib.ListN.{length, take, drop, getD}
+use borrow.Author.Tests.{eqb-true, eqb-false, eq-eqb}
 use Rattle.lists.specs.Among.{among}
 use Rattle.lists.proofs.Both.{both-left, both-right}
-use Rattle.video.specs.Video.{videoCount, videoIn}
+use Rattle.video.specs.Video.{videoCount}
 use Rattle.request.specs.declared.sections.Places.{Places}
-use Rattle.request.specs.Sections.{Walk, ends, notAllowed, whole, walk, walked, sections, audioCount, matrixCount, laid, fits, Sectioned, RequestWalks}
-use Rattle.request.specs.Places.{endsFrom, placesOf}
-use Rattle.request.specs.Read.{emptied, judged, checked, readOf}
+use Rattle.request.specs.Sections.{Bodies, inTurn, byName, bodiesIn, Walk, ends, notAllowed, whole, walked, sections, audioCount, matrixCount}
+use Rattle.request.specs.Bytes.{laid}
+use Rattle.request.specs.Walks.{fits, Sectioned, RequestWalks}
+use Rattle.request.specs.Places.{endsFrom, placesOf, EndsAt}
+use Rattle.request.specs.Read.{emptied, judged, checked, askOf}
 use Rattle.request.proofs.Walks.{as-many, walks}
+use Rattle.request.proofs.Counted.{span, Counted, counted}
+use Rattle.request.proofs.Kth.{in-bounds, kth}
 
 -- one of two counts
 one-of : (n a : ℕ) → among n (a ∷ []) ≡ true → n ≡ a
@@ -40,131 +43,129 @@ among-two n a b (inr e) = go (eqb n a)
     go true = refl
     go false = rw (eq-eqb n b e)
 
-module _ (input video audio matrix rest : List ℕ) where
-  bodies : List (List ℕ)
-  bodies = video ∷ audio ∷ matrix ∷ []
-
-  apart : fits sections bodies ≡ true → input ≡ laid bodies rest → Sectioned input video audio matrix rest
-  unfolding bodies
+module _ (input : List ℕ) (b : Bodies) (rest : List ℕ) where
+  apart : fits sections (inTurn b) ≡ true → input ≡ laid (inTurn b) rest → Sectioned input b rest
   apart f e =
-      let v : Bool = among (length video) (videoCount ∷ []) in
-      let a : Bool = among (length audio) (0 ∷ audioCount ∷ []) in
-      let m : Bool = among (length matrix) (0 ∷ matrixCount ∷ []) in
+      let v : Bool = among (length (b .video)) (videoCount ∷ []) in
+      let a : Bool = among (length (b .audio)) (0 ∷ audioCount ∷ []) in
+      let m : Bool = among (length (b .matrix)) (0 ∷ matrixCount ∷ []) in
       let g : (a && (m && true)) ≡ true = both-right v _ f in
       let h : (m && true) ≡ true = both-right a _ g in
       record {
-        videoCounted = one-of (length video) videoCount (both-left v _ f);
-        audioCounted = either-of (length audio) 0 audioCount (both-left a _ g);
-        matrixCounted = either-of (length matrix) 0 matrixCount (both-left m _ h);
+        videoCounted = one-of (length (b .video)) videoCount (both-left v _ f);
+        audioCounted = either-of (length (b .audio)) 0 audioCount (both-left a _ g);
+        matrixCounted = either-of (length (b .matrix)) 0 matrixCount (both-left m _ h);
         made = e;
       }
 
-  together : Sectioned input video audio matrix rest → fits sections bodies ≡ true
-  unfolding bodies
+  together : Sectioned input b rest → fits sections (inTurn b) ≡ true
   together s =
       rw (
-        eq-eqb (length video) videoCount (s .videoCounted),
-        among-two (length audio) 0 audioCount (s .audioCounted),
-        among-two (length matrix) 0 matrixCount (s .matrixCounted),
+        eq-eqb (length (b .video)) videoCount (s .videoCounted),
+        among-two (length (b .audio)) 0 audioCount (s .audioCounted),
+        among-two (length (b .matrix)) 0 matrixCount (s .matrixCounted),
       )
 
-  pub sectioned : walked input ≡ whole (video ∷ audio ∷ matrix ∷ []) rest → Sectioned input video audio matrix rest
-  unfolding walked bodies
-  sectioned e = let w = walks sections input .whole bodies rest .0 e in apart (w .0) (w .1)
+  pub sectioned : walked input ≡ whole (inTurn b) rest → Sectioned input b rest
+  unfolding walked
+  sectioned e = let w = walks sections input .whole (inTurn b) rest .0 e in apart (w .0) (w .1)
 
-  found-whole : Sectioned input video audio matrix rest → walked input ≡ whole (video ∷ audio ∷ matrix ∷ []) rest
-  unfolding walked bodies
-  found-whole s = walks sections input .whole bodies rest .1 (together s, s .made)
+  found-whole : Sectioned input b rest → walked input ≡ whole (inTurn b) rest
+  unfolding walked
+  found-whole s = walks sections input .whole (inTurn b) rest .1 (together s, s .made)
+
+-- a body for each section
+each-named : (bodies : List (List ℕ)) → length bodies ≡ length sections → inTurn (byName bodies) ≡ bodies
+each-named [] l = absurd (omega arith)
+each-named (v ∷ []) l = absurd (omega arith)
+each-named (v ∷ a ∷ []) l = absurd (omega arith)
+each-named (v ∷ a ∷ m ∷ []) l = refl
+each-named (v ∷ a ∷ m ∷ x ∷ more) l = absurd (omega arith)
 
 pub request-walks : (input : List ℕ) → RequestWalks input
 unfolding walked
 request-walks input =
     record {
-      three = λ bodies rest e. as-many sections bodies (walks sections input .whole bodies rest .0 e .0);
-      whole = λ v a m rest. (sectioned input v a m rest, found-whole input v a m rest);
+      each = λ bodies rest e. each-named bodies (as-many sections bodies (walks sections input .whole bodies rest .0 e .0));
+      whole = λ b rest. (sectioned input b rest, found-whole input b rest);
     }
 
--- the places of a walk in which no section is refused, and the bodies there
-pub record Opened (s places : List ℕ) : Type 0 where
-  pub video : List ℕ
-  pub audio : List ℕ
-  pub matrix : List ℕ
-  pub rest : List ℕ
-  pub walk : walked s ≡ whole (video ∷ audio ∷ matrix ∷ []) rest
-  pub counts : Sectioned s video audio matrix rest
-  pub one : getD places 0 0 ≡ 1 + length video
-  pub two : getD places 1 0 ≡ getD places 0 0 + 1 + length audio
-  pub three : getD places 2 0 ≡ getD places 1 0 + 1 + length matrix
-  pub end : length s ≡ getD places 2 0 + length rest
-  pub videoAt : take (getD places 0 0 - 1) (drop 1 s) ≡ video
-  pub audioAt : take (getD places 1 0 - (getD places 0 0 + 1)) (drop (getD places 0 0 + 1) s) ≡ audio
-  pub matrixAt : take (getD places 2 0 - (getD places 1 0 + 1)) (drop (getD places 1 0 + 1) s) ≡ matrix
+-- where a walk found all sections, the body of section k: after its count, which stands where the body before it ends
+pub record There (s found : List ℕ) (k : ℕ) : Type 0 where
+  pub before : getD (0 ∷ found) k 0 < getD found k 0
+  pub within : getD found k 0 ≤ length s
+  pub body : take (getD found k 0 - suc (getD (0 ∷ found) k 0)) (drop (suc (getD (0 ∷ found) k 0)) s) ≡ getD (inTurn (bodiesIn (walked s))) k []
 
--- a body after its count, and what follows it
-body-at : (b left s : List ℕ) (place n : ℕ) → n ≡ length b → drop place s ≡ length b ∷ (b ++ left) → take n (drop (place + 1) s) ≡ b
-body-at b left s place n l e =
-    let d : drop (place + 1) s ≡ b ++ left = sym (drop-drop 1 place s) ∙ rw e in
-    rw (d, l) (take-append-seam b left)
-
-skip : (b left s : List ℕ) (place : ℕ) → drop place s ≡ length b ∷ (b ++ left) → drop (place + suc (length b)) s ≡ left
-skip b left s place e = sym (drop-drop (suc (length b)) place s) ∙ rw e (drop-append-seam b left)
-
-module _ (s v a m rest : List ℕ) (w : walked s ≡ whole (v ∷ a ∷ m ∷ []) rest) where
-  opened-whole : Opened s (endsFrom 0 (v ∷ a ∷ m ∷ []))
-  opened-whole =
-      let c = sectioned s v a m rest w in
-      let i : ℕ = 0 + suc (length v) in
-      let j : ℕ = i + suc (length a) in
-      let after : drop i s ≡ length a ∷ (a ++ (length m ∷ (m ++ rest))) = skip v (length a ∷ (a ++ (length m ∷ (m ++ rest)))) s 0 (c .made) in
-      let later : drop j s ≡ length m ∷ (m ++ rest) = skip a (length m ∷ (m ++ rest)) s i after in
-      let last : drop (j + suc (length m)) s ≡ rest = skip m rest s j later in
-      record {
-        video = v;
-        audio = a;
-        matrix = m;
-        rest = rest;
-        walk = w;
-        counts = c;
-        one = omega arith;
-        two = omega arith;
-        three = omega arith;
-        end = omega (arith, ap length (c .made), length-append v (length a ∷ (a ++ (length m ∷ (m ++ rest)))), length-append a (length m ∷ (m ++ rest)), length-append m rest);
-        videoAt = body-at v (length a ∷ (a ++ (length m ∷ (m ++ rest)))) s 0 (i - 1) (omega arith) (c .made);
-        audioAt = body-at a (length m ∷ (m ++ rest)) s i (j - (i + 1)) (omega arith) after;
-        matrixAt = body-at m rest s j (j + suc (length m) - (j + 1)) (omega arith) later;
-      }
-
--- what is read
-read-as : (w : Walk) → placesOf w .refusal ≢ 0 → emptied (placesOf w .refusal) ≡ checked w
-read-as ends h = refl
-read-as notAllowed h = refl
-read-as (whole bodies rest) h = absurd (h refl)
-
-module _ (s : List ℕ) (p : Places) (e : p ≡ placesOf (walked s)) where
-  pub read-refused : p .refusal ≢ 0 → emptied (p .refusal) ≡ readOf s
-  unfolding readOf
-  read-refused h = rw e (read-as (walked s) (rw e at h))
-
-  pub opened : p .refusal ≡ 0 → Opened s (p .ends)
-  opened z = go (walked s) refl e
+module _ (s found : List ℕ) (e : EndsAt s found) where
+  pub there : (k : ℕ) → k < length sections → There s found k
+  unfolding walked
+  there k h = go (walked s) refl e
     where
-      some : (bodies : List (List ℕ)) (rest : List ℕ) → walked s ≡ whole bodies rest → length bodies ≡ 3 → Opened s (endsFrom 0 bodies)
-      some [] rest w l = absurd (omega arith)
-      some (v ∷ []) rest w l = absurd (omega arith)
-      some (v ∷ a ∷ []) rest w l = absurd (omega arith)
-      some (v ∷ a ∷ m ∷ []) rest w l = opened-whole s v a m rest w
-      some (v ∷ a ∷ m ∷ x ∷ more) rest w l = absurd (omega arith)
-
-      go : (w : Walk) → walked s ≡ w → p ≡ placesOf w → Opened s (p .ends)
+      go : (w : Walk) → walked s ≡ w → record { refusal = 0; ends = found } ≡ placesOf w → There s found k
       go ends f q = absurd (omega (arith, ap (λ (x : Places). x .refusal) q))
       go notAllowed f q = absurd (omega (arith, ap (λ (x : Places). x .refusal) q))
-      go (whole bodies rest) f q = rw q (some bodies rest f (request-walks s .three bodies rest f))
+      go (whole bodies rest) f q =
+          let w = walks sections s .whole bodies rest .0 f in
+          let n : length bodies ≡ length sections = as-many sections bodies (w .0) in
+          let p : found ≡ endsFrom 0 bodies = ap (λ (x : Places). x .ends) q in
+          let i = in-bounds 0 bodies rest k (omega arith) in
+          let b : take (getD found k 0 - suc (getD (0 ∷ found) k 0)) (drop (suc (getD (0 ∷ found) k 0)) s) ≡ getD bodies k [] = rw (p, w .1) (kth [] bodies rest k (omega arith)) in
+          record {
+            before = rw p (i .0);
+            within = rw (p, w .1) (omega (arith, i .1));
+            body = b ∙ ap (λ (l : List (List ℕ)). getD l k []) (sym (each-named bodies n)) ∙ ap (λ (w : Walk). getD (inTurn (bodiesIn w)) k []) (sym f);
+          }
 
-module _ (s a b c rest : List ℕ) (w : walked s ≡ whole (a ∷ b ∷ c ∷ []) rest) where
-  pub read-after : length rest ≢ 0 → emptied 3 ≡ readOf s
-  unfolding readOf
-  read-after h = rw (w, ne-eqb (length rest) 0 h)
+  -- and the bytes after them: with none, what is asked is what the bodies say
+  pub asked : askOf s ≡ cond (eqb (getD found 2 0) (length s)) (judged (bodiesIn (walked s))) (emptied 3)
+  unfolding walked
+  asked = go (walked s) refl e
+    where
+      go : (w : Walk) → walked s ≡ w → record { refusal = 0; ends = found } ≡ placesOf w
+          → checked w ≡ cond (eqb (getD found 2 0) (length s)) (judged (bodiesIn w)) (emptied 3)
+      go ends f q = absurd (omega (arith, ap (λ (x : Places). x .refusal) q))
+      go notAllowed f q = absurd (omega (arith, ap (λ (x : Places). x .refusal) q))
+      go (whole bodies rest) f q =
+          let c : length s ≡ span bodies + length rest = subst (Counted sections (length s)) f (counted sections s) .0 in
+          let n : length bodies ≡ length sections = as-many sections bodies (walks sections s .whole bodies rest .0 f .0) in
+          let p : found ≡ endsFrom 0 bodies = ap (λ (x : Places). x .ends) q in
+          let l : getD found 2 0 ≡ span bodies = ap (λ (l : List ℕ). getD l 2 0) p ∙ last bodies n in
+          by (eqb (length rest) 0) refl (eqb (getD found 2 0) (length s)) refl l c
+        where
+          last : (bodies : List (List ℕ)) → length bodies ≡ length sections → getD (endsFrom 0 bodies) 2 0 ≡ span bodies
+          last [] n = absurd (omega arith)
+          last (v ∷ []) n = absurd (omega arith)
+          last (v ∷ a ∷ []) n = absurd (omega arith)
+          last (v ∷ a ∷ m ∷ []) n = omega arith
+          last (v ∷ a ∷ m ∷ x ∷ more) n = absurd (omega arith)
 
-  pub read-whole : length rest ≡ 0 → judged (videoIn a) b c ≡ readOf s
-  unfolding readOf
-  read-whole h = rw (w, eq-eqb (length rest) 0 h)
+          by : (a : Bool) → eqb (length rest) 0 ≡ a → (b : Bool) → eqb (getD found 2 0) (length s) ≡ b → getD found 2 0 ≡ span bodies
+              → length s ≡ span bodies + length rest → checked (whole bodies rest) ≡ cond b (judged (byName bodies)) (emptied 3)
+          by true x true y l c = rw x
+          by true x false y l c = absurd (eqb-false (getD found 2 0) (length s) y (omega (arith, eqb-true (length rest) 0 x)))
+          by false x true y l c = absurd (eqb-false (length rest) 0 x (omega (arith, eqb-true (getD found 2 0) (length s) y)))
+          by false x false y l c = rw x
+
+-- what is asked where a section is refused
+pub ask-refused : (s : List ℕ) (p : Places) → p ≡ placesOf (walked s) → p .refusal ≢ 0 → emptied (p .refusal) ≡ askOf s
+ask-refused s p e h = rw e (go (walked s) (rw e at h))
+  where
+    go : (w : Walk) → placesOf w .refusal ≢ 0 → emptied (placesOf w .refusal) ≡ checked w
+    go ends h = refl
+    go notAllowed h = refl
+    go (whole bodies rest) h = absurd (h refl)
+
+-- an audio section is empty or whole
+multiple : (n : ℕ) → (n ≡ 0) ⊎ (n ≡ audioCount) → n % audioCount ≡ 0
+multiple n (inl e) = rw e
+multiple n (inr e) = rw e
+
+pub audio-whole : (s found : List ℕ) → EndsAt s found → length (bodiesIn (walked s) .audio) % audioCount ≡ 0
+audio-whole s found e = go (walked s) refl e
+  where
+    go : (w : Walk) → walked s ≡ w → record { refusal = 0; ends = found } ≡ placesOf w → length (bodiesIn w .audio) % audioCount ≡ 0
+    go ends f q = absurd (omega (arith, ap (λ (x : Places). x .refusal) q))
+    go notAllowed f q = absurd (omega (arith, ap (λ (x : Places). x .refusal) q))
+    go (whole bodies rest) f q =
+        let w : walked s ≡ whole (inTurn (byName bodies)) rest = f ∙ ap (λ (l : List (List ℕ)). whole l rest) (sym (request-walks s .each bodies rest f)) in
+        multiple _ (sectioned s (byName bodies) rest w .audioCounted)

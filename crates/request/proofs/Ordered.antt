@@ -1,25 +1,36 @@
--- The rows of a request, tested in order. Assumes nothing.
-use mathlib.Core.Path.{_≡_, refl, sym, ap}
-use mathlib.Core.Bool.{true, false, false≢true}
+-- The rows of a request, tested in order, stage by stage. Assumes nothing.
+--     fields-given, limits-given    the fields' stage and the limits'
+--     asks-given, read-given        the calls
+--     Asked, Judged                 what is known where rows 4 to 6, and 17 too, let a request pass
+use mathlib.Core.Path.{_≡_, refl, sym, ap, subst, _∙_}
+use mathlib.Core.Bool.{Bool, true, false, false≢true, cond}
 use mathlib.Core.List.{List}
 use Prim.Native.Nat.{ℕ}
 use borrow.Author.Tests.{not-false}
-use lib.ListN.{length, take, drop}
-use Rattle.refusals.specs.Rows.{Condition, Given, lowest}
+use lib.Dec.{eqb}
+use lib.ListN.{length}
+use Rattle.refusals.specs.Rows.{Given, lowest}
+use Rattle.lists.proofs.Both.{neither-left}
 use Rattle.lists.proofs.Decides.{Decides, failing, itself, equal, less, opposite, either, together, restated}
 use Rattle.matrix.specs.Matrix.{Allowed, Bytes}
 use Rattle.matrix.specs.Tests.{isAllowed}
 use Rattle.matrix.proofs.Numbers.{numbers}
-use Rattle.refusals.proofs.Tests.{Decided, lowest-given, answer-given, in-stages, none-in-stages, none-at, answer-none}
+use Rattle.refusals.proofs.Tests.{lowest-given, answer-given, in-stages, none-in-stages, none-at, answer-none, numbered}
 use Rattle.video.specs.declared.Video.{Video}
+use Rattle.video.specs.Video.{videoIn}
+use Rattle.video.specs.Tests.{pixelOutside, videoOutside}
 use Rattle.video.specs.Modes.{offered}
 use Rattle.video.proofs.Fits as video
-use Rattle.clock.specs.Clocks.{tmds, aboveLimit}
+use Rattle.clock.specs.Clocks.{tmds, AboveLimit, aboveLimit, clockOf}
+use Rattle.clock.proofs.Offered.{number-is}
 use Rattle.clock.proofs.Rows.{is-above}
+use Rattle.request.specs.declared.Request.{Request}
 use Rattle.request.specs.declared.Checked.{Checked}
-use Rattle.request.specs.Sections.{Walk, ends, notAllowed, whole, audioSection, matrixSection, restOf}
-use Rattle.request.specs.Request.{Present, present, videoOf, rate, channels, coherent, AudioOutside, Outside, Combined, requestIn, readRules}
-use Rattle.request.specs.Read.{audioOutside, outside, combined, emptied, bodyTests, judged, isEnds, isNotAllowed, walkTests, checked}
+use Rattle.request.specs.Sections.{Bodies, Walk, ends, notAllowed, whole, bodiesIn, restOf}
+use Rattle.request.specs.Request.{Present, present, rate, channels, coherent, AudioOutside, Outside, Combined, requestIn, requestOf}
+use Rattle.request.specs.Request.{bytesRows, fieldsRows, limitsRows, askRules, readRules}
+use Rattle.request.specs.Read.{audioOutside, outside, combined, emptied, isEnds, isNotAllowed, bytesTests, fieldsTests, limitsTests}
+use Rattle.request.specs.Read.{judged, checked, limitOf, limited}
 
 -- what the tests of rows 1 and 2 decide
 ends-decided : (w : Walk) → Decides (isEnds w) (w ≡ ends)
@@ -39,77 +50,136 @@ full l = opposite (equal (length l) 0)
 out-of-range : (a : List ℕ) → Decides (audioOutside a) (AudioOutside a)
 out-of-range a = either (less 6 (rate a)) (either (together (opposite (equal (channels a) 2)) (opposite (equal (channels a) 8))) (less 1 (coherent a)))
 
-pub is-outside : (v : Video) (a m : List ℕ) → Bytes m → Decides (outside v a m) (Outside v a m)
+pub is-outside : (b : Bodies) → Bytes (b .matrix) → Decides (outside b) (Outside b)
 unfolding outside
-is-outside v a m bytes =
+is-outside b bytes =
+    let m : List ℕ = b .matrix in
     let allowed : Decides (isAllowed m) (Allowed m) = restated (numbers m bytes .rule .0) (numbers m bytes .rule .1) (itself (isAllowed m)) in
-    either (video.is-outside v) (either (together (full a) (out-of-range a)) (together (full m) (opposite allowed)))
+    either (video.is-outside (videoIn (b .video))) (either (together (full (b .audio)) (out-of-range (b .audio))) (together (full m) (opposite allowed)))
 
-is-combined : (v : Video) (a m : List ℕ) → Decides (combined v a m) (Combined v a m)
+is-combined : (b : Bodies) → Decides (combined b) (Combined b)
 unfolding combined
-is-combined v a m =
-    either (together (opposite (equal (v .encoding) 0)) (equal (length m) 0)) (either (together (equal (v .link) 0) (full a)) (video.is-combined v))
+is-combined b =
+    let v : Video = videoIn (b .video) in
+    either (together (opposite (equal (v .encoding) 0)) (equal (length (b .matrix)) 0)) (either (together (equal (v .link) 0) (full (b .audio))) (video.is-combined v))
 
 abbrev numberOf : Checked → ℕ
 numberOf c = c .refusal
 
--- rows 1 to 3 by the walk, and then rows 4 to 6 and 17 by its bodies: the tests decide them one by one
-module _ (w : Walk) (bytes : Bytes (matrixSection w)) where
-  abbrev v : Video
-  v = videoOf w
+-- ---- each stage: its tests decide its rows one by one
 
-  abbrev a : List ℕ
-  a = audioSection w
+bytes-given : (w : Walk) → Given (bytesRows w) (lowest (bytesTests w))
+bytes-given w =
+    lowest-given (bytesTests w) (bytesRows w) refl (refl, ends-decided w, λ _. (refl, refused-decided w, λ _. (refl, full (restOf w), λ _. tt)))
 
-  abbrev m : List ℕ
-  m = matrixSection w
+pub fields-given : (b : Bodies) → Bytes (b .matrix) → Given (fieldsRows b) (judged b .refusal)
+unfolding judged
+fields-given b bytes =
+    answer-given emptied _ numberOf (fieldsRows b) (lowest (fieldsTests b)) refl (λ _. refl)
+    (lowest-given (fieldsTests b) (fieldsRows b) refl
+    (refl, failing (offered (videoIn (b .video))), λ _. (refl, is-outside b bytes, λ _. (refl, is-combined b, λ _. tt))))
 
-  abbrev walkRules : List Condition
-  walkRules = take (length (walkTests w)) (readRules w)
+-- past the fields the mode is offered and each field in range, and so the clock's own number is 17 or none
+limit-is : (v : Video) → offered v ≡ true → pixelOutside v ≡ false → eqb (clockOf v .refusal) 17 ≡ aboveLimit (tmds v)
+limit-is v o p = rw (number-is v, o, p) (go (aboveLimit (tmds v)))
+  where
+    go : (a : Bool) → eqb (cond a 17 0) 17 ≡ a
+    go true = refl
+    go false = refl
 
-  abbrev bodyRules : List Condition
-  bodyRules = drop (length (walkTests w)) (readRules w)
+-- what the fields let pass
+pub record Asked (b : Bodies) (c : Checked) : Type 0 where
+  pub request : c .request ≡ requestIn b
+  pub mode : offered (videoIn (b .video)) ≡ true
+  pub inside : outside b ≡ false
+  pub apart : combined b ≡ false
 
-  walk-decided : Decided (walkTests w) walkRules
-  walk-decided = (refl, ends-decided w, λ _. (refl, refused-decided w, λ _. (refl, full (restOf w), λ _. tt)))
+pub asked : (b : Bodies) → judged b .refusal ≡ 0 → Asked b (judged b)
+unfolding judged
+asked b z =
+    let n : lowest (fieldsTests b) ≡ 0 = none-in-stages emptied _ numberOf (lowest (fieldsTests b)) refl z .0 in
+    record {
+      request = ap (λ (c : Checked). c .request) (answer-none emptied _ (lowest (fieldsTests b)) n);
+      mode = not-false (offered (videoIn (b .video))) (none-at (fieldsTests b) 0 n);
+      inside = none-at (fieldsTests b) 1 n;
+      apart = none-at (fieldsTests b) 2 n;
+    }
 
-  body-decided : Decided (bodyTests v a m) bodyRules
-  body-decided = (refl, failing (offered v), λ _. (refl, is-outside v a m bytes, λ _. (refl, is-combined v a m, λ _. (refl, is-above v, λ _. tt))))
+limit-there : (b : Bodies) → judged b .refusal ≡ 0 → let v : Video = videoIn (b .video) in eqb (clockOf v .refusal) 17 ≡ aboveLimit (tmds v)
+unfolding outside
+limit-there b z =
+    let j = asked b z in
+    let v : Video = videoIn (b .video) in
+    limit-is v (j .mode) (video.pixel-inside v (neither-left (videoOutside v) _ (j .inside)))
 
-  pub read-given : Given (readRules w) (checked w .refusal)
-  unfolding judged
-  read-given =
-      in-stages emptied (judged v a m) numberOf walkRules bodyRules (lowest (walkTests w)) refl refl
-      (lowest-given (walkTests w) walkRules refl walk-decided)
-      (λ _. answer-given emptied _ numberOf bodyRules (lowest (bodyTests v a m)) refl (λ _. refl)
-      (lowest-given (bodyTests v a m) bodyRules refl body-decided))
+pub limits-given : (b : Bodies) → judged b .refusal ≡ 0 → Given (limitsRows (requestIn b)) (limitOf (videoIn (b .video)))
+limits-given b z =
+    let v : Video = videoIn (b .video) in
+    lowest-given (limitsTests v) (limitsRows (requestIn b)) refl
+    (refl, subst (λ (t : Bool). Decides t (AboveLimit (tmds v))) (sym (limit-there b z)) (is-above v), λ _. tt)
 
-module _ (v : Video) (a m : List ℕ) where
-  pub record Judged (c : Checked) : Type 0 where
-    pub request : c .request ≡ requestIn v a m
-    pub mode : offered v ≡ true
-    pub inside : outside v a m ≡ false
-    pub apart : combined v a m ≡ false
-    pub within : aboveLimit (tmds v) ≡ false
+-- ---- the calls: stages, one after the other
 
-  pub accepted : judged v a m .refusal ≡ 0 → Judged (judged v a m)
-  unfolding judged
-  accepted z =
-      let n : lowest (bodyTests v a m) ≡ 0 = none-in-stages emptied _ numberOf (lowest (bodyTests v a m)) refl z .0 in
-      record {
-        request = ap (λ (c : Checked). c .request) (answer-none emptied _ (lowest (bodyTests v a m)) n);
-        mode = not-false (offered v) (none-at (bodyTests v a m) 0 n);
-        inside = none-at (bodyTests v a m) 1 n;
-        apart = none-at (bodyTests v a m) 2 n;
-        within = none-at (bodyTests v a m) 3 n;
-      }
+pub asks-given : (w : Walk) → Bytes (bodiesIn w .matrix) → Given (askRules w) (checked w .refusal)
+asks-given w bytes =
+    in-stages emptied (judged (bodiesIn w)) numberOf (bytesRows w) (fieldsRows (bodiesIn w)) (lowest (bytesTests w)) refl refl (bytes-given w)
+    (λ _. fields-given (bodiesIn w) bytes)
 
--- a walk that no row refuses: no byte is left, its request is what its bodies say, in a mode that is offered, with each field in range
-pub alone : (w : Walk) → checked w .refusal ≡ 0 → (lowest (walkTests w) ≡ 0) × (judged (videoOf w) (audioSection w) (matrixSection w) .refusal ≡ 0)
-alone w = none-in-stages emptied _ numberOf (lowest (walkTests w)) refl
+-- a walk that rows 1 to 6 let pass
+pub alone : (w : Walk) → checked w .refusal ≡ 0 → (lowest (bytesTests w) ≡ 0) × (judged (bodiesIn w) .refusal ≡ 0)
+alone w = none-in-stages emptied _ numberOf (lowest (bytesTests w)) refl
 
-pub passed : (w : Walk) → checked w .refusal ≡ 0 → Judged (videoOf w) (audioSection w) (matrixSection w) (checked w)
-passed w z =
+pub asked-there : (w : Walk) → checked w .refusal ≡ 0 → Asked (bodiesIn w) (checked w)
+asked-there w z =
     let p = alone w z in
-    let e : checked w ≡ judged (videoOf w) (audioSection w) (matrixSection w) = answer-none emptied _ (lowest (walkTests w)) (p .0) in
-    rw e (accepted (videoOf w) (audioSection w) (matrixSection w) (p .1))
+    let e : checked w ≡ judged (bodiesIn w) = answer-none emptied _ (lowest (bytesTests w)) (p .0) in
+    rw e (asked (bodiesIn w) (p .1))
+
+pub read-given : (w : Walk) → Bytes (bodiesIn w .matrix) → Given (readRules w) (limited (checked w) .refusal)
+read-given w bytes =
+    in-stages (λ (n : ℕ). n) (limitOf (checked w .request .video)) (λ (n : ℕ). n) (askRules w) (limitsRows (requestOf w)) (checked w .refusal) refl refl
+    (asks-given w bytes)
+    (λ z. rw (asked-there w z .request) (limits-given (bodiesIn w) (alone w z .1)))
+
+-- where neither the fields nor the limits refuse
+pub both : (c : Checked) → limited c .refusal ≡ 0 → (c .refusal ≡ 0) × (limitOf (c .request .video) ≡ 0)
+both c = none-in-stages (λ (n : ℕ). n) (limitOf (c .request .video)) (λ (n : ℕ). n) (c .refusal) refl
+
+pub record Judged (b : Bodies) (c : Checked) : Type 0 where
+  pub request : c .request ≡ requestIn b
+  pub mode : offered (videoIn (b .video)) ≡ true
+  pub inside : outside b ≡ false
+  pub apart : combined b ≡ false
+  pub within : aboveLimit (tmds (videoIn (b .video))) ≡ false
+
+within-limit : (b : Bodies) → judged b .refusal ≡ 0 → limitOf (videoIn (b .video)) ≡ 0 → aboveLimit (tmds (videoIn (b .video))) ≡ false
+within-limit b z l = sym (limit-there b z) ∙ none-at (limitsTests (videoIn (b .video))) 0 l
+
+pub accepted : (b : Bodies) → limited (judged b) .refusal ≡ 0 → Judged b (limited (judged b))
+accepted b z =
+    let p = both (judged b) z in
+    let j = asked b (p .0) in
+    record {
+      request = j .request;
+      mode = j .mode;
+      inside = j .inside;
+      apart = j .apart;
+      within = within-limit b (p .0) (ap (λ (r : Request). limitOf (r .video)) (sym (j .request)) ∙ p .1);
+    }
+
+-- and back: a request that no row refuses
+pub not-refused : (b : Bodies) → offered (videoIn (b .video)) ≡ true → outside b ≡ false → combined b ≡ false → aboveLimit (tmds (videoIn (b .video))) ≡ false
+    → limited (judged b) .refusal ≡ 0
+unfolding judged
+not-refused b o x c w =
+    let z : judged b .refusal ≡ 0 = rw (o, x, c) in
+    let l : limitOf (videoIn (b .video)) ≡ 0 = rw (limit-there b z, w) in
+    numbered (λ (n : ℕ). n) (limitOf (judged b .request .video)) (λ (n : ℕ). n) (judged b .refusal)
+    (λ _. ap (λ (r : Request). limitOf (r .video)) (asked b z .request) ∙ l) refl ∙ z
+
+-- a walk that no row refuses: its request is what its bodies say, in a mode that is offered, with each field in range
+pub passed : (w : Walk) → limited (checked w) .refusal ≡ 0 → Judged (bodiesIn w) (limited (checked w))
+passed w z =
+    let p = both (checked w) z in
+    let e : checked w ≡ judged (bodiesIn w) = answer-none emptied _ (lowest (bytesTests w)) (alone w (p .0) .0) in
+    rw e (accepted (bodiesIn w) (ap (λ (c : Checked). limited c .refusal) (sym e) ∙ z))

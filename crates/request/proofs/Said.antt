@@ -16,9 +16,10 @@ use Rattle.request.specs.declared.Sound.{Sound}
 use Rattle.request.specs.declared.Sound.the-variants.{Off, On}
 use Rattle.request.specs.declared.Request.{Request}
 use Rattle.request.specs.declared.Checked.{Checked}
-use Rattle.request.specs.Sections.{audioCount, matrixCount, whole, walked, sections, fits}
+use Rattle.request.specs.Sections.{audioCount, matrixCount, inTurn, Walk, whole, walked, sections}
+use Rattle.request.specs.Walks.{fits}
 use Rattle.request.specs.Request.{present, soundOf, requestIn}
-use Rattle.request.specs.Read.{judged, checked, readOf}
+use Rattle.request.specs.Read.{judged, checked, limited, readOf}
 use Rattle.request.specs.Bytes.{audioBody, matrixBody, bodiesOf, asBytes}
 use Rattle.request.specs.Theorems.{Shaped}
 use Rattle.request.proofs.Walks.{walks}
@@ -46,24 +47,22 @@ matrix-said m (inr f) =
     rw (f .on, ne-eqb (length (m .mode ∷ coefficientBytes (m .coefficients))) 0 (omega arith), fields-said (m .coefficients) (f .small), ← f .on)
 
 module _ (r : Request) (s : Shaped (r .matrix)) where
-  bytes-walked : walked (asBytes r) ≡ whole (bodiesOf r) []
+  pub bytes-walked : walked (asBytes r) ≡ whole (inTurn (bodiesOf r)) []
   unfolding walked asBytes
   bytes-walked =
-      let f : fits sections (bodiesOf r) ≡ true = rw (audio-counted (r .sound), matrix-counted (r .matrix) s) in
-      walks sections (asBytes r) .whole (bodiesOf r) [] .1 (f, refl)
+      let f : fits sections (inTurn (bodiesOf r)) ≡ true = rw (audio-counted (r .sound), matrix-counted (r .matrix) s) in
+      walks sections (asBytes r) .whole (inTurn (bodiesOf r)) [] .1 (f, refl)
 
   -- reading the bytes of a request is judging its bodies
-  pub read-judged : readOf (asBytes r) ≡ judged (r .video) (audioBody (r .sound)) (matrixBody (r .matrix))
+  pub read-judged : readOf (asBytes r) ≡ limited (judged (bodiesOf r))
   unfolding readOf
-  read-judged = ap checked bytes-walked
+  read-judged = ap (λ (w : Walk). limited (checked w)) bytes-walked
 
   pub said : readOf (asBytes r) .refusal ≡ 0 → readOf (asBytes r) ≡ record { refusal = 0; request = r }
   said z =
-      let j = judged (r .video) (audioBody (r .sound)) (matrixBody (r .matrix)) in
-      let q : requestIn (r .video) (audioBody (r .sound)) (matrixBody (r .matrix)) ≡ r = rw (sound-said (r .sound), matrix-said (r .matrix) s) in
-      let y : j .refusal ≡ 0 = ap (λ (c : Checked). c .refusal) (sym read-judged) ∙ z in
-      read-judged
-      ∙ ap₂ (λ (n : ℕ) (x : Request). the (n, x)) y (accepted (r .video) (audioBody (r .sound)) (matrixBody (r .matrix)) y .request ∙ q)
+      let q : requestIn (bodiesOf r) ≡ r = rw (sound-said (r .sound), matrix-said (r .matrix) s) in
+      let y : limited (judged (bodiesOf r)) .refusal ≡ 0 = ap (λ (c : Checked). c .refusal) (sym read-judged) ∙ z in
+      read-judged ∙ ap₂ (λ (n : ℕ) (x : Request). the (n, x)) y (accepted (bodiesOf r) y .request ∙ q)
     where
       the : ℕ × Request → Checked
       the p = record { refusal = p .0; request = p .1 }

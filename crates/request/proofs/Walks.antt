@@ -16,7 +16,9 @@ use lib.Seq.{length-take-le, take-append-seam, drop-append-seam, drop-cons, take
 use borrow.Author.Tests.{leb-true, leb-false, le-leb, lt-leb}
 use Rattle.lists.specs.Among.{among}
 use Rattle.lists.proofs.Both.{both-left, both-right}
-use Rattle.request.specs.Sections.{Walk, ends, notAllowed, whole, after, walk, laid, fits, Begun, InputEnds, NotAllowed, Walks}
+use Rattle.request.specs.Sections.{Walk, ends, notAllowed, whole, after, walk}
+use Rattle.request.specs.Bytes.{laid}
+use Rattle.request.specs.Walks.{fits, Begun, InputEnds, NotAllowed, Walks}
 
 abbrev pub joined : List (List ℕ) → Walk → Walk
 joined [] w = w

@@ -1,18 +1,18 @@
 -- Document 01, "The request": the bytes of a request, section by section; and the request as decoding answers it. `ThereAndBack`
 -- (Theorems) ties them to what is read.
 use mathlib.Core.Bool.{cond}
-use mathlib.Core.List.{List, [], _∷_}
+use mathlib.Core.List.{List, [], _∷_, _++_}
 use Prim.Native.Nat.{ℕ}
 use lib.Dec.{eqb}
-use lib.ListN.{getD, set}
-use Rattle.video.specs.Video.{videoBody, answeredEdition, answered}
+use lib.ListN.{length}
+use Rattle.video.specs.Video.{videoIn, videoBody, answered}
 use Rattle.video.specs.Video as video
 use Rattle.matrix.specs.declared.Matrix.{Matrix}
 use Rattle.matrix.specs.Coefficient.{coefficientBytes}
 use Rattle.request.specs.declared.Sound.{Sound}
 use Rattle.request.specs.declared.Sound.the-variants.{Off, On}
 use Rattle.request.specs.declared.Request.{Request}
-use Rattle.request.specs.Sections.{laid}
+use Rattle.request.specs.Sections.{Bodies, inTurn, walked, bodiesIn}
 
 -- the body of each section: "rate ..; channels ..; coherent .."; "CSC mode, then A1 to A4, B1 to B4, C1 to C4, each two bytes"
 abbrev pub audioBody : Sound → List ℕ
@@ -22,15 +22,22 @@ audioBody (On rate channels coherent) = rate ∷ channels ∷ coherent ∷ []
 abbrev pub matrixBody : Matrix → List ℕ
 matrixBody m = cond (eqb (m .on) 0) [] (m .mode ∷ coefficientBytes (m .coefficients))
 
--- "Three sections in this order, each after a one-byte count": a line for each section
-abbrev pub bodiesOf : Request → List (List ℕ)
+-- "Three sections in this order, each after a one-byte count": a line for each section; count and body, count and body, and so on, and then
+-- the rest
+abbrev pub bodiesOf : Request → Bodies
 bodiesOf r =
-    videoBody (r .video) ∷
-    audioBody (r .sound) ∷
-    matrixBody (r .matrix) ∷ []
+    record {
+      video = videoBody (r .video);
+      audio = audioBody (r .sound);
+      matrix = matrixBody (r .matrix);
+    }
+
+abbrev pub laid : List (List ℕ) → List ℕ → List ℕ
+laid [] rest = rest
+laid (body ∷ bodies) rest = length body ∷ (body ++ laid bodies rest)
 
 unfoldable pub asBytes : Request → List ℕ
-asBytes r = laid (bodiesOf r) []
+asBytes r = laid (inTurn (bodiesOf r)) []
 
 -- "that request in one of its families"; and with another edition byte
 abbrev pub inFamily : ℕ → Request → Request
@@ -40,9 +47,13 @@ abbrev pub inEdition : ℕ → Request → Request
 inEdition edition r = record { video = video.inEdition edition (r .video); sound = r .sound; matrix = r .matrix }
 
 -- "the same request, but for the frame-rate family", and for an E that asks for nothing: a request as decoding answers it; and the same of
--- the bytes of an input, in which byte 2 is the family and byte 7 the edition byte. `ThereAndBack` says that the two agree.
+-- the bytes of an input, of which the video section alone is another. `ThereAndBack` says that the two agree.
 abbrev pub answeredAs : Request → Request
 answeredAs r = record { video = answered (r .video); sound = r .sound; matrix = r .matrix }
 
+abbrev pub withVideo : List ℕ → Bodies → Bodies
+withVideo body b = record { video = body; audio = b .audio; matrix = b .matrix }
+
 abbrev pub asReadBack : List ℕ → List ℕ
-asReadBack input = set (set input 2 0) 7 (answeredEdition (getD input 7 0))
+asReadBack input =
+    let b : Bodies = bodiesIn (walked input) in laid (inTurn (withVideo (videoBody (answered (videoIn (b .video)))) b)) []

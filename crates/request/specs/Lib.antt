@@ -1,4 +1,5 @@
 pub mod Sections
+pub mod Walks
 pub mod Places
 pub mod Request
 pub mod Read

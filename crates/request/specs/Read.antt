@@ -7,10 +7,10 @@ use lib.Dec.{eqb, ltb}
 use lib.ListN.{length}
 use Rattle.clock.specs.declared.Pair.{Pair}
 use Rattle.video.specs.declared.Video.{Video}
-use Rattle.video.specs.Video.{noVideo}
+use Rattle.video.specs.Video.{noVideo, videoIn}
 use Rattle.video.specs.Tests.{videoOutside, videoCombined}
 use Rattle.video.specs.Modes.{offered}
-use Rattle.clock.specs.Clocks.{tmds, aboveLimit}
+use Rattle.clock.specs.Clocks.{clockOf}
 use Rattle.clock.specs.Pairs.{noPair, audioOff}
 use Rattle.clock.specs.Found.{pairOf}
 use Rattle.matrix.specs.Matrix.{noMatrix}
@@ -19,12 +19,12 @@ use Rattle.request.specs.declared.Sound.{Sound}
 use Rattle.request.specs.declared.Sound.the-variants.{Off, On}
 use Rattle.request.specs.declared.Request.{Request}
 use Rattle.request.specs.declared.Checked.{Checked}
-use Rattle.request.specs.Sections.{Walk, ends, notAllowed, whole, walked, audioSection, matrixSection, restOf}
-use Rattle.request.specs.Request.{present, videoOf, rate, channels, coherent, requestIn}
-use Rattle.refusals.specs.Rows.{Test, _if_, lowest, answer}
+use Rattle.request.specs.Sections.{Bodies, Walk, ends, notAllowed, whole, walked, bodiesIn, restOf}
+use Rattle.request.specs.Request.{present, rate, channels, coherent, requestIn}
+use Rattle.refusals.specs.Rows.{number, Test, _if_, lowest, answer}
 use Rattle.refusals.specs.Rows.{inputEnds, countNotAllowed, bytesAfter, modeNotOffered, fieldOutOfRange, combination, clockAbove}
 
--- a refusal stands beside an empty request: fields 0, audio off, no matrix
+-- a refusal of rows 1 to 6 stands beside an empty request: fields 0, audio off, no matrix
 abbrev pub emptied : ℕ → Checked
 emptied number = record { refusal = number; request = record { video = noVideo; sound = Off; matrix = noMatrix } }
 
@@ -32,24 +32,15 @@ emptied number = record { refusal = number; request = record { video = noVideo; 
 abbrev pub audioOutside : List ℕ → Bool
 audioOutside audio = ltb 6 (rate audio) || ((not (eqb (channels audio) 2) && not (eqb (channels audio) 8)) || ltb 1 (coherent audio))
 
-unfoldable pub outside : Video → List ℕ → List ℕ → Bool
-outside video audio matrix = videoOutside video || ((present audio && audioOutside audio) || (present matrix && not (isAllowed matrix)))
+unfoldable pub outside : Bodies → Bool
+outside b =
+    videoOutside (videoIn (b .video))
+    || ((present (b .audio) && audioOutside (b .audio)) || (present (b .matrix) && not (isAllowed (b .matrix))))
 
-unfoldable pub combined : Video → List ℕ → List ℕ → Bool
-combined video audio matrix =
-    (not (eqb (video .encoding) 0) && eqb (length matrix) 0) || ((eqb (video .link) 0 && present audio) || videoCombined video)
-
--- rows 4 to 6 and 17 of the sections, and rows 1 to 3 before them: a line for each row. They decide the conditions of `readRules` (`Rows`).
-abbrev pub bodyTests : Video → List ℕ → List ℕ → List Test
-bodyTests video audio matrix =
-    modeNotOffered if not (offered video) ∷
-    fieldOutOfRange if outside video audio matrix ∷
-    combination if combined video audio matrix ∷
-    clockAbove if aboveLimit (tmds video) ∷ []
-
-unfoldable pub judged : Video → List ℕ → List ℕ → Checked
-judged video audio matrix =
-    answer (lowest (bodyTests video audio matrix)) emptied (record { refusal = 0; request = requestIn video audio matrix })
+unfoldable pub combined : Bodies → Bool
+combined b =
+    let video : Video = videoIn (b .video) in
+    (not (eqb (video .encoding) 0) && eqb (length (b .matrix)) 0) || ((eqb (video .link) 0 && present (b .audio)) || videoCombined video)
 
 abbrev pub isEnds : Walk → Bool
 isEnds ends = true
@@ -61,18 +52,47 @@ isNotAllowed ends = false
 isNotAllowed notAllowed = true
 isNotAllowed (whole bodies rest) = false
 
-abbrev pub walkTests : Walk → List Test
-walkTests w =
+-- the stages, a line for each row: they decide the conditions of `readRules` (`Rows`)
+abbrev pub bytesTests : Walk → List Test
+bytesTests w =
     inputEnds if isEnds w ∷
     countNotAllowed if isNotAllowed w ∷
     bytesAfter if present (restOf w) ∷ []
 
+abbrev pub fieldsTests : Bodies → List Test
+fieldsTests b =
+    modeNotOffered if not (offered (videoIn (b .video))) ∷
+    fieldOutOfRange if outside b ∷
+    combination if combined b ∷ []
+
+abbrev pub limitsTests : Video → List Test
+limitsTests video = clockAbove if eqb (clockOf video .refusal) (number clockAbove) ∷ []
+
+-- rows 4 to 6 of the bodies, and rows 1 to 3 before them
+unfoldable pub judged : Bodies → Checked
+judged b = answer (lowest (fieldsTests b)) emptied (record { refusal = 0; request = requestIn b })
+
 abbrev pub checked : Walk → Checked
-checked w = answer (lowest (walkTests w)) emptied (judged (videoOf w) (audioSection w) (matrixSection w))
+checked w = answer (lowest (bytesTests w)) emptied (judged (bodiesIn w))
+
+-- the request that an input asks for: refusals 1 to 6
+abbrev pub askOf : List ℕ → Checked
+askOf input = checked (walked input)
+
+abbrev pub Asks : List ℕ → Checked → Type 0
+Asks input given = given ≡ askOf input
+
+-- refusal 17 of a video
+abbrev pub limitOf : Video → ℕ
+limitOf video = lowest (limitsTests video)
+
+-- and of what is known of a request, which stays known
+abbrev pub limited : Checked → Checked
+limited c = record { refusal = answer (c .refusal) (λ n. n) (limitOf (c .request .video)); request = c .request }
 
 -- a request read from an input: refusals 1 to 6 and 17
 unfoldable pub readOf : List ℕ → Checked
-readOf input = checked (walked input)
+readOf input = limited (askOf input)
 
 -- what reading promises
 abbrev pub Reads : List ℕ → Checked → Type 0

@@ -1,4 +1,5 @@
--- Document 01, "The request": the fields of a request, and when each row of the list of refusals applies to it.
+-- Document 01, "The request": the fields of a request, and when each row of the list of refusals applies to it. The rows come in stages, of
+-- which each call checks some: bytes (1 to 3), fields (4 to 6), limits (17), pair (9); image (7, 8) and buffer (10) are planning's (plan).
 use mathlib.Core.Path.{_≡_}
 use mathlib.Core.Logic.{_≢_, _⊎_}
 use mathlib.Core.Bool.{Bool, false, cond, not}
@@ -17,7 +18,7 @@ use Rattle.matrix.specs.Matrix.{Allowed, matrixOf, noMatrix}
 use Rattle.request.specs.declared.Sound.{Sound}
 use Rattle.request.specs.declared.Sound.the-variants.{Off, On}
 use Rattle.request.specs.declared.Request.{Request}
-use Rattle.request.specs.Sections.{Walk, ends, notAllowed, videoSection, audioSection, matrixSection, restOf}
+use Rattle.request.specs.Sections.{Bodies, Walk, ends, notAllowed, bodiesIn, restOf}
 
 -- not empty
 abbrev pub Present : List ℕ → Type 0
@@ -26,10 +27,7 @@ Present body = length body ≢ 0
 abbrev pub present : List ℕ → Bool
 present body = not (eqb (length body) 0)
 
--- what the video section asks for, and the fields of the audio section
-abbrev pub videoOf : Walk → Video
-videoOf w = videoIn (videoSection w)
-
+-- the fields of the audio section
 abbrev pub rate : List ℕ → ℕ
 rate audio = getD audio 0 0
 
@@ -39,46 +37,66 @@ channels audio = getD audio 1 0
 abbrev pub coherent : List ℕ → ℕ
 coherent audio = getD audio 2 0
 
+-- what the sections say, a line for each: sound is off where the audio section is empty, the converter where the matrix section is
+abbrev pub soundOf : List ℕ → Sound
+soundOf audio = cond (present audio) (On (rate audio) (channels audio) (coherent audio)) Off
+
+abbrev pub requestIn : Bodies → Request
+requestIn b =
+    record {
+      video = videoIn (b .video);
+      sound = soundOf (b .audio);
+      matrix = cond (present (b .matrix)) (matrixOf (b .matrix)) noMatrix;
+    }
+
 -- row 5, "any other field outside its range (matrix mode above 2)": of each section
 abbrev pub AudioOutside : List ℕ → Type 0
 AudioOutside audio = (6 < rate audio) ⊎ ((channels audio ≢ 2) × (channels audio ≢ 8)) ⊎ (1 < coherent audio)
 
-abbrev pub Outside : Video → List ℕ → List ℕ → Type 0
-Outside video audio matrix = VideoOutside video ⊎ (Present audio × AudioOutside audio) ⊎ (Present matrix × (Allowed matrix → ⊥))
+abbrev pub Outside : Bodies → Type 0
+Outside b =
+    VideoOutside (videoIn (b .video)) ⊎ (Present (b .audio) × AudioOutside (b .audio)) ⊎ (Present (b .matrix) × (Allowed (b .matrix) → ⊥))
 
 -- row 6, "encoding not 0 without a matrix; DVI with audio or with encoding not 0": the last is the video section's,
 -- and so is what concerns the range, the depth and the edition
-abbrev pub Combined : Video → List ℕ → List ℕ → Type 0
-Combined video audio matrix = ((video .encoding ≢ 0) × (length matrix ≡ 0)) ⊎ ((video .link ≡ 0) × Present audio) ⊎ VideoCombined video
-
--- rows 1 to 6 and 17, by what the walk finds in the input: its three bodies, and the bytes after them
-abbrev pub readRules : Walk → List Condition
-readRules w =
-    inputEnds when (w ≡ ends) ∷
-    countNotAllowed when (w ≡ notAllowed) ∷
-    bytesAfter when Present (restOf w) ∷
-    modeNotOffered when (offered (videoOf w) ≡ false) ∷
-    fieldOutOfRange when Outside (videoOf w) (audioSection w) (matrixSection w) ∷
-    combination when Combined (videoOf w) (audioSection w) (matrixSection w) ∷
-    clockAbove when AboveLimit (tmds (videoOf w)) ∷ []
+abbrev pub Combined : Bodies → Type 0
+Combined b =
+    let video : Video = videoIn (b .video) in
+    ((video .encoding ≢ 0) × (length (b .matrix) ≡ 0)) ⊎ ((video .link ≡ 0) × Present (b .audio)) ⊎ VideoCombined video
 
 -- row 9, "coherent audio, and no exact pair exists"
-abbrev pub NoPair : Walk → Type 0
-NoPair w =
-    Present (audioSection w) × (coherent (audioSection w) ≡ 1)
-    × ((n cts : ℕ) → Exact (clockOf (videoOf w)) (rate (audioSection w)) n cts → ⊥)
+abbrev pub NoPair : Video → Sound → Type 0
+NoPair video Off = ⊥
+NoPair video (On rate channels coherent) = (coherent ≡ 1) × ((n cts : ℕ) → Exact (clockOf video) rate n cts → ⊥)
+
+-- the stages: the bytes, by what the walk finds in the input; the fields, by the bodies; the limits and the pair, of the request
+abbrev pub bytesRows : Walk → List Condition
+bytesRows w =
+    inputEnds when (w ≡ ends) ∷
+    countNotAllowed when (w ≡ notAllowed) ∷
+    bytesAfter when Present (restOf w) ∷ []
+
+abbrev pub fieldsRows : Bodies → List Condition
+fieldsRows b =
+    modeNotOffered when (offered (videoIn (b .video)) ≡ false) ∷
+    fieldOutOfRange when Outside b ∷
+    combination when Combined b ∷ []
+
+abbrev pub limitsRows : Request → List Condition
+limitsRows r = clockAbove when AboveLimit (tmds (r .video)) ∷ []
+
+abbrev pub pairRows : Request → List Condition
+pairRows r = noExactPair when NoPair (r .video) (r .sound) ∷ []
+
+-- the request that an input asks for; rows 1 to 6, where it is known; with 17, where it may be planned; with 9 too
+abbrev pub requestOf : Walk → Request
+requestOf w = requestIn (bodiesIn w)
+
+abbrev pub askRules : Walk → List Condition
+askRules w = bytesRows w ++ fieldsRows (bodiesIn w)
+
+abbrev pub readRules : Walk → List Condition
+readRules w = askRules w ++ limitsRows (requestOf w)
 
 abbrev pub nctsRules : Walk → List Condition
-nctsRules w = readRules w ++ noExactPair when (NoPair w) ∷ []
-
--- what the sections say: sound is off where the audio section is empty, the converter where the matrix section is
-abbrev pub soundOf : List ℕ → Sound
-soundOf audio = cond (present audio) (On (rate audio) (channels audio) (coherent audio)) Off
-
-abbrev pub requestIn : Video → List ℕ → List ℕ → Request
-requestIn video audio matrix =
-    record {
-      video = video;
-      sound = soundOf audio;
-      matrix = cond (present matrix) (matrixOf matrix) noMatrix;
-    }
+nctsRules w = readRules w ++ pairRows (requestOf w)

@@ -1,10 +1,8 @@
--- Document 01, "The request": three sections in this order, each after a one-byte count; and "Refusal numbers": how they are walked. `walk`
--- follows the code; `Walks`, below, ties it to what stands in the input.
-use mathlib.Core.Path.{_≡_}
-use mathlib.Core.Logic.{_↔_, _⊎_}
-use mathlib.Core.Bool.{Bool, true, false, cond, _&&_}
-use mathlib.Core.List.{List, [], _∷_, _++_, map, flatMap}
-use Prim.Native.Nat.{ℕ, suc, _+_, _≤_, _<_, max}
+-- Document 01, "The request": three sections in this order, each after a one-byte count; and "Refusal numbers": how they are walked. `Walks`
+-- (Walks) says of each thing that a walk finds what then stands in the input.
+use mathlib.Core.Bool.{cond}
+use mathlib.Core.List.{List, [], _∷_, map, flatMap}
+use Prim.Native.Nat.{ℕ, suc, _+_, max}
 use lib.Dec.{leb}
 use lib.ListN.{getD, length, take, drop}
 use Rattle.lists.specs.Among.{among}
@@ -17,9 +15,20 @@ audioCount = 3
 abbrev pub matrixCount : ℕ
 matrixCount = 25
 
--- the counts that each section allows: a row for each section, and the section's body by its name, below
+-- the table: the counts that each section allows, "in this order"; the sections' bodies by name; and these in that order
 abbrev pub sections : List (List ℕ)
 sections = (videoCount ∷ []) ∷ (0 ∷ audioCount ∷ []) ∷ (0 ∷ matrixCount ∷ []) ∷ []
+
+pub record Bodies : Type 0 where
+  pub video : List ℕ
+  pub audio : List ℕ
+  pub matrix : List ℕ
+
+abbrev pub inTurn : Bodies → List (List ℕ)
+inTurn b = b .video ∷ b .audio ∷ b .matrix ∷ []
+
+abbrev pub byName : List (List ℕ) → Bodies
+byName bodies = record { video = getD bodies 0 []; audio = getD bodies 1 []; matrix = getD bodies 2 [] }
 
 -- what a walk finds: the input ends before a count or inside a section; a count that the section does not allow; or the bodies of the
 -- sections, and the bytes after the last
@@ -33,36 +42,28 @@ after body ends = ends
 after body notAllowed = notAllowed
 after body (whole bodies rest) = whole (body ∷ bodies) rest
 
--- "the sections are walked in order: count present, count allowed, body present".
+-- "the sections are walked in order: count present, count allowed, body present"
 unfoldable pub walk : List (List ℕ) → List ℕ → Walk
 walk [] input = whole [] input
+-- row 1, "input ends before a count .."
 walk (counts ∷ more) [] = ends
+-- row 1, ".. or inside a section"; row 2, "a count the section does not allow"
 walk (counts ∷ more) (n ∷ input) =
     cond (among n counts) (cond (leb n (length input)) (after (take n input) (walk more (drop n input))) ends) notAllowed
 
 unfoldable pub walked : List ℕ → Walk
 walked = walk sections
 
--- the body of section k, and the bytes after the last section
-abbrev pub bodyOf : ℕ → Walk → List ℕ
-bodyOf k ends = []
-bodyOf k notAllowed = []
-bodyOf k (whole bodies rest) = getD bodies k []
+-- the bodies that it finds, and the bytes after the last
+abbrev pub bodiesIn : Walk → Bodies
+bodiesIn ends = byName []
+bodiesIn notAllowed = byName []
+bodiesIn (whole bodies rest) = byName bodies
 
 abbrev pub restOf : Walk → List ℕ
 restOf ends = []
 restOf notAllowed = []
 restOf (whole bodies rest) = rest
-
--- the bodies by name
-abbrev pub videoSection : Walk → List ℕ
-videoSection = bodyOf 0
-
-abbrev pub audioSection : Walk → List ℕ
-audioSection = bodyOf 1
-
-abbrev pub matrixSection : Walk → List ℕ
-matrixSection = bodyOf 2
 
 -- the longest input that sections take: of each its count, and a body of its largest count
 abbrev pub largest : List ℕ → ℕ
@@ -85,57 +86,3 @@ lengths = lengthsOf sections
 -- "the longest request"
 abbrev pub longest : ℕ
 longest = longestOf sections
-
--- count and body, count and body, and so on, and then the rest
-abbrev pub laid : List (List ℕ) → List ℕ → List ℕ
-laid [] rest = rest
-laid (body ∷ bodies) rest = length body ∷ (body ++ laid bodies rest)
-
--- a body for each section, and each of a count that its section allows
-abbrev pub fits : List (List ℕ) → List (List ℕ) → Bool
-fits [] [] = true
-fits [] (body ∷ bodies) = false
-fits (counts ∷ more) [] = false
-fits (counts ∷ more) (body ∷ bodies) = among (length body) counts && fits more bodies
-
--- the first sections stand whole in the input, and others are to come: the bytes left, and the counts that the next section allows
-pub record Begun (table : List (List ℕ)) (input : List ℕ) : Type 0 where
-  pub bodies : List (List ℕ)
-  pub left : List ℕ
-  pub some : length bodies < length table
-  pub fitting : fits (take (length bodies) table) bodies ≡ true
-  pub made : input ≡ laid bodies left
-
-abbrev pub next : {table : List (List ℕ)} {input : List ℕ} → Begun table input → List ℕ
-next {table} b = getD table (length (b .bodies)) []
-
--- row 1, "input ends before a count or inside a section"
-pub record InputEnds (table : List (List ℕ)) (input : List ℕ) : Type 0 where
-  pub begun : Begun table input
-  pub there : (length (begun .left) ≡ 0)
-      ⊎ ((among (getD (begun .left) 0 0) (next begun) ≡ true) × (length (begun .left) ≤ getD (begun .left) 0 0))
-
--- row 2, "a count the section does not allow"
-pub record NotAllowed (table : List (List ℕ)) (input : List ℕ) : Type 0 where
-  pub begun : Begun table input
-  pub present : 0 < length (begun .left)
-  pub refused : among (getD (begun .left) 0 0) (next begun) ≡ false
-
--- what a walk finds, over any sections, and what stands in the input
-pub record Walks (table : List (List ℕ)) (input : List ℕ) : Type 0 where
-  pub whole : (bodies : List (List ℕ)) (rest : List ℕ)
-      → (walk table input ≡ whole bodies rest) ↔ ((fits table bodies ≡ true) × (input ≡ laid bodies rest))
-  pub ends : (walk table input ≡ ends) ↔ InputEnds table input
-  pub notAllowed : (walk table input ≡ notAllowed) ↔ NotAllowed table input
-
--- the same of a request, section by section
-pub record Sectioned (input video audio matrix rest : List ℕ) : Type 0 where
-  pub videoCounted : length video ≡ videoCount
-  pub audioCounted : (length audio ≡ 0) ⊎ (length audio ≡ audioCount)
-  pub matrixCounted : (length matrix ≡ 0) ⊎ (length matrix ≡ matrixCount)
-  pub made : input ≡ length video ∷ (video ++ (length audio ∷ (audio ++ (length matrix ∷ (matrix ++ rest)))))
-
-pub record RequestWalks (input : List ℕ) : Type 0 where
-  pub three : (bodies : List (List ℕ)) (rest : List ℕ) → walked input ≡ whole bodies rest → length bodies ≡ 3
-  pub whole : (video audio matrix rest : List ℕ)
-      → (walked input ≡ whole (video ∷ audio ∷ matrix ∷ []) rest) ↔ Sectioned input video audio matrix rest

@@ -12,20 +12,21 @@ use Rattle.matrix.specs.declared.Matrix.{Matrix}
 use Rattle.matrix.specs.Matrix.{noMatrix, Bytes}
 use Rattle.request.specs.declared.Sound.the-variants.{Off}
 use Rattle.request.specs.declared.Request.{Request}
-use Rattle.request.specs.Sections.{walk, whole, lengthsOf, lengths, longest, walked, audioSection, matrixSection}
-use Rattle.request.specs.Request.{videoOf, requestIn, readRules, nctsRules}
-use Rattle.request.specs.Read.{readOf, nctsOf}
+use Rattle.request.specs.Sections.{walk, whole, lengthsOf, lengths, longest, walked}
+use Rattle.request.specs.Request.{requestOf, askRules, readRules, nctsRules}
+use Rattle.request.specs.Read.{askOf, readOf, nctsOf}
 use Rattle.request.specs.Bytes.{asBytes, answeredAs, asReadBack}
 
 pub record Rows (input : List ℕ) : Type 0 where
   -- of the rows that a call checks, the lowest that applies is given, and none is given otherwise
+  pub asks : Bytes input → Given (askRules (walked input)) (askOf input .refusal)
   pub read : Bytes input → Given (readRules (walked input)) (readOf input .refusal)
   pub ncts : Bytes input → Given (nctsRules (walked input)) (nctsOf input .refusal)
-  -- the request that is read is what the three sections say
-  pub said : readOf input .refusal ≡ 0
-      → readOf input .request ≡ requestIn (videoOf (walked input)) (audioSection (walked input)) (matrixSection (walked input))
-  -- beside a refusal stands an empty one
-  pub none : readOf input .refusal ≢ 0 → readOf input .request ≡ record { video = noVideo; sound = Off; matrix = noMatrix }
+  -- past rows 1 to 6 the request is known, whatever a later row says: it is what the sections say
+  pub said : askOf input .refusal ≡ 0 → askOf input .request ≡ requestOf (walked input)
+  pub known : readOf input .request ≡ askOf input .request
+  -- beside one of these stands an empty one
+  pub none : askOf input .refusal ≢ 0 → askOf input .request ≡ record { video = noVideo; sound = Off; matrix = noMatrix }
 
 -- "Lengths are therefore .." (`MarkedCases`, promises, has the numbers)
 pub record Lengths (input : List ℕ) : Type 0 where

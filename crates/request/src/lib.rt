@@ -1,20 +1,25 @@
 // The request: document 01, "The request" and "Refusal numbers"; document 02, requests 01, 06 and 11.
 ghost use mathlib.Core.Path.{_≡_};
 ghost use mathlib.Core.Bool.{not, _&&_};
-ghost use Prim.Native.Nat.{ℕ, _%_};
-ghost use lib.ListN.{length};
+ghost use Prim.Native.Nat.{ℕ, _%_, _<_};
+ghost use lib.ListN.{length, getD};
 ghost use Rattle.matrix.specs.Tests.{isAllowed};
-ghost use Rattle.request.specs.Sections.{audioCount, Walks, RequestWalks};
+ghost use Rattle.request.specs.Sections.{audioCount, sections, inTurn, walked, bodiesIn};
+ghost use Rattle.request.specs.Walks.{Walks, RequestWalks};
+ghost use Rattle.request.specs.Places.{EndsAt, bodies};
 ghost use Rattle.request.specs.Request.{present, soundOf};
-ghost use Rattle.request.specs.Read.{audioOutside, outside, combined, judged, readOf, Reads, Pairs, PairsInput, emptied};
+ghost use Rattle.request.specs.Read.{audioOutside, outside, combined, emptied, judged, limitOf};
+ghost use Rattle.request.specs.Read.{Asks, readOf, Reads, Pairs, PairsInput};
 ghost use Rattle.request.specs.Theorems.{Rows, Lengths, ThereAndBack};
 ghost use Rattle.request.specs.Fits.{Fits};
-ghost use mathlib.Core.List.{List};
+ghost use mathlib.Core.List.{List, [], _∷_};
 use clock::Pair;
 use matrix::Matrix;
 use refusals::Refusal;
 use sections::AUDIO;
+use sections::LAST;
 use sections::MATRIX;
+use sections::SECTIONS;
 use sections::VIDEO;
 use sections::walk;
 use video::Video;
@@ -38,7 +43,7 @@ pub struct Request {
     pub matrix: Matrix,
 }
 
-// A request, or the number of a refusal beside an empty request.
+// A request and the number of a refusal: beside one of rows 1 to 6 it is an empty request.
 pub struct Checked {
     pub refusal: u8,
     pub request: Request,
@@ -97,42 +102,62 @@ fn matrix_outside(body: &[u8]) -> bool
 }
 
 // Row 5.
-fn is_outside(video: Video, audio: &[u8], body: &[u8]) -> bool
+fn is_outside(video: Video, audio: &[u8], matrix: &[u8]) -> bool
     requires { ⌜ length (now audio) % audioCount ≡ 0 ⌝ }
-    ensures { λ r. ⌜ r ≡ outside video (now (audio .entry)) (now (body .entry)) ⌝ }
+    ensures { λ r. ⌜ r ≡ outside (bodies video (now (audio .entry)) (now (matrix .entry))) ⌝ }
 {
-    video::outside(video) | (audio_outside(audio) | matrix_outside(body))
+    video::outside(video) | (audio_outside(audio) | matrix_outside(matrix))
 }
 
 // Row 6.
-fn is_combined(video: Video, audio: &[u8], body: &[u8]) -> bool
-    ensures { λ r. ⌜ r ≡ combined video (now (audio .entry)) (now (body .entry)) ⌝ }
+fn is_combined(video: Video, audio: &[u8], matrix: &[u8]) -> bool
+    ensures { λ r. ⌜ r ≡ combined (bodies video (now (audio .entry)) (now (matrix .entry))) ⌝ }
 {
-    ((video.encoding != 0) & (body.len() == 0))
+    ((video.encoding != 0) & (matrix.len() == 0))
         | (((video.link == 0) & (audio.len() != 0)) | video::combined(video))
 }
 
-// What the three sections ask for: rows 4 to 6 and 17.
-fn judge(video: Video, audio: &[u8], body: &[u8]) -> Checked
-    requires { ⌜ length (now audio) % audioCount ≡ 0 ⌝ }
-    ensures { λ r. ⌜ r ≡ judged video (now (audio .entry)) (now (body .entry)) ⌝ }
+// Where the count of section k stands: where the body before it ends.
+fn count_at(ends: [usize; SECTIONS], k: usize) -> usize
+    requires { ⌜ k < length sections ⌝ }
+    ensures { λ r. ⌜ r ≡ getD (0 ∷ ends) k 0 ⌝ }
 {
-    let clock = clock::clock_of(video);
-    let number = clock.refusal;
-    if number == Refusal::MODE_NOT_OFFERED {
+    if k == 0 {
+        return 0;
+    }
+    ends[k - 1]
+}
+
+// The body of section k, where a walk found them all.
+fn body(s: &[u8], ends: [usize; SECTIONS], k: usize) -> &[u8]
+    requires { ⌜ (k < length sections) × EndsAt (now s) ends ⌝ }
+    ensures { λ r. ⌜ now r ≡ getD (inTurn (bodiesIn (walked (now (s .entry))))) k [] ⌝ }
+{
+    let count = count_at(ends, k);
+    let end = ends[k];
+    &s[count + 1..end]
+}
+
+// What the sections ask for, where a walk found them all: rows 4 to 6.
+fn judge(s: &[u8], ends: [usize; SECTIONS]) -> Checked
+    requires { ⌜ EndsAt (now s) ends ⌝ }
+    ensures { λ r. ⌜ r ≡ judged (bodiesIn (walked (now (s .entry)))) ⌝ }
+{
+    let video = video::video_in(body(s, ends, VIDEO));
+    let audio = body(s, ends, AUDIO);
+    let matrix = body(s, ends, MATRIX);
+    let mode = video::mode_of(video.vic);
+    if mode.families <= video.family {
         return refused(Refusal::MODE_NOT_OFFERED);
     }
-    if is_outside(video, audio, body) {
+    if is_outside(video, audio, matrix) {
         return refused(Refusal::FIELD_OUT_OF_RANGE);
     }
-    if is_combined(video, audio, body) {
+    if is_combined(video, audio, matrix) {
         return refused(Refusal::COMBINATION);
     }
-    if number != Refusal::NONE {
-        return refused(Refusal::CLOCK_ABOVE);
-    }
     let sound = sound_of(audio);
-    let matrix = matrix::read(body);
+    let matrix = matrix::read(matrix);
     Checked {
         refusal: Refusal::NONE,
         request: Request {
@@ -143,29 +168,46 @@ fn judge(video: Video, audio: &[u8], body: &[u8]) -> Checked
     }
 }
 
-// A request read from an input: rows 1 to 6 and 17.
-pub fn read(s: &[u8]) -> Checked
-    ensures { λ r. ⌜ Reads (now (s .entry)) r ⌝ }
+// The request that an input asks for: rows 1 to 6. Where a later row refuses it, it is known.
+pub fn ask(s: &[u8]) -> Checked
+    ensures { λ r. ⌜ Asks (now (s .entry)) r ⌝ }
 {
     let places = walk(s);
     if places.refusal != Refusal::NONE {
         return refused(places.refusal);
     }
     let ends = places.ends;
-    let video_end = ends[VIDEO];
-    let audio_end = ends[AUDIO];
-    let matrix_end = ends[MATRIX];
-    if matrix_end != s.len() {
+    if ends[LAST] != s.len() {
         return refused(Refusal::BYTES_AFTER);
     }
-    let audio_start = video_end + 1;
-    let matrix_start = audio_end + 1;
-    let video = video::video_in(&s[1..video_end]);
-    judge(
-        video,
-        &s[audio_start..audio_end],
-        &s[matrix_start..matrix_end],
-    )
+    judge(s, ends)
+}
+
+// The limits of a video: row 17.
+pub fn limits(video: Video) -> u8
+    ensures { λ r. ⌜ r ≡ limitOf video ⌝ }
+{
+    let clock = clock::clock_of(video);
+    if clock.refusal == Refusal::CLOCK_ABOVE {
+        return Refusal::CLOCK_ABOVE;
+    }
+    Refusal::NONE
+}
+
+// A request read from an input: rows 1 to 6 and 17.
+pub fn read(s: &[u8]) -> Checked
+    ensures { λ r. ⌜ Reads (now (s .entry)) r ⌝ }
+{
+    let asked = ask(s);
+    if asked.refusal != Refusal::NONE {
+        return asked;
+    }
+    let request = asked.request;
+    let number = limits(request.video);
+    Checked {
+        refusal: number,
+        request: request,
+    }
 }
 
 // N and CTS for a request: row 9.

@@ -17,6 +17,8 @@ pub const AUDIO: usize = 1;
 
 pub const MATRIX: usize = 2;
 
+pub const LAST: usize = SECTIONS - 1;
+
 // The count of each section where it is not empty; the video section's is `video::VIDEO_COUNT`.
 pub const AUDIO_COUNT: u8 = 3;
 
