@@ -10,7 +10,7 @@
 extern struct running {
     const struct face *f;
     unsigned share;
-    int stop, loud;
+    int stop, loud, ended;              /* ended: a section half way, and what it would have met was never met */
     struct section *now;
 } run;
 

@@ -11,10 +11,11 @@ char first_difference[160];
 
 struct running run;
 
-/* A call that touches a page it was not lent, or does not end, is a difference too. */
+/* A call that touches a page it was not lent, or does not end, is a difference too. It has three seconds of processor time, for a loaded
+ * machine is no fault of the call, and five minutes in all, should it sleep. */
+enum { SECONDS = 3, MINUTES = 5 };
 static sigjmp_buf out;
-static volatile uint64_t seen;
-static volatile int still;
+static volatile struct watch { uint64_t seen; int still; } busy, asleep;
 static volatile sig_atomic_t why;
 
 void differs(const char *text, ...) {
@@ -38,17 +39,18 @@ static void on_fault(int number) {
     siglongjmp(out, 1);
 }
 
-static void on_tick(int number) {
-    (void)number;
-    if (run.now && run.now->cases == seen) {
-        if (++still >= 3) {
-            why = 3;
-            siglongjmp(out, 1);
-        }
-    } else {
-        still = 0;
-        seen = run.now ? run.now->cases : 0;
+static void ticked(volatile struct watch *w, int most) {
+    if (!run.now || run.now->cases != w->seen) {
+        w->still = 0;
+        w->seen = run.now ? run.now->cases : 0;
+    } else if (++w->still >= most) {
+        why = 3;
+        siglongjmp(out, 1);
     }
+}
+static void on_tick(int number) {
+    if (number == SIGPROF) ticked(&busy, SECONDS);
+    else ticked(&asleep, MINUTES);
 }
 
 uint32_t times(uint32_t n) { return (uint32_t)((uint64_t)n * run.share / 1000) + 1; }
@@ -371,8 +373,10 @@ static int is_kind(uint32_t number, struct fields *f) {
 int tries_kind(uint32_t number, uint32_t tried, struct fields *f) {
     static uint32_t all, chance[MOST_KINDS];                /* drawn once, for each run draws the same */
     if (!all) {
-        for (uint32_t n = 0; n < kinds(); n++) all += (uint32_t)is_kind(n, f);
-        for (uint32_t n = 0; n < kinds(); n++) chance[n] = is_kind(n, f) ? any(all) : UINT32_MAX;
+        uint32_t count = 0;
+        for (uint32_t n = 0; n < kinds(); n++) count += (uint32_t)is_kind(n, f);
+        for (uint32_t n = 0; n < kinds(); n++) chance[n] = is_kind(n, f) ? any(count) : UINT32_MAX;
+        all = count;                                        /* when they are drawn, and not where the watch ends the section before */
     }
     if (chance[number] >= tried) return 0;
     is_kind(number, f), any(all);                           /* the draws after it are by its own seed */
@@ -385,15 +389,15 @@ int tries_kind(uint32_t number, uint32_t tried, struct fields *f) {
 
 void never_met(uint32_t count, const char *of, const char *what) {
     if (run.loud) printf("    %9u %s: %s\n", count, of, what);
-    if (!count) differs("none of the %s: %s", of, what);
+    if (!count && !run.ended) differs("none of the %s: %s", of, what);
 }
 
 void every_value_met(void) {
     for (int i = 0; i < FIELDS; i++)
         for (int v = 0; v < model_fields[i].count; v++)
-            if (!met[i][v]) differs("value %d of field %d was never tried", model_fields[i].values[v], i);
+            if (!met[i][v] && !run.ended) differs("value %d of field %d was never tried", model_fields[i].values[v], i);
     for (int e = 0; e < EDITIONS_ASKED; e++)
-        if (!met_editions[e]) differs("%s was never tried", editions_asked[e]);
+        if (!met_editions[e] && !run.ended) differs("%s was never tried", editions_asked[e]);
     memset(met, 0, sizeof met);
     memset(met_editions, 0, sizeof met_editions);
 }
@@ -1244,32 +1248,38 @@ int harness(const struct face *f, int first, int end, unsigned share, int stop, 
     static int open;
     volatile int bad = 0;
     if (!open) {
-        struct sigaction fault = { .sa_handler = on_fault, .sa_flags = SA_ONSTACK }, tick = { .sa_handler = on_tick };
+        struct sigaction fault = { .sa_handler = on_fault, .sa_flags = SA_ONSTACK };
+        struct sigaction tick = { .sa_handler = on_tick, .sa_flags = SA_RESTART };
         stack_t s = { .ss_sp = stack, .ss_size = sizeof stack };
-        struct itimerval second = { { 1, 0 }, { 1, 0 } };
+        struct itimerval second = { { 1, 0 }, { 1, 0 } }, minute = { { 60, 0 }, { 60, 0 } };
         open = 1;
         lent_open();
         sigaltstack(&s, NULL);
         sigaction(SIGSEGV, &fault, NULL);
         sigaction(SIGBUS, &fault, NULL);
         sigaction(SIGPROF, &tick, NULL);
-        setitimer(ITIMER_PROF, &second, NULL);      /* of processor time: a loaded machine is no fault of the call */
+        setitimer(ITIMER_PROF, &second, NULL);      /* of processor time */
+        sigaction(SIGALRM, &tick, NULL);
+        setitimer(ITIMER_REAL, &minute, NULL);
     }
     run.f = f;
     run.share = share;
     run.stop = stop;
     run.loud = loud;
+    run.ended = 0;
     first_difference[0] = 0;
     for (volatile int i = first; i < end; i++) {
         struct timeval from, to;
         result[i] = (struct section){ sections[i].name, 0, 0 };
-        still = 0;
+        busy.still = asleep.still = 0;
+        busy.seen = asleep.seen = UINT64_MAX;
         gettimeofday(&from, NULL);
         if (sigsetjmp(out, 1) == 0) {
             run.now = &result[i];
             sections[i].run();
         } else if (why > 1) {
             run.stop = 0;
+            run.ended = 1;
             differs(why == 2 ? "a byte outside what was lent was touched" : "the call does not end");
             run.stop = stop;
         }

@@ -63,6 +63,21 @@ static int shown(const struct wrong *w, int first, int end, unsigned share) {
     w->put(&f);
     return harness(&f, first, end, share, 1, 0, s) != 0;
 }
+/* A call that does not end is one difference, of its section alone: those after it are run in full. */
+static struct station_masks never_ends(uint8_t address) {
+    static volatile int end;
+    while (address == 0xFF && !end) continue;
+    return model_class(address);
+}
+static int ended_alone(void) {
+    struct section whole[SECTIONS], s[SECTIONS];
+    struct face f = model;
+    int alone = harness(&f, ALL, ON_DEPTHS, SHARE, 0, 0, whole) == 0;
+    f.class_of = never_ends;
+    alone &= harness(&f, ALL, ON_DEPTHS, SHARE, 0, 0, s) == 1 && s[ALL].failed == 1 && s[ALL].cases < whole[ALL].cases;
+    for (int i = ALL + 1; i < ON_DEPTHS; i++) alone &= s[i].cases == whole[i].cases;
+    return alone;
+}
 static void say(int caught, const char *what) { printf("  %-6s %-48.48s %.100s\n", caught ? "caught" : "MISSED", what, first_difference); }
 
 /* Of each `of` libraries, right ones and wrong ones, number `part`: so several processors may share them. */
@@ -78,6 +93,12 @@ static int caught(int part, int of) {
         int bad = harness(&f, right[i].first, right[i].end, right[i].share, 1, 0, s);
         control += bad != 0;
         printf("  %s: %s\n", right[i].what, bad ? first_difference : "no difference");
+    }
+    if (next++ % of == part) {
+        int alone = ended_alone();
+        tried++;
+        control += !alone;
+        printf("  a call that does not end: %s\n", alone ? "its section is ended, and the next ones are whole" : "NOT its section alone");
     }
     for (const struct wrong_set *set = wrong_sets; set->rows; set++)
         for (const struct wrong *w = set->rows; w->fault; w++) {
