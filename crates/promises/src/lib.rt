@@ -10,6 +10,7 @@ ghost use Rattle.promises.specs.AnyInput.{Demand1};
 ghost use Rattle.promises.specs.Cases.{MarkedCases};
 ghost use Rattle.promises.specs.Example.{Example};
 ghost use Rattle.promises.specs.Finished.{AllNamed};
+ghost use Rattle.promises.specs.Looked.{Looked};
 ghost use Rattle.promises.specs.Metered.{FromMeter};
 ghost use Rattle.promises.specs.Piped.{ThroughPipe};
 ghost use Rattle.promises.specs.FieldByField.{FieldByField};
@@ -106,4 +107,9 @@ pub fn vendor_cases()
 // "Take an accepted request": demands 2 and 3 are not empty.
 pub fn worked_example()
     ensures { λ _. ⌜ Example ⌝ }
+{}
+
+// What of an image planning, decoding and the reading of a vendor's list look at: a host need read nothing else.
+pub fn looked_at()
+    ensures { λ _. ⌜ Looked ⌝ }
 {}

@@ -1,0 +1,49 @@
+-- What planning, decoding and the reading of a vendor's list look at in an image: the registers that a list writes, and no other. So a host
+-- need read no other.
+use mathlib.Core.Path.{_≡_}
+use mathlib.Core.Bool.{true}
+use mathlib.Core.List.{List, [], _∷_, _++_}
+use Prim.Native.Nat.{ℕ, _<_}
+use lib.ListN.{length, getD}
+use Rattle.lists.specs.Among.{among}
+use Rattle.bits.specs.Merge.{bit}
+use Rattle.matrix.specs.Matrix.{Bytes}
+use Rattle.chip.specs.declared.Chip.{Chip}
+use Rattle.writes.specs.Steps.{from}
+use Rattle.writes.specs.List.{isWritten}
+use Rattle.plan.specs.Plan.{planOf, planBuffer}
+use Rattle.decode.specs.Decode.{decodeOf, decodedBuffer}
+use Rattle.decode.specs.Theorems.{Counts}
+use Rattle.vendor.specs.Found.{vetOf}
+
+-- these registers in rows: the first of each row, and how many
+abbrev pub rows : List (ℕ × ℕ)
+rows =
+    (0x01, 3) ∷ (0x07, 4) ∷ (0x0C, 1) ∷ (0x15, 2) ∷ (0x18, 24) ∷ (0x3B, 2) ∷ (0x40, 1) ∷ (0x44, 1) ∷ (0x4A, 3) ∷ (0x52, 16) ∷ (0x70, 13) ∷
+    (0x98, 1) ∷ (0x9A, 1) ∷ (0x9C, 2) ∷ (0xA2, 2) ∷ (0xAF, 1) ∷ (0xE0, 1) ∷ (0xF9, 1) ∷ []
+
+abbrev pub inRows : List (ℕ × ℕ) → List ℕ
+inRows [] = []
+inRows (r ∷ rs) = from (r .0) (r .1) ++ inRows rs
+
+abbrev pub looked : List ℕ
+looked = inRows rows
+
+-- two images of the same length that agree at these registers, whatever the others hold
+pub record Agree (image other : List ℕ) : Type 0 where
+  pub long : length other ≡ length image
+  pub bytes : (a : ℕ) → among a looked ≡ true → getD other a 0 ≡ getD image a 0
+
+-- that agree at the named and mandated bits of these registers; `Bytes` is true of every slice
+pub record AgreeInBits (image other : List ℕ) : Type 0 where
+  pub long : length other ≡ length image
+  pub slices : Bytes image × Bytes other
+  pub bits : (a j : ℕ) → among a looked ≡ true → j < 8 → Counts a j → bit j (getD other a 0) ≡ bit j (getD image a 0)
+
+pub record Looked : Type 0 where
+  -- 79 registers: those that a list writes
+  pub rows : (a : ℕ) → a < 256 → among a looked ≡ isWritten a
+  pub count : length looked ≡ 79
+  -- planning: the same refusal and the same count, and the same bytes in the buffer
+  pub answer : (input image other buffer : List ℕ) → Agree image other → planOf input other buffer ≡ planOf input image buffer
+  pub buffer : (input image other buffer : List ℕ) → Agree image other → planBuffer input other buffer ≡ planBuffer input image buffer
