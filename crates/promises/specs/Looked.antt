@@ -15,6 +15,8 @@ use Rattle.plan.specs.Plan.{planOf, planBuffer}
 use Rattle.decode.specs.Decode.{decodeOf, decodedBuffer}
 use Rattle.decode.specs.Theorems.{Counts}
 use Rattle.vendor.specs.Found.{vetOf}
+use Rattle.promises.specs.LentBytes.{pairsLeft}
+use Rattle.promises.specs.AnyCut.{listOf, AnyCut}
 
 -- these registers in rows: the first of each row, and how many
 abbrev pub rows : List (ℕ × ℕ)
@@ -47,3 +49,12 @@ pub record Looked : Type 0 where
   -- planning: the same refusal and the same count, and the same bytes in the buffer
   pub answer : (input image other buffer : List ℕ) → Agree image other → planOf input other buffer ≡ planOf input image buffer
   pub buffer : (input image other buffer : List ℕ) → Agree image other → planBuffer input other buffer ≡ planBuffer input image buffer
+  -- demand 3 for a host that has read these registers alone: what it is given is the list for the registers that the chip has
+  pub demand : (input other buffer : List ℕ) (s : Chip) → Agree (s .image) other → planOf input other buffer .refusal ≡ 0
+      → (pairsLeft input other buffer ≡ listOf input (s .image)) × AnyCut input buffer s
+  -- decoding: the same refusal and count, and the same bytes in the room; the free and the read-only bits of these registers do not matter
+  pub decoding : (image other room : List ℕ) → AgreeInBits image other
+      → (decodeOf other room ≡ decodeOf image room) × (decodedBuffer other room ≡ decodedBuffer image room)
+  -- the verdict on a vendor's list, on a state with the same two buffers and the same mark
+  pub vet : (s t : Chip) (list : List ℕ) → Agree (s .image) (t .image) → t .packet ≡ s .packet → t .coefficients ≡ s .coefficients
+      → t .waiting ≡ s .waiting → vetOf t list ≡ vetOf s list

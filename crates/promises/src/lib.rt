@@ -112,4 +112,8 @@ pub fn worked_example()
 // What of an image planning, decoding and the reading of a vendor's list look at: a host need read nothing else.
 pub fn looked_at()
     ensures { λ _. ⌜ Looked ⌝ }
-{}
+{
+    writes::write_order();
+    decode::exactly_when();
+    decode::bit_by_bit();
+}
