@@ -1216,6 +1216,7 @@ static const struct { const char *name; void (*run)(void); } sections[SECTIONS] 
     { "N and CTS", ncts },
     { "planning", plan },
     { "fewer writes", fewer },
+    { "what is looked at", what_is_looked_at },
     { "every length", lengths },
     { "decoding", decode },
     { "every bit of finished images", flips },
