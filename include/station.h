@@ -173,7 +173,7 @@ struct station_count station_matrix(const uint8_t *image, size_t image_length, c
  * pair touches only registers that hold a named bit, belong to the AVI or audio packet or stand in Table 14, carries the mandated bits,
  * keeps the free bits and never leaves two packet holds up; at every cut after the first write and before the last the picture is muted; at
  * each cut each group in use is as it began or as the list ends; and a request ends in the image that the list leaves. The empty list
- * passes exactly where a request ends in the image already. At most 512 pairs, STATION_LIST bytes.
+ * passes exactly where 8 does not apply and a request ends in the image already. At most 512 pairs, STATION_LIST bytes.
  * Refusals 7, 8, 14, 15 with the `place` of the first bad pair, counted from 0, and 16; beside any other number `place` is 0. A pair is bad
  * too where the cut after it, with another pair to follow, is not as above. Bad pairs count towards the end, but for a pair that would leave
  * two packet holds up: the list ends before that one, for the tests of the pairs before it. No lent byte is changed.

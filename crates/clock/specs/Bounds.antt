@@ -1,4 +1,5 @@
--- Bounds, so that no product overflows: the one place where the largest numbers stand. Nothing is promised by them.
+-- Bounds, so that no product overflows: the one place where the largest numbers stand. No promise rests on them: they are what the private
+-- functions of `clock` ask for.
 use mathlib.Core.Path.{_≡_}
 use Prim.Native.Nat.{ℕ, _+_, _*_, _/_, _<_, _≤_, _∣_}
 use Rattle.clock.specs.declared.Clock.{Clock}

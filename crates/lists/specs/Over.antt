@@ -1,4 +1,4 @@
--- A list laid over the front of another.
+-- A list laid over the front of another. Where both are of one length it is the first: `over-whole` (proofs) says so.
 use mathlib.Core.List.{List, [], _∷_}
 use Prim.Native.Nat.{ℕ}
 

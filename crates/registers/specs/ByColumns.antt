@@ -1,4 +1,5 @@
--- Document 01, "Register classes": the class table by its columns, as the code has it.
+-- Document 01, "Register classes": the class table by its columns, as the code has it. `HasColumns`, the contract of
+-- `registers::table_columns`, ties them to the table.
 use mathlib.Core.Path.{_≡_}
 use mathlib.Core.List.{List, map}
 use Prim.Native.Nat.{ℕ}

@@ -113,7 +113,8 @@ fixedFields =
     mustBe 0x74 7 5 0b000 ∷  -- Byte 2 bit [7:5]
     mustBe 0x74 1 0 0b00 ∷  -- Sample Size
     mustBe 0x75 7 0 0b00000000 ∷  -- Byte 3
-    mustBe 0x77 2 2 0b0 ∷ [] ++  -- Byte 5 bit [2]
+    mustBe 0x77 2 2 0b0 ∷  -- Byte 5 bit [2]
+    mustBe 0x77 1 0 0b00 ∷ [] ++  -- LFEPBL, "Set to 0b0"
     zeroBytes 0x78 5 ++  -- Byte 6 to 10
     mustBe 0x94 3 3 0b0 ∷  -- Fixed
     mustBe 0x94 0 0 0b0 ∷  -- Fixed

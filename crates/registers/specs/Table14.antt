@@ -1,4 +1,5 @@
 -- Table 14 of source document 000, "Fixed Registers That Must Be Set". Document 01, "Register classes": "Table 14's bits are mandated".
+-- `registers::table14` says so of the class table.
 use mathlib.Core.Path.{_≡_}
 use mathlib.Core.Bool.{Bool, true, _&&_}
 use mathlib.Core.List.{map}
