@@ -18,6 +18,7 @@ use Rattle.request.proofs.Fits as request
 use Rattle.chip.specs.declared.Chip.{Chip}
 use Rattle.chip.specs.Machine.{Write, Group, avi, audio, packets, registersOf, held, inUse, coefficients}
 use Rattle.writes.specs.List.{isWritten, finished, finishedImage}
+use Rattle.writes.proofs.InOrder.{touched}
 use Rattle.writes.proofs.Image.{image-at}
 use Rattle.writes.proofs.Named.{named-bit}
 use Rattle.plan.proofs.Fine.{Fine, fine}
@@ -146,15 +147,14 @@ list-ended ls s c list ending es a e =
 -- ---- two chains with the same last request
 
 -- a register with a named bit is written
-named-written : (a j : ℕ) → bit j (named a) ≡ 1 → isWritten a ≡ true
-unfolding isWritten
-named-written a j h = rw (ne-eqb (named a) 0 (λ z. omega (arith, ap (λ (n : ℕ). bit j n) z, h, bit-zero j)))
+named-written : (a j : ℕ) → a < 256 → bit j (named a) ≡ 1 → isWritten a ≡ true
+named-written a j h n = touched a h ∙ rw (ne-eqb (named a) 0 (λ z. omega (arith, ap (λ (n : ℕ). bit j n) z, n, bit-zero j)))
 
 -- its named bits do not ask for the image
 named-same : (want : ℕ → ℕ) (x y : List ℕ) (a j : ℕ) → a < 256 → j < 8 → bit j (named a) ≡ 1
     → bit j (finished want x a) ≡ bit j (finished want y a)
 named-same want x y a j h l n =
-    let w : isWritten a ≡ true = named-written a j n in
+    let w : isWritten a ≡ true = named-written a j h n in
     named-bit want x a h w j l n ∙ sym (named-bit want y a h w j l n)
 
 module _ (ls ms : List Link) (s t : Chip) (c : Chain ls s) (k : Chain ms t) (input room other : List ℕ) (es fs : List Event)

@@ -19,7 +19,8 @@ use Rattle.chip.specs.Machine.{Write, Group, avi, audio, packets, inUse, coeffi
 use Rattle.chip.specs.Write.{vsyncOf}
 use Rattle.views.specs.Entry.{Lent, stateOf}
 use Rattle.views.specs.Theorems.{LentSized}
-use Rattle.writes.specs.List.{isWritten, pairsOf}
+use Rattle.writes.specs.Rows.{isWritten}
+use Rattle.writes.specs.List.{pairsOf}
 use Rattle.plan.specs.Plan.{planOf}
 use Rattle.decode.specs.Ends.{Ends}
 use Rattle.vendor.specs.Found.{vetOf}

@@ -13,8 +13,8 @@ use Rattle.lists.proofs.Find.{every-at}
 use Rattle.lists.proofs.Those.{of-those}
 use Rattle.chip.specs.Machine.{Write, _gets_, audio, packets, up, holdsOf}
 use Rattle.writes.specs.List.{fullList, stays, writeList}
-use Rattle.writes.specs.Order.{addresses, Order}
-use Rattle.writes.proofs.InOrder.{inside, in-order}
+use Rattle.writes.specs.Order.{addresses}
+use Rattle.writes.proofs.InOrder.{inside, is-listed}
 use Rattle.writes.proofs.Carries.{entries}
 use Rattle.cut.specs.Run.{Fair}
 
@@ -32,14 +32,13 @@ pub full-fair : (want : ℕ → ℕ) (image : List ℕ) (k : ℕ) → k < length
 full-fair want image k h =
     let ws : List Write = fullList want image in
     let w : Write = getD ws k (0 gets 0) in
-    let o : Order want image = in-order want image in
     let at : getD (addresses ws) k 0 ≡ w .address = List·getD-map (λ (w : Write). w .address) ws k (0 gets 0) in
     let l : k < length (addresses ws) = rw (length-map ws (λ (w : Write). w .address)) h in
     let small : w .address < 256 =
     subst (λ (a : ℕ). a < 256) at (ltb-true _ _ (every-at (λ a. ltb a 256) (addresses ws) k 0 (inside want image (up audio (holdsOf packets image))) l)) in
-    let c = entries want image k h .carries in
+    let c = entries want image k h in
     record {
-      itsRegister = sym (o .written (w .address) small) ∙ ap (λ (a : ℕ). among a (addresses ws)) (sym at) ∙ among-at (addresses ws) k l;
+      itsRegister = sym (is-listed want image (w .address) small) ∙ ap (λ (a : ℕ). among a (addresses ws)) (sym at) ∙ among-at (addresses ws) k l;
       itsMandated = c .itsMandated;
       itsFree = c .itsFree;
     }

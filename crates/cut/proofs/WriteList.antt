@@ -10,9 +10,9 @@ use borrow.Author.Tests.{eqb-true, eqb-false}
 use Rattle.lists.specs.Find.{every}
 use Rattle.bits.specs.Merge.{bit}
 use Rattle.map.specs.Map as reg
-use Rattle.registers.specs.Steps.{table14, others}
 use Rattle.chip.specs.declared.Chip.{Chip}
 use Rattle.chip.specs.Machine.{audio, packets, converter, up, holdsOf}
+use Rattle.writes.specs.Rows.{table14, others}
 use Rattle.writes.specs.Steps.{_raising_, each, span, aviSteps, audioSteps, middle}
 use Rattle.writes.specs.List.{middleOf, fullList, written, ready}
 use Rattle.cut.specs.Demand.{Demand3}

@@ -14,7 +14,7 @@ use Rattle.chip.specs.declared.Chip.{Chip}
 use Rattle.chip.specs.declared.Wrote.{Wrote}
 use Rattle.chip.specs.Machine.{Write, _gets_, avi, audio, matrix, packets, registersOf, inUse, coefficients, Muted}
 use Rattle.chip.specs.Write.{writeOf, vsyncOf}
-use Rattle.writes.specs.List.{isWritten}
+use Rattle.writes.specs.Rows.{isWritten}
 
 -- what happens to the chip: "a Vsync event joins the writes"
 pub data Event : Type 0 where

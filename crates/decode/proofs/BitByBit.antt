@@ -19,7 +19,7 @@ use Rattle.plan.specs.Wanted.{wanted}
 use Rattle.writes.specs.List.{byte, isWritten, finished}
 use Rattle.decode.specs.Ends.{Stands}
 use Rattle.decode.specs.Theorems.{Counts, AsLeft, BitByBit}
-use Rattle.writes.proofs.InOrder.{in-order}
+use Rattle.writes.proofs.InOrder.{is-listed}
 use Rattle.writes.proofs.Named.{byte-small, left}
 
 -- ---- one bit of a register: it counts, or it is free or read-only
@@ -86,12 +86,12 @@ module _ (r : Request) (before image : List ℕ) where
       go false w = rw w
       go true w =
           whole (finished (wanted r) image a) (getD image a 0) (small (wanted r) a h w image) (b a)
-          (λ j l. ⊎-elim (λ c. same (wanted r) a h w image before j l c ∙ sym (s a j h l (in-order (wanted r) before .written a h ∙ w) c)) (λ k. stay (wanted r) a h w image j l k) (either a j h l))
+          (λ j l. ⊎-elim (λ c. same (wanted r) a h w image before j l c ∙ sym (s a j h l (is-listed (wanted r) before a h ∙ w) c)) (λ k. stay (wanted r) a h w image j l k) (either a j h l))
 
   to : Stands r image → AsLeft r before image
   to s a j h l w c =
       ap (λ (n : ℕ). bit j n) (sym (s a h))
-      ∙ same (wanted r) a h (sym (in-order (wanted r) before .written a h) ∙ w) image before j l c
+      ∙ same (wanted r) a h (sym (is-listed (wanted r) before a h) ∙ w) image before j l c
 
   pub bit-by-bit : BitByBit r before image
   bit-by-bit b = (to, from b)

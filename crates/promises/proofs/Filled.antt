@@ -209,7 +209,7 @@ in-full : (want : ℕ → ℕ) (image : List ℕ) (k : ℕ) → k < length (full
 in-full want image k h e =
     let w : Write = getD (fullList want image) k (0 gets 0) in
     let c : under (requested 0x18) (w .value) ≡ under (requested 0x18) (want 0x18)
-    = subst (λ (a : ℕ). under (requested a) (w .value) ≡ under (requested a) (want a)) e (entries want image k h .carries .itsNamed) in
+    = subst (λ (a : ℕ). under (requested a) (w .value) ≡ under (requested a) (want a)) e (entries want image k h .itsNamed) in
     field-same 5 2 (w .value) (want 0x18) (λ j u.
     let b : j + 5 < 8 = omega arith in
     let m : bit (j + 5) (requested 0x18) ≡ 1 = requested-bit (j + 5) b in

@@ -446,10 +446,11 @@ buffers : (s t : Chip) (list : List ℕ) → Sized s → Sized t → t .image �
     → bitsIn 5 5 (getD (s .image) 0x1A 0) ≡ 0 → s .waiting ≡ false → t .waiting ≡ false → vetOf t list ≡ vetOf s list
 buffers s t list z y e h k i j = same-verdict s t list (alike s t e h k i j) (z .image) (sized-alike s t z y)
 
-asks : (s t : Chip) (list : List ℕ) → Sized s → Sized t → t .image ≡ s .image → ((g : Group) → inUse packets g t ≡ inUse packets g s)
+asks : (s t : Chip) (list : List ℕ) → Sized s → Sized t → t .image ≡ s .image → inUse packets avi t ≡ inUse packets avi s
+    → inUse packets audio t ≡ inUse packets audio s → inUse packets gc t ≡ inUse packets gc s
     → inUse converter matrix t ≡ inUse converter matrix s → (held s ≡ false → t .waiting ≡ s .waiting) → vetOf t list ≡ vetOf s list
-asks s t list z y e g m w =
-    same-verdict s t list (record { image = e; avi = g avi; audio = g audio; gc = g gc; matrix = m; waiting = w }) (z .image) (sized-alike s t z y)
+asks s t list z y e i a g m w =
+    same-verdict s t list (record { image = e; avi = i; audio = a; gc = g; matrix = m; waiting = w }) (z .image) (sized-alike s t z y)
 
 pub vendors : Vendors
 vendors = record { own = own; sizes = sizes; empty = empty; buffers = buffers; asks = asks; passing = passing }

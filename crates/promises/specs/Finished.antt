@@ -20,7 +20,7 @@ use Rattle.clock.specs.Tables.{otherRow}
 use Rattle.clock.specs.Pairs.{Coherent}
 use Rattle.frames.specs.Frames.{total, frame, aviFrame}
 use Rattle.chip.specs.Machine.{Write, _gets_}
-use Rattle.writes.specs.List.{isWritten}
+use Rattle.writes.specs.Rows.{isWritten}
 use Rattle.request.specs.declared.Sound.{Sound}
 use Rattle.request.specs.declared.Sound.the-variants.{Off, On}
 use Rattle.request.specs.declared.Request.{Request}

@@ -9,7 +9,7 @@ use Rattle.bits.specs.Merge.{bitsIn}
 use Rattle.matrix.specs.Matrix.{Bytes}
 use Rattle.request.specs.Bytes.{asBytes, inFamily}
 use Rattle.chip.specs.declared.Chip.{Chip}
-use Rattle.chip.specs.Machine.{Group, avi, audio, matrix, packets, converter, held, inUse, Muted, Open}
+use Rattle.chip.specs.Machine.{avi, audio, gc, matrix, packets, converter, held, inUse, Muted, Open}
 use Rattle.chip.specs.Write.{vsyncOf}
 use Rattle.views.specs.Entry.{Lent, stateOf}
 use Rattle.views.specs.Theorems.{Sized, LentSized}
@@ -87,6 +87,7 @@ pub record Vendors : Type 0 where
   -- and it never asks for more than the registers, what is in use, and the mark where the coefficient hold is down: "a mark beside a raised
   -- hold counts for nothing"
   pub asks : (s t : Chip) (list : List ℕ) → Sized s → Sized t → t .image ≡ s .image
-      → ((g : Group) → inUse packets g t ≡ inUse packets g s) → inUse converter matrix t ≡ inUse converter matrix s
+      → inUse packets avi t ≡ inUse packets avi s → inUse packets audio t ≡ inUse packets audio s → inUse packets gc t ≡ inUse packets gc s
+      → inUse converter matrix t ≡ inUse converter matrix s
       → (held s ≡ false → t .waiting ≡ s .waiting) → vetOf t list ≡ vetOf s list
   pub passing : (list : List ℕ) (s : Chip) → vetOf s list .refusal ≡ 0 → Passing list s

@@ -4,5 +4,4 @@ pub mod Field
 pub mod Fields
 pub mod Precedence
 pub mod Rows
-pub mod Steps
 pub mod Table14

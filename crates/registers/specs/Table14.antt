@@ -2,14 +2,12 @@
 -- `registers::table14` says so of the class table.
 use mathlib.Core.Path.{_≡_}
 use mathlib.Core.Bool.{Bool, true, _&&_}
-use mathlib.Core.List.{map}
 use lib.Dec.{eqb}
 use Rattle.lists.specs.Find.{every}
 use Rattle.bits.specs.Merge.{under}
 use Rattle.registers.specs.Classes.{mandated, bits}
 use Rattle.registers.specs.Field.{Field}
 use Rattle.registers.specs.Rows.{table14Bits}
-use Rattle.registers.specs.Steps.{table14}
 
 -- a row's bits are all mandated, and the mandated bits there are the row's value
 abbrev pub inTable : Field → Bool
@@ -17,5 +15,3 @@ inTable f = eqb (under (f .mask) (mandated (f .address))) (f .mask) && eqb (unde
 
 pub record Table14 : Type 0 where
   pub rows : every inTable table14Bits ≡ true
-  -- the write list's step "Table 14 registers" has these registers
-  pub registers : map (λ (f : Field). f .address) table14Bits ≡ table14

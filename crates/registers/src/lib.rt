@@ -1,11 +1,8 @@
 // The class of each bit of the main map: document 01, "Register classes".
 ghost use mathlib.Core.Path.{_≡_};
-ghost use mathlib.Core.Bool.{_&&_, not};
 ghost use Prim.Native.Nat.{ℕ, _<_};
-ghost use Rattle.lists.specs.Among.{among};
 ghost use Rattle.registers.specs.Classes.{classAt, Classifies, readOnly, named, Rule};
 ghost use Rattle.registers.specs.ByColumns.{HasColumns};
-ghost use Rattle.registers.specs.Steps.{others, hasNamed, elsewhere};
 ghost use Rattle.registers.specs.Fields.{namedFields, maskIn};
 ghost use Rattle.registers.specs.Table14.{Table14};
 
@@ -70,9 +67,4 @@ pub fn table14()
 // "then the fields listed below are named": the named bits of each register are those of its listed fields.
 pub fn fields()
     ensures { λ _. ⌜ ((a : ℕ) → a < 256 → named a ≡ maskIn namedFields a) ⌝ }
-{}
-
-// "the other named registers, those in no other step": the list has each register with a named bit that no other step writes.
-pub fn others()
-    ensures { λ _. ⌜ ((a : ℕ) → a < 256 → among a others ≡ (hasNamed a && not (elsewhere a))) ⌝ }
 {}

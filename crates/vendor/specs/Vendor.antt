@@ -16,7 +16,8 @@ use Rattle.chip.specs.Machine.{Write, _gets_, avi, audio, packets, inUse, coeff
 use Rattle.chip.specs.Write.{imageAfter, writeOf}
 use Rattle.chip.specs.Step.{TwoUp}
 use Rattle.views.specs.Theorems.{WrongLengths}
-use Rattle.writes.specs.List.{isWritten, pairsOf}
+use Rattle.writes.specs.Rows.{isWritten}
+use Rattle.writes.specs.List.{pairsOf}
 use Rattle.plan.specs.Rules.{HoldsUp}
 use Rattle.decode.specs.Ends.{Ends}
 use Rattle.cut.specs.Run.{run, cut, writesBy, InUse, allInUse, Either, Between, Fair}

@@ -1,10 +1,10 @@
 -- What a written byte carries, by the class table's rule: laws of merges, each a truth table; so each entry of the list. Assumes nothing.
-use mathlib.Core.Path.{_≡_, refl, sym, ap, _∙_}
+use mathlib.Core.Path.{_≡_, refl, _∙_}
 use mathlib.Core.Bool.{Bool, true, false, _&&_}
 use mathlib.Core.List.{List, [], _∷_, map}
-use Prim.Native.Nat.{ℕ, zero, suc, _+_, _<_}
+use Prim.Native.Nat.{ℕ, zero, suc, _<_}
 use native.Mathlib.Nat.{not-suc-le-zero, le-of-suc-le-suc}
-use lib.Dec.{eqb, ltb, lit<}
+use lib.Dec.{eqb, ltb}
 use lib.ListN.{length, getD}
 use borrow.Author.Tests.{eqb-true, ltb-true}
 use Rattle.lists.specs.Find.{every}
@@ -17,9 +17,10 @@ use Rattle.registers.specs.Classes.{classAt, named}
 use Rattle.registers.proofs.Whole.{rule}
 use Rattle.registers.proofs.Apart.{row, rules, holds, by-rule}
 use Rattle.chip.specs.Machine.{Write, _gets_, audio, packets, up, holdsOf}
-use Rattle.writes.specs.Steps.{Step, _raising_, middle, steps}
+use Rattle.writes.specs.Rows.{holdMask}
+use Rattle.writes.specs.Steps.{Step, middle, steps}
 use Rattle.writes.specs.List.{byte, decided, written}
-use Rattle.writes.specs.Carried.{Carrying, requested, Entry, Entries}
+use Rattle.writes.specs.Carried.{Carrying, requested, Entries}
 
 -- a bit under a mask
 pub masked : (m j x : ℕ) → j < 8 → bit j m ≡ 1 → bit j (merge 8 m x 0) ≡ bit j x
@@ -62,17 +63,16 @@ module _ (a : ℕ) (h : a < 256) (old wanted x : ℕ) where
       law-if (by (var 2) zeros (var 7) ∷ rules) e f 8 (row (classAt a) ρ) t (decided-named a h, holds (classAt a) ρ (rule a h))
 
   entry-named : under (requested a) (byte a old (merge 8 (decided a) x wanted)) ≡ under (requested a) wanted
-  unfolding byte
+  unfolding byte decided
   entry-named = asked-law (part (by (var 7) zeros (var 2)) merged) (part (by (var 7) zeros (var 2)) (var 6)) refl
 
   entry-decided : under (decided a) (byte a old (merge 8 (decided a) x wanted)) ≡ under (decided a) x
   unfolding byte
   entry-decided = asked-law (part (var 7) merged) (part (var 7) (var 8)) refl
 
--- what holds of every step: its register, that it says no more than it decides, and one of the two holds at most
+-- what holds of every step: its register, and that it says no more than it decides
 abbrev pub fits : Step → Bool
-fits i =
-    ltb (i .register) 256 && (eqb (under (decided (i .register)) (i .raised)) (i .raised) && ltb (bit 6 (i .raised) + bit 5 (i .raised)) 2)
+fits i = ltb (i .register) 256 && eqb (under (decided (i .register)) (i .raised)) (i .raised)
 
 pub every-step : (b : Bool) → every fits (steps (middle b)) ≡ true
 unfolding middle decided merge
@@ -80,33 +80,26 @@ every-step true = refl
 every-step false = refl
 
 module _ (want : ℕ → ℕ) (image : List ℕ) where
-  pub entry : (i : Step) → fits i ≡ true → Entry want image i (written want image i)
+  -- what a write holds is what its step raises, for those are the bits that steps decide
+  pub held : (i : Step) → fits i ≡ true → under (holdMask (i .register)) (written want image i .value) ≡ i .raised
+  unfolding written decided
+  held i t =
+      entry-decided (i .register) (ltb-true _ _ (both-left (ltb (i .register) 256) _ t)) _ _ (i .raised)
+      ∙ eqb-true _ _ (both-right (ltb (i .register) 256) _ t)
+
+  entry : (i : Step) → fits i ≡ true
+      → Carrying (i .register) (getD image (i .register) 0) (requested (i .register)) (want (i .register)) (written want image i .value)
   unfolding written decided
   entry i t =
       let a : ℕ = i .register in
-      let x : ℕ = i .raised in
-      let v : ℕ = written want image i .value in
-      let rest : (eqb (under (decided a) x) x && ltb (bit 6 x + bit 5 x) 2) ≡ true = both-right (ltb a 256) _ t in
       let h : a < 256 = ltb-true _ _ (both-left (ltb a 256) _ t) in
-      let c = carried a h (getD image a 0) (merge 8 (decided a) x (want a)) in
-      let d : under (decided a) v ≡ x = entry-decided a h _ _ x ∙ eqb-true _ _ (both-left (eqb (under (decided a) x) x) _ rest) in
-      let one : bit 6 x + bit 5 x < 2 = ltb-true _ _ (both-right (eqb (under (decided a) x) x) _ rest) in
-      record {
-        carries = record {
-          itsMandated = c .itsMandated;
-          itsFree = c .itsFree;
-          itsReadOnly = c .itsReadOnly;
-          itsNamed = entry-named a h _ _ x;
-        };
-        stepped = d;
-        otherHold = λ e.
-            let b6 : bit 6 v ≡ bit 6 x = sym (masked (decided a) 6 v (lit< tt) (rw e)) ∙ ap (λ (n : ℕ). bit 6 n) d in
-            let b5 : bit 5 v ≡ bit 5 x = sym (masked (decided a) 5 v (lit< tt) (rw e)) ∙ ap (λ (n : ℕ). bit 5 n) d in
-            rw (b6, b5) (le-of-suc-le-suc one);
-      }
+      let c = carried a h (getD image a 0) (merge 8 (decided a) (i .raised) (want a)) in
+      record { itsMandated = c .itsMandated; itsFree = c .itsFree; itsReadOnly = c .itsReadOnly; itsNamed = entry-named a h _ _ (i .raised) }
 
   each-entry : (is : List Step) → every fits is ≡ true → (k : ℕ) → k < length (map (written want image) is)
-      → Entry want image (getD is k (0 raising 0)) (getD (map (written want image) is) k (0 gets 0))
+      → let w : Write = getD (map (written want image) is) k (0 gets 0) in
+      Carrying (w .address) (getD image (w .address) 0) (requested (w .address)) (want (w .address)) (w .value)
+  unfolding written
   each-entry [] t k h = absurd (not-suc-le-zero h)
   each-entry (i ∷ is) t zero h = entry i (both-left (fits i) (every fits is) t)
   each-entry (i ∷ is) t (suc k) h = each-entry is (both-right (fits i) (every fits is) t) k (le-of-suc-le-suc h)

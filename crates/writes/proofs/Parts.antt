@@ -21,9 +21,9 @@ use Rattle.lists.proofs.Those.{those-append, no-more}
 use Rattle.bits.specs.Merge.{merge}
 use Rattle.map.specs.Map as reg
 use Rattle.registers.specs.Classes.{classAt}
-use Rattle.registers.specs.Steps.{table14, others}
 use Rattle.chip.specs.Machine.{Write, _gets_, audio, packets, up, holdsOf}
-use Rattle.writes.specs.Steps.{Step, _raising_, from, each, coefficientSteps, aviSteps, audioSteps, middle}
+use Rattle.writes.specs.Rows.{from, table14, others}
+use Rattle.writes.specs.Steps.{Step, _raising_, each, coefficientSteps, aviSteps, audioSteps, middle}
 use Rattle.writes.specs.List.{decided, written, alreadyThere, theThree, stays, writeList, flat, fronted, isWritten}
 use Rattle.writes.specs.Columns.{closed}
 use Rattle.writes.specs.Parts.{Puts, withBits, moving, coefficientPairs, aviPairs, audioPairs, bothPairs}

@@ -11,7 +11,7 @@ use Rattle.lists.specs.Those.{those}
 use Rattle.bits.specs.Merge.{bit}
 use Rattle.registers.specs.Classes.{readOnly}
 use Rattle.chip.specs.Machine.{Write}
-use Rattle.writes.specs.Steps.{from}
+use Rattle.writes.specs.Rows.{from}
 use Rattle.writes.specs.List.{fullList, theThree, stays, writeList, finishedImage}
 use Rattle.writes.specs.Order.{addresses}
 

@@ -5,22 +5,21 @@ use mathlib.Core.Path.{_≡_}
 use mathlib.Core.Bool.{Bool, true, cond, not, _&&_, _||_}
 use mathlib.Core.List.{List, [], _∷_, _++_, map}
 use Prim.Native.Nat.{ℕ, zero, suc, _+_}
-use lib.Dec.{eqb, ltb}
+use lib.Dec.{eqb, leb, ltb}
 use lib.ListN.{length, getD, drop}
 use Rattle.lists.specs.Among.{among}
 use Rattle.lists.specs.Those.{those}
 use Rattle.bits.specs.Merge.{merge}
 use Rattle.map.specs.Map as reg
 use Rattle.registers.specs.Classes.{readOnly, free, named, bits}
-use Rattle.registers.specs.Steps.{table14, hasNamed, inRun}
 use Rattle.chip.specs.Machine.{Write, _gets_, Group, up, avi, audio, gc, packets, holdsOf}
-use Rattle.writes.specs.Steps.{Step, from, _raising_, middle, steps}
+use Rattle.writes.specs.Rows.{from, holdMask}
+unfoldable pub use Rattle.writes.specs.Rows.{isWritten}
+use Rattle.writes.specs.Steps.{Step, _raising_, middle, steps}
 
--- the bits of a register that steps decide: "a hold write to 0x4A has the other named hold 0". Of an entry of the list it is `Entry`.
+-- the bits of a register that steps decide, and no request
 unfoldable pub decided : ℕ → ℕ
-decided a =
-    cond (eqb a reg.infoframeUpdate) (reg.aviPacketUpdateMask + reg.audioInfoframePacketUpdateMask)
-    (cond (eqb a reg.coefficientUpdate) reg.coefficientUpdateMask (cond (eqb a reg.avMute) (reg.clearAvMuteMask + reg.setAvMuteMask) 0))
+decided = holdMask
 
 -- "Each written byte carries its mandated bits, the image's free and read-only bits and the wanted named bits"; in these words: `Carrying`
 unfoldable pub byte : ℕ → ℕ → ℕ → ℕ
@@ -76,12 +75,12 @@ pairsOf (a ∷ v ∷ rest) = a gets v ∷ pairsOf rest
 abbrev pub fronted : List Write → List ℕ → List ℕ
 fronted ws buffer = flat ws ++ drop (length (flat ws)) buffer
 
--- the registers that the list writes: those with a named bit, those of the two packets, those of Table 14
+-- one of the count registers from `first` on; and so a register of a group
+abbrev pub inRun : ℕ → ℕ → ℕ → Bool
+inRun first count a = leb first a && ltb a (first + count)
+
 abbrev pub covers : Group → ℕ → Bool
 covers g = inRun (g .first) (g .count)
-
-unfoldable pub isWritten : ℕ → Bool
-isWritten a = hasNamed a || covers avi a || covers audio a || among a table14
 
 -- what a register's last step raises: holds down, and the picture open
 abbrev pub leftUp : ℕ → ℕ

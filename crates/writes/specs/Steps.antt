@@ -1,10 +1,10 @@
--- Document 01, "The write list": the steps, as the code has them. `Order` ties them to the document's words: `order` their registers and
--- the order, `holds` what they raise.
+-- Document 01, "The write list": the steps, as the code has them. `Order.rows` ties them to the document's: their registers, their order
+-- and what they raise.
 use mathlib.Core.Bool.{Bool, cond}
 use mathlib.Core.List.{List, [], _∷_, _++_}
-use Prim.Native.Nat.{ℕ, zero, suc, _+_, _-_}
+use Prim.Native.Nat.{ℕ, _+_, _-_}
 use Rattle.map.specs.Map as reg
-use Rattle.registers.specs.Steps.{table14, others}
+pub use Rattle.writes.specs.Rows.{from, table14, others}
 
 -- a step: the register that it writes, and the bits that it raises of those that steps decide and not the request (holds, mute)
 pub record Step : Type 0 where
@@ -14,11 +14,6 @@ pub record Step : Type 0 where
 infix 80 _raising_
 abbrev pub _raising_ : ℕ → ℕ → Step
 register raising raised = record { register = register; raised = raised }
-
--- count addresses from `first` on
-abbrev pub from : ℕ → ℕ → List ℕ
-from first zero = []
-from first (suc count) = first ∷ from (suc first) count
 
 -- a step for each register
 abbrev pub each : List ℕ → List Step

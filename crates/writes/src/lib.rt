@@ -6,8 +6,8 @@ ghost use Prim.Native.Nat.{ℕ, _+_, _*_, _<_, _≤_};
 ghost use lib.ListN.{getD, length};
 ghost use Rattle.bits.specs.Merge.{merge};
 ghost use Rattle.chip.specs.Machine.{audio, packets, up};
-ghost use Rattle.registers.specs.Steps.{table14, others};
-ghost use Rattle.writes.specs.Steps.{from, coefficientSteps, aviSteps, audioSteps};
+ghost use Rattle.writes.specs.Rows.{from, table14, others, Touched};
+ghost use Rattle.writes.specs.Steps.{coefficientSteps, aviSteps, audioSteps};
 ghost use Rattle.writes.specs.List.{column, standsWhole, Lists};
 ghost use Rattle.writes.specs.Columns.{keptBits, wantedBits, setBits, closed};
 ghost use Rattle.writes.specs.Parts.{Puts, withBits, moving, coefficientPairs, packetPairs, aviPairs, audioPairs, bothPairs};
@@ -301,4 +301,9 @@ pub fn list_entries()
 // Which writes are left out of it, and how many are left.
 pub fn fewer_writes()
     ensures { λ _. ⌜ ((want : ℕ → ℕ) (image : List ℕ) → Fewer want image) ⌝ }
+{}
+
+// The registers that a list may touch.
+pub fn touched()
+    ensures { λ _. ⌜ Touched ⌝ }
 {}

@@ -7,7 +7,7 @@ use Rattle.registers.proofs.table14.Tie as tie
 
 returns : tie.Need-returns
 unfolding classAt merge
-returns c = record { rows = refl; registers = refl }
+returns c = record { rows = refl }
 
 pub table14-spec : {M : Type 1} → statement M
 table14-spec = tie.close (tie.spec returns)
