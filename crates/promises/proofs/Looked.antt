@@ -1,6 +1,6 @@
 -- Images that agree at the registers that a list writes are the same to planning and to decoding. Assumes nothing.
 use mathlib.Core.Path.{_≡_, refl, sym, ap, ap₂, _∙_}
-use mathlib.Core.Bool.{Bool, true, false, Bool·beq, cond}
+use mathlib.Core.Bool.{Bool, true, false, false≢true, Bool·beq, cond, _||_}
 use mathlib.Core.List.{List, [], _∷_, _++_, map}
 use Prim.Native.Nat.{ℕ, _*_, _<_, _≤_}
 use lib.Dec.{eqb, ltb}
@@ -12,7 +12,6 @@ use Rattle.lists.specs.Those.{those}
 use Rattle.lists.proofs.Both.{both-left, both-right, beq-true}
 use Rattle.bits.proofs.Below.{at-below}
 use Rattle.refusals.specs.Rows.{answer}
-use Rattle.registers.specs.Classes.{classAt}
 use Rattle.chip.specs.declared.Chip.{Chip}
 use Rattle.chip.specs.Machine.{Write, audio, packets, up, holdsOf}
 use Rattle.request.specs.declared.Request.{Request}
@@ -24,7 +23,7 @@ use Rattle.writes.specs.List.{written, alreadyThere, stays, writeList, fronted,
 use Rattle.plan.specs.declared.Planned.{Planned}
 use Rattle.plan.specs.Wanted.{wanted}
 use Rattle.plan.specs.Plan.{laterRefusal, nothing, planWith, bufferWith, planOf, planBuffer}
-use Rattle.writes.specs.Order.{Order}
+use Rattle.writes.specs.Order.{addresses}
 use Rattle.decode.specs.Ends.{Stands, Ends}
 use Rattle.decode.specs.Decode.{someEnds, decodeRefusal, decodeOf, decodedBuffer}
 use Rattle.decode.specs.Theorems.{Answered, Answer, ExactlyWhen, BitByBit}
@@ -39,29 +38,30 @@ abbrev is-row : ℕ → Bool
 is-row a = Bool·beq (among a looked) (isWritten a)
 
 pub in-rows : (a : ℕ) → a < 256 → among a looked ≡ isWritten a
-unfolding isWritten classAt
+unfolding isWritten
 in-rows a h = beq-true (among a looked) (isWritten a) (at-below is-row 256 a refl h)
 
 -- ---- planning
 
 abbrev places : List Step → Bool
-places = every (λ i. among (i .register) looked)
+places = every (λ i. isWritten (i .register))
 
 all-looked : (b : Bool) → places (steps (middle b)) ≡ true
-unfolding middle
+unfolding middle isWritten
 all-looked true = refl
 all-looked false = refl
 
 module _ (image other : List ℕ) (g : Agree image other) where
   same-holds : holdsOf packets other ≡ holdsOf packets image
+  unfolding isWritten
   same-holds = g .bytes 0x4A refl
 
   module _ (want : ℕ → ℕ) where
-    same-write : (i : Step) → among (i .register) looked ≡ true → written want other i ≡ written want image i
+    same-write : (i : Step) → isWritten (i .register) ≡ true → written want other i ≡ written want image i
     unfolding written
     same-write i t = rw (g .bytes (i .register) t)
 
-    same-stay : (i : Step) → among (i .register) looked ≡ true → stays other (written want other i) ≡ stays image (written want image i)
+    same-stay : (i : Step) → isWritten (i .register) ≡ true → stays other (written want other i) ≡ stays image (written want image i)
     unfolding written alreadyThere
     same-stay i t = rw (g .bytes (i .register) t)
 
@@ -69,8 +69,8 @@ module _ (image other : List ℕ) (g : Agree image other) where
         → those (stays other) (map (written want other) is) ≡ those (stays image) (map (written want image) is)
     same-left [] t = refl
     same-left (i ∷ is) t =
-        let h : among (i .register) looked ≡ true = both-left (among (i .register) looked) (places is) t in
-        λ j. cond (same-stay i h j) (same-write i h j ∷ []) [] ++ same-left is (both-right (among (i .register) looked) (places is) t) j
+        let h : isWritten (i .register) ≡ true = both-left (isWritten (i .register)) (places is) t in
+        λ j. cond (same-stay i h j) (same-write i h j ∷ []) [] ++ same-left is (both-right (isWritten (i .register)) (places is) t) j
 
     same-list : writeList want other ≡ writeList want image
     same-list =
@@ -117,12 +117,24 @@ turned image other g = record {
   bits = λ a j w l c. sym (g .bits a j w l c);
 }
 
-module _ (order : (want : ℕ → ℕ) (image : List ℕ) → Order want image) (exactly : (image buffer : List ℕ) → ExactlyWhen image buffer)
+-- a register of a list is one of these
+listed : (want : ℕ → ℕ) (image : List ℕ) (a : ℕ) (is : List Step) → places is ≡ true
+    → among a (addresses (map (written want image) is)) ≡ true → isWritten a ≡ true
+unfolding written
+listed want image a [] p t = absurd (false≢true t)
+listed want image a (i ∷ is) p t = go (eqb a (i .register)) refl t (listed want image a is (both-right (isWritten (i .register)) (places is) p))
+  where
+    go : (b : Bool) → eqb a (i .register) ≡ b → (b || among a (addresses (map (written want image) is))) ≡ true
+        → (among a (addresses (map (written want image) is)) ≡ true → isWritten a ≡ true) → isWritten a ≡ true
+    go true e t rest = ap isWritten (eqb-true a (i .register) e) ∙ both-left (isWritten (i .register)) (places is) p
+    go false e t rest = rest t
+
+module _ (exactly : (image buffer : List ℕ) → ExactlyWhen image buffer)
     (bitwise : (r : Request) (before image : List ℕ) → BitByBit r before image) where
   stands-too : (image other : List ℕ) → AgreeInBits image other → (r : Request) → Stands r image → Stands r other
   stands-too image other g r s =
       bitwise r image other (g .slices .1) .1
-      (λ a j h l w c. g .bits a j (in-rows a h ∙ sym (order (wanted r) image .written a h) ∙ w) l c
+      (λ a j h l w c. g .bits a j (listed (wanted r) image a (steps (middle (up audio (holdsOf packets image)))) (all-looked (up audio (holdsOf packets image))) w) l c
       ∙ bitwise r image image (g .slices .0) .0 s a j h l w c)
 
   ends-too : (image other : List ℕ) → AgreeInBits image other → (r : Request) → Ends r image → Ends r other

@@ -2,14 +2,13 @@
 -- give the same verdict. Assumes nothing.
 use mathlib.Core.Path.{_≡_, refl, sym, ap, subst, _∙_}
 use mathlib.Core.Bool.{Bool, true, false, cond, not, _&&_, _||_}
-use mathlib.Core.List.{List, [], _∷_, _++_}
+use mathlib.Core.List.{List, [], _∷_, _++_, map}
 use Prim.Native.Nat.{ℕ, zero, suc, _+_, _*_, _%_, _<_, _≤_}
 use native.Mathlib.Omega.{arith}
 use lib.Dec.{eqb, ltb}
-use lib.ListN.{length, getD, set, take, drop, length-take, length-drop, length-set, List·getD-eq-default}
+use lib.ListN.{length, getD, set, take, drop, length-take, length-drop, length-set}
 use lib.Seq.{ext-getD, getD-take, getD-drop, getD-set-same, getD-set-other}
 use borrow.Author.Tests.{eqb-true, eqb-false, eq-eqb, ltb-true, ltb-false}
-use Rattle.lists.specs.Among.{among}
 use Rattle.lists.specs.Find.{every}
 use Rattle.lists.proofs.Among.{Stands, stands}
 use Rattle.lists.proofs.Find.{every-at}
@@ -24,6 +23,7 @@ use Rattle.chip.specs.declared.Wrote.{Wrote}
 use Rattle.chip.specs.Machine.{Write, Group, avi, audio, gc, matrix, packets, converter, up, holdsOf, registersOf, held, inUse, coefficients, gcInUse, mute}
 use Rattle.chip.specs.Write.{lentAs, bufferAfter, markAfter, put, stored, imageAfter, two, refuses, refusedWrite, writeOf, vsyncOf}
 use Rattle.views.specs.Entry.{isSized}
+use Rattle.writes.specs.Rows.{listRows}
 use Rattle.writes.specs.Steps.{_raising_}
 use Rattle.writes.specs.List.{written, leftUp, isWritten, finished, standsBelow, pairsOf, ready}
 use Rattle.plan.specs.Wanted.{wanted}
@@ -34,81 +34,71 @@ use Rattle.cut.specs.Run.{Event, write, vsync, run, InUse, allInUse}
 use Rattle.vendor.specs.declared.Verdict.{Verdict}
 use Rattle.vendor.specs.Vendor.{shortened, endOf, mostPairs}
 use Rattle.vendor.specs.Found.{fairTest, isBetween, isTurned, isNext, isLast, isEvent, firstFault, placeOf, vetRefusal, vetOf}
-use Rattle.promises.specs.Looked.{looked, Agree}
-use Rattle.promises.proofs.Looked.{in-rows}
+use Rattle.promises.specs.Looked.{Agree}
 
 -- ---- two images
 
-small : (a : ℕ) → among a looked ≡ true → a < 256
+small : (a : ℕ) → isWritten a ≡ true → a < 256
+unfolding isWritten
 small a t =
-    let s : Stands a looked = stands a looked t in
-    let h : ltb (getD looked (s .place) 0) 256 ≡ true = every-at (λ b. ltb b 256) looked (s .place) 0 refl (s .within) in
+    let registers : List ℕ = map (λ row. row .0) (listRows false) in
+    let s : Stands a registers = stands a registers t in
+    let h : ltb (getD registers (s .place) 0) 256 ≡ true = every-at (λ b. ltb b 256) registers (s .place) 0 refl (s .within) in
     ltb-true a 256 (ap (λ (n : ℕ). ltb n 256) (sym (s .there)) ∙ h)
 
 module _ (image other : List ℕ) (g : Agree image other) where
   -- a run of these registers
   abbrev inside : ℕ → ℕ → Bool
-  inside first = below (λ i. among (first + i) looked)
+  inside first = below (λ i. isWritten (first + i))
 
   same-run : (first count : ℕ) → inside first count ≡ true → take count (drop first other) ≡ take count (drop first image)
   same-run first count t =
       ext-getD 0 _ _ (simp (length-take, length-drop, g .long))
       (λ i h. let k : i < count = omega (arith, rw (length-take count (drop first other)) at h) in
       getD-take count (drop first other) i 0 k ∙ getD-drop first other i 0
-      ∙ g .bytes (first + i) (at-below (λ i. among (first + i) looked) count i t k)
+      ∙ g .bytes (first + i) (at-below (λ i. isWritten (first + i)) count i t k)
       ∙ sym (getD-take count (drop first image) i 0 k ∙ getD-drop first image i 0))
 
-  module _ (long : length image ≡ 256) where
-    -- a register that is written
-    at-written : (a : ℕ) → isWritten a ≡ true → getD other a 0 ≡ getD image a 0
-    at-written a w = go (ltb a 256) refl
-      where
-        go : (b : Bool) → ltb a 256 ≡ b → getD other a 0 ≡ getD image a 0
-        go true e = g .bytes a (in-rows a (ltb-true a 256 e) ∙ w)
-        go false e =
-            let h : 256 ≤ a = ltb-false a 256 e in
-            List·getD-eq-default other 0 {n = a} (rw (g .long, long) h) ∙ sym (List·getD-eq-default image 0 {n = a} (rw long h))
+  same-test : (want : ℕ → ℕ) (a : ℕ) → eqb (finished want other a) (getD other a 0) ≡ eqb (finished want image a) (getD image a 0)
+  unfolding finished written
+  same-test want a = go (isWritten a) refl
+    where
+      go : (b : Bool) → isWritten a ≡ b
+          → eqb (cond (isWritten a) (written want other (a raising leftUp a) .value) (getD other a 0)) (getD other a 0)
+          ≡ eqb (cond (isWritten a) (written want image (a raising leftUp a) .value) (getD image a 0)) (getD image a 0)
+      go true w = rw (g .bytes a w)
+      go false w = rw (w, eq-eqb (getD other a 0) _ refl, eq-eqb (getD image a 0) _ refl)
 
-    same-test : (want : ℕ → ℕ) (a : ℕ) → eqb (finished want other a) (getD other a 0) ≡ eqb (finished want image a) (getD image a 0)
-    unfolding finished written
-    same-test want a = go (isWritten a) refl
-      where
-        go : (b : Bool) → isWritten a ≡ b
-            → eqb (cond (isWritten a) (written want other (a raising leftUp a) .value) (getD other a 0)) (getD other a 0)
-            ≡ eqb (cond (isWritten a) (written want image (a raising leftUp a) .value) (getD image a 0)) (getD image a 0)
-        go true w = rw (at-written a w)
-        go false w = rw (w, eq-eqb (getD other a 0) _ refl, eq-eqb (getD image a 0) _ refl)
+  same-below : (want : ℕ → ℕ) (n : ℕ) → standsBelow want other n ≡ standsBelow want image n
+  unfolding standsBelow
+  same-below want zero = refl
+  same-below want (suc a) = λ j. same-test want a j && same-below want a j
 
-    same-below : (want : ℕ → ℕ) (n : ℕ) → standsBelow want other n ≡ standsBelow want image n
-    unfolding standsBelow
-    same-below want zero = refl
-    same-below want (suc a) = λ j. same-test want a j && same-below want a j
+  same-request : extract other ≡ extract image
+  unfolding extract isWritten
+  same-request =
+      rw (
+        g .bytes 0x44 refl,
+        g .bytes 0x15 refl,
+        g .bytes 0x73 refl,
+        g .bytes 0x0A refl,
+        g .bytes 0x18 refl,
+        g .bytes 0xAF refl,
+        g .bytes 0x4C refl,
+        same-run 0x18 24 refl,
+        same-run 0x55 13 refl,
+      )
 
-    same-request : extract other ≡ extract image
-    unfolding extract
-    same-request =
-        rw (
-          g .bytes 0x44 refl,
-          g .bytes 0x15 refl,
-          g .bytes 0x73 refl,
-          g .bytes 0x0A refl,
-          g .bytes 0x18 refl,
-          g .bytes 0xAF refl,
-          g .bytes 0x4C refl,
-          same-run 0x18 24 refl,
-          same-run 0x55 13 refl,
-        )
+  same-family : (r : Request) (f : ℕ) → endsIn r f other ≡ endsIn r f image
+  unfolding endsIn
+  same-family r f = rw (same-below (wanted (inFamily f r)) 256)
 
-    same-family : (r : Request) (f : ℕ) → endsIn r f other ≡ endsIn r f image
-    unfolding endsIn
-    same-family r f = rw (same-below (wanted (inFamily f r)) 256)
-
-    same-ends : someEnds other ≡ someEnds image
-    unfolding someEnds
-    same-ends = λ j. family 0 j || family 1 j
-      where
-        family : (f : ℕ) → endsIn (extract other) f other ≡ endsIn (extract image) f image
-        family f = ap (λ (r : Request). endsIn r f other) same-request ∙ same-family (extract image) f
+  same-ends : someEnds other ≡ someEnds image
+  unfolding someEnds
+  same-ends = λ j. family 0 j || family 1 j
+    where
+      family : (f : ℕ) → endsIn (extract other) f other ≡ endsIn (extract image) f image
+      family f = ap (λ (r : Request). endsIn r f other) same-request ∙ same-family (extract image) f
 
 -- ---- two states
 
@@ -121,21 +111,27 @@ pub record Near (s t : Chip) : Type 0 where
 
 module _ (s t : Chip) (n : Near s t) where
   same-held : holdsOf packets (t .image) ≡ holdsOf packets (s .image)
+  unfolding isWritten
   same-held = n .image .bytes 0x4A refl
 
   same-hold : holdsOf converter (t .image) ≡ holdsOf converter (s .image)
+  unfolding isWritten
   same-hold = n .image .bytes 0x1A refl
 
   same-avi : registersOf avi (t .image) ≡ registersOf avi (s .image)
+  unfolding isWritten
   same-avi = same-run (s .image) (t .image) (n .image) 0x52 16 refl
 
   same-audio : registersOf audio (t .image) ≡ registersOf audio (s .image)
+  unfolding isWritten
   same-audio = same-run (s .image) (t .image) (n .image) 0x70 13 refl
 
   same-gc : registersOf gc (t .image) ≡ registersOf gc (s .image)
+  unfolding isWritten
   same-gc = same-run (s .image) (t .image) (n .image) 0x4B 1 refl
 
   same-matrix : registersOf matrix (t .image) ≡ registersOf matrix (s .image)
+  unfolding isWritten
   same-matrix = same-run (s .image) (t .image) (n .image) 0x18 24 refl
 
   -- what is in use
@@ -149,7 +145,7 @@ module _ (s t : Chip) (n : Near s t) where
 
   -- a byte stored
   module _ (a v : ℕ) where
-    same-stored : among a looked ≡ true → stored a v (t .image) ≡ stored a v (s .image)
+    same-stored : isWritten a ≡ true → stored a v (t .image) ≡ stored a v (s .image)
     unfolding stored
     same-stored w = rw (n .image .bytes a w)
 
@@ -159,10 +155,10 @@ module _ (s t : Chip) (n : Near s t) where
       bytes = λ b w. go b w (eqb b a) refl;
     }
       where
-        go : (b : ℕ) → among b looked ≡ true → (e : Bool) → eqb b a ≡ e → getD (imageAfter t a v) b 0 ≡ getD (imageAfter s a v) b 0
+        go : (b : ℕ) → isWritten b ≡ true → (e : Bool) → eqb b a ≡ e → getD (imageAfter t a v) b 0 ≡ getD (imageAfter s a v) b 0
         go b w true e =
             let i : b ≡ a = eqb-true b a e in
-            let l : among a looked ≡ true = ap (λ (c : ℕ). among c looked) (sym i) ∙ w in
+            let l : isWritten a ≡ true = ap isWritten (sym i) ∙ w in
             let h : a < 256 = small a l in
             ap (λ (c : ℕ). getD (imageAfter t a v) c 0) i
             ∙ getD-set-same (t .image) a (stored a v (t .image)) 0 (rw (n .image .long, n .whole) h) ∙ same-stored l
@@ -171,11 +167,11 @@ module _ (s t : Chip) (n : Near s t) where
             getD-set-other (t .image) a b _ 0 (eqb-false b a e) ∙ n .image .bytes b w ∙ sym (getD-set-other (s .image) a b _ 0 (eqb-false b a e))
 
     same-refuses : refuses t a v ≡ refuses s a v
-    unfolding refuses
+    unfolding refuses isWritten
     same-refuses = λ j. two (same-held j) || two (after-agrees .bytes 0x4A refl j)
 
     near-put : Near (put a (stored a v (s .image)) s) (put a (stored a v (t .image)) t)
-    unfolding put
+    unfolding put isWritten
     near-put = record {
       whole = length-set (s .image) a _ ∙ n .whole;
       image = after-agrees;
@@ -184,8 +180,8 @@ module _ (s t : Chip) (n : Near s t) where
       waiting = in-mark (eqb a 0x1A) refl;
     }
       where
-        there : (r : ℕ) → eqb a r ≡ true → among r looked ≡ true → stored a v (t .image) ≡ stored a v (s .image)
-        there r e w = same-stored (ap (λ (c : ℕ). among c looked) (eqb-true a r e) ∙ w)
+        there : (r : ℕ) → eqb a r ≡ true → isWritten r ≡ true → stored a v (t .image) ≡ stored a v (s .image)
+        there r e w = same-stored (ap isWritten (eqb-true a r e) ∙ w)
 
         neither : (b : Bool) → (b && false) ≡ false
         neither true = refl
@@ -254,7 +250,7 @@ same-fair : (s t : Chip) → Near s t → (w : Write) → fairTest (t .image) w 
 same-fair s t n w = go (isWritten (w .address)) refl
   where
     go : (b : Bool) → isWritten (w .address) ≡ b → fairTest (t .image) w ≡ fairTest (s .image) w
-    go true e = rw (at-written (s .image) (t .image) (n .image) (n .whole) (w .address) e)
+    go true e = rw (n .image .bytes (w .address) e)
     go false e = rw e
 
 same-next : (old new : InUse) (event : Bool) (a : ℕ) (s t s′ t′ : Chip) → Near s t → Near s′ t′
@@ -286,7 +282,7 @@ module _ (ws : List Write) (s t : Chip) (n : Near s t) where
       ∙ same-fault (allInUse s) (allInUse (endOf (shortened ws s) s)) (shortened ws s) s t n
 
   same-end : someEnds (endOf (shortened ws t) t .image) ≡ someEnds (endOf (shortened ws s) s .image)
-  same-end = same-ends _ _ (near-end .image) (near-end .whole)
+  same-end = same-ends _ _ (near-end .image)
 
 -- the verdict by what its tests find
 by-tests : Bool → Bool → List ℕ → ℕ → Bool → Verdict
@@ -304,7 +300,7 @@ module _ (s t : Chip) (list : List ℕ) (g : Agree (s .image) (t .image)) (p : t
 
   -- an image of another length is refused, whatever it holds
   by-length : (b : Bool) → eqb (length (s .image)) 256 ≡ b → vetOf t list ≡ vetOf s list
-  unfolding vetOf vetRefusal by-tests
+  unfolding vetOf vetRefusal by-tests isWritten
   by-length true e =
       let n : Near s t = record { whole = eqb-true _ _ e; image = g; packet = p; coefficients = c; waiting = w } in
       λ j. by-tests (same-sized j) (fit j) list (same-place (pairsOf list) s t n j) (same-end (pairsOf list) s t n j)

@@ -1,5 +1,5 @@
--- What planning, decoding and the reading of a vendor's list look at in an image: the registers that a list writes, and no other. So a host
--- need read no other.
+-- What planning, decoding and the reading of a vendor's list look at in an image: the registers that a list writes, `isWritten`, and no
+-- other. So a host need read no other.
 use mathlib.Core.Path.{_≡_}
 use mathlib.Core.Bool.{true}
 use mathlib.Core.List.{List, [], _∷_, _++_}
@@ -9,8 +9,7 @@ use Rattle.lists.specs.Among.{among}
 use Rattle.bits.specs.Merge.{bit}
 use Rattle.matrix.specs.Matrix.{Bytes}
 use Rattle.chip.specs.declared.Chip.{Chip}
-use Rattle.writes.specs.Steps.{from}
-use Rattle.writes.specs.List.{isWritten}
+use Rattle.writes.specs.Rows.{from, isWritten}
 use Rattle.plan.specs.Plan.{planOf, planBuffer}
 use Rattle.decode.specs.Decode.{decodeOf, decodedBuffer}
 use Rattle.decode.specs.Theorems.{Counts}
@@ -18,7 +17,7 @@ use Rattle.vendor.specs.Found.{vetOf}
 use Rattle.promises.specs.LentBytes.{pairsLeft}
 use Rattle.promises.specs.AnyCut.{listOf, AnyCut}
 
--- these registers in rows: the first of each row, and how many
+-- these registers in rows, as the header has them: the first of each row, and how many
 abbrev pub rows : List (ℕ × ℕ)
 rows =
     (0x01, 3) ∷ (0x07, 4) ∷ (0x0C, 1) ∷ (0x15, 2) ∷ (0x18, 24) ∷ (0x3B, 2) ∷ (0x40, 1) ∷ (0x44, 1) ∷ (0x4A, 3) ∷ (0x52, 16) ∷ (0x70, 13) ∷
@@ -34,16 +33,16 @@ looked = inRows rows
 -- two images of the same length that agree at these registers, whatever the others hold
 pub record Agree (image other : List ℕ) : Type 0 where
   pub long : length other ≡ length image
-  pub bytes : (a : ℕ) → among a looked ≡ true → getD other a 0 ≡ getD image a 0
+  pub bytes : (a : ℕ) → isWritten a ≡ true → getD other a 0 ≡ getD image a 0
 
 -- that agree at the named and mandated bits of these registers; `Bytes` is true of every slice
 pub record AgreeInBits (image other : List ℕ) : Type 0 where
   pub long : length other ≡ length image
   pub slices : Bytes image × Bytes other
-  pub bits : (a j : ℕ) → among a looked ≡ true → j < 8 → Counts a j → bit j (getD other a 0) ≡ bit j (getD image a 0)
+  pub bits : (a j : ℕ) → isWritten a ≡ true → j < 8 → Counts a j → bit j (getD other a 0) ≡ bit j (getD image a 0)
 
 pub record Looked : Type 0 where
-  -- 79 registers: those that a list writes
+  -- the rows have these registers, and no other: 79
   pub rows : (a : ℕ) → a < 256 → among a looked ≡ isWritten a
   pub count : length looked ≡ 79
   -- planning: the same refusal and the same count, and the same bytes in the buffer

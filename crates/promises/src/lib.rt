@@ -113,7 +113,6 @@ pub fn worked_example()
 pub fn looked_at()
     ensures { λ _. ⌜ Looked ⌝ }
 {
-    writes::write_order();
     decode::exactly_when();
     decode::bit_by_bit();
 }

@@ -5,9 +5,6 @@ use Rattle.promises.proofs.LookedVet.{same-verdict}
 use Rattle.promises.proofs.looked_at.Statement.{statement}
 use Rattle.promises.proofs.looked_at.Tie as tie
 
-write-order-requires : tie.Need-write-order-requires
-write-order-requires c = λ _. tt
-
 exactly-when-requires : tie.Need-exactly-when-requires
 exactly-when-requires c = λ _. tt
 
@@ -21,9 +18,9 @@ returns c = record {
   answer = λ input image other buffer g. planned image other g input buffer;
   buffer = λ input image other buffer g. left-in image other g input buffer;
   demand = on-chip;
-  decoding = decoded (c .before .before .write-order .ensures) (c .before .exactly-when .ensures) (c .bit-by-bit .ensures);
+  decoding = decoded (c .before .exactly-when .ensures) (c .bit-by-bit .ensures);
   vet = same-verdict;
 }
 
 pub looked-at-spec : {M : Type 1} → statement M
-looked-at-spec = tie.close (tie.spec write-order-requires exactly-when-requires bit-by-bit-requires returns)
+looked-at-spec = tie.close (tie.spec exactly-when-requires bit-by-bit-requires returns)
