@@ -348,9 +348,28 @@ static int measured(void) {
 /* ---- The bus. */
 
 /* A write over I2C, in periods of the bus clock: start, three bytes with an acknowledge each (the chip's address, the register, the value),
- * stop; start and stop count as one period each. A read of a row of registers as host/i2c.c has it: start, two bytes, start again, the
+ * stop; start and stop count as one period each. A read of registers in a row as host/i2c.c has it: start, two bytes, start again, the
  * chip's address and the row, stop. What the host waits, between two transfers and for Vsync, is not counted. */
-enum { BYTE = 8 + 1, OF_A_WRITE = 1 + 3 * BYTE + 1, ROW = 32, OF_A_READ = STATION_IMAGE / ROW * (1 + 2 * BYTE + 1 + (1 + ROW) * BYTE + 1) };
+enum { BYTE = 8 + 1, OF_A_WRITE = 1 + 3 * BYTE + 1, OF_A_TRANSFER = 1 + 2 * BYTE + 1 + BYTE + 1, ROW = 32 };
+
+/* What a read-back takes, of all registers or as host/i2c.c has it: of the rows that planning looks at and of two of its own, 0x41 and 0xA1. A
+ * register between two of them is read in passing where that takes less than a new transfer. */
+struct read_back { uint32_t registers, transfers, periods; };
+static struct read_back reading(int all) {
+    static const uint8_t rows[][2] = STATION_ROWS;
+    uint8_t wanted[STATION_IMAGE] = { [0x41] = 1, [0xA1] = 1 };
+    struct read_back r = { 0, 0, 0 };
+    int last = -STATION_IMAGE, first = last;
+    for (size_t k = 0; k < sizeof rows / sizeof rows[0]; k++) memset(wanted + rows[k][0], 1, rows[k][1]);
+    for (int a = 0; a < STATION_IMAGE; a++) {
+        if (!all && !wanted[a]) continue;
+        if ((a - last - 1) * BYTE < OF_A_TRANSFER && a - first < ROW) r.registers += (uint32_t)(a - last);
+        else r.registers++, r.transfers++, first = a;
+        last = a;
+    }
+    r.periods = r.registers * BYTE + r.transfers * OF_A_TRANSFER;
+    return r;
+}
 
 /* The map's defaults (000, section 5) of the registers that a list writes, where they are not 0. */
 static const uint8_t powered_up[STATION_IMAGE] = {
@@ -407,8 +426,12 @@ static void bus_time(void) {
     }
     printf("a write is %d clock periods: start, three bytes of eight bits and an acknowledge (chip, register, value), stop\n", OF_A_WRITE);
     printf("what a host waits, between two transfers and for Vsync, is not counted\n");
-    printf("to read all registers back, in rows of %d as host/i2c.c does, takes %d periods:", ROW, OF_A_READ);
-    printf(" %.2f ms at 100 kHz, %.2f ms at 400 kHz\n", OF_A_READ / 100.0, OF_A_READ / 400.0);
+    for (int all = 0; all < 2; all++) {
+        struct read_back r = reading(all);
+        printf("to read back %s: %u registers in %u transfers, %u periods, %.2f ms at 100 kHz, %.2f ms at 400 kHz\n",
+               all ? "all registers, as no host need" : "what planning looks at, as host/i2c.c does", (unsigned)r.registers,
+               (unsigned)r.transfers, (unsigned)r.periods, r.periods / 100.0, r.periods / 400.0);
+    }
 }
 
 static int counted(const char *side, const char *what, const char *number) {

@@ -8,7 +8,7 @@
 #include <sys/types.h>
 
 /* The chip, as it stands in its file: registers, buffers and waiting mark outlive every host, as a chip's do. On a real one `read_back` is
- * a read of 256 registers, a write goes over the bus, and Vsync comes by itself: host/i2c.c. */
+ * a read of registers, a write goes over the bus, and Vsync comes by itself: host/i2c.c. */
 extern struct chip chip;
 off_t    open_chip(const char *name);                                   /* how many bytes the file has; none: the chip is not made yet */
 void     fetch_chip(void);                                              /* as the file has it now */

@@ -21,7 +21,8 @@
 
 const char *program = "i2c";
 enum { FAILED = 3 };                                    /* beside ACCEPTED, REFUSED and MISUSE */
-enum { CHIP = 0x39, ROW = 32, TRIES = 3, ROUNDS = 5 };   /* its address; registers read in one transfer */
+enum { CHIP = 0x39, ROW = 32, TRIES = 3, ROUNDS = 5 };   /* its address; the most registers read in one transfer */
+enum { GAP = 3 };                                       /* registers read in passing: 9 periods of the bus each, a new transfer takes 30 */
 enum { POWER = 0x41, POWER_DOWN = 0x40, HOLDS = 0x4A, ALL_HOLDS = 0x70, GC_HOLD = 0x10 };
 enum { FLAGS = 0x96, VSYNC_FLAG = 0x20, SENSE = 0xA1, SENSE_DOWN = 0x40 };
 enum { EDGES = 2, PATIENCE = 250, PAUSE = 1 };           /* edges; ms for each, six frames of the slowest mode; ms between two reads */
@@ -102,6 +103,23 @@ static enum seen vsync(int bus) {
 
 /* ---- The request: read back, plan, compare, send; until what is read back needs no write. */
 
+/* The registers that planning looks at, and the two of bring-up that are looked at below; rows that lie near each other in one transfer. What
+ * is not read is 0: it may be anything. */
+static int read_back(int bus, uint8_t *image) {
+    static const uint8_t rows[][2] = STATION_ROWS;
+    uint8_t wanted[STATION_IMAGE] = { [POWER] = 1, [SENSE] = 1 };
+    for (size_t r = 0; r < sizeof rows / sizeof rows[0]; r++) memset(wanted + rows[r][0], 1, rows[r][1]);
+    memset(image, 0, STATION_IMAGE);
+    for (int first = 0, last; first < STATION_IMAGE; first = last + 1) {
+        last = first;
+        if (!wanted[first]) continue;
+        for (int a = first; a <= last + 1 + GAP && a < STATION_IMAGE; a++)
+            if (wanted[a]) last = a;
+        if (bus_read(bus, first, last - first + 1, image + first) < 0) return -1;
+    }
+    return 0;
+}
+
 struct answer { int status; uint32_t refusal; const char *words; };
 
 static struct answer failed(const char *words) { return (struct answer){ FAILED, 0, words }; }
@@ -122,7 +140,7 @@ static struct answer show(int bus, const uint8_t *request, size_t length) {
     uint32_t refusal = station_ncts(request, length).refusal;
     if (refusal) return (struct answer){ REFUSED, refusal, station_text(refusal) };
     for (int round = 0; round < ROUNDS; round++) {
-        if (bus_read(bus, 0, STATION_IMAGE, image) < 0) return failed("the registers cannot be read");
+        if (read_back(bus, image) < 0) return failed("the registers cannot be read");
         struct station_count plan = station_plan(request, length, image, sizeof image, list, sizeof list);
         if (plan.refusal == STATION_HOLDS_UP && (image[HOLDS] & ALL_HOLDS) == GC_HOLD) {
             if (bus_write(bus, HOLDS, (uint8_t)(image[HOLDS] & ~GC_HOLD)) < 0) return failed("the GC hold is up and cannot be lowered");

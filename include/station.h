@@ -46,6 +46,13 @@
 /* And in numbers. */
 #define STATION_METER 12        /* a colour meter's export: nine factors and three offsets */
 
+/* The registers that a list writes, in rows: the first of each, and how many. Planning, decoding and station_vet look at no other register of
+ * an image (proved), so a host need read no other; what was not read may be any byte. The image has 256 bytes all the same. As a table:
+ *   static const uint8_t rows[][2] = STATION_ROWS; */
+#define STATION_ROWS \
+    { { 0x01, 3 }, { 0x07, 4 }, { 0x0C, 1 }, { 0x15, 2 }, { 0x18, 24 }, { 0x3B, 2 }, { 0x40, 1 }, { 0x44, 1 }, { 0x4A, 3 }, \
+      { 0x52, 16 }, { 0x70, 13 }, { 0x98, 1 }, { 0x9A, 1 }, { 0x9C, 2 }, { 0xA2, 2 }, { 0xAF, 1 }, { 0xE0, 1 }, { 0xF9, 1 } }
+
 #ifdef __cplusplus
 extern "C" {
 #endif

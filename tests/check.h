@@ -52,6 +52,10 @@ int left_in(uint8_t address, const uint8_t *image, const uint8_t *writes, struct
 struct fields read_back(const struct fields *f);
 int           reads_back(const uint8_t *image, const struct fields *f);
 
+/* looked.c: sections, by the library's own calls. ----------------------------------------------------------------------------------- */
+
+void what_is_looked_at(void);
+
 /* depth.c: sections. --------------------------------------------------------------------------------------------------------------- */
 
 void depths(void);

@@ -1220,6 +1220,7 @@ static const struct { const char *name; void (*run)(void); } sections[SECTIONS] 
     { "N and CTS", ncts },
     { "planning", plan },
     { "fewer writes", fewer },
+    { "what is looked at", what_is_looked_at },
     { "every length", lengths },
     { "decoding", decode },
     { "every bit of finished images", flips },

@@ -83,7 +83,7 @@ static void say(int caught, const char *what) { printf("  %-6s %-48.48s %.100s\n
 /* Of each `of` libraries, right ones and wrong ones, number `part`: so several processors may share them. */
 static int caught(int part, int of) {
     struct section s[SECTIONS];
-    int all = 0, missed = 0, cuts = 0, chains = 0, only = 0, parts = 0, control = 0, tried = 0, next = 0;
+    int all = 0, missed = 0, cuts = 0, chains = 0, only = 0, parts = 0, rest = 0, control = 0, tried = 0, next = 0;
     printf("wrong libraries, each with one fault\n");
     for (int i = 0; i < RIGHT; i++) {
         struct face f = model;
@@ -123,11 +123,16 @@ static int caught(int part, int of) {
                 parts += bad;
                 if (!bad) say(bad, "  the same, by cut requests alone");
             }
+            if (bad && (w->alone & BY_REST)) {          /* and which any bytes in the other registers must */
+                bad = shown(w, ON_LOOKED, ON_LOOKED + 1, SHARE);
+                rest += bad;
+                if (!bad) say(bad, "  the same, by what is looked at alone");
+            }
             missed += bad == 0;
             fflush(stdout);
         }
     printf("  %d of %d wrong libraries caught, %d of them by demand 3 alone as well, %d by chains alone, %d of these not by demand 3, "
-           "%d by cut requests alone\n", all - missed, all, cuts, chains, only, parts);
+           "%d by cut requests alone, %d by what is looked at alone\n", all - missed, all, cuts, chains, only, parts, rest);
     printf("%d passed, %d failed\n", all - missed + tried - control, missed + control);
     return missed != 0 || control != 0;
 }

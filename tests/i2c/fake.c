@@ -1,7 +1,7 @@
 /* The example host for a real bus, host/i2c.c, on a fake one: its own text, with the system calls that reach a bus or tell the time
  * replaced by a chip in memory, which reads the messages as an adapter would, and a clock by which Vsync comes. Writes are lost or their
- * acknowledgement is, once or for good, at each place; the chip is reset at each place; Vsync comes at any moment, or never. Prints the
- * numbers that docs/HOST.md has (tests/i2c/run compares), then 'N passed, M failed'. */
+ * acknowledgement is, once or for good, at each place; the chip is reset at each place; Vsync comes at any moment, or never; registers that
+ * no list writes hold anything. Prints the numbers that docs/HOST.md has (tests/i2c/run compares), then 'N passed, M failed'. */
 #include <fcntl.h>
 #include <sys/file.h>
 #include <sys/ioctl.h>
@@ -35,6 +35,7 @@ static struct {
     int how, for_good, dead, locked;                    /* how it fails, and whether all after it do; no read either; the lock is held */
     int no_flags;                                       /* no read of the flags, and no write of them */
     int turning;                                        /* the packing phase, 0x4C[7:4], is another at each read */
+    long reads, registers;                              /* transfers that read, but for those of the flags, and registers in them */
 } bus;
 static long wrong;                                      /* messages that a real chip would not understand, and writes without the lock */
 static long opened_early;                               /* times that the picture was opened while a change of the coefficients waited */
@@ -108,7 +109,9 @@ static int fake_ioctl(int b, unsigned long what, void *data) {
     for (uint32_t i = 0; i < d->nmsgs; i++) wrong += m[i].addr != 0x39;
     if (d->nmsgs == 1 && m[0].flags == 0 && m[0].len == 2) return fake_write(m[0].buf);
     if (d->nmsgs == 2 && m[0].flags == 0 && m[0].len == 1 && m[1].flags == I2C_M_RD && m[0].buf[0] + m[1].len <= STATION_IMAGE) {
-        if (bus.dead || (bus.no_flags && m[1].len == 1)) return -1;
+        int flags = m[0].buf[0] == FLAGS;
+        if (bus.dead || (bus.no_flags && flags)) return -1;
+        if (!flags) bus.reads++, bus.registers += m[1].len;
         if (bus.turning) chip.image[COLOUR_DEPTH] = (uint8_t)(chip.image[COLOUR_DEPTH] + 0x10);
         chip.image[FLAGS] = (uint8_t)((chip.image[FLAGS] & ~VSYNC_FLAG) | (video.flag || video.stuck ? VSYNC_FLAG : 0));
         memcpy(m[1].buf, chip.image + m[0].buf[0], m[1].len);
@@ -155,7 +158,7 @@ static int careful(const struct chip *c) { return whole(c) && chip_sent(c).mute 
 
 /* A new run of the program on the bus as it is: opened, locked, closed. */
 static int again(struct request q) {
-    bus.sent = bus.locked = 0;
+    bus.sent = bus.reads = bus.registers = bus.locked = 0;
     int b = bus_open("/dev/i2c-1"), status = show(b, q.bytes, q.length).status;
     close(b);
     return status;
@@ -188,6 +191,38 @@ static void on_the_bus(void) {
         chip.image[0x41] &= 0xBF;
         tell(again(asked) == ACCEPTED && ended(), "after a reset and bring-up", k);
     }
+}
+
+/* Which registers a list writes, by one on registers of which all is wrong. */
+static void find_written(uint8_t *written) {
+    uint8_t image[STATION_IMAGE], all[STATION_WRITES];
+    for (int a = 0; a < STATION_IMAGE; a++) image[a] = (uint8_t)~end.image[a];
+    image[0x4A] &= 0x8F;
+    uint32_t most = station_plan(asked.bytes, asked.length, image, sizeof image, all, sizeof all).count;
+    memset(written, 0, STATION_IMAGE);
+    for (uint32_t w = 0; w < most; w++) written[all[2 * w]] = 1;
+}
+
+/* The other registers hold anything, but for power, monitor sense and the flags: the same list is sent, and they stay. */
+static void whatever_else(void) {
+    uint8_t written[STATION_IMAGE];
+    uint32_t noise = 1;
+    heal();
+    find_written(written);
+    for (long k = 0; k < 200; k++) {
+        struct chip was = start;
+        for (int a = 0; a < STATION_IMAGE; a++) {
+            noise = noise * 1664525 + 1013904223;
+            if (!written[a] && a != POWER && a != SENSE && a != FLAGS) was.image[a] = (uint8_t)(k ? noise >> 24 : 0xFF);
+        }
+        chip = was;
+        int good = again(asked) == ACCEPTED && bus.sent == writes;
+        for (int a = 0; a < STATION_IMAGE; a++)
+            good &= a == FLAGS || chip.image[a] == (written[a] ? end.image[a] : was.image[a]);
+        tell(good, "with anything in the other registers", k);
+        tell(again(asked) == ACCEPTED && bus.sent == 0, "the same, on show", k);
+    }
+    printf("read back: %ld registers in %ld transfers\n", bus.registers, bus.reads);
 }
 
 /* Vsync at each moment of a frame, low and not, at a fast and a slow rate: the picture opens on the new coefficients, after one rising edge
@@ -316,14 +351,11 @@ static void in_bursts(void) {
     printf("bursts: %ld\n", transfers);
 }
 
-/* Registers with mandated bits that no list writes: not even on an image of which all is wrong. */
+/* Registers with mandated bits that no list writes. */
 static void bring_up(void) {
-    uint8_t image[STATION_IMAGE], all[STATION_WRITES], written[STATION_IMAGE] = { 0 };
+    uint8_t written[STATION_IMAGE];
     int count = 0;
-    for (int a = 0; a < STATION_IMAGE; a++) image[a] = (uint8_t)~end.image[a];
-    image[0x4A] &= 0x8F;
-    uint32_t most = station_plan(asked.bytes, asked.length, image, sizeof image, all, sizeof all).count;
-    for (uint32_t w = 0; w < most; w++) written[all[2 * w]] = 1;
+    find_written(written);
     for (int a = 0; a < STATION_IMAGE; a++) count += !written[a] && station_class((uint8_t)a).mandated != 0;
     printf("bring-up: %d\n", count);
 }
@@ -339,6 +371,7 @@ int main(void) {
     tell(chip_run(&end, list, (uint32_t)writes) == 0, "the list", writes);
     old = chip_sent(&start), new = chip_sent(&end);
     on_the_bus();
+    whatever_else();
     with_vsync();
     without_vsync();
     on_states();

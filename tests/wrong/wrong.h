@@ -6,11 +6,12 @@
 #include <string.h>
 
 /* `alone`: what must catch it by itself. 1, `on_cuts` in the tables: the replay of the cuts. BY_CHAINS: the chains of requests; with
- * NOT_BY_CUTS the cuts, which plan the same request again, must not show it. BY_PARTS: requests cut into parts, without the model. */
+ * NOT_BY_CUTS the cuts, which plan the same request again, must not show it. BY_PARTS: requests cut into parts, without the model. BY_REST: any
+ * bytes in the registers that no list writes, without the model. */
 struct wrong { const char *fault; void (*put)(struct face *); int alone; };
-enum { BY_CUTS = 1, BY_CHAINS = 2, NOT_BY_CUTS = 4, BY_PARTS = 8, BY_CHAINS_ALONE = BY_CHAINS | NOT_BY_CUTS };
+enum { BY_CUTS = 1, BY_CHAINS = 2, NOT_BY_CUTS = 4, BY_PARTS = 8, BY_REST = 16, BY_CHAINS_ALONE = BY_CHAINS | NOT_BY_CUTS };
 extern const struct wrong wrong_plans[], wrong_fewer[], wrong_numbers[], wrong_decodes[], wrong_machines[], wrong_marks[], wrong_views[],
-    wrong_vets[], wrong_chains[], wrong_depths[], wrong_editions[], wrong_meters[], wrong_pipes[];
+    wrong_vets[], wrong_chains[], wrong_depths[], wrong_editions[], wrong_meters[], wrong_pipes[], wrong_looks[];
 /* The sets, the last without rows; `first` is the section of the harness to begin with. */
 extern const struct wrong_set { const struct wrong *rows; int first; } wrong_sets[];
 /* The planner of wrong/fewer.c, the machine of wrong/mark.c, the judge of wrong/vet.c, the libraries of wrong/chain.c, wrong/depth.c and

@@ -15,3 +15,5 @@ pub mod Metered
 pub mod Piped
 pub mod Vendors
 pub mod VendorCases
+pub mod Looked
+pub mod LookedVet

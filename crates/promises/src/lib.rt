@@ -12,6 +12,7 @@ ghost use Rattle.promises.specs.EachByte.{EachByte};
 ghost use Rattle.promises.specs.Example.{Example};
 ghost use Rattle.promises.specs.Finished.{AllNamed};
 ghost use Rattle.promises.specs.InNumbers.{InNumbers};
+ghost use Rattle.promises.specs.Looked.{Looked};
 ghost use Rattle.promises.specs.Metered.{FromMeter};
 ghost use Rattle.promises.specs.Piped.{ThroughPipe};
 ghost use Rattle.promises.specs.FieldByField.{FieldByField};
@@ -119,3 +120,11 @@ pub fn each_byte()
 pub fn in_numbers()
     ensures { λ _. ⌜ InNumbers ⌝ }
 {}
+
+// What of an image planning, decoding and the reading of a vendor's list look at: a host need read nothing else.
+pub fn looked_at()
+    ensures { λ _. ⌜ Looked ⌝ }
+{
+    decode::exactly_when();
+    decode::bit_by_bit();
+}
