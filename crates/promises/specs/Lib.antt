@@ -16,3 +16,4 @@ pub mod Metered
 pub mod Piped
 pub mod Vendors
 pub mod VendorCases
+pub mod Another
