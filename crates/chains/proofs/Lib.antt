@@ -1,5 +1,8 @@
+pub mod Below
+pub mod Runs
 pub mod Whole
 pub mod Links
 pub mod Vetted
 pub mod Points
 pub mod Ended
+pub mod Alone

@@ -1,4 +1,4 @@
--- One link of a chain: what its run, cut anywhere, makes of the registers, of each group in use and of the mute. Assumes nothing.
+-- One link of a chain: what its run, cut anywhere, makes of each group in use and of the mute. Assumes nothing.
 use mathlib.Core.Path.{_≡_, refl, sym, ap, subst, _∙_}
 use mathlib.Core.Logic.{_⊎_, inl, inr, ⊎-elim}
 use mathlib.Core.Bool.{Bool, true, false, cond, not, _&&_}
@@ -12,29 +12,22 @@ use Rattle.lists.proofs.Both.{both-left}
 use Rattle.bits.specs.Merge.{bit}
 use Rattle.matrix.specs.Matrix.{fields}
 use Rattle.request.specs.Read.{readOf}
-use Rattle.request.proofs.Fits as request
 use Rattle.chip.specs.declared.Chip.{Chip}
 use Rattle.chip.specs.Machine.{Write, Group, avi, audio, matrix, packets, registersOf, held, inUse, coefficients, gcInUse, Muted, Open, mute}
 use Rattle.chip.specs.Write.{vsyncOf}
-use Rattle.chip.proofs.Writes.{turned}
+use Rattle.chip.specs.Turn.{Turn}
 use Rattle.writes.specs.List.{finishedImage}
 use Rattle.plan.specs.Plan.{planOf}
-use Rattle.plan.proofs.Fine.{Fine, fine}
 use Rattle.cut.specs.Run.{Event, write, vsync, happens, cut, writesOf, writesBy, InUse, standing}
 use Rattle.cut.specs.Vsync.{waits, turnedOver, old}
 use Rattle.cut.specs.Demand.{Cut, Clauses, Demand3}
-use Rattle.cut.proofs.Cut.{Ready, Near, near-self}
-use Rattle.cut.proofs.Runs.{all-writes}
-use Rattle.cut.proofs.Demanded.{near-run}
-use Rattle.cut.proofs.Erased.{alike-self, alike-use, alike-gc, alike-vsync}
-use Rattle.cut.proofs.Fewer.{holds, fewer-good, left-fair}
-use Rattle.writes.proofs.Fewer.{leftSteps, by-steps}
 use Rattle.promises.specs.Rules.{asked}
 use Rattle.promises.specs.LentBytes.{pairsLeft}
 use Rattle.promises.specs.AnyCut.{listOf}
-use Rattle.promises.proofs.AnyCut.{listed}
 use Rattle.chains.specs.Chain.{wholeAs, muteAfter}
-use Rattle.chains.proofs.Whole.{stands-whole}
+use Rattle.chains.proofs.Below.{Below}
+use Rattle.chains.proofs.Runs.{all-writes, Good, good}
+use Rattle.chains.proofs.Whole.{any, pairs, stands-whole}
 
 -- ---- a group of a state, as it was, as it was after a Vsync, or new
 
@@ -84,22 +77,18 @@ module _ (es : List Event) (k : ℕ) where
 pub mute-of : (a b : Chip) → gcInUse a ≡ gcInUse b → mute a ≡ mute b
 mute-of a b e = ap (λ (x : ℕ). bit 6 x + 2 * bit 7 x) e
 
+pub open-of : (a b : Chip) → gcInUse a ≡ gcInUse b → Open b → Open a
+open-of a b e o = rw e o
+
 pub muted-one : (t : Chip) → Muted t → mute t ≡ 1
 muted-one t h = omega (arith, h .0, h .1)
 
 pub open-two : (t : Chip) → Open t → mute t ≡ 2
 open-two t h = omega (arith, h .0, h .1)
 
--- a Vsync leaves the packets
-pub vsync-use : (g : Group) (t : Chip) → inUse packets g (vsyncOf t) ≡ inUse packets g t
-vsync-use g t = alike-use g (vsyncOf t) t (alike-vsync t t (alike-self t))
-
-pub vsync-gc : (t : Chip) → gcInUse (vsyncOf t) ≡ gcInUse t
-vsync-gc t = alike-gc (vsyncOf t) t (alike-vsync t t (alike-self t))
-
--- what a link owes
+-- what a link owes: its events are fair and taken, each packet is one of the three, and the mute is as `muteAfter` has it
 pub record Moved (u : Chip) (c : Cut) (new : InUse) : Type 0 where
-  pub near : Near u (cut (c .events) u (c .place))
+  pub good : Good (c .events) u
   pub three : Three u new (cut (c .events) u (c .place))
   pub mutes : mute (cut (c .events) u (c .place)) ≡ muteAfter c (mute u)
 
@@ -121,37 +110,42 @@ inserted-cut zero es u = refl
 inserted-cut (suc k) [] u = refl
 inserted-cut (suc k) (e ∷ es) u = inserted-cut k es (happens e u .chip)
 
--- what is old of the coefficients is as it was, or as a Vsync left it
-old-three : (u : Chip) (fs : List Event) (new x : List ℕ) → x ≡ old fs u .matrix → OfThree coefficients u new x
-unfolding coefficients
-old-three u fs new x e = go (waits u && turnedOver fs) refl e
-  where
-    go : (b : Bool) → (waits u && turnedOver fs) ≡ b → x ≡ cond b (fields (registersOf matrix (u .image))) (coefficients u) → OfThree coefficients u new x
-    go true w q =
-        let d : held u ≡ false = not-true (held u) (both-left (not (held u)) (u .waiting) (both-left (waits u) (turnedOver fs) w)) in
-        inr (inl (q ∙ ap fields (sym (turned u .takes d))))
-    go false w q = inl q
+-- ---- a Vsync leaves the packets
+
+module _ (turn : (s : Chip) → Turn s) where
+  pub vsync-use : (g : Group) (t : Chip) → inUse packets g (vsyncOf t) ≡ inUse packets g t
+  unfolding inUse
+  vsync-use g t = rw (turn t .image, turn t .packet)
+
+  pub vsync-gc : (t : Chip) → gcInUse (vsyncOf t) ≡ gcInUse t
+  unfolding gcInUse inUse
+  vsync-gc t = rw (turn t .image, turn t .packet)
+
+  -- what is old of the coefficients is as it was, or as a Vsync left it
+  old-three : (u : Chip) (fs : List Event) (new x : List ℕ) → x ≡ old fs u .matrix → OfThree coefficients u new x
+  unfolding coefficients
+  old-three u fs new x e = go (waits u && turnedOver fs) refl e
+    where
+      go : (b : Bool) → (waits u && turnedOver fs) ≡ b → x ≡ cond b (fields (registersOf matrix (u .image))) (coefficients u) → OfThree coefficients u new x
+      go true w q =
+          let d : held u ≡ false = not-true (held u) (both-left (not (held u)) (u .waiting) (both-left (waits u) (turnedOver fs) w)) in
+          inr (inl (q ∙ ap fields (sym (turn u .takes d))))
+      go false w q = inl q
 
 -- ---- a plug-in's request
 
-module _ (input room : List ℕ) (u : Chip) (z : planOf input (u .image) room .refusal ≡ 0) where
-  f : Fine input (u .image) room
-  f = fine input (u .image) room z
-
-  pub planned-ready : Ready (u .image)
-  planned-ready = record { whole = f .whole; holds = f .clear }
-
+module _ (b : Below) (input room : List ℕ) (u : Chip) (z : planOf input (u .image) room .refusal ≡ 0) where
   abbrev end : List ℕ
   end = finishedImage (asked input) (u .image)
 
   pub d : Demand3 (listOf input) (asked input) u
-  d = holds (asked input) u (f .whole) (f .clear)
-
-  pub pairs : pairsLeft input (u .image) room ≡ listOf input (u .image)
-  pairs = listed input (u .image) room f .pairs
+  d = any (b .every) input room u z .demand
 
   pub asked-new : standing end ≡ wholeAs (u .image) (readOf input .request)
-  asked-new = stands-whole (u .image) (readOf input .request) (request.fits input (f .read))
+  asked-new = stands-whole (b .every) input room u z
+
+  left : pairsLeft input (u .image) room ≡ listOf input (u .image)
+  left = pairs (b .every) input room u z
 
   module _ (es : List Event) (e : writesOf es ≡ listOf input (u .image)) (k : ℕ) where
     abbrev t : Chip
@@ -166,7 +160,7 @@ module _ (input room : List ℕ) (u : Chip) (z : planOf input (u .image) room .r
 
     late : (g : Group) → writesOf (take k es) ≡ writesOf es → inUse packets g (vsyncOf t) ≡ registersOf g (vsyncOf t .image)
         → inUse packets g t ≡ registersOf g end
-    late g q h = sym (vsync-use g t) ∙ h ∙ ap (registersOf g) (turned t .image ∙ short q .registers)
+    late g q h = sym (vsync-use (b .turn) g t) ∙ h ∙ ap (registersOf g) (b .turn t .image ∙ short q .registers)
 
     here : Three u (standing end) t
     here = by-place es k (λ _. Three u (standing end) t) 0 (λ q. unmoved u (standing end) t (clauses .before k q)) (λ q.
@@ -177,12 +171,12 @@ module _ (input room : List ℕ) (u : Chip) (z : planOf input (u .image) room .r
     matrix-here : OfThree coefficients u (standing end .matrix) (coefficients t)
     matrix-here = by-place es k (λ _. OfThree coefficients u (standing end .matrix) (coefficients t)) 0
         (λ q. ⊎-elim (λ x. inl (ap coefficients x)) (λ x. inr (inl (ap coefficients x))) (clauses .before k q))
-        (λ q. ⊎-elim (old-three u (take k es) (standing end .matrix) _) (λ x. inr (inr x)) (clauses .careful .between k (q .begun) (q .unended) .matrix))
-        (λ lo q. ⊎-elim (old-three u (take k es) (standing end .matrix) _) (λ x. inr (inr x)) (short q .whole))
+        (λ q. ⊎-elim (old-three (b .turn) u (take k es) (standing end .matrix) _) (λ x. inr (inr x)) (clauses .careful .between k (q .begun) (q .unended) .matrix))
+        (λ lo q. ⊎-elim (old-three (b .turn) u (take k es) (standing end .matrix) _) (λ x. inr (inr x)) (short q .whole))
 
     mute-here : mute t ≡ muteAfter (record { events = es; place = k }) (mute u)
     mute-here = by-place es k (λ m. mute t ≡ m) (mute u)
-        (λ q. ⊎-elim (λ x. ap mute x) (λ x. ap mute x ∙ mute-of (vsyncOf u) u (vsync-gc u)) (clauses .before k q))
+        (λ q. ⊎-elim (λ x. ap mute x) (λ x. ap mute x ∙ mute-of (vsyncOf u) u (vsync-gc (b .turn) u)) (clauses .before k q))
         (λ q. muted-one t (clauses .careful .between k (q .begun) (q .unended) .muted)) (λ lo q. open-two t (short q .opened))
 
   module _ (c : Cut) (e : writesOf (c .events) ≡ pairsLeft input (u .image) room) where
@@ -191,9 +185,9 @@ module _ (input room : List ℕ) (u : Chip) (z : planOf input (u .image) room .r
 
     pub plugin-moved : Moved u c (wholeAs (u .image) (readOf input .request))
     plugin-moved = record {
-      near = near-run leftSteps fewer-good left-fair (asked input) u u es (c .place) (e ∙ pairs ∙ by-steps (asked input) (u .image)) (near-self u planned-ready);
-      three = subst (λ (new : InUse). Three u new (cut es u (c .place))) asked-new (here es (e ∙ pairs) (c .place));
-      mutes = mute-here es (e ∙ pairs) (c .place);
+      good = let f = d .runs es (e ∙ left) .careful in good es u (f .fair) (f .taken);
+      three = subst (λ (new : InUse). Three u new (cut es u (c .place))) asked-new (here es (e ∙ left) (c .place));
+      mutes = mute-here es (e ∙ left) (c .place);
     }
 
     -- the coefficients, and as one Vsync more would leave them
@@ -205,7 +199,7 @@ module _ (input room : List ℕ) (u : Chip) (z : planOf input (u .image) room .r
         let at : (x : Chip) → OfThree coefficients u (standing end .matrix) (coefficients x)
         → OfThree coefficients u (wholeAs (u .image) (readOf input .request) .matrix) (coefficients x) =
         λ x. subst (λ (new : InUse). OfThree coefficients u (new .matrix) (coefficients x)) asked-new in (
-          at t (matrix-here es (e ∙ pairs) k),
+          at t (matrix-here es (e ∙ left) k),
           at (vsyncOf t) (subst (λ (x : Chip). OfThree coefficients u (standing end .matrix) (coefficients x)) (inserted-cut k es u)
-              (matrix-here (inserted k es) (inserted-writes k es ∙ e ∙ pairs) (suc k))),
+              (matrix-here (inserted k es) (inserted-writes k es ∙ e ∙ left) (suc k))),
         )

@@ -7,57 +7,75 @@ use Prim.Native.Nat.{ℕ, zero, suc, _+_, _<_}
 use native.Mathlib.Nat.{not-suc-le-zero}
 use native.Mathlib.Omega.{arith}
 use lib.Dec.{eqb}
-use lib.ListN.{length, getD, take, length-append}
+use lib.ListN.{length, take, length-append}
+use lib.Seq.{take-length}
 use borrow.Author.Tests.{eqb-true}
 use Rattle.lists.specs.Find.{every}
 use Rattle.lists.proofs.Both.{both-left, both-right}
-use Rattle.bits.specs.Merge.{bit}
-use Rattle.refusals.specs.Rows.{number, at, imageLength, holdsUp, Condition, _when_, Given}
-use Rattle.refusals.proofs.Tests.{without}
-use Rattle.registers.specs.Classes.{readOnly, free}
-use Rattle.matrix.specs.Matrix.{Bytes}
-use Rattle.request.specs.Sections.{walked}
-use Rattle.request.specs.Request.{requestOf, readRules, pairRows}
+use Rattle.refusals.specs.Rows.{number, at}
 use Rattle.chip.specs.declared.Chip.{Chip}
-use Rattle.chip.specs.Machine.{Write, Group, avi, audio, packets, held, inUse, coefficients, mute}
+use Rattle.chip.specs.Machine.{Write, Group, avi, audio, gc, packets, up, holdsOf, held, inUse, coefficients, Muted, mute}
 use Rattle.chip.specs.Write.{vsyncOf}
-use Rattle.chip.proofs.Writes.{turned}
 use Rattle.views.specs.Entry.{Lent, stateOf}
 use Rattle.views.specs.Sized.{LentSized}
-use Rattle.writes.proofs.Carries.{masked}
-use Rattle.plan.specs.Plan.{planOf}
-use Rattle.plan.specs.Rules.{HoldsUp, bufferRows}
-use Rattle.plan.proofs.Ordered.{holds-up, refusals}
+use Rattle.views.specs.Theorems.{Entered, EnteredVsync}
+use Rattle.writes.specs.List.{writeList, ready}
+use Rattle.plan.specs.Rules.{HoldsUp}
 use Rattle.vendor.specs.Vendor.{vetRules}
 use Rattle.vendor.specs.Found.{vetOf}
-use Rattle.vendor.proofs.Judged.{vetted}
-use Rattle.cut.specs.Run.{Event, run, cut, writesOf, writesBy, InUse, Stays}
+use Rattle.vendor.specs.Theorems.{Vetted}
+use Rattle.cut.specs.Run.{Event, write, vsync, run, cut, writesOf, writesBy, InUse}
 use Rattle.cut.specs.Vsync.{waits, waited, Finished}
-use Rattle.cut.specs.Demand.{Cut}
-use Rattle.cut.proofs.Erased.{run-append, writes-append}
-use Rattle.cut.proofs.Bytes.{Agree}
-use Rattle.cut.proofs.Cut.{Ready, Near, near-self, near-trans, is-muted}
-use Rattle.promises.specs.LentBytes.{entered, enteredCuts}
-use Rattle.promises.proofs.LentBytes.{sized-entered, entered-run}
+use Rattle.cut.specs.Demand.{Cut, Same}
+use Rattle.promises.specs.LentBytes.{enters, entered, enteredCuts}
+use Rattle.promises.specs.AnyCut.{EveryCut}
+use Rattle.promises.specs.Another.{OnAnother}
 use Rattle.chains.specs.Chain.{Hand, plugin, vendor, isPlugin, asks, Accepted, pairsFor, Link, after, left, Chain, happened, wholeAs, OneOf, allAsked}
 use Rattle.chains.specs.Chain.{muteAfter, muteBy, unopened}
-use Rattle.chains.specs.Theorems.{Next, AnyChain, ownRules, Kept, Point, Reached}
-use Rattle.chains.proofs.Whole.{whole-agree}
-use Rattle.chains.proofs.Links.{OfThree, vsync-use, pairs, d, plugin-matrix}
-use Rattle.chains.proofs.Vetted.{link-ready, moved}
+use Rattle.chains.specs.Theorems.{Next, AnyChain, Point, Reached}
+use Rattle.chains.proofs.Below.{Below}
+use Rattle.chains.proofs.Runs.{run-append, writes-append, Good, good-append, good-take, fairly, taken, Ready, Near, near-self, near-trans, near-good}
+use Rattle.chains.proofs.Whole.{any, pairs, whole-kept}
+use Rattle.chains.proofs.Links.{OfThree, vsync-use, plugin-matrix}
+use Rattle.chains.proofs.Vetted.{link-ready, link-near, moved}
 
--- the registers: near those of the beginning
-pub near-chain : (s : Chip) (ls : List Link) (u : Chip) → Chain ls u → Near s u → Near s (left ls u)
-near-chain s [] u c n = n
-near-chain s (l ∷ ls) u c n = near-chain s ls (after l u) (c .2) (near-trans s u (after l u) n (moved l u (c .0) (c .1) .near))
+-- a chain leaves what its events do
+left-run : (ls : List Link) (s : Chip) → left ls s ≡ run (happened ls) s
+left-run [] s = refl
+left-run (l ∷ ls) s = left-run ls (after l s) ∙ sym (run-append (take (l .run .place) (l .run .events)) (happened ls) s)
 
--- planning takes the beginning of a chain, and so a chain ends near it
-pub start-ready : (ls : List Link) (s : Chip) → Chain ls s → Ready (left ls s .image) → Ready (s .image)
-start-ready [] s c r = r
-start-ready (l ∷ ls) s c r = link-ready (l .hand) s (c .0)
+-- one more link
+module _ (h : Hand) (c : Cut) where
+  abbrev l : Link
+  l = record { hand = h; run = c }
 
-pub near-left : (ls : List Link) (s : Chip) → Chain ls s → Ready (left ls s .image) → Near s (left ls s)
-near-left ls s c r = near-chain s ls s c (near-self s (start-ready ls s c r))
+  pub grown : (ls : List Link) (s : Chip) → Chain ls s → Accepted h (left ls s) → writesOf (c .events) ≡ pairsFor h (left ls s) → Chain (ls ++ l ∷ []) s
+  grown [] s k a e = (a, e, tt)
+  grown (m ∷ ls) s k a e = (k .0, k .1, grown ls (after m s) (k .2) a e)
+
+  pub goes-on : (ls : List Link) (s : Chip) → left (ls ++ l ∷ []) s ≡ cut (c .events) (left ls s) (c .place)
+  goes-on [] s = refl
+  goes-on (m ∷ ls) s = goes-on ls (after m s)
+
+  has-happened : (ls : List Link) → happened (ls ++ l ∷ []) ≡ happened ls ++ take (c .place) (c .events)
+  has-happened [] = append-nil (take (c .place) (c .events))
+  has-happened (m ∷ ls) =
+      ap (λ (f : List Event). take (m .run .place) (m .run .events) ++ f) (has-happened ls)
+      ∙ sym (append-assoc (take (m .run .place) (m .run .events)) (happened ls) (take (c .place) (c .events)))
+
+  one-more : (ls : List Link) (s : Chip) → Chain ls s → Accepted h (left ls s) → writesOf (c .events) ≡ pairsFor h (left ls s) → Next h c ls s
+  one-more ls s k a e = record { chain = grown ls s k a e; left = goes-on ls s; happened = has-happened ls }
+
+pub any-chain : EveryCut → (s : Chip) → AnyChain s
+any-chain every s = record {
+  none = (tt, refl, refl);
+  request = λ ls k input room c a e. (one-more (plugin input room) c ls s k a e, refl);
+  list = λ ls k list c a e r ends. one-more (vendor list r) c ls s k (a, ends) e;
+  last = λ input room a. (
+    λ es f. record { accepted = a; finished = f },
+    subst (λ (ws : List Write). Finished ws (waited ws)) (sym (pairs every input room s a)) (any every input room s a .demand .waits),
+  );
+}
 
 -- ---- one of the groups in use
 
@@ -83,7 +101,7 @@ pub record Latches (shown : Chip → List ℕ) (pick : InUse → List ℕ) (l : 
   pub now : OfThree shown u (pick (wholeAs (u .image) (asks (l .hand)))) (shown (after l u))
   pub later : OfThree shown u (pick (wholeAs (u .image) (asks (l .hand)))) (shown (vsyncOf (after l u)))
 
-module _ (shown : Chip → List ℕ) (pick : InUse → List ℕ) (ok : Link → Bool)
+module _ (b : Below) (shown : Chip → List ℕ) (pick : InUse → List ℕ) (ok : Link → Bool)
     (latch : (l : Link) (u : Chip) → Accepted (l .hand) u → writesOf (l .run .events) ≡ pairsFor (l .hand) u → ok l ≡ true → Latches shown pick l u)
     (s : Chip) where
   -- what is true of it at the beginning, after a Vsync too, and of what each link asks, is true of it
@@ -93,10 +111,10 @@ module _ (shown : Chip → List ℕ) (pick : InUse → List ℕ) (ok : Link → 
   always Q (l ∷ ls) u c t n a q v =
       let r = latch l u (c .0) (c .1) (both-left (ok l) (every ok ls) t) in
       let new : Q (pick (wholeAs (u .image) (asks (l .hand)))) =
-      subst (λ (g : InUse). Q (pick g)) (sym (whole-agree (asks (l .hand)) (u .image) (s .image) (n .kept))) (a .0) in
+      subst (λ (g : InUse). Q (pick g)) (sym (whole-kept (asks (l .hand)) s u (n .kept))) (a .0) in
       let of : (x : List ℕ) → OfThree shown u (pick (wholeAs (u .image) (asks (l .hand)))) x → Q x =
       λ x o. ⊎-elim (λ e. subst Q (sym e) q) (λ o. ⊎-elim (λ e. subst Q (sym e) v) (λ e. subst Q (sym e) new) o) o in
-      always Q ls (after l u) (c .2) (both-right (ok l) (every ok ls) t) (near-trans s u (after l u) n (moved l u (c .0) (c .1) .near)) (a .1)
+      always Q ls (after l u) (c .2) (both-right (ok l) (every ok ls) t) (near-trans s u (after l u) n (link-near b l u (c .0) (c .1))) (a .1)
       (of _ (r .now)) (of _ (r .later))
 
   one-of : (ls : List Link) → Chain ls s → every ok ls ≡ true → Ready (s .image) → shown (vsyncOf s) ≡ shown s
@@ -106,19 +124,74 @@ module _ (shown : Chip → List ℕ) (pick : InUse → List ℕ) (ok : Link → 
       let was : OneOf (shown s) ys (shown s) = was-of (shown s) ys in
       always (OneOf (shown s) ys) ls s c t (near-self s r) (all-of (shown s) ys) was (subst (OneOf (shown s) ys) (sym e) was)
 
--- where no change waits a Vsync changes nothing
-idle : (s : Chip) → waits s ≡ false → vsyncOf s ≡ s
-idle s w = go (held s) refl w
-  where
-    go : (h : Bool) → held s ≡ h → (not h && s .waiting) ≡ false → vsyncOf s ≡ s
-    go true e w = turned s .beside e
-    go false e w = turned s .idle w .0
+-- ---- the registers: near those of the beginning
 
--- ---- the mute
+module _ (b : Below) where
+  pub near-chain : (s : Chip) (ls : List Link) (u : Chip) → Chain ls u → Near s u → Near s (left ls u)
+  near-chain s [] u c n = n
+  near-chain s (l ∷ ls) u c n = near-chain s ls (after l u) (c .2) (near-trans s u (after l u) n (link-near b l u (c .0) (c .1)))
 
-pub mute-chain : (ls : List Link) (u : Chip) → Chain ls u → mute (left ls u) ≡ muteBy ls (mute u)
-mute-chain [] u c = refl
-mute-chain (l ∷ ls) u c = mute-chain ls (after l u) (c .2) ∙ ap (muteBy ls) (moved l u (c .0) (c .1) .mutes)
+  -- planning takes the beginning of a chain, and so a chain ends near it
+  pub start-ready : (ls : List Link) (s : Chip) → Chain ls s → Ready (left ls s .image) → Ready (s .image)
+  start-ready [] s c r = r
+  start-ready (l ∷ ls) s c r = link-ready b (l .hand) s (c .0)
+
+  pub near-left : (ls : List Link) (s : Chip) → Chain ls s → Ready (left ls s .image) → Near s (left ls s)
+  near-left ls s c r = near-chain s ls s c (near-self s (start-ready ls s c r))
+
+  -- all that has happened in it is fair and taken, and so a list planned where it ends ends as one planned at the beginning
+  chain-good : (ls : List Link) (s : Chip) → Chain ls s → Good (happened ls) s
+  chain-good [] s c = tt
+  chain-good (l ∷ ls) s c =
+      let es : List Event = l .run .events in
+      good-append (take (l .run .place) es) (happened ls) s (good-take (l .run .place) es s (moved b l s (c .0) (c .1) .good))
+      (chain-good ls (after l s) (c .2))
+
+  pub same-end : (ls : List Link) (s : Chip) → Chain ls s → Ready (s .image) → (want : ℕ → ℕ) (fs gs : List Event)
+      → Finished (writeList want (s .image)) fs → Finished (writeList want (left ls s .image)) gs → Same (run fs s) (run gs (left ls s))
+  same-end ls s c r want fs gs f =
+      let es : List Event = happened ls in
+      let g : Good es s = chain-good ls s c in
+      let there : cut es s (length es) ≡ left ls s = ap (λ (l : List Event). run l s) (take-length es) ∙ sym (left-run ls s) in
+      subst (λ (t : Chip). Finished (writeList want (t .image)) gs → Same (run fs s) (run gs t)) there
+      (b .mended want es s (r .whole) (r .holds) (fairly es s g) (taken es s g) .again (length es) fs gs f)
+
+  -- ---- the mute
+
+  pub mute-chain : (ls : List Link) (u : Chip) → Chain ls u → mute (left ls u) ≡ muteBy ls (mute u)
+  mute-chain [] u c = refl
+  mute-chain (l ∷ ls) u c = mute-chain ls (after l u) (c .2) ∙ ap (muteBy ls) (moved b l u (c .0) (c .1) .mutes)
+
+  -- ---- of each group what a link leaves
+
+  -- where no change waits a Vsync changes nothing
+  idle : (s : Chip) → waits s ≡ false → vsyncOf s ≡ s
+  idle s w = go (held s) refl w
+    where
+      go : (h : Bool) → held s ≡ h → (not h && s .waiting) ≡ false → vsyncOf s ≡ s
+      go true e w = b .turn s .beside e
+      go false e w = b .turn s .idle w .0
+
+  latch-matrix : (l : Link) (u : Chip) → Accepted (l .hand) u → writesOf (l .run .events) ≡ pairsFor (l .hand) u → isPlugin (l .hand) ≡ true
+      → Latches coefficients (λ g. g .matrix) l u
+  latch-matrix l u a e t = record { now = go (l .hand) a e t .0; later = go (l .hand) a e t .1 }
+    where
+      go : (h : Hand) → Accepted h u → writesOf (l .run .events) ≡ pairsFor h u → isPlugin h ≡ true
+          → let new : List ℕ = wholeAs (u .image) (asks h) .matrix in
+          OfThree coefficients u new (coefficients (after l u)) × OfThree coefficients u new (coefficients (vsyncOf (after l u)))
+      go (plugin input room) a e t = plugin-matrix b input room u a (l .run) e
+      go (vendor list ending) a e t = absurd (false≢true t)
+
+  -- a packet does not see a Vsync
+  latch-packet : (g : Group) (pick : InUse → List ℕ) (l : Link) (u : Chip)
+      → OfThree (inUse packets g) u (pick (wholeAs (u .image) (asks (l .hand)))) (inUse packets g (after l u)) → Latches (inUse packets g) pick l u
+  latch-packet g pick l u m = record { now = m; later = subst (OfThree (inUse packets g) u _) (sym (vsync-use (b .turn) g (after l u))) m }
+
+-- ---- muted
+
+-- the mute, from its number
+is-muted : (u : Chip) → mute u ≡ 1 → Muted u
+is-muted u e = (omega arith, omega arith)
 
 -- muted, it stays so until a link has made its last write
 module _ (l : Link) (o : unopened l ≡ true) where
@@ -161,21 +234,22 @@ muted-since (l ∷ ls) was b t = go (eqb (n l one) 0) refl (λ h. muted-since ls
 
 -- ---- whoever comes next
 
-next-given : (t : Chip) → Ready (t .image) → (input room : List ℕ) → Bytes input → Given (ownRules input room) (planOf input (t .image) room .refusal)
-next-given t r input room b =
-    let rest : List Condition = pairRows (requestOf (walked input)) ++ bufferRows 256 room in
-    let n : ℕ = planOf input (t .image) room .refusal in
-    without (readRules (walked input)) (holdsUp when HoldsUp (t .image)) rest n
-    (without (readRules (walked input)) (imageLength when (length (t .image) ≢ 256)) (holdsUp when HoldsUp (t .image) ∷ rest) n
-    (refusals input b (t .image) room .given) refl (λ x. x (r .whole))) refl
-    (holds-up (t .image) .fails (ap not (r .holds)))
+-- row 8 does not apply
+no-holds : (image : List ℕ) → ready image ≡ true → HoldsUp image → ⊥
+no-holds image = let n : ℕ = holdsOf packets image in go (up gc n) (up avi n) (up audio n)
+  where
+    go : (g a b : Bool) → (not g && not (a && b)) ≡ true → (g ≡ true) ⊎ ((a ≡ true) × (b ≡ true)) → ⊥
+    go true a b r h = false≢true r
+    go false true true r h = false≢true r
+    go false true false r h = ⊎-elim false≢true (λ x. false≢true (x .1)) h
+    go false false b r h = ⊎-elim false≢true (λ x. false≢true (x .0)) h
 
-never-eight : (t : Chip) → Ready (t .image) → (list : List ℕ) → vetOf t list .refusal ≢ 8
-never-eight t r list e = let f = vetted t list .given .some (λ z. omega (arith, z, e)) in go (f .place) (f .within) (f .numbered) (f .applies)
+never-eight : (t : Chip) (list : List ℕ) → Vetted t list → Ready (t .image) → vetOf t list .refusal ≢ 8
+never-eight t list v r e = let f = v .given .some (λ z. omega (arith, z, e)) in go (f .place) (f .within) (f .numbered) (f .applies)
   where
     go : (place : ℕ) → place < 5 → vetOf t list .refusal ≡ number (at (vetRules t list) place .row) → at (vetRules t list) place .When → ⊥
     go zero h n w = omega (arith, n, e)
-    go (suc zero) h n w = holds-up (t .image) .fails (ap not (r .holds)) w
+    go (suc zero) h n w = no-holds (t .image) (r .holds) w
     go (suc (suc zero)) h n w = omega (arith, n, e)
     go (suc (suc (suc zero))) h n w = omega (arith, n, e)
     go (suc (suc (suc (suc zero)))) h n w = omega (arith, n, e)
@@ -183,113 +257,25 @@ never-eight t r list e = let f = vetted t list .given .some (λ z. omega (arith,
 
 -- ---- over slices
 
-pub over-slices : (ls : List Link) (u : Chip) (l : Lent) → LentSized l → stateOf l ≡ u
-    → LentSized (enteredCuts (map (λ l. l .run) ls) l) × (stateOf (enteredCuts (map (λ l. l .run) ls) l) ≡ left ls u)
-over-slices [] u l z e = (z, e)
-over-slices (x ∷ ls) u l z e =
-    over-slices ls (after x u) (entered (take (x .run .place) (x .run .events)) l) (sized-entered (take (x .run .place) (x .run .events)) l z)
-    (entered-run (take (x .run .place) (x .run .events)) l z ∙ ap (λ (t : Chip). cut (x .run .events) t (x .run .place)) e)
+module _ (enter : (l : Lent) → LentSized l → (address value : ℕ) → Entered l address value) (turn : (l : Lent) → LentSized l → EnteredVsync l) where
+  by-events : (es : List Event) (l : Lent) → LentSized l → LentSized (entered es l) × (stateOf (entered es l) ≡ run es (stateOf l))
+  by-events [] l z = (z, refl)
+  by-events (write w ∷ es) l z =
+      let e = enter l z (w .address) (w .value) in
+      let q = by-events es (enters (write w) l .slices) (e .sized) in
+      (q .0, q .1 ∙ ap (run es) (e .state))
+  by-events (vsync ∷ es) l z =
+      let e = turn l z in
+      let q = by-events es (enters vsync l .slices) (e .sized) in
+      (q .0, q .1 ∙ ap (run es) (e .state))
 
--- ---- a point
-
-all-true : (ls : List Link) → every (λ _. true) ls ≡ true
-all-true [] = refl
-all-true (l ∷ ls) = all-true ls
-
--- of each group what a link leaves
-latch-matrix : (l : Link) (u : Chip) → Accepted (l .hand) u → writesOf (l .run .events) ≡ pairsFor (l .hand) u → isPlugin (l .hand) ≡ true
-    → Latches coefficients (λ g. g .matrix) l u
-latch-matrix l u a e t = record { now = go (l .hand) a e t .0; later = go (l .hand) a e t .1 }
-  where
-    go : (h : Hand) → Accepted h u → writesOf (l .run .events) ≡ pairsFor h u → isPlugin h ≡ true
-        → let new : List ℕ = wholeAs (u .image) (asks h) .matrix in
-        OfThree coefficients u new (coefficients (after l u)) × OfThree coefficients u new (coefficients (vsyncOf (after l u)))
-    go (plugin input room) a e t = plugin-matrix input room u a (l .run) e
-    go (vendor list ending) a e t = absurd (false≢true t)
-
--- a packet does not see a Vsync
-latch-packet : (g : Group) (pick : InUse → List ℕ) (l : Link) (u : Chip)
-    → OfThree (inUse packets g) u (pick (wholeAs (u .image) (asks (l .hand)))) (inUse packets g (after l u)) → Latches (inUse packets g) pick l u
-latch-packet g pick l u m = record { now = m; later = subst (OfThree (inUse packets g) u _) (sym (vsync-use g (after l u))) m }
-
--- the bits that no list moves
-kept-bit : (s t : Chip) → Near s t → (a j : ℕ) → j < 8 → (bit j (free a) ≡ 1) ⊎ (bit j (readOnly a) ≡ 1) → Stays a j s t
-unfolding Agree
-kept-bit s t near a j h (inl f) =
-    sym (masked (free a) j (getD (t .image) a 0) h f) ∙ ap (λ (x : ℕ). bit j x) (near .kept a .frees) ∙ masked (free a) j (getD (s .image) a 0) h f
-kept-bit s t near a j h (inr r) =
-    sym (masked (readOnly a) j (getD (t .image) a 0) h r) ∙ ap (λ (x : ℕ). bit j x) (near .kept a .reads) ∙ masked (readOnly a) j (getD (s .image) a 0) h r
-
-pub kept-near : (s t : Chip) → Near s t → Kept s t
-kept-near s t near = record { bits = kept-bit s t near; unwritten = near .rest }
-
--- a chain leaves what its events do
-left-run : (ls : List Link) (s : Chip) → left ls s ≡ run (happened ls) s
-left-run [] s = refl
-left-run (l ∷ ls) s = left-run ls (after l s) ∙ sym (run-append (take (l .run .place) (l .run .events)) (happened ls) s)
-
--- one more link
-module _ (h : Hand) (c : Cut) where
-  abbrev l : Link
-  l = record { hand = h; run = c }
-
-  grown : (ls : List Link) (s : Chip) → Chain ls s → Accepted h (left ls s) → writesOf (c .events) ≡ pairsFor h (left ls s) → Chain (ls ++ l ∷ []) s
-  grown [] s k a e = (a, e, tt)
-  grown (m ∷ ls) s k a e = (k .0, k .1, grown ls (after m s) (k .2) a e)
-
-  goes-on : (ls : List Link) (s : Chip) → left (ls ++ l ∷ []) s ≡ cut (c .events) (left ls s) (c .place)
-  goes-on [] s = refl
-  goes-on (m ∷ ls) s = goes-on ls (after m s)
-
-  has-happened : (ls : List Link) → happened (ls ++ l ∷ []) ≡ happened ls ++ take (c .place) (c .events)
-  has-happened [] = append-nil (take (c .place) (c .events))
-  has-happened (m ∷ ls) =
-      ap (λ (f : List Event). take (m .run .place) (m .run .events) ++ f) (has-happened ls)
-      ∙ sym (append-assoc (take (m .run .place) (m .run .events)) (happened ls) (take (c .place) (c .events)))
-
-  one-more : (ls : List Link) (s : Chip) → Chain ls s → Accepted h (left ls s) → writesOf (c .events) ≡ pairsFor h (left ls s) → Next h c ls s
-  one-more ls s k a e = record { chain = grown ls s k a e; left = goes-on ls s; happened = has-happened ls }
-
-pub any-chain : (s : Chip) → AnyChain s
-any-chain s = record {
-  none = (tt, refl, refl);
-  request = λ ls k input room c a e. (one-more (plugin input room) c ls s k a e, refl);
-  list = λ ls k list c a e r ends. one-more (vendor list r) c ls s k (a, ends) e;
-  last = λ input room a. (
-    λ es f. record { accepted = a; finished = f },
-    subst (λ (ws : List Write). Finished ws (waited ws)) (sym (pairs input room s a)) (d input room s a .waits),
-  );
-}
-
-pub point : (ls : List Link) (s : Chip) → Chain ls s → Point ls s
-point [] s c = record {
-  kept = record { bits = λ a j h f. refl; unwritten = λ a h w. refl };
-  avi = refl;
-  audio = refl;
-  matrix = λ w t. refl;
-  mute = refl;
-  muted = λ b. absurd (not-suc-le-zero b);
-  next = λ h. absurd (not-suc-le-zero h);
-  nextList = λ h. absurd (not-suc-le-zero h);
-  slices = over-slices [] s;
-}
-point (l ∷ ls) s c =
-    let ms : List Link = l ∷ ls in
-    let r : Ready (s .image) = link-ready (l .hand) s (c .0) in
-    let near : Near s (left ms s) = near-chain s ms s c (near-self s r) in
-    record {
-      kept = kept-near s (left ms s) near;
-      avi = one-of (inUse packets avi) (λ g. g .avi) (λ _. true) (λ l u a e t. latch-packet avi (λ g. g .avi) l u (moved l u a e .three .avi)) s ms c
-          (all-true ms) r (vsync-use avi s);
-      audio = one-of (inUse packets audio) (λ g. g .audio) (λ _. true) (λ l u a e t. latch-packet audio (λ g. g .audio) l u (moved l u a e .three .audio)) s ms
-          c (all-true ms) r (vsync-use audio s);
-      matrix = λ w t. one-of coefficients (λ g. g .matrix) (λ l. isPlugin (l .hand)) latch-matrix s ms c t r (ap coefficients (idle s w));
-      mute = mute-chain ms s c;
-      muted = λ b t. is-muted (left ms s) (mute-chain ms s c ∙ muted-since ms (mute s) b t);
-      next = λ h. next-given (left ms s) (near .ready);
-      nextList = λ h. never-eight (left ms s) (near .ready);
-      slices = over-slices ms s;
-    }
+  pub over-slices : (ls : List Link) (u : Chip) (l : Lent) → LentSized l → stateOf l ≡ u
+      → LentSized (enteredCuts (map (λ l. l .run) ls) l) × (stateOf (enteredCuts (map (λ l. l .run) ls) l) ≡ left ls u)
+  over-slices [] u l z e = (z, e)
+  over-slices (x ∷ ls) u l z e =
+      let es : List Event = take (x .run .place) (x .run .events) in
+      let q = by-events es l z in
+      over-slices ls (after x u) (entered es l) (q .0) (q .1 ∙ ap (run es) e)
 
 -- ---- every point
 
@@ -341,14 +327,53 @@ reaching (l ∷ ls) s c k =
       chain = (c .0, c .1, more .chain);
     }) (w .is)
 
-pub reached : (ls : List Link) (s : Chip) → Chain ls s → (k : ℕ) → Reached k ls s
-reached ls s c k =
-    let r = reaching ls s c k in
-    record {
-      links = r .links;
-      first = r .first;
-      events = r .events;
-      chain = r .chain;
-      there = left-run (r .links) s ∙ ap (λ (f : List Event). run f s) (r .events);
-      point = point (r .links) s (r .chain);
-    }
+-- ---- a point
+
+all-true : (ls : List Link) → every (λ _. true) ls ≡ true
+all-true [] = refl
+all-true (l ∷ ls) = all-true ls
+
+module _ (b : Below) (enter : (l : Lent) → LentSized l → (address value : ℕ) → Entered l address value)
+    (turn : (l : Lent) → LentSized l → EnteredVsync l) (vetted : (s : Chip) (list : List ℕ) → Vetted s list)
+    (another : (input room image : List ℕ) → length image ≡ 256 → ready image ≡ true → OnAnother input room image) where
+  pub point : (ls : List Link) (s : Chip) → Chain ls s → Point ls s
+  point [] s c = record {
+    kept = record { bits = λ a j h f. refl; unwritten = λ a h w. refl };
+    avi = refl;
+    audio = refl;
+    matrix = λ w t. refl;
+    mute = refl;
+    muted = λ b. absurd (not-suc-le-zero b);
+    next = λ h. absurd (not-suc-le-zero h);
+    nextList = λ h. absurd (not-suc-le-zero h);
+    slices = over-slices enter turn [] s;
+  }
+  point (l ∷ ls) s c =
+      let ms : List Link = l ∷ ls in
+      let r : Ready (s .image) = link-ready b (l .hand) s (c .0) in
+      let near : Near s (left ms s) = near-chain b s ms s c (near-self s r) in
+      record {
+        kept = near .kept;
+        avi = one-of b (inUse packets avi) (λ g. g .avi) (λ _. true) (λ l u a e t. latch-packet b avi (λ g. g .avi) l u (moved b l u a e .three .avi)) s ms c
+            (all-true ms) r (vsync-use (b .turn) avi s);
+        audio = one-of b (inUse packets audio) (λ g. g .audio) (λ _. true) (λ l u a e t. latch-packet b audio (λ g. g .audio) l u (moved b l u a e .three .audio)) s ms
+            c (all-true ms) r (vsync-use (b .turn) audio s);
+        matrix = λ w t. one-of b coefficients (λ g. g .matrix) (λ l. isPlugin (l .hand)) (latch-matrix b) s ms c t r (ap coefficients (idle b s w));
+        mute = mute-chain b ms s c;
+        muted = λ w t. is-muted (left ms s) (mute-chain b ms s c ∙ muted-since ms (mute s) w t);
+        next = λ h input room. another input room (left ms s .image) (near .ready .whole) (near .ready .holds) .refused;
+        nextList = λ h list. never-eight (left ms s) list (vetted (left ms s) list) (near .ready);
+        slices = over-slices enter turn ms s;
+      }
+
+  pub reached : (ls : List Link) (s : Chip) → Chain ls s → (k : ℕ) → Reached k ls s
+  reached ls s c k =
+      let r = reaching ls s c k in
+      record {
+        links = r .links;
+        first = r .first;
+        events = r .events;
+        chain = r .chain;
+        there = left-run (r .links) s ∙ ap (λ (f : List Event). run f s) (r .events);
+        point = point (r .links) s (r .chain);
+      }

@@ -1,99 +1,202 @@
 -- What stands in the registers of a group at the end of a list is what the request asked, with the free bits of the image. Assumes nothing.
-use mathlib.Core.Path.{_≡_, refl, ap, ap₂, _∙_}
+use mathlib.Core.Path.{_≡_, refl, sym, ap, ap₂, subst, _∙_}
+use mathlib.Core.Logic.{inl}
+use mathlib.Core.Bool.{Bool, true, false, cond}
 use mathlib.Core.List.{List, [], _∷_, _++_}
-use Prim.Native.Nat.{ℕ, _+_, _<_, _≤_}
+use Prim.Native.Nat.{ℕ, _+_, _%_, _<_, _≤_}
+use native.Mathlib.Nat.{mod-eq-of-lt}
 use native.Mathlib.Omega.{arith}
-use lib.Dec.{lit<, lit≤}
+use lib.Dec.{eqb, lit<, lit≤}
 use lib.ListN.{length, getD, drop, length-drop}
-use lib.Seq.{length-take-le}
+use lib.Seq.{length-take-le, getD-take, getD-drop}
+use borrow.Author.Tests.{eqb-true}
 use Rattle.lists.proofs.Find.{next}
-use Rattle.bits.specs.Merge.{merge, under}
+use Rattle.bits.specs.Merge.{merge, under, bit}
+use Rattle.bits.proofs.Laws.{merge-small, merge-bit}
+use Rattle.bits.proofs.Fields.{low-same}
 use Rattle.registers.specs.Classes.{classAt, free}
 use Rattle.frames.specs.Frames.{aviFrame}
 use Rattle.request.specs.declared.Request.{Request}
-use Rattle.request.specs.Fits.{Fits}
-use Rattle.chip.specs.Machine.{Group, avi, audio, matrix, registersOf}
-use Rattle.plan.specs.Wanted.{wanted}
-use Rattle.writes.specs.List.{byte, decided, isWritten, finishedImage}
-use Rattle.writes.proofs.Image.{image-length, image-at}
-use Rattle.writes.proofs.Named.{left}
-use Rattle.decode.specs.Ends.{Stands}
-use Rattle.decode.proofs.Groups.{avi-in, audio-in, matrix-in}
-use Rattle.decode.proofs.Answers.{finished-again}
-use Rattle.cut.specs.Run.{standing}
-use Rattle.cut.proofs.Bytes.{Agree, agree-free}
+use Rattle.request.specs.Read.{readOf}
+use Rattle.chip.specs.declared.Chip.{Chip}
+use Rattle.chip.specs.Machine.{Write, Group, avi, audio, packets, registersOf, inUse, coefficients}
+use Rattle.plan.specs.Plan.{planOf}
+use Rattle.writes.specs.List.{byte, decided, written, isWritten, leftUp, finished, column, finishedImage}
+use Rattle.cut.specs.Run.{Event, run, standing}
+use Rattle.cut.specs.Vsync.{waited, Finished}
+use Rattle.cut.specs.Demand.{toItsEnd, After, Clauses, Same}
 use Rattle.promises.specs.Finished.{audioPacket}
-use Rattle.promises.proofs.Places.{audio-frame}
-use Rattle.promises.proofs.Ended.{at-place}
-use Rattle.promises.proofs.Ended as promises
+use Rattle.promises.specs.Rules.{asked}
+use Rattle.promises.specs.LentBytes.{pairsLeft}
+use Rattle.promises.specs.AnyCut.{listOf, Headed, AnyCut, EveryCut}
 use Rattle.chains.specs.Chain.{heads, wholeAs}
+use Rattle.chains.specs.Theorems.{Kept, Last}
+use Rattle.chains.proofs.Runs.{Ready}
+
+-- a register of a group, by its place
+pub at-place : (g : Group) (image : List ℕ) (i : ℕ) → i < g .count → getD (registersOf g image) i 0 ≡ getD image (g .first + i) 0
+at-place g image i h = getD-take {A = ℕ} (g .count) (drop (g .first) image) i 0 h ∙ getD-drop (g .first) image i 0
 
 -- a group by its first two registers and the rest
 module _ (g : Group) (image : List ℕ) (sized : length image ≡ 256) (inside : g .first + g .count ≤ 256) (two : 2 ≤ g .count) where
   count : length (registersOf g image) ≡ g .count
   count = length-take-le (g .count) (drop (g .first) image) (omega (arith, length-drop (g .first) image, sized, inside))
 
-  parted : registersOf g image ≡ getD image (g .first + 0) 0 ∷ getD image (g .first + 1) 0 ∷ drop 2 (registersOf g image)
+  parted : registersOf g image ≡ getD (registersOf g image) 0 0 ∷ getD (registersOf g image) 1 0 ∷ drop 2 (registersOf g image)
   parted =
       let l : List ℕ = registersOf g image in
       let a : l ≡ getD l 0 0 ∷ drop 1 l = next l 0 0 (omega (arith, count, two)) in
       let b : drop 1 l ≡ getD l 1 0 ∷ drop 2 l = next l 1 0 (omega (arith, count, two)) in
-      a ∙ ap₂ (λ (x : ℕ) (more : List ℕ). x ∷ more) (at-place g image 0 (omega (arith, two)))
-      (b ∙ ap (λ (x : ℕ). x ∷ drop 2 l) (at-place g image 1 (omega (arith, two))))
+      a ∙ ap (λ (more : List ℕ). getD l 0 0 ∷ more) b
 
-module _ (image : List ℕ) (r : Request) where
+-- a byte whose low bits are named and whose other bits are free, by its low bits
+no-mask : (a b : ℕ) → merge 8 0 a b ≡ b % 256
+unfolding merge
+no-mask a b = omega arith
+
+high-five : (a b : ℕ) → (merge 8 0xF8 a b ≡ b % 8 + merge 8 0xF8 a 0) × (merge 8 0xF8 a 0 % 8 ≡ 0)
+unfolding merge
+high-five a b = (omega arith, omega arith)
+
+high-three : (a b : ℕ) → (merge 8 0xE0 a b ≡ b % 32 + merge 8 0xE0 a 0) × (merge 8 0xE0 a 0 % 32 ≡ 0)
+unfolding merge
+high-three a b = (omega arith, omega arith)
+
+low-three : (old b n : ℕ) → merge 8 0 old (merge 8 0xF8 old b) % 8 ≡ n → merge 8 0 old (merge 8 0xF8 old b) ≡ n + merge 8 0xF8 old 0
+low-three old b n h =
+    let p = high-five old b in
+    omega (arith, h, no-mask old (merge 8 0xF8 old b), p .0, p .1, merge-small 8 0xF8 old b)
+
+low-five : (old b n : ℕ) → merge 8 0 old (merge 8 0xE0 old b) % 32 ≡ n → merge 8 0 old (merge 8 0xE0 old b) ≡ n + merge 8 0xE0 old 0
+low-five old b n h =
+    let p = high-three old b in
+    omega (arith, h, no-mask old (merge 8 0xE0 old b), p .0, p .1, merge-small 8 0xE0 old b)
+
+-- the first two registers of a packet in the finished image
+module _ (want : ℕ → ℕ) (image : List ℕ) where
   abbrev end : List ℕ
-  end = finishedImage (wanted r) image
+  end = finishedImage want image
 
-  avi-heads : (getD end 0x52 0 ≡ 0x02 + under (free 0x52) (getD image 0x52 0)) × (getD end 0x53 0 ≡ 0x0D + under (free 0x53) (getD image 0x53 0))
-  unfolding isWritten decided classAt byte merge
-  avi-heads =
-      let h = promises.heads r (r .sound) in (
-        image-at (wanted r) image 0x52 (lit< tt) ∙ left (wanted r) image 0x52 refl ∙ rw (h .0) (omega arith),
-        image-at (wanted r) image 0x53 (lit< tt) ∙ left (wanted r) image 0x53 refl ∙ rw (h .1) (omega arith),
-      )
+  pub sized : length end ≡ 256
+  unfolding column
+  sized = refl
 
-  audio-heads : (getD end 0x70 0 ≡ 0x01 + under (free 0x70) (getD image 0x70 0)) × (getD end 0x71 0 ≡ 0x0A + under (free 0x71) (getD image 0x71 0))
-  unfolding isWritten decided classAt byte merge
-  audio-heads =
-      let h = promises.heads r (r .sound) in (
-        image-at (wanted r) image 0x70 (lit< tt) ∙ left (wanted r) image 0x70 refl ∙ rw (h .2) (omega arith),
-        image-at (wanted r) image 0x71 (lit< tt) ∙ left (wanted r) image 0x71 refl ∙ rw (h .3) (omega arith),
-      )
+  avi-heads : (version count : ℕ) → getD end 0x52 0 % 8 ≡ version → getD end 0x53 0 % 32 ≡ count
+      → (getD end 0x52 0 ≡ version + under (free 0x52) (getD image 0x52 0)) × (getD end 0x53 0 ≡ count + under (free 0x53) (getD image 0x53 0))
+  unfolding column finished written isWritten decided classAt byte
+  avi-heads version count v c = (low-three (getD image 0x52 0) _ version v, low-five (getD image 0x53 0) _ count c)
 
-  stands : Stands r end
-  stands a h = finished-again (wanted r) image end a (image-at (wanted r) image a h)
+  audio-heads : (version count : ℕ) → getD end 0x70 0 % 8 ≡ version → getD end 0x71 0 % 32 ≡ count
+      → (getD end 0x70 0 ≡ version + under (free 0x70) (getD image 0x70 0)) × (getD end 0x71 0 ≡ count + under (free 0x71) (getD image 0x71 0))
+  unfolding column finished written isWritten decided classAt byte
+  audio-heads version count v c = (low-three (getD image 0x70 0) _ version v, low-five (getD image 0x71 0) _ count c)
 
-  sized : length end ≡ 256
-  sized = image-length (wanted r) image
+-- ---- an accepted request
+
+module _ (every : EveryCut) (input room : List ℕ) (s : Chip) (z : planOf input (s .image) room .refusal ≡ 0) where
+  pub any : AnyCut input room s
+  any = every input room s z
+
+  pub planned-ready : Ready (s .image)
+  planned-ready = let d = any .demand in record { whole = d .whole [] (d .none); holds = d .ready [] (d .none) }
+
+  pub pairs : pairsLeft input (s .image) room ≡ listOf input (s .image)
+  pairs = any .listed .pairs
+
+  abbrev last : Chip
+  last = toItsEnd (listOf input) s
+
+  abbrev r : Request
+  r = readOf input .request
+
+  abbrev its-end : List ℕ
+  its-end = finishedImage (asked input) (s .image)
+
+  -- its run with one Vsync just before the last write
+  clauses : Clauses its-end (listOf input (s .image)) (waited (listOf input (s .image))) s
+  clauses = any .demand .runs (waited (listOf input (s .image))) (any .demand .waits .runs)
+
+  after : After last
+  after = clauses .ended (any .demand .waits)
+
+  pub its-last : last .image ≡ its-end
+  its-last = clauses .registers
 
   -- a packet, by its two first registers and the rest
   packet-whole : (g : Group) (version count : ℕ) (rest : List ℕ) → g .first + g .count ≤ 256 → 2 ≤ g .count
-      → getD end (g .first + 0) 0 ≡ version + under (free (g .first)) (getD image (g .first) 0)
-      → getD end (g .first + 1) 0 ≡ count + under (free (g .first + 1)) (getD image (g .first + 1) 0) → drop 2 (registersOf g end) ≡ rest
-      → registersOf g end ≡ heads (g .first) version count image ++ rest
-  packet-whole g version count rest inside two v c m =
-      parted g end sized inside two ∙ ap₂ (λ (x y : ℕ). x ∷ y ∷ drop 2 (registersOf g end)) v c
-      ∙ ap (λ (more : List ℕ). heads (g .first) version count image ++ more) m
+      → inUse packets g last ≡ registersOf g (last .image) → Headed version count (inUse packets g last) → drop 2 (inUse packets g last) ≡ rest
+      → (getD its-end (g .first + 0) 0 % 8 ≡ version → getD its-end (g .first + 1) 0 % 32 ≡ count
+      → (getD its-end (g .first + 0) 0 ≡ version + under (free (g .first)) (getD (s .image) (g .first) 0))
+      × (getD its-end (g .first + 1) 0 ≡ count + under (free (g .first + 1)) (getD (s .image) (g .first + 1) 0)))
+      → registersOf g its-end ≡ heads (g .first) version count (s .image) ++ rest
+  packet-whole g version count rest inside two stands headed tail byBytes =
+      let e : inUse packets g last ≡ registersOf g its-end = stands ∙ ap (registersOf g) its-last in
+      let h : Headed version count (registersOf g its-end) = subst (Headed version count) e headed in
+      let v = at-place g its-end 0 (omega (arith, two)) in
+      let c = at-place g its-end 1 (omega (arith, two)) in
+      let b = byBytes (ap (λ (x : ℕ). x % 8) (sym v) ∙ h .0) (ap (λ (x : ℕ). x % 32) (sym c) ∙ h .1) in
+      parted g its-end (sized (asked input) (s .image)) inside two
+      ∙ ap₂ (λ (x y : ℕ). x ∷ y ∷ drop 2 (registersOf g its-end)) (v ∙ b .0) (c ∙ b .1)
+      ∙ ap (λ (more : List ℕ). heads (g .first) version count (s .image) ++ more) (ap (drop 2) (sym e) ∙ tail)
 
-  module _ (f : Fits r) where
-    avi-whole : registersOf avi end ≡ wholeAs image r .avi
-    avi-whole = packet-whole avi 0x02 0x0D _ (lit≤ tt) (lit≤ tt) (avi-heads .0) (avi-heads .1) (avi-in r end sized f stands)
+  avi-whole : registersOf avi its-end ≡ wholeAs (s .image) r .avi
+  avi-whole = packet-whole avi 0x02 0x0D _ (lit≤ tt) (lit≤ tt) (after .avi) (any .headAvi) (any .newAvi) (avi-heads (asked input) (s .image) 0x02 0x0D)
 
-    audio-whole : registersOf audio end ≡ wholeAs image r .audio
-    audio-whole = packet-whole audio 0x01 0x0A _ (lit≤ tt) (lit≤ tt) (audio-heads .0) (audio-heads .1)
-        (audio-in r end sized f stands ∙ ap (drop 3) (audio-frame (r .sound)))
+  audio-whole : registersOf audio its-end ≡ wholeAs (s .image) r .audio
+  audio-whole = packet-whole audio 0x01 0x0A _ (lit≤ tt) (lit≤ tt) (after .audio) (any .headAudio) (any .newAudio)
+      (audio-heads (asked input) (s .image) 0x01 0x0A)
 
-    -- all three
-    pub stands-whole : standing (finishedImage (wanted r) image) ≡ wholeAs image r
-    stands-whole = λ j. record { avi = avi-whole j; audio = audio-whole j; matrix = matrix-in r end sized f stands j }
+  -- all three
+  pub stands-whole : standing its-end ≡ wholeAs (s .image) r
+  stands-whole = λ j. record {
+    avi = avi-whole j;
+    audio = audio-whole j;
+    matrix = (sym (after .matrix ∙ ap (λ (image : List ℕ). standing image .matrix) its-last) ∙ any .newMatrix) j;
+  }
 
--- the same with the free bits of the same
-pub whole-agree : (r : Request) (x y : List ℕ) → Agree x y → wholeAs x r ≡ wholeAs y r
-whole-agree r x y a =
-    let head : (first version count : ℕ) → heads first version count x ≡ heads first version count y =
-    λ first version count.
-    ap₂ (λ (m n : ℕ). (version + m) ∷ (count + n) ∷ []) (agree-free x y a first) (agree-free x y a (first + 1)) in
+-- ---- the last link, finished
+
+module _ (every : EveryCut) (input room : List ℕ) (es : List Event) (t : Chip) (l : Last input room es t) where
+  its : AnyCut input room t
+  its = every input room t (l .accepted)
+
+  pub done : Finished (listOf input (t .image)) es
+  done = subst (λ (ws : List Write). Finished ws es) (its .listed .pairs) (l .finished)
+
+  of : Clauses (finishedImage (asked input) (t .image)) (listOf input (t .image)) es t
+  of = its .demand .runs es (done .runs)
+
+  pub its-registers : run es t .image ≡ finishedImage (asked input) (t .image)
+  its-registers = of .registers
+
+  pub ended : After (run es t)
+  ended = of .ended done
+
+  pub its-coefficients : coefficients (run es t) ≡ readOf input .request .matrix .coefficients
+  its-coefficients =
+      let d = its .demand in
+      let same : Same (toItsEnd (listOf input) t) (run es t) = d .again [] (d .none) (waited (listOf input (t .image))) es (d .waits) done in
+      same .matrix ∙ its .newMatrix
+
+-- ---- the same with the free bits of the same
+
+under-same : (m x y : ℕ) → ((j : ℕ) → j < 8 → bit j m ≡ 1 → bit j x ≡ bit j y) → under m x ≡ under m y
+under-same m x y same =
+    sym (mod-eq-of-lt (merge-small 8 m x 0))
+    ∙ low-same 8 (under m x) (under m y)
+    (λ j h. merge-bit 8 j m x 0 h ∙ go j h (eqb (bit j m) 1) refl ∙ sym (merge-bit 8 j m y 0 h))
+    ∙ mod-eq-of-lt (merge-small 8 m y 0)
+  where
+    go : (j : ℕ) → j < 8 → (b : Bool) → eqb (bit j m) 1 ≡ b → cond b (bit j x) (bit j 0) ≡ cond b (bit j y) (bit j 0)
+    go j h true e = same j h (eqb-true (bit j m) 1 e)
+    go j h false e = refl
+
+pub whole-kept : (r : Request) (s t : Chip) → Kept s t → wholeAs (t .image) r ≡ wholeAs (s .image) r
+whole-kept r s t kept =
+    let frees : (a : ℕ) → under (free a) (getD (t .image) a 0) ≡ under (free a) (getD (s .image) a 0) =
+    λ a. under-same (free a) (getD (t .image) a 0) (getD (s .image) a 0) (λ j h f. kept .bits a j h (inl f)) in
+    let head : (first version count : ℕ) → heads first version count (t .image) ≡ heads first version count (s .image) =
+    λ first version count. ap₂ (λ (m n : ℕ). (version + m) ∷ (count + n) ∷ []) (frees first) (frees (first + 1)) in
     λ j. record {
       avi = head 0x52 0x02 0x0D j ++ drop 3 (aviFrame (r .video));
       audio = head 0x70 0x01 0x0A j ++ drop 3 (audioPacket (r .sound));

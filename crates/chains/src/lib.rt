@@ -5,24 +5,63 @@ ghost use Rattle.chains.specs.Theorems.{AnyChain, EveryPoint, LastFinish
 // "any chain": what may be a link.
 pub fn any_chain()
     ensures { λ _. ⌜ ((s : Chip) → AnyChain s) ⌝ }
-{}
+{
+    promises::demand_3();
+}
 
 // "At every point": where a chain ends, and inside every link, after every write and every Vsync.
 pub fn every_point()
     ensures { λ _. ⌜ EveryPoint ⌝ }
-{}
+{
+    chip::step();
+    chip::turn();
+    decode::at_most_one();
+    cut::fair_run();
+    cut::mended_run();
+    promises::demand_3();
+    promises::vendors_lists();
+    views::entered();
+    views::entered_vsync();
+    vendor::vetted();
+    promises::on_another_image();
+}
 
 // "each cut at any place or finished, and the last one finished".
 pub fn last_finished()
     ensures { λ _. ⌜ LastFinished ⌝ }
-{}
+{
+    chip::step();
+    chip::turn();
+    decode::at_most_one();
+    cut::fair_run();
+    cut::mended_run();
+    promises::demand_3();
+    promises::vendors_lists();
+    views::entered();
+    views::entered_vsync();
+    promises::demand_2();
+    promises::said();
+    promises::on_another_image();
+}
 
 // The last link a vendor's list.
 pub fn last_list()
     ensures { λ _. ⌜ LastList ⌝ }
-{}
+{
+    chip::step();
+    chip::turn();
+    decode::at_most_one();
+    cut::fair_run();
+    cut::mended_run();
+    promises::demand_3();
+    promises::vendors_lists();
+}
 
 // "depend on the last request alone": two chains from two beginnings, with the same last request.
 pub fn last_alone()
     ensures { λ _. ⌜ LastAlone ⌝ }
-{}
+{
+    promises::demand_3();
+    writes::touched();
+    registers::rule();
+}

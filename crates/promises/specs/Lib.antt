@@ -19,3 +19,4 @@ pub mod Piped
 pub mod Vendors
 pub mod VendorCases
 pub mod Looked
+pub mod Another
