@@ -1,5 +1,5 @@
 -- Documents 01, "The request", "Refusal numbers" and "Modes and clocks", and 02, requests 01, 06 and 11, in bare numbers: for each byte of a
--- request, whatever else is asked, what is answered for each of its values. Nothing here is made of the definitions that the code follows.
+-- request, whatever else is asked, what is answered for each of its values. But for `readOf` and `nctsOf`, of which it speaks, the file has numbers alone.
 use mathlib.Core.Path.{_≡_}
 use mathlib.Core.Logic.{_≢_}
 use mathlib.Core.Bool.{Bool, true, false, cond, not, _&&_}
@@ -29,7 +29,7 @@ vics family =
     getD ((1 ∷ 2 ∷ 3 ∷ 4 ∷ 5 ∷ 16 ∷ 17 ∷ 18 ∷ 19 ∷ 20 ∷ 31 ∷ 32 ∷ 34 ∷ 60 ∷ 62 ∷ []) ∷
     (1 ∷ 2 ∷ 3 ∷ 4 ∷ 5 ∷ 16 ∷ 32 ∷ 34 ∷ 60 ∷ 62 ∷ []) ∷ []) family []
 
--- ---- 5: a row for each byte: the depth byte; the edition byte, D, and E with any of its bits, and E's bits under D; then all
+-- ---- 5: the depth byte; the edition byte, D and E with any of its bits, and E's bits under D
 abbrev pub depthBytes : List ℕ
 depthBytes = 0x00 ∷ 0x01 ∷ 0x02 ∷ 0x10 ∷ 0x11 ∷ 0x12 ∷ 0x20 ∷ 0x21 ∷ 0x22 ∷ []
 
@@ -39,7 +39,7 @@ editionBytes = 0x00 ∷ 0x01 ∷ 0x05 ∷ 0x11 ∷ 0x15 ∷ 0x21 ∷ 0x25 ∷ 0x
 abbrev pub bitsUnderD : List ℕ
 bitsUnderD = 0x04 ∷ 0x10 ∷ 0x14 ∷ 0x20 ∷ 0x24 ∷ 0x30 ∷ 0x34 ∷ []
 
--- encoding, link, range, depth byte, edition byte; rate, channels, coherent
+-- a row for each byte: encoding, link, range, depth byte, edition byte; rate, channels, coherent
 abbrev pub videoBytes : List (List ℕ)
 videoBytes = (0 ∷ 1 ∷ 2 ∷ []) ∷ (0 ∷ 1 ∷ []) ∷ (0 ∷ 1 ∷ []) ∷ depthBytes ∷ (editionBytes ++ bitsUnderD) ∷ []
 
