@@ -1,5 +1,5 @@
 -- The passes over a list, turn by turn: what is done and what is left make up the whole.
---     written        a turn's write, by what `store` answers; plain-write, to a register with no hold
+--     written        a turn's write, by what `store` answers; plain-write, held-write
 --     Counts         how many are taken, at a place; counts-start, counts-away, counts-next, counts-stop, counts-end
 --     Ends           the first pass at a place; ends-start, ends-next, ends-end
 --     Left           the second; left-start, left-next, left-stop, left-end
@@ -26,7 +26,7 @@ use Rattle.registers.proofs.Columns.{at-address}
 use Rattle.chip.specs.declared.Chip.{Chip}
 use Rattle.chip.specs.declared.Wrote.{Wrote}
 use Rattle.chip.specs.Machine.{Write, _gets_, packets, converter, holdsOf, held}
-use Rattle.chip.specs.Write.{lentAs, put, stored, two, refuses, writeOf, vsyncOf, Stores}
+use Rattle.chip.specs.Write.{lentAs, put, stored, two, holdsAfter, refuses, writeOf, vsyncOf, Stores}
 use Rattle.chip.proofs.Writes.{written-as, refused-write, taken-write, stepped}
 use Rattle.writes.specs.List.{pairsOf, isWritten, column}
 use Rattle.writes.specs.Columns.{keptBits}
@@ -87,21 +87,26 @@ one-hold ws i t n = go (refuses t (pairAt ws i .address) (pairAt ws i .value)) r
     go true e = absurd (n (ap (λ (w : Wrote). w .refusal) (written-as t (pairAt ws i .address) (pairAt ws i .value) true e)))
     go false e = neither-left (two (holdsOf packets (t .image))) _ e
 
--- at an address that has no hold a write is to the image alone
+-- where no two packet holds are up: at an address that has no hold a write is to the image alone; at the others it is `store` of the machine
 pub plain-write : (t : Chip) (address byte : ℕ) → (not (eqb address (packets .register)) && not (eqb address (converter .register))) ≡ true
     → two (holdsOf packets (t .image)) ≡ false
-    → Stores t address byte true (lentAs (set (t .image) address byte) (t .packet) (t .coefficients) (t .waiting))
+    → Stores t address byte (not (two (holdsAfter address byte (t .image)))) (lentAs (set (t .image) address byte) (t .packet) (t .coefficients) (t .waiting))
 unfolding put
 plain-write t address byte h g =
     let p : Bool = eqb address (packets .register) in
     let c : Bool = eqb address (converter .register) in
     let e : p ≡ false = not-true p (both-left (not p) (not c) h) in
     let f : c ≡ false = not-true c (both-right (not p) (not c) h) in
-    (rw (e, g), rw (e, f, neither (t .waiting)))
+    (rw (e, g), rw (e, g, f, neither (t .waiting)))
   where
     neither : (b : Bool) → (not b && false) ≡ false
     neither true = refl
     neither false = refl
+
+pub held-write : (t left : Chip) (address byte : ℕ) (done : Bool) → Stores t address byte done left → two (holdsOf packets (t .image)) ≡ false
+    → Stores t address byte (not (two (holdsAfter address byte (t .image)))) left
+held-write t left address byte done s g =
+    subst (λ (d : Bool). Stores t address byte d left) (s .0 ∙ ap (λ (b : Bool). not (b || two (holdsAfter address byte (t .image)))) g) s
 
 -- a write that is not refused
 pub by-done : (list : List ℕ) (i : ℕ) (t left : Chip) (column : List ℕ) (byte : ℕ) (done : Bool) → i < length (pairsOf list)

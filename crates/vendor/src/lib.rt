@@ -11,7 +11,7 @@ ghost use Rattle.registers.specs.Steps.{inRun};
 ghost use Rattle.matrix.specs.Matrix.{fields};
 ghost use Rattle.chip.specs.declared.Chip.{Chip};
 ghost use Rattle.chip.specs.Machine.{avi, audio, matrix, up, mute};
-ghost use Rattle.chip.specs.Write.{lentAs, two, Stores};
+ghost use Rattle.chip.specs.Write.{lentAs, two, holdsAfter, Stores};
 ghost use Rattle.writes.specs.List.{pairsOf, covers};
 ghost use Rattle.views.specs.Entry.{marked};
 ghost use Rattle.cut.specs.Run.{allInUse};
@@ -19,7 +19,6 @@ ghost use Rattle.vendor.specs.Vendor.{shortened, endOf};
 ghost use Rattle.vendor.specs.Found.{shown, oneOf, isBetween, isTurned, takenBy, firstFault, Vets};
 ghost use Rattle.vendor.specs.Theorems.{Vetted};
 use chip::Chip;
-use chip::Stored;
 use map::Map;
 use refusals::Refusal;
 use request::sections::LONGEST;
@@ -319,7 +318,8 @@ fn turned(event: bool, byte: u8, waiting: bool) -> bool
     waiting & (!event | chip::is_held(byte))
 }
 
-// A byte stored as the machine does, where no two packet holds are up: but for the two registers of holds it is the byte alone.
+// A byte stored as the machine does, where no two packet holds are up, and the mark then: but for the two registers of holds it is the byte
+// alone.
 fn store(
     image: &mut [u8; 256],
     packet: &mut [u8; 32],
@@ -327,19 +327,18 @@ fn store(
     waiting: bool,
     address: u8,
     byte: u8,
-) -> Stored
+) -> bool
     ensures { λ r. ⌜ (two (getD (now (image .entry)) infoframeUpdate 0) ≡ false
-        → Stores (lentAs (now (image .entry)) (now (packet .entry)) (now (coefficients .entry)) waiting) address byte (r .done)
-        (lentAs (now (image .exit)) (now (packet .exit)) (now (coefficients .exit)) (r .waiting))) ⌝ }
+        → Stores (lentAs (now (image .entry)) (now (packet .entry)) (now (coefficients .entry)) waiting) address byte
+        (not (two (holdsAfter address byte (now (image .entry)))))
+        (lentAs (now (image .exit)) (now (packet .exit)) (now (coefficients .exit)) r)) ⌝ }
 {
     if (address != Map::INFOFRAME_UPDATE) & (address != Map::COEFFICIENT_UPDATE) {
         image[address as usize] = byte;
-        return Stored {
-            done: true,
-            waiting: waiting,
-        };
+        return waiting;
     }
-    chip::store(image, packet, coefficients, waiting, address, byte)
+    let stored = chip::store(image, packet, coefficients, waiting, address, byte);
+    stored.waiting
 }
 
 // The first pass: the state at the end of what the machine takes, with the event just before the last pair.
@@ -362,7 +361,7 @@ fn ending(start: Chip, list: &[u8], count: usize) -> Chip
             image[Map::COEFFICIENT_UPDATE as usize],
             waiting,
         );
-        let stored = store(
+        waiting = store(
             &mut image,
             &mut packet,
             &mut coefficients,
@@ -370,7 +369,6 @@ fn ending(start: Chip, list: &[u8], count: usize) -> Chip
             address,
             byte,
         );
-        waiting = stored.waiting;
         i = i + 1;
     }
     Chip {
@@ -410,7 +408,7 @@ fn first_fault(start: Chip, old: Used, new: Used, list: &[u8], count: usize) -> 
         }
         let held = image[Map::INFOFRAME_UPDATE as usize];
         let byte = bits::merge(columns.read_only[at], before, value);
-        let stored = store(
+        waiting = store(
             &mut image,
             &mut packet,
             &mut coefficients,
@@ -418,7 +416,6 @@ fn first_fault(start: Chip, old: Used, new: Used, list: &[u8], count: usize) -> 
             address,
             byte,
         );
-        waiting = stored.waiting;
         let last = i + 1 == count;
         let event = i + 2 == count;
         if !(last | is_careful(&image, &packet, waiting, event, address, held, old, new)) {

@@ -1,7 +1,7 @@
 -- `vendor::store` meets its contract. Assumes nothing.
 use borrow.Author.Needs.{needs}
 use Rattle.chip.specs.Write.{lentAs}
-use Rattle.vendor.proofs.Loops.{plain-write}
+use Rattle.vendor.proofs.Loops.{plain-write, held-write}
 use Rattle.vendor.proofs.store.Statement.{statement}
 use Rattle.vendor.proofs.store.Tie as tie
 
@@ -17,7 +17,7 @@ store-requires : tie.Need-store-requires
 store-requires c κs = search needs
 
 returns-2 : tie.Need-returns-2
-returns-2 c = λ _. c .store .ensures
+returns-2 c = held-write _ _ _ _ _ (c .store .ensures)
 
 pub store-spec : {M : Type 1} → statement M
 store-spec = tie.close (tie.spec element-write-image returns store-requires returns-2)
