@@ -2,8 +2,8 @@
 #   make           the library's archive and everything below that is built of it
 #   make programs  what tools/{listing,request,meter,modes,image,picture,review} run, and accident, agree and vectors, over the library
 #   make host      the example host: then host/run --cut 25 --brief, host/run --plugin COMMAND, or host/run --chain 7 --brief
-#   make bench     planning, decoding, the vet of a list and a meter's matrix, the library against plain C: times, instructions, bars;
-#                  writes and bus time of typical changes
+#   make bench     planning, decoding, the vet of a list and a meter's matrix, the library against plain C by gcc and by clang: times,
+#                  instructions, bars; writes and bus time of typical changes
 #   make tests     tests/run
 #   make peers     Linux's reader of InfoFrames on every packet that we finish; fetches its source (Debian's linux-source), no part of the gate
 #   make install   the archive, the headers and a pkg-config file, into PREFIX (/usr/local), below DESTDIR where that is given
@@ -64,6 +64,8 @@ target/c/bench: bench/bench.c bench/plain.c programs/fields.c programs/factors.c
 target/c/tests: $(wildcard tests/*.c tests/model/*.c tests/wrong/*.c) bench/plain.c
 target/c/tests: FLAGS += -pthread
 target/c/bench target/c/tests: MORE = -lm
+target/c/bench: MORE += $$(CC=$$CC bench/clang)
+target/c/bench: bench/clang
 $(BINARIES): $(HEADERS) $(LIB) Makefile
 	@mkdir -p target/c
 	@setup=$$(tools/setup) && eval "$$setup" && $$CC $(FLAGS) $(filter %.c,$^) $(LIB) $(MORE) -o $@

@@ -1,11 +1,11 @@
-/* The benchmark: planning, decoding, the vet of a list and a meter's matrix, the library and plain C in one run, ns for each call and the
- * ratio. The sides take turns, and each keeps its best round. A round is short, so that some are not disturbed on a busy machine, and its
- * time is the processor's.
+/* The benchmark: planning, decoding, the vet of a list and a meter's matrix, the library and plain C, by the C compiler and by clang, in one
+ * run: ns for each call, and the ratio to the faster of the two. The sides take turns, and each keeps its best round. A round is short, so
+ * that some are not disturbed on a busy machine, and its time is the processor's.
  *   bench                      the times, and whether the bars are met: the status is 1 where they are not; then as bench bus
  *   bench check                only compares the answers
  *   bench bus                  the writes and the bus time of typical changes, the list whole and as it is planned
- *   bench count SIDE CALL N    N calls and nothing else, for a tool that counts instructions: SIDE library, plain or rule, CALL plan,
- *                              plan_few, decode, refused, vet, vet_long or meter */
+ *   bench count SIDE CALL N    N calls and nothing else, for a tool that counts instructions: SIDE library, plain, rule or, where plain C
+ *                              was built by clang too, clang; CALL plan, plan_few, decode, refused, vet, vet_long or meter */
 #include "plain.h"
 #include "../programs/fields.h"
 #include "../programs/may.h"
@@ -16,7 +16,7 @@
 
 const char *program = "bench";
 
-enum { INPUTS = 64, ROUNDS = 400, CHANGES = 200 };
+enum { INPUTS = 64, ROUNDS = 1000, CHANGES = 200 };
 
 /* A list of pairs, its length in bytes. */
 struct pairs { uint8_t bytes[STATION_LIST + 2]; size_t length; };
@@ -169,8 +169,19 @@ static void make_exports(void) {
         }
 }
 
+/* plain.c by clang, as bench/clang names its functions. */
+PLAIN_SIDE(clang);
+PLAIN_SIDE(clang_rule);
+struct station_count clang_meter(const float *numbers, size_t count, uint8_t *matrix, size_t matrix_length);
+
 /* The sides, and what is called. A meter's matrix has no N and CTS, and one plain side. */
-enum { LIBRARY, PLAIN, RULE, SIDES };
+enum {
+    LIBRARY, PLAIN, RULE,
+#ifdef CLANG
+    BY_CLANG, RULE_BY_CLANG,
+#endif
+    SIDES
+};
 enum { PLAN, PLAN_FEW, DECODE, NO_REQUEST, VET, VET_LONG, METER, WHATS };
 static const struct {
     const char *name;
@@ -183,15 +194,19 @@ static const struct {
     [LIBRARY] = { "library", station_plan, station_decode, station_vet, station_meter },
     [PLAIN] = { "plain", plain_plan, plain_decode, plain_vet, plain_meter },
     [RULE] = { "rule", rule_plan, rule_decode, rule_vet, plain_meter },
+#ifdef CLANG
+    [BY_CLANG] = { "clang", clang_plan, clang_decode, clang_vet, clang_meter },
+    [RULE_BY_CLANG] = { "clang_rule", clang_rule_plan, clang_rule_decode, clang_rule_vet, clang_meter },
+#endif
 };
 /* `bar`: 0 where none was asked for; `turns` over the inputs make a round; `clears`: whether a cleared buffer is tried too. */
 static const struct { const char *name, *title; double bar; int turns, clears; } whats[WHATS] = {
     [PLAN] = { "plan", "planning", 1.5, 10, 1 },
-    [PLAN_FEW] = { "plan_few", "planning, few changes", 0, 10, 1 },
-    [DECODE] = { "decode", "decoding", 2.0, 10, 1 },
-    [NO_REQUEST] = { "refused", "decoding, refused 11", 2.0, 10, 1 },
-    [VET] = { "vet", "a list of ours", 2.0, 4, 0 },
-    [VET_LONG] = { "vet_long", "a list of 512 pairs", 2.0, 1, 0 },
+    [PLAN_FEW] = { "plan_few", "planning, few changes", 1.7, 10, 1 },
+    [DECODE] = { "decode", "decoding", 1.5, 10, 1 },
+    [NO_REQUEST] = { "refused", "decoding, refused 11", 1.5, 10, 1 },
+    [VET] = { "vet", "a list of ours", 1.4, 4, 0 },
+    [VET_LONG] = { "vet_long", "a list of 512 pairs", 1.4, 1, 0 },
     [METER] = { "meter", "matrix of a meter", 0, 10, 0 },
 };
 
@@ -316,22 +331,52 @@ static int alike(void) {
     return vets_alike() && meters_alike();
 }
 
-/* Times, in rounds by turns; the ratios are to plain C, and to plain C that finds N and CTS by the rule. */
+/* The compilers of plain C. */
+#define TEXT(word) #word
+#define TEXT_OF(word) TEXT(word)
+#ifdef CLANG
+#define COMPILERS "gcc " __VERSION__ " -O2 and by clang " TEXT_OF(CLANG) " -O2"
+#else
+#define COMPILERS "gcc " __VERSION__ " -O2 alone, for no clang was found"
+#endif
+
+static double less(double a, double b) { return a < b ? a : b; }
+
+/* The best round of each side. */
+static void time_sides(int what, int clear, double *best) {
+    double t;
+    for (int side = 0; side < SIDES; side++) best[side] = 1e18;
+    for (int r = 0; r < ROUNDS; r++)
+        for (int side = 0; side < SIDES; side++)
+            if ((t = time_of(side, what, clear)) < best[side]) best[side] = t;
+}
+
+/* Times, in rounds by turns; the ratios are to the faster plain C, and to the faster plain C that finds N and CTS by the rule. */
 static int measured(void) {
     double worst[WHATS] = { 0 };
     int met = 1;
     printf("best of %d rounds, each over %d requests, images, lists and exports; the sides in turns\n", ROUNDS, INPUTS);
-    printf("%-22s %-12s %10s %12s %7s %14s %7s\n", "", "buffer", "library", "plain C -O2", "ratio", "by the rule", "ratio");
+    printf("plain C by " COMPILERS "; the ratio is to the faster\n");
+    printf("%-22s %-12s %10s %10s %10s %7s %5s %12s %7s\n", "", "buffer", "library", "gcc", "clang", "ratio", "bar", "by the rule", "ratio");
     for (int what = 0; what < WHATS; what++)
         for (int clear = 0; clear <= whats[what].clears; clear++) {
-            double best[SIDES] = { 1e18, 1e18, 1e18 }, t;
-            for (int r = 0; r < ROUNDS; r++)
-                for (int side = 0; side < SIDES; side++)
-                    if ((t = time_of(side, what, clear)) < best[side]) best[side] = t;
-            double ratio = best[LIBRARY] / best[PLAIN];
-            printf("%-22s %-12s %7.1f ns %9.1f ns %7.2f %11.1f ns %7.2f\n", whats[what].title,
-                   !whats[what].clears ? "" : clear ? "cleared" : "not cleared",
-                   best[LIBRARY], best[PLAIN], ratio, best[RULE], best[LIBRARY] / best[RULE]);
+            double best[SIDES];
+            time_sides(what, clear, best);
+            double plain = best[PLAIN], rule = best[RULE];
+            printf("%-22s %-12s %7.1f ns %7.1f ns ", whats[what].title, !whats[what].clears ? "" : clear ? "cleared" : "not cleared",
+                   best[LIBRARY], best[PLAIN]);
+#ifdef CLANG
+            printf("%7.1f ns", best[BY_CLANG]);
+            plain = less(plain, best[BY_CLANG]);
+            rule = less(rule, best[RULE_BY_CLANG]);
+#else
+            printf("%10s", "-");
+#endif
+            double ratio = best[LIBRARY] / plain;
+            printf(" %7.2f", ratio);
+            if (whats[what].bar == 0) printf(" %5s", "-");
+            else printf(" %5.1f", whats[what].bar);
+            printf(" %9.1f ns %7.2f\n", rule, best[LIBRARY] / rule);
             if (ratio > worst[what]) worst[what] = ratio;
         }
     for (int what = 0; what < WHATS; what++) {

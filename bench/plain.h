@@ -6,20 +6,15 @@
 
 #include "station.h"
 
-struct station_count plain_plan(const uint8_t *request, size_t request_length, const uint8_t *image, size_t image_length, uint8_t *writes,
-                                size_t writes_length);
-struct station_count plain_decode(const uint8_t *image, size_t image_length, uint8_t *request, size_t request_length);
-struct station_verdict plain_vet(const uint8_t *image, size_t image_length, const uint8_t *packet, size_t packet_length,
-                                 const uint8_t *coefficients, size_t coefficients_length, uint8_t mark, const uint8_t *list,
-                                 size_t list_length);
-
-struct station_count rule_plan(const uint8_t *request, size_t request_length, const uint8_t *image, size_t image_length, uint8_t *writes,
-                               size_t writes_length);
-struct station_count rule_decode(const uint8_t *image, size_t image_length, uint8_t *request, size_t request_length);
-struct station_verdict rule_vet(const uint8_t *image, size_t image_length, const uint8_t *packet, size_t packet_length,
-                                const uint8_t *coefficients, size_t coefficients_length, uint8_t mark, const uint8_t *list,
-                                size_t list_length);
-
+#define PLAIN_SIDE(side) \
+    struct station_count side##_plan(const uint8_t *request, size_t request_length, const uint8_t *image, size_t image_length, \
+                                     uint8_t *writes, size_t writes_length); \
+    struct station_count side##_decode(const uint8_t *image, size_t image_length, uint8_t *request, size_t request_length); \
+    struct station_verdict side##_vet(const uint8_t *image, size_t image_length, const uint8_t *packet, size_t packet_length, \
+                                      const uint8_t *coefficients, size_t coefficients_length, uint8_t mark, const uint8_t *list, \
+                                      size_t list_length)
+PLAIN_SIDE(plain);
+PLAIN_SIDE(rule);
 struct station_count plain_meter(const float *numbers, size_t count, uint8_t *matrix, size_t matrix_length);
 
 #endif

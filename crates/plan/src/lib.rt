@@ -15,7 +15,7 @@ ghost use Rattle.request.specs.Theorems.{Shaped};
 ghost use Rattle.request.specs.Fits.{SoundFits, Fits};
 ghost use Rattle.chip.specs.Machine.{up, avi, audio, gc};
 ghost use Rattle.plan.specs.Wanted.{laid, stores, twenty, ctsSelect, inputs, rateCode, withAudio, audioBytes, halves, cscBytes};
-ghost use Rattle.plan.specs.Wanted.{clockBytes, inputBytes, repetitionByte, depthCode, enableBytes, frameBytes, wantedImage};
+ghost use Rattle.plan.specs.Wanted.{clockBytes, inputBytes, repetitionByte, depthCode, enableBytes, frameBytes, wantedBytes};
 ghost use Rattle.plan.specs.Plan.{nothing, PlansWith, Plans, standsIn};
 ghost use Rattle.plan.specs.Rules.{PlanRefusals};
 use clock::Pair;
@@ -35,17 +35,15 @@ pub struct Planned {
 }
 
 // Bytes stored from a place on.
-fn laid(out: [u8; 256], at: usize, bytes: &[u8]) -> [u8; 256]
-    requires { ⌜ at + length (now bytes) ≤ 256 ⌝ }
-    ensures { λ r. ⌜ r ≡ stores out (laid at (now (bytes .entry))) ⌝ }
+fn laid(out: &mut [u8], at: usize, bytes: &[u8])
+    requires { ⌜ (length (now out) ≡ 256) × (at + length (now bytes) ≤ 256) ⌝ }
+    ensures { λ _. ⌜ now (out .exit) ≡ stores (now (out .entry)) (laid at (now (bytes .entry))) ⌝ }
 {
-    let mut next = out;
     let mut i: usize = 0;
     while i < bytes.len() {
-        next[at + i] = bytes[i];
+        out[at + i] = bytes[i];
         i = i + 1;
     }
-    next
 }
 
 // A number of 20 bits as three bytes.
@@ -166,13 +164,14 @@ fn csc_bytes(m: Matrix) -> [u8; 24]
 }
 
 // N and CTS.
-fn with_clock(out: [u8; 256], pair: Pair) -> [u8; 256]
-    ensures { λ r. ⌜ r ≡ stores out (clockBytes pair) ⌝ }
+fn with_clock(out: &mut [u8], pair: Pair)
+    requires { ⌜ length (now out) ≡ 256 ⌝ }
+    ensures { λ _. ⌜ now (out .exit) ≡ stores (now (out .entry)) (clockBytes pair) ⌝ }
 {
     let n = twenty(pair.n);
     let cts = twenty(pair.cts);
-    let next = laid(out, Map::N0 as usize, &n);
-    laid(next, Map::CTS_MANUAL0 as usize, &cts)
+    laid(out, Map::N0 as usize, &n);
+    laid(out, Map::CTS_MANUAL0 as usize, &cts);
 }
 
 fn output_format(encoding: u8) -> u8
@@ -185,18 +184,16 @@ fn output_format(encoding: u8) -> u8
 }
 
 // How sound arrives, and the output format.
-fn with_inputs(out: [u8; 256], r: Request) -> [u8; 256]
-    requires { ⌜ SoundFits (r .sound) ⌝ }
-    ensures { λ image. ⌜ image ≡ stores out (inputBytes r) ⌝ }
+fn with_inputs(out: &mut [u8], r: Request)
+    requires { ⌜ (length (now out) ≡ 256) × SoundFits (r .sound) ⌝ }
+    ensures { λ _. ⌜ now (out .exit) ≡ stores (now (out .entry)) (inputBytes r) ⌝ }
 {
     let sound = r.sound;
-    let mut next = out;
-    next[Map::AUDIO_SOURCE as usize] = cts_select(sound) * (1 << Map::CTS_SELECT_SHIFT);
-    next[Map::I2S_CONFIG as usize] = inputs(sound) * (1 << Map::I2S0_ENABLE_SHIFT);
-    next[Map::I2S_FREQ_ID_CFG as usize] = rate_code(sound)
+    out[Map::AUDIO_SOURCE as usize] = cts_select(sound) * (1 << Map::CTS_SELECT_SHIFT);
+    out[Map::I2S_CONFIG as usize] = inputs(sound) * (1 << Map::I2S0_ENABLE_SHIFT);
+    out[Map::I2S_FREQ_ID_CFG as usize] = rate_code(sound)
         * (1 << Map::I2S_SAMPLING_FREQUENCY_SHIFT);
-    next[Map::VIDEO_INPUT_CFG1 as usize] = output_format(r.video.encoding);
-    next
+    out[Map::VIDEO_INPUT_CFG1 as usize] = output_format(r.video.encoding);
 }
 
 // The repetition in its two fields, beside the mode of repetition.
@@ -223,24 +220,22 @@ fn depth_code(video: Video) -> u8
 }
 
 // The repetition, the VIC, the enables, the depth and HDMI or DVI.
-fn with_enables(out: [u8; 256], r: Request) -> [u8; 256]
-    requires { ⌜ (r .video .link ≤ 1) × (repetition (r .video) ≤ 2) ⌝ }
-    ensures { λ image. ⌜ image ≡ stores out (enableBytes r) ⌝ }
+fn with_enables(out: &mut [u8], r: Request)
+    requires { ⌜ (length (now out) ≡ 256) × (r .video .link ≤ 1) × (repetition (r .video) ≤ 2) ⌝ }
+    ensures { λ _. ⌜ now (out .exit) ≡ stores (now (out .entry)) (enableBytes r) ⌝ }
 {
     let sound = r.sound;
     let audio = Map::N_CTS_PACKET_ENABLE_MASK
         + Map::AUDIO_SAMPLE_PACKET_ENABLE_MASK
         + Map::AUDIO_INFOFRAME_ENABLE_MASK;
-    let mut next = out;
-    next[Map::PIXEL_REPETITION as usize] = repetition_byte(r.video);
-    next[Map::VIC_MANUAL as usize] = r.video.vic;
-    next[Map::PACKET_ENABLE0 as usize] = r.video.link * Map::GC_PACKET_ENABLE_MASK;
-    next[Map::PACKET_ENABLE1 as usize] = with_audio(sound) * audio
+    out[Map::PIXEL_REPETITION as usize] = repetition_byte(r.video);
+    out[Map::VIC_MANUAL as usize] = r.video.vic;
+    out[Map::PACKET_ENABLE0 as usize] = r.video.link * Map::GC_PACKET_ENABLE_MASK;
+    out[Map::PACKET_ENABLE1 as usize] = with_audio(sound) * audio
         + r.video.link * Map::AVI_INFOFRAME_ENABLE_MASK;
-    next[Map::INFOFRAME_UPDATE as usize] = Map::AUTO_CHECKSUM_ENABLE_MASK;
-    next[Map::GC_DEPTH as usize] = depth_code(r.video);
-    next[Map::HDCP_HDMI_CFG as usize] = r.video.link * Map::HDMI_DVI_MODE_SELECT_MASK;
-    next
+    out[Map::INFOFRAME_UPDATE as usize] = Map::AUTO_CHECKSUM_ENABLE_MASK;
+    out[Map::GC_DEPTH as usize] = depth_code(r.video);
+    out[Map::HDCP_HDMI_CFG as usize] = r.video.link * Map::HDMI_DVI_MODE_SELECT_MASK;
 }
 
 // The AVI InfoFrame of the video of an accepted request.
@@ -253,31 +248,31 @@ fn avi_bytes(video: Video) -> [u8; AVI_FRAME]
 }
 
 // The registers of the two InfoFrames.
-fn with_frames(out: [u8; 256], r: Request) -> [u8; 256]
-    requires { ⌜ Fits r ⌝ }
-    ensures { λ image. ⌜ image ≡ stores out (frameBytes r) ⌝ }
+fn with_frames(out: &mut [u8], r: Request)
+    requires { ⌜ (length (now out) ≡ 256) × Fits r ⌝ }
+    ensures { λ _. ⌜ now (out .exit) ≡ stores (now (out .entry)) (frameBytes r) ⌝ }
 {
     let sound = r.sound;
     let video = avi_bytes(r.video);
     let audio = audio_bytes(sound);
-    let next = laid(out, Map::AVI_INFOFRAME_VERSION as usize, &video[1..]);
-    laid(next, Map::AUDIO_INFOFRAME_VERSION as usize, &audio[1..])
+    laid(out, Map::AVI_INFOFRAME_VERSION as usize, &video[1..]);
+    laid(out, Map::AUDIO_INFOFRAME_VERSION as usize, &audio[1..]);
 }
 
-// The byte that every register with a named bit is to hold.
-fn wanted_image(r: Request, pair: Pair) -> [u8; 256]
+// The byte that every register with a named bit is to hold, stored in its place.
+fn wanted_image(r: Request, pair: Pair, out: &mut [u8])
     requires { ⌜ Fits r ⌝ }
     requires { ⌜ pair ≡ pairFor r ⌝ }
-    ensures { λ image. ⌜ image ≡ wantedImage r ⌝ }
+    requires { ⌜ length (now out) ≡ 256 ⌝ }
+    ensures { λ _. ⌜ now (out .exit) ≡ stores (now (out .entry)) (wantedBytes r) ⌝ }
 {
     let matrix = r.matrix;
     let csc = csc_bytes(matrix);
-    let zeros = [0u8; 256];
-    let clock = with_clock(zeros, pair);
-    let input = with_inputs(clock, r);
-    let converter = laid(input, Map::CSC as usize, &csc);
-    let enabled = with_enables(converter, r);
-    with_frames(enabled, r)
+    with_clock(out, pair);
+    with_inputs(out, r);
+    laid(out, Map::CSC as usize, &csc);
+    with_enables(out, r);
+    with_frames(out, r);
 }
 
 // GC hold down, and not both other holds up.
@@ -318,8 +313,9 @@ fn plan_with(r: Request, image: &[u8], writes: &mut [u8]) -> Planned
     if writes.len() < 256 {
         return refused(Refusal::BUFFER_SHORT);
     }
-    let wanted = wanted_image(r, pair);
-    let count = writes::write_list(image, &wanted, writes);
+    let mut wanted = [0u8; 256];
+    wanted_image(r, pair, &mut wanted);
+    let count = writes::write_list(image, &mut wanted, writes);
     Planned {
         refusal: Refusal::NONE,
         count: count,
@@ -353,8 +349,9 @@ pub fn stands(input: &[u8], image: &[u8]) -> bool
     if pair.refusal != Refusal::NONE {
         return false;
     }
-    let wanted = wanted_image(r, pair);
-    writes::stands(image, &wanted)
+    let mut wanted = [0u8; 256];
+    wanted_image(r, pair, &mut wanted);
+    writes::stands(image, &mut wanted)
 }
 
 // The refusals of planning, in document 01's order.

@@ -1,5 +1,5 @@
 -- The passes over a list, turn by turn: what is done and what is left make up the whole.
---     written        a turn's write, by what `store` answers
+--     written        a turn's write, by what `store` answers; plain-write, held-write
 --     Counts         how many are taken, at a place; counts-start, counts-away, counts-next, counts-stop, counts-end
 --     Ends           the first pass at a place; ends-start, ends-next, ends-end
 --     Left           the second; left-start, left-next, left-stop, left-end
@@ -12,9 +12,10 @@ use native.Mathlib.Nat.{suc-ne-zero}
 use native.Mathlib.Numerals.{add-one}
 use native.Mathlib.Omega.{arith}
 use lib.Dec.{eqb, ltb}
-use lib.ListN.{length, getD, drop, length-set, length-drop, drop-of-length-le}
+use lib.ListN.{length, getD, set, drop, length-set, length-drop, drop-of-length-le}
 use lib.Seq.{drop-cons, drop-length}
-use borrow.Author.Tests.{eqb-true, eqb-false, ne-eqb, ltb-true, ltb-false}
+use borrow.Author.Tests.{not-true, eqb-true, eqb-false, ne-eqb, ltb-true, ltb-false}
+use Rattle.lists.proofs.Both.{both-left, both-right, neither-left}
 use Rattle.bits.specs.Merge.{merge, under}
 use Rattle.bits.proofs.Below.{at-below}
 use Rattle.registers.specs.declared.Class.{Class}
@@ -24,8 +25,8 @@ use Rattle.registers.specs.ByColumns.{columnOf, HasColumns}
 use Rattle.registers.proofs.Columns.{at-address}
 use Rattle.chip.specs.declared.Chip.{Chip}
 use Rattle.chip.specs.declared.Wrote.{Wrote}
-use Rattle.chip.specs.Machine.{Write, _gets_, packets, held}
-use Rattle.chip.specs.Write.{lentAs, put, stored, two, refuses, writeOf, vsyncOf, Stores}
+use Rattle.chip.specs.Machine.{Write, _gets_, packets, converter, holdsOf, held}
+use Rattle.chip.specs.Write.{lentAs, put, stored, two, holdsAfter, refuses, writeOf, vsyncOf, Stores}
 use Rattle.chip.proofs.Writes.{written-as, refused-write, taken-write, stepped}
 use Rattle.writes.specs.List.{pairsOf, isWritten, column}
 use Rattle.writes.specs.Columns.{keptBits}
@@ -77,16 +78,47 @@ module _ (list : List ℕ) (i : ℕ) (t left : Chip) (column : List ℕ) (byte :
   pub taken : done ≡ true → wrote (pairsOf list) i t ≡ record { refusal = 0; chip = left }
   taken e = sym (taken-write t (getD list (2 * i) 0) (getD list (2 * i + 1) 0) whole done left stores e ∙ its-pair)
 
+-- where a write is not refused, no two packet holds are up before it
+one-hold : (ws : List Write) (i : ℕ) (t : Chip) → (wrote ws i t .refusal ≡ 13 → ⊥) → two (holdsOf packets (t .image)) ≡ false
+unfolding refuses
+one-hold ws i t n = go (refuses t (pairAt ws i .address) (pairAt ws i .value)) refl
+  where
+    go : (b : Bool) → refuses t (pairAt ws i .address) (pairAt ws i .value) ≡ b → two (holdsOf packets (t .image)) ≡ false
+    go true e = absurd (n (ap (λ (w : Wrote). w .refusal) (written-as t (pairAt ws i .address) (pairAt ws i .value) true e)))
+    go false e = neither-left (two (holdsOf packets (t .image))) _ e
+
+-- where no two packet holds are up: at an address that has no hold a write is to the image alone; at the others it is `store` of the machine
+pub plain-write : (t : Chip) (address byte : ℕ) → (not (eqb address (packets .register)) && not (eqb address (converter .register))) ≡ true
+    → two (holdsOf packets (t .image)) ≡ false
+    → Stores t address byte (not (two (holdsAfter address byte (t .image)))) (lentAs (set (t .image) address byte) (t .packet) (t .coefficients) (t .waiting))
+unfolding put
+plain-write t address byte h g =
+    let p : Bool = eqb address (packets .register) in
+    let c : Bool = eqb address (converter .register) in
+    let e : p ≡ false = not-true p (both-left (not p) (not c) h) in
+    let f : c ≡ false = not-true c (both-right (not p) (not c) h) in
+    (rw (e, g), rw (e, g, f, neither (t .waiting)))
+  where
+    neither : (b : Bool) → (not b && false) ≡ false
+    neither true = refl
+    neither false = refl
+
+pub held-write : (t left : Chip) (address byte : ℕ) (done : Bool) → Stores t address byte done left → two (holdsOf packets (t .image)) ≡ false
+    → Stores t address byte (not (two (holdsAfter address byte (t .image)))) left
+held-write t left address byte done s g =
+    subst (λ (d : Bool). Stores t address byte d left) (s .0 ∙ ap (λ (b : Bool). not (b || two (holdsAfter address byte (t .image)))) g) s
+
 -- a write that is not refused
 pub by-done : (list : List ℕ) (i : ℕ) (t left : Chip) (column : List ℕ) (byte : ℕ) (done : Bool) → i < length (pairsOf list)
     → length (t .image) ≡ 256 → column ≡ columnOf (λ r. r .«read_only»)
     → byte ≡ merge 8 (getD column (getD list (2 * i) 0) 0) (getD (t .image) (getD list (2 * i) 0) 0) (getD list (2 * i + 1) 0)
-    → Stores t (getD list (2 * i) 0) byte done left → (wrote (pairsOf list) i t .refusal ≡ 13 → ⊥)
+    → (two (holdsOf packets (t .image)) ≡ false → Stores t (getD list (2 * i) 0) byte done left) → (wrote (pairsOf list) i t .refusal ≡ 13 → ⊥)
     → (wrote (pairsOf list) i t ≡ record { refusal = 0; chip = left }) × (length (left .image) ≡ 256)
 by-done list i t left column byte true h z c b st n =
-    (taken list i t left column byte true h z c b st refl, left-sized list i t left column byte true h z c b st)
+    let s = st (one-hold (pairsOf list) i t n) in
+    (taken list i t left column byte true h z c b s refl, left-sized list i t left column byte true h z c b s)
 by-done list i t left column byte false h z c b st n =
-    absurd (n (ap (λ (w : Wrote). w .refusal) (not-taken list i t left column byte false h z c b st refl)))
+    absurd (n (ap (λ (w : Wrote). w .refusal) (not-taken list i t left column byte false h z c b (st (one-hold (pairsOf list) i t n)) refl)))
 
 -- what is taken from a place on
 shortened-on : (ws : List Write) (i : ℕ) (t : Chip) → i < length ws

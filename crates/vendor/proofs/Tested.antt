@@ -22,6 +22,10 @@ failed {r} b e f = rw (← e, not-true r f)
 pub passed : {r a : Bool} (b : Bool) → r ≡ a → not r ≡ false → b ≡ (a && b)
 passed {r} b e f = rw (← e, not-false r f)
 
+-- what has not moved is not looked at
+pub unmoved : {r m : Bool} (b : Bool) → r ≡ m → not r ≡ true → true ≡ (not m || b)
+unmoved {r} b e f = rw (← e, f)
+
 -- the fields of 24 bytes
 pub twelve-fields : (bytes : List ℕ) {twelve : List ℕ} → length bytes ≡ 24 → twelve ≡ twelveOf bytes → twelve ≡ fields bytes
 twelve-fields bytes h e = rw (e, eq-eqb _ _ h)

@@ -4,12 +4,13 @@ ghost use mathlib.Core.Bool.{false, cond, not, _&&_, _||_};
 ghost use mathlib.Core.List.{List, []};
 ghost use Prim.Native.Nat.{ℕ, _+_, _≤_};
 ghost use lib.Dec.{eqb};
-ghost use lib.ListN.{length, take, drop};
+ghost use lib.ListN.{length, getD, take, drop};
 ghost use Rattle.bits.specs.Merge.{under};
+ghost use Rattle.map.specs.Map.{infoframeUpdate};
 ghost use Rattle.matrix.specs.Matrix.{fields};
 ghost use Rattle.chip.specs.declared.Chip.{Chip};
 ghost use Rattle.chip.specs.Machine.{avi, audio, matrix, up, mute};
-ghost use Rattle.chip.specs.Write.{lentAs};
+ghost use Rattle.chip.specs.Write.{lentAs, two, holdsAfter, Stores};
 ghost use Rattle.writes.specs.List.{pairsOf, inRun, covers};
 ghost use Rattle.views.specs.Entry.{marked};
 ghost use Rattle.cut.specs.Run.{allInUse};
@@ -218,6 +219,9 @@ fn is_whole(
     let hold = image[Map::COEFFICIENT_UPDATE as usize];
     let idle = !(waiting | chip::is_held(hold));
     let matrix_moved = idle & in_run(Map::CSC, Map::CSC_COUNT, address);
+    if !matrix_moved {
+        return true;
+    }
     let start = Map::CSC as usize;
     let end = start + Map::CSC_COUNT as usize;
     let old_matrix = old.matrix;
@@ -252,6 +256,9 @@ fn is_turned(image: &[u8], waiting: bool, old: Used, new: Used) -> bool
 {
     let hold = image[Map::COEFFICIENT_UPDATE as usize];
     let moved = waiting & !chip::is_held(hold);
+    if !moved {
+        return true;
+    }
     let start = Map::CSC as usize;
     let end = start + Map::CSC_COUNT as usize;
     let old_matrix = old.matrix;
@@ -310,6 +317,29 @@ fn turned(event: bool, byte: u8, waiting: bool) -> bool
     waiting & (!event | chip::is_held(byte))
 }
 
+// A byte stored as the machine does, where no two packet holds are up, and the mark then: but for the two registers of holds it is the byte
+// alone.
+fn store(
+    image: &mut [u8; 256],
+    packet: &mut [u8; 32],
+    coefficients: &mut [u8; 24],
+    waiting: bool,
+    address: u8,
+    byte: u8,
+) -> bool
+    ensures { λ r. ⌜ (two (getD (now (image .entry)) infoframeUpdate 0) ≡ false
+        → Stores (lentAs (now (image .entry)) (now (packet .entry)) (now (coefficients .entry)) waiting) address byte
+        (not (two (holdsAfter address byte (now (image .entry)))))
+        (lentAs (now (image .exit)) (now (packet .exit)) (now (coefficients .exit)) r)) ⌝ }
+{
+    if (address != Map::INFOFRAME_UPDATE) & (address != Map::COEFFICIENT_UPDATE) {
+        image[address as usize] = byte;
+        return waiting;
+    }
+    let stored = chip::store(image, packet, coefficients, waiting, address, byte);
+    stored.waiting
+}
+
 // The first pass: the state at the end of what the machine takes, with the event just before the last pair.
 fn ending(start: Chip, list: &[u8], count: usize) -> Chip
     requires { ⌜ count ≡ length (shortened (pairsOf (now list)) start) ⌝ }
@@ -330,7 +360,7 @@ fn ending(start: Chip, list: &[u8], count: usize) -> Chip
             image[Map::COEFFICIENT_UPDATE as usize],
             waiting,
         );
-        let stored = chip::store(
+        waiting = store(
             &mut image,
             &mut packet,
             &mut coefficients,
@@ -338,7 +368,6 @@ fn ending(start: Chip, list: &[u8], count: usize) -> Chip
             address,
             byte,
         );
-        waiting = stored.waiting;
         i = i + 1;
     }
     Chip {
@@ -378,7 +407,7 @@ fn first_fault(start: Chip, old: Used, new: Used, list: &[u8], count: usize) -> 
         }
         let held = image[Map::INFOFRAME_UPDATE as usize];
         let byte = bits::merge(columns.read_only[at], before, value);
-        let stored = chip::store(
+        waiting = store(
             &mut image,
             &mut packet,
             &mut coefficients,
@@ -386,7 +415,6 @@ fn first_fault(start: Chip, old: Used, new: Used, list: &[u8], count: usize) -> 
             address,
             byte,
         );
-        waiting = stored.waiting;
         let last = i + 1 == count;
         let event = i + 2 == count;
         if !(last | is_careful(&image, &packet, waiting, event, address, held, old, new)) {

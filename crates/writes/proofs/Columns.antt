@@ -3,24 +3,25 @@ use mathlib.Core.Path.{_≡_, refl, sym, _∙_, subst}
 use mathlib.Core.Logic.{_⊎_, inl, inr}
 use mathlib.Core.Bool.{Bool, true, false, cond, _&&_}
 use mathlib.Core.List.{List, [], _∷_}
-use Prim.Native.Nat.{ℕ, _+_, _-_, _<_}
+use Prim.Native.Nat.{ℕ, _+_, _-_, _<_, _≤_}
 use native.Mathlib.Nat.{eq-or-lt-of-le}
 use native.Mathlib.Omega.{arith}
 use lib.Dec.{eqb, ltb, lit<}
+use lib.Bits.{bitXor}
 use lib.ListN.{getD, length, set}
 use lib.Seq.{getD-set-same, getD-set-other}
 use borrow.Author.Tests.{eqb-true, eqb-false, ltb-true}
 use Rattle.lists.proofs.Both.{both-left, both-right}
 use Rattle.bits.specs.Merge.{merge}
 use Rattle.bits.proofs.Below.{at-below}
-use Rattle.bits.proofs.Truth.{zeros, var, by, law, law-if}
+use Rattle.bits.proofs.Truth.{E, zeros, var, by, law, law-if}
 use Rattle.map.specs.Map as reg
 use Rattle.registers.specs.Classes.{classAt, readOnly, free, named, bits}
 use Rattle.registers.proofs.Whole.{rule}
 use Rattle.registers.proofs.Apart.{row, rules, holds}
 use Rattle.writes.specs.Steps.{Step}
 use Rattle.writes.specs.List.{byte, decided, isWritten, leftUp, written, finished, column}
-use Rattle.writes.specs.Columns.{keptBits, wantedBits, setBits, closed}
+use Rattle.writes.specs.Columns.{openBits, heldBits, turned, closed}
 use Rattle.writes.proofs.Image.{column-at}
 
 -- ---- the steps
@@ -81,12 +82,41 @@ all-kept x y h = omega arith
 pub none-raised : (m x y : ℕ) → merge 8 0 0 (merge 8 m x y) ≡ merge 8 m x y
 none-raised m x y = law (by zeros zeros (by (var 0) (var 1) (var 2))) (by (var 0) (var 1) (var 2)) 8 (m ∷ x ∷ y ∷ []) refl
 
--- a byte as the code has it, from the columns
-pub by-columns : (want : ℕ → ℕ) (image : List ℕ) (a : ℕ) → a < 256 → {k w s : List ℕ}
-    → k ≡ column keptBits → w ≡ column wantedBits → s ≡ column setBits
-    → merge 8 (getD k a 0) (getD image a 0) (merge 8 (getD w a 0) (want a) (getD s a 0)) ≡ closed want image a
+-- a byte as the code has it, by two columns
+abbrev kept : E
+kept = by (var 0) (var 0) (var 1)
+
+abbrev asked : E
+asked = by (var 5) zeros (var 2)
+
+abbrev mandated : E
+mandated = by (var 2) zeros (var 6)
+
+two : (want : ℕ → ℕ) (image : List ℕ) (a : ℕ)
+    → merge 8 (openBits a) (merge 8 (heldBits a) (getD image a 0) (want a)) (heldBits a) ≡ closed want image a
 unfolding closed
-by-columns want image a h k w s = rw (k, w, s, column-at keptBits a h, column-at wantedBits a h, column-at setBits a h)
+two want image a = go (isWritten a) refl
+  where
+    go : (t : Bool) → isWritten a ≡ t → merge 8 (openBits a) (merge 8 (heldBits a) (getD image a 0) (want a)) (heldBits a) ≡ closed want image a
+    go true e =
+        rw e (law (by (by kept kept asked) (by (by kept kept mandated) (var 3) (var 4)) (by kept kept mandated))
+        (by kept (var 3) (by asked (var 4) mandated)) 8 (readOnly a ∷ free a ∷ named a ∷ getD image a 0 ∷ want a ∷ decided a ∷ bits a ∷ []) refl)
+    go false e =
+        rw e (law (by (by (var 0) (var 0) zeros) (by (by (var 0) (var 0) zeros) (var 1) (var 2)) (by (var 0) (var 0) zeros))
+        (by (var 0) (var 1) (by zeros (var 2) zeros)) 8 (255 ∷ getD image a 0 ∷ want a ∷ []) refl)
+
+-- a column turned over by its places, turned back
+back : (a : ℕ) → a < 256 → (bitXor (turned openBits a) a ≡ openBits a) × (bitXor (turned heldBits a) a ≡ heldBits a)
+unfolding classAt decided isWritten merge
+back a h = (
+  eqb-true _ _ (at-below (λ a. eqb (bitXor (turned openBits a) a) (openBits a)) 256 a refl h),
+  eqb-true _ _ (at-below (λ a. eqb (bitXor (turned heldBits a) a) (heldBits a)) 256 a refl h),
+)
+
+pub by-columns : (want : ℕ → ℕ) (image : List ℕ) (a : ℕ) → a < 256 → {o k : List ℕ} → o ≡ column (turned openBits) → k ≡ column (turned heldBits)
+    → merge 8 (bitXor (getD o a 0) a) (merge 8 (bitXor (getD k a 0) a) (getD image a 0) (want a)) (bitXor (getD k a 0) a) ≡ closed want image a
+by-columns want image a h o k =
+    rw (o, k, column-at (turned openBits) a h, column-at (turned heldBits) a h, back a h .0, back a h .1) (two want image a)
 
 module _ (want : ℕ → ℕ) (image : List ℕ) where
   -- a step's byte is the closed one with the step's bits raised
@@ -124,7 +154,7 @@ module _ (want : ℕ → ℕ) (image : List ℕ) where
       go false t =
           getD-set-other bytes reg.avMute a v 0 (eqb-false a reg.avMute t) ∙ each a h ∙ unraised a t ∙ raised-finished a h (small a h)
 
--- a turn of a loop that stores one byte after the other
+-- a turn of a loop that stores one byte after the other, and what it has not come to
 pub one-more : (f : ℕ → ℕ) (out : List ℕ) (a v : ℕ) → a < length out → v ≡ f a → ((j : ℕ) → j < a → getD out j 0 ≡ f j)
     → (j : ℕ) → j < a + 1 → getD (set out a v) j 0 ≡ f j
 one-more f out a v h e before j l = go (eq-or-lt-of-le (omega arith))
@@ -132,3 +162,7 @@ one-more f out a v h e before j l = go (eq-or-lt-of-le (omega arith))
     go : (j ≡ a) ⊎ (j < a) → getD (set out a v) j 0 ≡ f j
     go (inl q) = rw q (getD-set-same out a v 0 h ∙ e)
     go (inr q) = getD-set-other out a j v 0 (λ z. omega arith) ∙ before j q
+
+pub to-come : (start out : List ℕ) (a v : ℕ) → ((j : ℕ) → a ≤ j → getD out j 0 ≡ getD start j 0)
+    → (j : ℕ) → a + 1 ≤ j → getD (set out a v) j 0 ≡ getD start j 0
+to-come start out a v later j l = getD-set-other out a j v 0 (λ z. omega arith) ∙ later j (omega arith)

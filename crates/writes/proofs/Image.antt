@@ -1,14 +1,20 @@
--- A column of the registers: its entries, and a list with these entries; the finished image is one. Assumes nothing.
+-- A column of the registers: its entries, and a list with these entries; the finished image is one, and the test of an image looks for it.
+-- Assumes nothing.
 use mathlib.Core.Path.{_≡_, refl, sym, ap, _∙_}
+use mathlib.Core.Logic.{_⊎_, inl, inr}
+use mathlib.Core.Bool.{Bool, true, false, false≢true}
 use mathlib.Core.List.{List}
 use Prim.Native.Nat.{ℕ, zero, suc, _+_, _<_}
-use native.Mathlib.Nat.{add-zero, not-suc-le-zero, le-of-suc-le-suc}
+use native.Mathlib.Nat.{add-zero, not-suc-le-zero, le-of-suc-le-suc, eq-or-lt-of-le}
 use native.Mathlib.Omega.{arith}
 use lib.ListN.{length, getD, length-map}
 use lib.Seq.{ext-getD}
+use Rattle.lists.specs.Same.{sameList}
+use Rattle.lists.proofs.Compared.{same-decides}
+use Rattle.lists.proofs.Decides.{Decides, equal, together, restated, refuted, confirmed}
 use Rattle.lists.proofs.Emit.{map-at}
 use Rattle.writes.specs.Steps.{from}
-use Rattle.writes.specs.List.{finished, column, finishedImage}
+use Rattle.writes.specs.List.{finished, column, finishedImage, standsBelow}
 
 pub length-from : (first count : ℕ) → length (from first count) ≡ count
 length-from first zero = refl
@@ -41,3 +47,29 @@ module _ (want : ℕ → ℕ) (image : List ℕ) where
 
   pub is-image : (l : List ℕ) → length l ≡ 256 → ((a : ℕ) → a < 256 → getD l a 0 ≡ finished want image a) → l ≡ finishedImage want image
   is-image = is-column (finished want image)
+
+  -- the test of the registers below n
+  pub stands-decides : (n : ℕ) → Decides (standsBelow want image n) ((a : ℕ) → a < n → finished want image a ≡ getD image a 0)
+  unfolding standsBelow
+  stands-decides zero = record { passes = λ _ a h. absurd (not-suc-le-zero h); fails = λ f _. false≢true (sym f) }
+  stands-decides (suc n) =
+      restated (λ p a h. go a p (eq-or-lt-of-le (le-of-suc-le-suc h))) (λ f. (f n (omega arith), λ a h. f a (omega arith)))
+      (together (equal (finished want image n) (getD image n 0)) (stands-decides n))
+    where
+      go : (a : ℕ) → (finished want image n ≡ getD image n 0) × ((a : ℕ) → a < n → finished want image a ≡ getD image a 0)
+          → (a ≡ n) ⊎ (a < n) → finished want image a ≡ getD image a 0
+      go a p (inl e) = rw e (p .0)
+      go a p (inr l) = p .1 a l
+
+  -- an image is compared with the finished one
+  pub stands-same : (bytes : List ℕ) → length bytes ≡ 256 → ((a : ℕ) → a < 256 → getD bytes a 0 ≡ finished want image a) → length image ≡ 256
+      → sameList bytes image ≡ standsBelow want image 256
+  stands-same bytes l each whole = go (standsBelow want image 256) refl
+    where
+      go : (b : Bool) → standsBelow want image 256 ≡ b → sameList bytes image ≡ b
+      go true t =
+          confirmed (same-decides bytes image)
+          (ext-getD 0 bytes image (l ∙ sym whole) (λ a h. let k : a < 256 = rw l at h in each a k ∙ stands-decides 256 .passes t a k))
+      go false f =
+          refuted (same-decides bytes image)
+          (λ e. stands-decides 256 .fails f (λ a h. sym (each a h) ∙ ap (λ (m : List ℕ). getD m a 0) e))

@@ -3,6 +3,7 @@
 use mathlib.Core.Bool.{cond}
 use mathlib.Core.List.{List}
 use Prim.Native.Nat.{ℕ}
+use lib.Bits.{bitXor}
 use lib.ListN.{getD}
 use Rattle.bits.specs.Merge.{merge}
 use Rattle.registers.specs.Classes.{readOnly, free, named, bits}
@@ -17,6 +18,17 @@ wantedBits a = cond (isWritten a) (merge 8 (decided a) 0 (named a)) 0
 
 abbrev pub setBits : ℕ → ℕ
 setBits a = cond (isWritten a) (merge 8 (named a) 0 (bits a)) 0
+
+-- the columns that the code closes by: the bits that are kept or as wanted, and those that are kept or set, each byte turned over by its
+-- place, `^ a`
+abbrev pub openBits : ℕ → ℕ
+openBits a = merge 8 (keptBits a) (keptBits a) (wantedBits a)
+
+abbrev pub heldBits : ℕ → ℕ
+heldBits a = merge 8 (keptBits a) (keptBits a) (setBits a)
+
+abbrev pub turned : (ℕ → ℕ) → ℕ → ℕ
+turned f a = bitXor (f a) a
 
 -- register a as the list leaves it, with the bits that steps decide down
 unfoldable pub closed : (ℕ → ℕ) → List ℕ → ℕ → ℕ

@@ -9,7 +9,7 @@ ghost use Rattle.chip.specs.Machine.{audio, packets, up};
 ghost use Rattle.writes.specs.Rows.{from, table14, others, Touched};
 ghost use Rattle.writes.specs.Steps.{coefficientSteps, aviSteps, audioSteps};
 ghost use Rattle.writes.specs.List.{column, standsWhole, Lists};
-ghost use Rattle.writes.specs.Columns.{keptBits, wantedBits, setBits, closed};
+ghost use Rattle.writes.specs.Columns.{keptBits, openBits, heldBits, turned, closed};
 ghost use Rattle.writes.specs.Parts.{Puts, withBits, moving, coefficientPairs, packetPairs, aviPairs, audioPairs, bothPairs};
 ghost use Rattle.writes.specs.Order.{Order};
 ghost use Rattle.writes.specs.Carried.{Entries};
@@ -25,16 +25,16 @@ pub fn keep() -> [u8; 256]
     steps::KEEP
 }
 
-fn want() -> [u8; 256]
-    ensures { λ r. ⌜ r ≡ column wantedBits ⌝ }
+fn open_bits() -> [u8; 256]
+    ensures { λ r. ⌜ r ≡ column (turned openBits) ⌝ }
 {
-    steps::WANT
+    steps::OPEN
 }
 
-fn set() -> [u8; 256]
-    ensures { λ r. ⌜ r ≡ column setBits ⌝ }
+fn held_bits() -> [u8; 256]
+    ensures { λ r. ⌜ r ≡ column (turned heldBits) ⌝ }
 {
-    steps::SET
+    steps::HELD
 }
 
 fn table14() -> [u8; 8]
@@ -49,21 +49,22 @@ fn others() -> [u8; 16]
     steps::OTHERS
 }
 
-// Every register with the bits that steps decide down, as a list of these wanted bytes leaves it.
-fn closed(image: &[u8], wanted: &[u8; 256]) -> [u8; 256]
-    requires { ⌜ length (now image) ≡ 256 ⌝ }
-    ensures { λ r. ⌜ ((a : ℕ) → a < 256 → getD r a 0 ≡ closed (λ b. getD (now (wanted .entry)) b 0) (now (image .entry)) a) ⌝ }
+// Wanted bytes made right in place: every register with the bits that steps decide down, as a list of these bytes leaves it.
+fn close(image: &[u8], bytes: &mut [u8])
+    requires { ⌜ (length (now image) ≡ 256) × (length (now bytes) ≡ 256) ⌝ }
+    ensures { λ _. ⌜ length (now (bytes .exit)) ≡ 256 ⌝ }
+    ensures { λ _. ⌜ ((a : ℕ) → a < 256 → getD (now (bytes .exit)) a 0 ≡ closed (λ b. getD (now (bytes .entry)) b 0) (now (image .entry)) a) ⌝ }
 {
-    let keep = keep();
-    let want = want();
-    let set = set();
-    let mut out = [0u8; 256];
+    let open_bits = open_bits();
+    let held_bits = held_bits();
     let mut a: usize = 0;
     while a < 256 {
-        out[a] = bits::merge(keep[a], image[a], bits::merge(want[a], wanted[a], set[a]));
+        let place = a as u8;
+        let open = open_bits[a] ^ place;
+        let held = held_bits[a] ^ place;
+        bytes[a] = bits::merge(open, bits::merge(held, image[a], bytes[a]), held);
         a = a + 1;
     }
-    out
 }
 
 // These bits of a byte raised.
@@ -242,8 +243,8 @@ fn packets(image: &[u8], bytes: &[u8; 256], writes: &mut [u8], at: usize) -> usi
     audio(image, bytes, writes, next)
 }
 
-// The list, at the front of the buffer, and the count of its pairs.
-pub fn write_list(image: &[u8], wanted: &[u8; 256], writes: &mut [u8]) -> u32
+// The list, at the front of the buffer, and the count of its pairs; the wanted bytes are used up.
+pub fn write_list(image: &[u8], wanted: &mut [u8; 256], writes: &mut [u8]) -> u32
     ensures { λ r. ⌜ Lists (λ a. getD (now (wanted .entry)) a 0) (now (image .entry)) (now (writes .entry)) r (now (writes .exit)) ⌝ }
 {
     if image.len() != 256 {
@@ -252,16 +253,16 @@ pub fn write_list(image: &[u8], wanted: &[u8; 256], writes: &mut [u8]) -> u32
     if writes.len() < 256 {
         return 0;
     }
-    let bytes = closed(image, wanted);
+    close(image, wanted);
     let fixed = table14();
     let named = others();
-    let muted = put(&bytes, Map::AV_MUTE, Map::SET_AV_MUTE_MASK, writes, 0);
-    let after_fixed = each(image, &bytes, &fixed, writes, muted);
-    let after_matrix = coefficients(image, &bytes, writes, after_fixed);
-    let after_packets = packets(image, &bytes, writes, after_matrix);
-    let after_named = each(image, &bytes, &named, writes, after_packets);
+    let muted = put(wanted, Map::AV_MUTE, Map::SET_AV_MUTE_MASK, writes, 0);
+    let after_fixed = each(image, wanted, &fixed, writes, muted);
+    let after_matrix = coefficients(image, wanted, writes, after_fixed);
+    let after_packets = packets(image, wanted, writes, after_matrix);
+    let after_named = each(image, wanted, &named, writes, after_packets);
     let count = put(
-        &bytes,
+        wanted,
         Map::AV_MUTE,
         Map::CLEAR_AV_MUTE_MASK,
         writes,
@@ -270,22 +271,16 @@ pub fn write_list(image: &[u8], wanted: &[u8; 256], writes: &mut [u8]) -> u32
     count as u32
 }
 
-// Whether an image stands as the list of these wanted bytes would leave it.
-pub fn stands(image: &[u8], wanted: &[u8; 256]) -> bool
+// Whether an image stands as the list of these wanted bytes would leave it; they are used up.
+pub fn stands(image: &[u8], wanted: &mut [u8; 256]) -> bool
     ensures { λ r. ⌜ r ≡ standsWhole (λ a. getD (now (wanted .entry)) a 0) (now (image .entry)) ⌝ }
 {
     if image.len() != 256 {
         return false;
     }
-    let mut bytes = closed(image, wanted);
-    bytes[Map::AV_MUTE as usize] = raise(Map::CLEAR_AV_MUTE_MASK, bytes[Map::AV_MUTE as usize]);
-    let mut standing = true;
-    let mut a: usize = 0;
-    while a < 256 {
-        standing = (bytes[a] == image[a]) & standing;
-        a = a + 1;
-    }
-    standing
+    close(image, wanted);
+    wanted[Map::AV_MUTE as usize] = raise(Map::CLEAR_AV_MUTE_MASK, wanted[Map::AV_MUTE as usize]);
+    lists::same(wanted, image)
 }
 
 // Which registers the list writes, and in what order.

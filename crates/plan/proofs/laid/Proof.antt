@@ -10,22 +10,22 @@ use Rattle.plan.proofs.laid.Statement.{statement}
 use Rattle.plan.proofs.laid.Tie as tie
 
 abbrev Inv-loop : tie.InvT-loop
-Inv-loop at bytes next₀ i₀ next i = (i ≤ length bytes) × (length next ≡ 256) × (stores next (laid (at + i) (drop i bytes)) ≡ stores next₀ (laid at bytes))
+Inv-loop out₀ at bytes i₀ out i = (i ≤ length bytes) × (length out ≡ 256) × (stores out (laid (at + i) (drop i bytes)) ≡ stores out₀ (laid at bytes))
 
 abbrev μ-loop : tie.MeasureT-loop
-μ-loop at bytes next₀ i₀ next i = length bytes - i
+μ-loop out₀ at bytes i₀ out i = length bytes - i
 
 loop-holds : tie.Need-loop-holds Inv-loop μ-loop
 loop-holds c = (search needs, search needs, rw add-zero)
 
-shared-slice-read-next : tie.Need-shared-slice-read-next Inv-loop μ-loop
-shared-slice-read-next c = search needs
+shared-slice-read-out : tie.Need-shared-slice-read-out Inv-loop μ-loop
+shared-slice-read-out c = search needs
 
-add-next : tie.Need-add-next Inv-loop μ-loop
-add-next c = search needs
+add-out : tie.Need-add-out Inv-loop μ-loop
+add-out c = search needs
 
-array-write-next : tie.Need-array-write-next Inv-loop μ-loop
-array-write-next c = search needs
+slice-write-out : tie.Need-slice-write-out Inv-loop μ-loop
+slice-write-out c = search needs
 
 add-i : tie.Need-add-i Inv-loop μ-loop
 add-i c = search needs
@@ -37,13 +37,16 @@ loop-again : tie.Need-loop-again Inv-loop μ-loop
 loop-again c =
     let l = c .before .before .loop in
     let a = c .before .before .before .args in
-    (search needs, search needs, laid-more (l .next) (a .bytes .now) (a .at) (l .i) (search needs) ∙ l .inv .2)
+    (search needs, search needs, laid-more (l .out) (a .bytes .now) (a .at) (l .i) (search needs) ∙ l .inv .2)
+
+same-length : tie.Need-same-length Inv-loop μ-loop
+same-length c = search needs
 
 returns : tie.Need-returns Inv-loop μ-loop
 returns c =
     let l = c .before .loop in
     let a = c .before .before .args in
-    sym (laid-end (l .next) (a .bytes .now) (a .at) (l .i) (search needs)) ∙ l .inv .2
+    sym (laid-end (l .out) (a .bytes .now) (a .at) (l .i) (search needs)) ∙ l .inv .2
 
 pub laid-spec : {M : Type 1} → statement M
 laid-spec =
@@ -52,10 +55,11 @@ laid-spec =
     Inv-loop
     μ-loop
     loop-holds
-    shared-slice-read-next
-    add-next
-    array-write-next
+    shared-slice-read-out
+    add-out
+    slice-write-out
     add-i
     loop-less
     loop-again
+    same-length
     returns)

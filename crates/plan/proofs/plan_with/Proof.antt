@@ -8,6 +8,7 @@ use borrow.Author.Needs.{needs}
 use Rattle.clock.specs.declared.Pair.{Pair}
 use Rattle.request.specs.Read.{pairFor}
 use Rattle.writes.specs.List.{ready}
+use Rattle.plan.specs.Wanted.{wantedImage}
 use Rattle.plan.proofs.Answer.{seven, eight, nine, ten, accepts, refuses}
 use Rattle.plan.proofs.plan_with.Statement.{statement}
 use Rattle.plan.proofs.plan_with.Tie as tie
@@ -73,6 +74,9 @@ returns-4 c =
     refuses (a .r) (a .image .now) (a .writes .now) 10 (c .refused4 .ensures)
     (ten (a .r) (a .image .now) (a .writes .now) (e .if1 .left) (readied (p .before)) (sym (paired p) ∙ q .if3 .left) (c .before .if4 .taken)) (omega arith)
 
+slice-aggregate-wanted-image : tie.Need-slice-aggregate-wanted-image
+slice-aggregate-wanted-image c = search needs
+
 wanted-image-requires : tie.Need-wanted-image-requires
 wanted-image-requires c κs = search needs
 
@@ -83,10 +87,11 @@ same-length : tie.Need-same-length
 same-length c = search needs
 
 returns-5 : tie.Need-returns-5
+unfolding wantedImage
 returns-5 c =
     let w = c .before .before in
-    let i = w .before .before .before in
-    let l = i .before in
+    let i = w .before .before .before .before in
+    let l = i .before .before in
     let q = l .before in
     let p = q .before .before in
     let e = p .before .before .before .before in
@@ -110,6 +115,7 @@ plan-with-spec =
     returns-3
     refused-requires-4
     returns-4
+    slice-aggregate-wanted-image
     wanted-image-requires
     write-list-requires
     same-length

@@ -3,12 +3,17 @@ use mathlib.Core.Path.{_≡_, refl, sym, ap, _∙_}
 use mathlib.Core.Bool.{and-false}
 use borrow.Author.Tests.{eq-eqb, ne-eqb}
 use Rattle.request.specs.Read.{readOf}
-use Rattle.plan.specs.Wanted.{wanted}
+use Rattle.plan.specs.Wanted.{wantedImage, wanted}
 use Rattle.plan.specs.Plan.{standsIn}
 use Rattle.request.proofs.Fits.{fits}
 use borrow.Author.Needs.{needs}
 use Rattle.plan.proofs.stands.Statement.{statement}
 use Rattle.plan.proofs.stands.Tie as tie
+
+-- the wanted bytes, over zeros
+made : (c : tie.After-wanted-image) → c .wanted-image .last .1 .1 .0 ≡ wantedImage (c .before .before .before .before .before .before .before .before .before .read .result .request)
+unfolding wantedImage
+made c = c .wanted-image .ensures
 
 read-requires : tie.Need-read-requires
 read-requires c κs = search needs
@@ -30,11 +35,14 @@ returns-3 c =
     let e = c .before .before .before .before in
     simp (← e .before .before .before .read .ensures, eq-eqb _ _ (e .before .if1 .left), eq-eqb _ _ (e .if2 .left), ← c .before .before .pair-for .ensures, ne-eqb _ _ (c .if3 .taken))
 
+slice-aggregate-wanted-image : tie.Need-slice-aggregate-wanted-image
+slice-aggregate-wanted-image c = search needs
+
 wanted-image-requires : tie.Need-wanted-image-requires
 wanted-image-requires c κs =
-    let e = c .before .before .before .before in
+    let e = c .before .before .before .before .before in
     let r = e .before .before .before in
-    (rw (r .read .ensures) (fits _ (rw (r .read .ensures) at (e .before .if1 .left))), c .before .before .pair-for .ensures)
+    (rw (r .read .ensures) (fits _ (rw (r .read .ensures) at (e .before .if1 .left))), (c .before .before .before .pair-for .ensures, refl))
 
 stands-requires : tie.Need-stands-requires
 stands-requires c κs = search needs
@@ -42,10 +50,11 @@ stands-requires c κs = search needs
 returns-4 : tie.Need-returns-4
 unfolding standsIn wanted
 returns-4 c =
-    let d = c .before .before .before in
+    let i = c .before .before .before in
+    let d = i .before .before in
     let e = d .before .before .before .before in
     let r = e .before .before .before in
-    c .stands .ensures ∙ simp (c .before .before .wanted-image .ensures, ← r .read .ensures, eq-eqb _ _ (e .before .if1 .left), eq-eqb _ _ (e .if2 .left), ← d .before .before .pair-for .ensures, eq-eqb _ _ (d .if3 .left))
+    c .stands .ensures ∙ simp (made i, ← r .read .ensures, eq-eqb _ _ (e .before .if1 .left), eq-eqb _ _ (e .if2 .left), ← d .before .before .pair-for .ensures, eq-eqb _ _ (d .if3 .left))
 
 pub stands-spec : {M : Type 1} → statement M
 stands-spec =
@@ -56,6 +65,7 @@ stands-spec =
     returns-2
     pair-for-requires
     returns-3
+    slice-aggregate-wanted-image
     wanted-image-requires
     stands-requires
     returns-4)

@@ -1,12 +1,11 @@
 -- `plan::wanted_image` meets its contract. Assumes nothing.
 use mathlib.Core.List.{List, _++_}
 use Prim.Native.Nat.{ℕ}
-use lib.ListN.{replicate}
 use Rattle.map.specs.Map as reg
 use Rattle.chip.specs.Machine.{Write}
 use Rattle.video.proofs.Fits.{link-fits, repetition-fits}
 use Rattle.request.specs.Read.{pairFor}
-use Rattle.plan.specs.Wanted.{laid, cscBytes, clockBytes, inputBytes, enableBytes, frameBytes, wantedImage}
+use Rattle.plan.specs.Wanted.{laid, cscBytes, clockBytes, inputBytes, enableBytes, frameBytes}
 use Rattle.plan.proofs.Stored.{more}
 use borrow.Author.Needs.{needs}
 use Rattle.plan.proofs.wanted_image.Statement.{statement}
@@ -32,21 +31,25 @@ laid-requires c κs = search needs
 
 with-enables-requires : tie.Need-with-enables-requires
 with-enables-requires c κs =
-    let f = c .before .before .before .before .before .before .pre .0 .video in
-    (link-fits _ f, repetition-fits _ f)
+    let f = c .before .before .before .before .before .before .before .before .before .before .before .before .before .before .before .before .before .pre .0 .video in
+    (search needs, link-fits _ f, repetition-fits _ f)
 
 with-frames-requires : tie.Need-with-frames-requires
 with-frames-requires c κs = search needs
 
+same-length : tie.Need-same-length
+same-length c = search needs
+
 returns : tie.Need-returns
-unfolding wantedImage
 returns c =
-    let l = c .before .before in
-    let i = l .before .before in
-    let m = i .before .before in
-    let p = m .before .before in
+    let e = c .before .before .before .before .before .before in
+    let l = e .before .before .before .before in
+    let i = l .before .before .before .before .before in
+    let k = i .before .before .before .before in
+    let m = k .before .before in
+    let p = m .before .before .before in
     let r = p .args .r in
-    let z : List ℕ = replicate 256 0 in
+    let z : List ℕ = p .args .out .now in
     let one : List Write = clockBytes (pairFor r) in
     let two : List Write = one ++ inputBytes r in
     let three : List Write = two ++ laid reg.csc (cscBytes (r .matrix)) in
@@ -54,10 +57,10 @@ returns c =
     more z four (frameBytes r)
     (more z three (enableBytes r)
     (more z two (laid reg.csc (cscBytes (r .matrix)))
-    (more z one (inputBytes r) (rw (p .pre .1) at (i .before .with-clock .ensures)) (i .with-inputs .ensures))
+    (more z one (inputBytes r) (rw (p .pre .1 .0) at (k .with-clock .ensures)) (i .with-inputs .ensures))
     (rw (m .csc-bytes .ensures) at (l .laid .ensures)))
-    (c .before .with-enables .ensures))
-    (c .with-frames .ensures)
+    (e .with-enables .ensures))
+    (c .before .before .with-frames .ensures)
 
 pub wanted-image-spec : {M : Type 1} → statement M
 wanted-image-spec =
@@ -71,4 +74,5 @@ wanted-image-spec =
     laid-requires
     with-enables-requires
     with-frames-requires
+    same-length
     returns)

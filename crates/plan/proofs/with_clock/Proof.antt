@@ -1,5 +1,7 @@
 -- `plan::with_clock` meets its contract. Assumes nothing.
-use mathlib.Core.Path.{_∙_}
+use Rattle.map.specs.Map as reg
+use Rattle.plan.specs.Wanted.{laid, twenty}
+use Rattle.plan.proofs.Stored.{more}
 use borrow.Author.Needs.{needs}
 use Rattle.plan.proofs.with_clock.Statement.{statement}
 use Rattle.plan.proofs.with_clock.Tie as tie
@@ -28,11 +30,16 @@ slice-aggregate-laid-2 c = search needs
 laid-requires-2 : tie.Need-laid-requires-2
 laid-requires-2 c κs = search needs
 
+same-length : tie.Need-same-length
+same-length c = search needs
+
 returns : tie.Need-returns
 returns c =
-    let l = c .before .before in
-    let t = l .before .before in
-    c .laid2 .ensures ∙ rw (l .laid .ensures, t .twenty2 .ensures, t .before .twenty .ensures)
+    let l = c .before .before .before .before .before .before .before in
+    let t = l .before .before .before in
+    let a = t .before .before .before .args in
+    more (a .out .now) (laid reg.n0 (twenty (a .pair .n))) (laid reg.ctsManual0 (twenty (a .pair .cts)))
+    (rw (t .before .twenty .ensures) at (l .laid .ensures)) (rw (t .twenty2 .ensures) at (c .before .before .laid2 .ensures))
 
 pub with-clock-spec : {M : Type 1} → statement M
 with-clock-spec =
@@ -46,4 +53,5 @@ with-clock-spec =
     cast-laid-2
     slice-aggregate-laid-2
     laid-requires-2
+    same-length
     returns)

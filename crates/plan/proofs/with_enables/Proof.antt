@@ -1,4 +1,6 @@
 -- `plan::with_enables` meets its contract. Assumes nothing.
+use native.Mathlib.Omega.{arith}
+use lib.ListN.{length-set}
 use borrow.Author.Needs.{needs}
 use Rattle.plan.proofs.with_enables.Statement.{statement}
 use Rattle.plan.proofs.with_enables.Tie as tie
@@ -12,68 +14,71 @@ add-audio-2 c = search needs
 repetition-byte-requires : tie.Need-repetition-byte-requires
 repetition-byte-requires c κs = search needs
 
-cast-next : tie.Need-cast-next
-cast-next c = search needs
+cast-out : tie.Need-cast-out
+cast-out c = search needs
 
-array-write-next : tie.Need-array-write-next
-array-write-next c = search needs
+slice-write-out : tie.Need-slice-write-out
+slice-write-out c = search needs
 
-cast-next-2 : tie.Need-cast-next-2
-cast-next-2 c = search needs
+cast-out-2 : tie.Need-cast-out-2
+cast-out-2 c = search needs
 
-array-write-next-2 : tie.Need-array-write-next-2
-array-write-next-2 c = search needs
+slice-write-out-2 : tie.Need-slice-write-out-2
+slice-write-out-2 c = search needs
 
-mul-next : tie.Need-mul-next
-mul-next c = search needs
+mul-out : tie.Need-mul-out
+mul-out c = search needs
 
-cast-next-3 : tie.Need-cast-next-3
-cast-next-3 c = search needs
+cast-out-3 : tie.Need-cast-out-3
+cast-out-3 c = search needs
 
-array-write-next-3 : tie.Need-array-write-next-3
-array-write-next-3 c = search needs
+slice-write-out-3 : tie.Need-slice-write-out-3
+slice-write-out-3 c = let z = c .before .before .before .pre .0 in simp length-set (omega (arith, z))
 
 with-audio-requires : tie.Need-with-audio-requires
 with-audio-requires c κs = search needs
 
-mul-next-2 : tie.Need-mul-next-2
-mul-next-2 c = search needs
+mul-out-2 : tie.Need-mul-out-2
+mul-out-2 c = search needs
 
-mul-next-3 : tie.Need-mul-next-3
-mul-next-3 c = search needs
+mul-out-3 : tie.Need-mul-out-3
+mul-out-3 c = search needs
 
-add-next : tie.Need-add-next
-add-next c = search needs
+add-out : tie.Need-add-out
+add-out c = search needs
 
-cast-next-4 : tie.Need-cast-next-4
-cast-next-4 c = search needs
+cast-out-4 : tie.Need-cast-out-4
+cast-out-4 c = search needs
 
-array-write-next-4 : tie.Need-array-write-next-4
-array-write-next-4 c = search needs
+slice-write-out-4 : tie.Need-slice-write-out-4
+slice-write-out-4 c = let z = c .before .before .before .before .before .pre .0 in simp length-set (omega (arith, z))
 
-cast-next-5 : tie.Need-cast-next-5
-cast-next-5 c = search needs
+cast-out-5 : tie.Need-cast-out-5
+cast-out-5 c = search needs
 
-array-write-next-5 : tie.Need-array-write-next-5
-array-write-next-5 c = search needs
+slice-write-out-5 : tie.Need-slice-write-out-5
+slice-write-out-5 c = let z = c .before .before .before .before .before .pre .0 in simp length-set (omega (arith, z))
 
 depth-code-requires : tie.Need-depth-code-requires
 depth-code-requires c κs = search needs
 
-cast-next-6 : tie.Need-cast-next-6
-cast-next-6 c = search needs
+cast-out-6 : tie.Need-cast-out-6
+cast-out-6 c = search needs
 
-array-write-next-6 : tie.Need-array-write-next-6
-array-write-next-6 c = search needs
+slice-write-out-6 : tie.Need-slice-write-out-6
+slice-write-out-6 c = let z = c .before .before .before .before .before .before .pre .0 in simp length-set (omega (arith, z))
 
-mul-next-4 : tie.Need-mul-next-4
-mul-next-4 c = search needs
+mul-out-4 : tie.Need-mul-out-4
+mul-out-4 c = search needs
 
-cast-next-7 : tie.Need-cast-next-7
-cast-next-7 c = search needs
+cast-out-7 : tie.Need-cast-out-7
+cast-out-7 c = search needs
 
-array-write-next-7 : tie.Need-array-write-next-7
-array-write-next-7 c = search needs
+slice-write-out-7 : tie.Need-slice-write-out-7
+slice-write-out-7 c = let z = c .before .before .before .before .before .before .before .pre .0 in simp length-set (omega (arith, z))
+
+same-length : tie.Need-same-length
+same-length c = simp length-set
 
 returns : tie.Need-returns
 returns c =
@@ -88,25 +93,26 @@ with-enables-spec =
     add-audio
     add-audio-2
     repetition-byte-requires
-    cast-next
-    array-write-next
-    cast-next-2
-    array-write-next-2
-    mul-next
-    cast-next-3
-    array-write-next-3
+    cast-out
+    slice-write-out
+    cast-out-2
+    slice-write-out-2
+    mul-out
+    cast-out-3
+    slice-write-out-3
     with-audio-requires
-    mul-next-2
-    mul-next-3
-    add-next
-    cast-next-4
-    array-write-next-4
-    cast-next-5
-    array-write-next-5
+    mul-out-2
+    mul-out-3
+    add-out
+    cast-out-4
+    slice-write-out-4
+    cast-out-5
+    slice-write-out-5
     depth-code-requires
-    cast-next-6
-    array-write-next-6
-    mul-next-4
-    cast-next-7
-    array-write-next-7
+    cast-out-6
+    slice-write-out-6
+    mul-out-4
+    cast-out-7
+    slice-write-out-7
+    same-length
     returns)

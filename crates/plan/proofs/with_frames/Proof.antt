@@ -44,15 +44,18 @@ part-laid-end-2 c = search needs
 laid-requires-2 : tie.Need-laid-requires-2
 laid-requires-2 c κs = search needs
 
+same-length : tie.Need-same-length
+same-length c = search needs
+
 returns : tie.Need-returns
 returns c =
-    let l = c .before .before .before in
-    let b = l .before .before .before in
-    let r = b .before .before .args .r in
+    let l = c .before .before .before .before .before .before .before .before in
+    let b = l .before .before .before .before in
+    let a = b .before .before .before .args in
     let audio : take 13 (drop 1 (b .audio-bytes .result)) ≡ drop 1 (b .audio-bytes .result) = rest 13 (b .audio-bytes .result) (search needs) in
     let video : take 16 (drop 1 (b .before .avi-bytes .result)) ≡ drop 1 (b .before .avi-bytes .result) = rest 16 (b .before .avi-bytes .result) (search needs) in
-    more (b .before .before .args .out) (laid 0x52 (drop 1 (aviFrame (r .video)))) (laid 0x70 (drop 1 (audioBytes (r .sound))))
-    (rw (video, b .before .avi-bytes .ensures) at (l .laid .ensures)) (rw (audio, b .audio-bytes .ensures) at (c .laid2 .ensures))
+    more (a .out .now) (laid 0x52 (drop 1 (aviFrame (a .r .video)))) (laid 0x70 (drop 1 (audioBytes (a .r .sound))))
+    (rw (video, b .before .avi-bytes .ensures) at (l .laid .ensures)) (rw (audio, b .audio-bytes .ensures) at (c .before .before .laid2 .ensures))
 
 pub with-frames-spec : {M : Type 1} → statement M
 with-frames-spec =
@@ -70,4 +73,5 @@ with-frames-spec =
     part-laid-start-2
     part-laid-end-2
     laid-requires-2
+    same-length
     returns)

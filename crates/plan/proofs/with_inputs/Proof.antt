@@ -6,47 +6,50 @@ use Rattle.plan.proofs.with_inputs.Tie as tie
 cts-select-requires : tie.Need-cts-select-requires
 cts-select-requires c κs = search needs
 
-mul-next : tie.Need-mul-next
-mul-next c = search needs
+mul-out : tie.Need-mul-out
+mul-out c = search needs
 
-cast-next : tie.Need-cast-next
-cast-next c = search needs
+cast-out : tie.Need-cast-out
+cast-out c = search needs
 
-array-write-next : tie.Need-array-write-next
-array-write-next c = search needs
+slice-write-out : tie.Need-slice-write-out
+slice-write-out c = search needs
 
 inputs-requires : tie.Need-inputs-requires
 inputs-requires c κs = search needs
 
-mul-next-2 : tie.Need-mul-next-2
-mul-next-2 c = search needs
+mul-out-2 : tie.Need-mul-out-2
+mul-out-2 c = search needs
 
-cast-next-2 : tie.Need-cast-next-2
-cast-next-2 c = search needs
+cast-out-2 : tie.Need-cast-out-2
+cast-out-2 c = search needs
 
-array-write-next-2 : tie.Need-array-write-next-2
-array-write-next-2 c = search needs
+slice-write-out-2 : tie.Need-slice-write-out-2
+slice-write-out-2 c = search needs
 
 rate-code-requires : tie.Need-rate-code-requires
 rate-code-requires c κs = search needs
 
-mul-next-3 : tie.Need-mul-next-3
-mul-next-3 c = search needs
+mul-out-3 : tie.Need-mul-out-3
+mul-out-3 c = search needs
 
-cast-next-3 : tie.Need-cast-next-3
-cast-next-3 c = search needs
+cast-out-3 : tie.Need-cast-out-3
+cast-out-3 c = search needs
 
-array-write-next-3 : tie.Need-array-write-next-3
-array-write-next-3 c = search needs
+slice-write-out-3 : tie.Need-slice-write-out-3
+slice-write-out-3 c = search needs
 
 output-format-requires : tie.Need-output-format-requires
 output-format-requires c κs = search needs
 
-cast-next-4 : tie.Need-cast-next-4
-cast-next-4 c = search needs
+cast-out-4 : tie.Need-cast-out-4
+cast-out-4 c = search needs
 
-array-write-next-4 : tie.Need-array-write-next-4
-array-write-next-4 c = search needs
+slice-write-out-4 : tie.Need-slice-write-out-4
+slice-write-out-4 c = search needs
+
+same-length : tie.Need-same-length
+same-length c = search needs
 
 returns : tie.Need-returns
 returns c =
@@ -57,18 +60,19 @@ with-inputs-spec =
     tie.close
     (tie.spec
     cts-select-requires
-    mul-next
-    cast-next
-    array-write-next
+    mul-out
+    cast-out
+    slice-write-out
     inputs-requires
-    mul-next-2
-    cast-next-2
-    array-write-next-2
+    mul-out-2
+    cast-out-2
+    slice-write-out-2
     rate-code-requires
-    mul-next-3
-    cast-next-3
-    array-write-next-3
+    mul-out-3
+    cast-out-3
+    slice-write-out-3
     output-format-requires
-    cast-next-4
-    array-write-next-4
+    cast-out-4
+    slice-write-out-4
+    same-length
     returns)

@@ -54,7 +54,7 @@ abbrev turn : tie.After-store Inv-loop μ-loop → tie.In-loop Inv-loop μ-loop
 turn c = c .before .before .before .before .before .before .before .before .before
 
 abbrev after : tie.After-store Inv-loop μ-loop → Chip
-after c = lentAs (c .store .last .0) (c .store .last .1 .0) (c .store .last .1 .1 .0) (c .store .result .waiting)
+after c = lentAs (c .store .last .0) (c .store .last .1 .0) (c .store .last .1 .1 .0) (c .store .result)
 
 abbrev last : tie.After-store Inv-loop μ-loop → Bool
 last c = eqb (turn c .before .loop .i + 1) (begin (turn c) .args .count)
@@ -72,7 +72,7 @@ stored c =
     let ws = pairsOf (begin l .args .list .now) in
     let k = l .before .before .before .before .before .table-columns in
     let d =
-    by-done (begin l .args .list .now) (l .before .loop .i) _ (after c) (k .result .«read_only») (m .merge .result) (c .store .result .done) (listed l)
+    by-done (begin l .args .list .now) (l .before .loop .i) _ (after c) (k .result .«read_only») (m .merge .result) _ (listed l)
     (l .before .loop .inv .1) (k .ensures .readOnly) (m .merge .ensures) (c .store .ensures)
     (λ e. taken-so ws (begin l .args .start) (l .before .loop .i) (state l) (l .before .loop .inv .2) (shortened-at l) (listed l) (last c)
     (ap (λ (t : Chip). wrote ws (l .before .loop .i) t .refusal) (sym (at-pair c)) ∙ e)) in

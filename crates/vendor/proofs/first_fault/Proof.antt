@@ -64,7 +64,7 @@ tested c =
 
 -- the write
 abbrev after : tie.After-store Inv-loop μ-loop → Chip
-after c = lentAs (c .store .last .0) (c .store .last .1 .0) (c .store .last .1 .1 .0) (c .store .result .waiting)
+after c = lentAs (c .store .last .0) (c .store .last .1 .0) (c .store .last .1 .1 .0) (c .store .result)
 
 stored : (c : tie.After-store Inv-loop μ-loop) → let l = c .before .before .before .before .before .before .before .before .before .before .before .before .before in
     (wrote (pairsOf (begin l .args .list .now)) (l .before .loop .i) (state l) ≡ record { refusal = 0; chip = after c })
@@ -74,7 +74,7 @@ stored c =
     let l = c .before .before .before .before .before .before .before .before .before .before .before .before .before in
     let ws = pairsOf (begin l .args .list .now) in
     let k = l .before .before .before .before .before .before .table-columns in
-    by-done (begin l .args .list .now) (l .before .loop .i) (state l) (after c) (k .result .«read_only») (m .merge .result) (c .store .result .done) (listed l)
+    by-done (begin l .args .list .now) (l .before .loop .i) (state l) (after c) (k .result .«read_only») (m .merge .result) _ (listed l)
     (l .before .loop .inv .1) (k .ensures .readOnly) (m .merge .ensures) (c .store .ensures)
     (λ e. is-taken (shown (begin l .args .old)) (shown (begin l .args .new)) ws (begin l .args .start) (l .before .loop .i) (state l)
     (l .before .loop .inv .3) (shortened-at l) (listed l) e)

@@ -4,6 +4,7 @@ use mathlib.Core.Bool.{Bool, not, _&&_}
 use Rattle.matrix.specs.Matrix.{fields}
 use Rattle.chip.specs.Machine.{matrix, registersOf}
 use Rattle.vendor.specs.Found.{oneOf, isTurned}
+use Rattle.vendor.proofs.Tested.{unmoved}
 use borrow.Author.Needs.{needs}
 use Rattle.vendor.proofs.is_turned.Statement.{statement}
 use Rattle.vendor.proofs.is_turned.Tie as tie
@@ -16,6 +17,12 @@ shared-slice-read-hold c = search needs
 
 is-held-requires : tie.Need-is-held-requires
 is-held-requires c κs = search needs
+
+returns : tie.Need-returns
+unfolding isTurned
+returns c =
+    let h = c .before in
+    unmoved _ (ap (λ (b : Bool). h .before .before .before .args .waiting && not b) (h .is-held .ensures)) (c .if1 .taken)
 
 cast-start : tie.Need-cast-start
 cast-start c = search needs
@@ -38,10 +45,10 @@ part-one-matrix-end c = search needs
 one-matrix-requires : tie.Need-one-matrix-requires
 one-matrix-requires c κs = search needs
 
-returns : tie.Need-returns
+returns-2 : tie.Need-returns-2
 unfolding isTurned
-returns c =
-    let h = c .before .before .before .before in
+returns-2 c =
+    let h = c .before .before .before .before .before in
     let a = h .before .before .before .args in
     c .one-matrix .ensures
     ∙ ap (λ (b : Bool). oneOf (a .waiting && not b) (a .old .matrix) (a .new .matrix) (fields (registersOf matrix (a .image .now))))
@@ -54,6 +61,7 @@ is-turned-spec =
     cast-hold
     shared-slice-read-hold
     is-held-requires
+    returns
     cast-start
     cast-end
     add-end
@@ -61,4 +69,4 @@ is-turned-spec =
     part-one-matrix-start
     part-one-matrix-end
     one-matrix-requires
-    returns)
+    returns-2)

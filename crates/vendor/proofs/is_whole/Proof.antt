@@ -6,7 +6,7 @@ use Rattle.chip.specs.Machine.{avi, audio, matrix, packets, converter, holdsOf,
 use Rattle.matrix.specs.Matrix.{fields}
 use Rattle.writes.specs.List.{covers}
 use Rattle.vendor.specs.Found.{oneOf, mayMove, isIdle, isBetween}
-use Rattle.vendor.proofs.Tested.{failed, passed, one-moved}
+use Rattle.vendor.proofs.Tested.{failed, passed, unmoved, one-moved}
 use borrow.Author.Needs.{needs}
 use Rattle.vendor.proofs.is_whole.Statement.{statement}
 use Rattle.vendor.proofs.is_whole.Tie as tie
@@ -25,8 +25,11 @@ second c = c .before .before .before .before .before .before .before .before
 abbrev third : tie.After-one-of2 → tie.Else2
 third c = c .before .before .before .before .before .before .before
 
-abbrev fourth : tie.After-one-matrix → tie.Else3
-fourth c = c .before .before .before .before .before .before .before
+abbrev fourth : tie.After-in-run → tie.Else3
+fourth c = c .before .before .before
+
+abbrev fifth : tie.After-one-matrix → tie.Else4
+fifth c = c .before .before .before .before
 
 -- what each test of a group says
 one-avi : (c : tie.After-one-of)
@@ -50,13 +53,13 @@ one-audio c =
     (c .before .before .before .before .before .before .may-move2 .ensures) (c .one-of2 .ensures)
 
 one-matrix : (c : tie.After-one-matrix)
-    → let a = first (second (third (fourth c .before) .before)) .args in
+    → let a = first (second (third (fourth (fifth c .before) .before) .before)) .args in
     let image = a .image .now in
     c .one-matrix .result
     ≡ oneOf (isIdle image (a .waiting) && covers matrix (a .address)) (a .old .matrix) (a .new .matrix) (fields (registersOf matrix image))
 one-matrix c =
-    let a = first (second (third (fourth c .before) .before)) .args in
-    let r = c .before .before .before .before in
+    let r = fifth c .before in
+    let a = first (second (third (fourth r .before) .before)) .args in
     c .one-matrix .ensures
     ∙ ap₂ (λ (h i : Bool). oneOf (not (a .waiting || h) && i) (a .old .matrix) (a .new .matrix) (fields (registersOf matrix (a .image .now))))
     (r .before .is-held .ensures) (r .in-run .ensures)
@@ -164,6 +167,18 @@ is-held-requires c κs = search needs
 in-run-requires : tie.Need-in-run-requires
 in-run-requires c κs = search needs
 
+returns-4 : tie.Need-returns-4
+unfolding isBetween
+returns-4 c =
+    let r = c .before in
+    let g = fourth r in
+    let f = third (g .before) in
+    let e = second (f .before) in
+    let a = first e .args in
+    unmoved _ (ap₂ (λ (h i : Bool). not (a .waiting || h) && i) (r .before .is-held .ensures) (r .in-run .ensures)) (c .if4 .taken)
+    ∙ passed _ (one-audio (g .before)) (g .if3 .left) ∙ passed _ (one-avi (f .before)) (f .if2 .left)
+    ∙ passed _ (e .before .is-muted .ensures) (e .if1 .left)
+
 cast-start : tie.Need-cast-start
 cast-start c = search needs
 
@@ -185,10 +200,10 @@ part-one-matrix-end c = search needs
 one-matrix-requires : tie.Need-one-matrix-requires
 one-matrix-requires c κs = search needs
 
-returns-4 : tie.Need-returns-4
+returns-5 : tie.Need-returns-5
 unfolding isBetween
-returns-4 c =
-    let g = fourth c in
+returns-5 c =
+    let g = fourth (fifth c .before) in
     let f = third (g .before) in
     let e = second (f .before) in
     one-matrix c ∙ passed _ (one-audio (g .before)) (g .if3 .left) ∙ passed _ (one-avi (f .before)) (f .if2 .left)
@@ -228,6 +243,7 @@ is-whole-spec =
     shared-slice-read-hold
     is-held-requires
     in-run-requires
+    returns-4
     cast-start
     cast-end
     add-end
@@ -235,4 +251,4 @@ is-whole-spec =
     part-one-matrix-start
     part-one-matrix-end
     one-matrix-requires
-    returns-4)
+    returns-5)
