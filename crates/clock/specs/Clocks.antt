@@ -5,7 +5,7 @@ use mathlib.Core.List.{List, [], _∷_}
 use Prim.Native.Nat.{ℕ, _*_, _<_}
 use lib.Dec.{eqb, ltb}
 use lib.ListN.{getD}
-use Rattle.refusals.specs.Rows.{modeNotOffered, fieldOutOfRange, clockAbove, Test, _if_, lowest, answer}
+use Rattle.refusals.specs.Rows.{modeNotOffered, fieldOutOfRange, clockAbove, Condition, _when_, Test, _if_, lowest, answer}
 use Rattle.ratio.specs.Lowest.{topOf, bottomOf}
 use Rattle.video.specs.declared.Video.{Video}
 use Rattle.video.specs.Modes.{modeOf, offered}
@@ -41,9 +41,12 @@ tmds video = tmdsOf (modeOf (video .vic) .hertz) (video .family) (depth video) (
 abbrev pub limit : ℕ
 limit = 225000000
 
--- row 17, "a clock above the limit"
+-- row 17, "a clock above the limit": the limits, a stage of each call on a video
 abbrev pub AboveLimit : Clock → Type 0
 AboveLimit clock = limit * clock .den < clock .num
+
+abbrev pub limitsRows : Video → List Condition
+limitsRows video = clockAbove when AboveLimit (tmds video) ∷ []
 
 abbrev pub aboveLimit : Clock → Bool
 aboveLimit clock = ltb (limit * clock .den) (clock .num)

@@ -23,6 +23,10 @@ pub record Exact (clock : Clock) (rate n cts : ℕ) : Type 0 where
   pub most : 300 * n ≤ reference rate
   pub fits : cts ≤ 1048575
 
+-- row 9, "coherent audio, and no exact pair exists"
+abbrev pub NoExact : Clock → ℕ → ℕ → Type 0
+NoExact clock rate coherent = (coherent ≡ 1) × ((n cts : ℕ) → Exact clock rate n cts → ⊥)
+
 -- the recommended pair for that clock and rate: that of the row whose clock is this one; N 0 where there is none
 abbrev pub recommendedIn : List Recommended → Clock → ℕ → NCts
 recommendedIn [] clock rate = pair 0 0

@@ -16,8 +16,9 @@ use Rattle.clock.specs.declared.Pair.{Pair}
 use Rattle.request.specs.declared.Request.{Request}
 use Rattle.request.specs.declared.Checked.{Checked}
 use Rattle.request.specs.Read.{readOf, pairFor}
-use Rattle.request.specs.Bytes.{asBytes, inEdition}
+use Rattle.request.specs.Bytes.{asBytes, inEdition, newVideo}
 use Rattle.request.proofs.Back.{there-and-back}
+use Rattle.request.proofs.Said.{new-video}
 use Rattle.request.proofs.Alone.{accepted-under-d}
 use Rattle.request.specs.Fits.{Fits}
 use Rattle.request.proofs.Fits as request
@@ -114,7 +115,7 @@ shown input buffer s f = shown-alike (inUse packets avi (toItsEnd (listOf input)
 -- the same request under D is accepted, and says the same but for its edition byte
 module _ (input image buffer : List ℕ) (f : Fine input image buffer) (b : Bytes input) where
   abbrev under : List ℕ
-  under = set input 7 0x00
+  under = newVideo (λ body. set body 6 0x00) input
 
   read-under : readOf under ≡ record { refusal = 0; request = inEdition 0x00 (readOf input .request) }
   unfolding asBytes
@@ -122,7 +123,8 @@ module _ (input image buffer : List ℕ) (f : Fine input image buffer) (b : Byte
       let r : Request = readOf input .request in
       let g : Fits r = request.fits input (f .read) in
       let back : asBytes r ≡ input = there-and-back .back input b (f .read) in
-      ap (λ (l : List ℕ). readOf (set l 7 0x00)) (sym back) ∙ accepted-under-d r (g .matrix) (g .video) (ap (λ (l : List ℕ). readOf l .refusal) back ∙ f .read)
+      ap (λ (l : List ℕ). readOf (newVideo (λ body. set body 6 0x00) l)) (sym back) ∙ ap readOf (new-video r (g .matrix) (λ body. set body 6 0x00))
+      ∙ accepted-under-d r (g .matrix) (g .video) (ap (λ (l : List ℕ). readOf l .refusal) back ∙ f .read)
 
   fine-under : Fine under image buffer
   fine-under =
@@ -204,12 +206,12 @@ readers input buffer s z =
     let g : Fits q = request.fits input (f .read) in
     record {
       shownToD = λ b.
-          let u : Fine (set input 7 0x00) (s .image) buffer = fine-under input (s .image) buffer f b in (
-            accepted (set input 7 0x00) (s .image) buffer u,
+          let u : Fine (under input (s .image) buffer f b) (s .image) buffer = fine-under input (s .image) buffer f b in (
+            accepted _ (s .image) buffer u,
             ap (λ (x : ByE). x .known) (shown input buffer s f)
                 ∙ editions (q .video) (g .video) .same
                 ∙ ap (λ (c : Checked). readByD (aviPacket (c .request .video))) (sym (read-under input (s .image) buffer f b))
-                ∙ sym (ap (λ (x : ByE). x .known) (shown (set input 7 0x00) buffer s u)),
+                ∙ sym (ap (λ (x : ByE). x .known) (shown _ buffer s u)),
           );
       shownToE =
           let x = shown input buffer s f ∙ editions (q .video) (g .video) .asked in

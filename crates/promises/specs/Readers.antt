@@ -7,6 +7,7 @@ use Rattle.matrix.specs.Matrix.{Bytes}
 use Rattle.video.specs.Video.{yccQuantisation, contentType}
 use Rattle.frames.specs.Editions.{ByE, readByD, readByE}
 use Rattle.request.specs.Read.{readOf}
+use Rattle.request.specs.Bytes.{newVideo}
 use Rattle.chip.specs.declared.Chip.{Chip}
 use Rattle.chip.specs.Machine.{avi, packets, inUse}
 use Rattle.plan.specs.Plan.{planOf}
@@ -16,7 +17,7 @@ use Rattle.promises.specs.AnyCut.{listOf}
 pub record TwoReaders (input buffer : List ℕ) (s : Chip) : Type 0 where
   -- request 11: "Shown to a reader that knows only D, an E packet yields the same colour, aspect and VIC": the packet then in use, and that of
   -- the same request with edition byte 0x00, which is accepted too; a reader that knows E finds what was asked
-  pub shownToD : Bytes input → let underD : List ℕ = set input 7 0x00 in
+  pub shownToD : Bytes input → let underD : List ℕ = newVideo (λ body. set body 6 0x00) input in
       (planOf underD (s .image) buffer .refusal ≡ 0)
       × (readByD (inUse packets avi (toItsEnd (listOf input) s)) ≡ readByD (inUse packets avi (toItsEnd (listOf underD) s)))
   pub shownToE : let found : ByE = readByE (inUse packets avi (toItsEnd (listOf input) s)) in

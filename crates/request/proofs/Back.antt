@@ -22,14 +22,14 @@ use Rattle.video.proofs.Bodies as video
 use Rattle.request.specs.declared.Request.{Request}
 use Rattle.request.specs.declared.Checked.{Checked}
 use Rattle.request.specs.Sections.{audioCount, matrixCount, Bodies, inTurn, byName, bodiesIn, Walk, ends, notAllowed, whole, walked}
-use Rattle.request.specs.Bytes.{laid, audioBody, matrixBody, asBytes, answeredAs, withVideo, asReadBack}
+use Rattle.request.specs.Bytes.{laid, audioBody, matrixBody, asBytes, answeredAs, asReadBack}
 use Rattle.request.specs.Walks.{Sectioned}
 use Rattle.request.specs.Request.{present, soundOf, requestIn}
 use Rattle.request.specs.Read.{audioOutside, outside, emptied, judged, checked, readOf}
 use Rattle.request.specs.Theorems.{Shaped, ThereAndBack}
 use Rattle.request.proofs.Opened.{sectioned, request-walks}
 use Rattle.request.proofs.Ordered.{both, passed}
-use Rattle.request.proofs.Said.{bytes-walked, said}
+use Rattle.request.proofs.Said.{new-video, said}
 use Rattle.request.proofs.Fits.{fits}
 
 none : (l : List ℕ) → length l ≡ 0 → l ≡ []
@@ -132,9 +132,7 @@ module _ (input : List ℕ) (bytes : Bytes input) where
 -- of an input as it is answered the video section alone is another
 reads-back : (r : Request) → Shaped (r .matrix) → asBytes (answeredAs r) ≡ asReadBack (asBytes r)
 unfolding asBytes
-reads-back r s =
-    let at : Walk → List ℕ = λ w. laid (inTurn (withVideo (videoBody (answered (videoIn (bodiesIn w .video)))) (bodiesIn w))) [] in
-    ap at (sym (bytes-walked r s))
+reads-back r s = sym (new-video r s (λ body. videoBody (answered (videoIn body))))
 
 pub there-and-back : ThereAndBack
 there-and-back =

@@ -23,7 +23,8 @@ use Rattle.request.specs.Sections.{Bodies, bodiesIn, Walk, ends, notAllo
 use Rattle.request.specs.Request.{Present, present, rate, channels, coherent, Outside, requestIn, requestOf, NoPair, pairRows, readRules}
 use Rattle.request.specs.Read.{emptied, bytesTests, fieldsTests, judged, checked, limited, pairIn, pairFor, readOf, nctsOf}
 use Rattle.request.specs.Theorems.{Rows}
-use Rattle.request.proofs.Ordered.{asks-given, read-given, asked-there, Judged, passed, full, is-outside}
+use Rattle.request.specs.Stages.{Stages}
+use Rattle.request.proofs.Ordered.{fields-given, limits-given, asks-given, read-given, asked-there, Judged, accepted, passing, passed, full, is-outside}
 
 -- where row 5 does not apply, the depth byte, the rate and the coherent byte of an audio section are in range
 in-range : (b : Bodies) → (Outside b → ⊥) → Present (b .audio) → PixelOutside (videoIn (b .video)) ⊎ (6 < rate (b .audio)) ⊎ (1 < coherent (b .audio)) → ⊥
@@ -134,4 +135,12 @@ rows input =
       said = λ z. asked-there w z .request;
       known = refl;
       none = beside w;
+    }
+
+pub stages : (b : Bodies) → Stages b
+stages b =
+    record {
+      fields = fields-given b;
+      limits = limits-given b;
+      pair = λ bytes z l. nine b _ bytes (accepted b (passing b z l));
     }

@@ -167,15 +167,17 @@ accepted b z =
       within = within-limit b (p .0) (ap (λ (r : Request). limitOf (r .video)) (sym (j .request)) ∙ p .1);
     }
 
--- and back: a request that no row refuses
+-- and back: where neither stage refuses, and so where no row applies
+pub passing : (b : Bodies) → judged b .refusal ≡ 0 → limitOf (videoIn (b .video)) ≡ 0 → limited (judged b) .refusal ≡ 0
+passing b z l =
+    numbered (λ (n : ℕ). n) (limitOf (judged b .request .video)) (λ (n : ℕ). n) (judged b .refusal)
+    (λ _. ap (λ (r : Request). limitOf (r .video)) (asked b z .request) ∙ l) refl
+    ∙ z
+
 pub not-refused : (b : Bodies) → offered (videoIn (b .video)) ≡ true → outside b ≡ false → combined b ≡ false → aboveLimit (tmds (videoIn (b .video))) ≡ false
     → limited (judged b) .refusal ≡ 0
 unfolding judged
-not-refused b o x c w =
-    let z : judged b .refusal ≡ 0 = rw (o, x, c) in
-    let l : limitOf (videoIn (b .video)) ≡ 0 = rw (limit-there b z, w) in
-    numbered (λ (n : ℕ). n) (limitOf (judged b .request .video)) (λ (n : ℕ). n) (judged b .refusal)
-    (λ _. ap (λ (r : Request). limitOf (r .video)) (asked b z .request) ∙ l) refl ∙ z
+not-refused b o x c w = let z : judged b .refusal ≡ 0 = rw (o, x, c) in passing b z (rw (limit-there b z, w))
 
 -- a walk that no row refuses: its request is what its bodies say, in a mode that is offered, with each field in range
 pub passed : (w : Walk) → limited (checked w) .refusal ≡ 0 → Judged (bodiesIn w) (limited (checked w))

@@ -8,6 +8,7 @@ use native.Mathlib.Omega.{arith}
 use lib.ListN.{length}
 use borrow.Author.Tests.{ne-eqb}
 use Rattle.lists.specs.Among.{among}
+use Rattle.video.specs.Video.{videoBody}
 use Rattle.matrix.specs.declared.Matrix.{Matrix}
 use Rattle.matrix.specs.Coefficient.{coefficientBytes}
 use Rattle.matrix.specs.Matrix.{matrixOf, noMatrix}
@@ -16,11 +17,11 @@ use Rattle.request.specs.declared.Sound.{Sound}
 use Rattle.request.specs.declared.Sound.the-variants.{Off, On}
 use Rattle.request.specs.declared.Request.{Request}
 use Rattle.request.specs.declared.Checked.{Checked}
-use Rattle.request.specs.Sections.{audioCount, matrixCount, inTurn, Walk, whole, walked, sections}
+use Rattle.request.specs.Sections.{audioCount, matrixCount, inTurn, bodiesIn, Walk, whole, walked, sections}
 use Rattle.request.specs.Walks.{fits}
 use Rattle.request.specs.Request.{present, soundOf, requestIn}
 use Rattle.request.specs.Read.{judged, checked, limited, readOf}
-use Rattle.request.specs.Bytes.{audioBody, matrixBody, bodiesOf, asBytes}
+use Rattle.request.specs.Bytes.{audioBody, matrixBody, bodiesOf, laid, asBytes, withVideo, newVideo}
 use Rattle.request.specs.Theorems.{Shaped}
 use Rattle.request.proofs.Walks.{walks}
 use Rattle.request.proofs.Ordered.{accepted}
@@ -52,6 +53,12 @@ module _ (r : Request) (s : Shaped (r .matrix)) where
   bytes-walked =
       let f : fits sections (inTurn (bodiesOf r)) ≡ true = rw (audio-counted (r .sound), matrix-counted (r .matrix) s) in
       walks sections (asBytes r) .whole (inTurn (bodiesOf r)) [] .1 (f, refl)
+
+  -- another video section in them
+  pub new-video : (f : List ℕ → List ℕ) → newVideo f (asBytes r) ≡ laid (inTurn (withVideo (f (videoBody (r .video))) (bodiesOf r))) []
+  new-video f =
+      let at : Walk → List ℕ = λ w. laid (inTurn (withVideo (f (bodiesIn w .video)) (bodiesIn w))) [] in
+      ap at bytes-walked
 
   -- reading the bytes of a request is judging its bodies
   pub read-judged : readOf (asBytes r) ≡ limited (judged (bodiesOf r))

@@ -54,6 +54,8 @@ answeredAs r = record { video = answered (r .video); sound = r .sound; matrix = 
 abbrev pub withVideo : List ℕ → Bodies → Bodies
 withVideo body b = record { video = body; audio = b .audio; matrix = b .matrix }
 
+abbrev pub newVideo : (List ℕ → List ℕ) → List ℕ → List ℕ
+newVideo f input = let b : Bodies = bodiesIn (walked input) in laid (inTurn (withVideo (f (b .video)) b)) []
+
 abbrev pub asReadBack : List ℕ → List ℕ
-asReadBack input =
-    let b : Bodies = bodiesIn (walked input) in laid (inTurn (withVideo (videoBody (answered (videoIn (b .video)))) b)) []
+asReadBack = newVideo (λ body. videoBody (answered (videoIn body)))

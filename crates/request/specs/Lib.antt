@@ -5,4 +5,5 @@ pub mod Request
 pub mod Read
 pub mod Bytes
 pub mod Theorems
+pub mod Stages
 pub mod Fits

@@ -8,12 +8,13 @@ use Prim.Native.Nat.{ℕ, _<_}
 use lib.Dec.{eqb}
 use lib.ListN.{getD, length}
 use Rattle.refusals.specs.Rows.{Condition, _when_}
-use Rattle.refusals.specs.Rows.{inputEnds, countNotAllowed, bytesAfter, modeNotOffered, fieldOutOfRange, combination, clockAbove, noExactPair}
+use Rattle.refusals.specs.Rows.{inputEnds, countNotAllowed, bytesAfter, modeNotOffered, fieldOutOfRange, combination, noExactPair}
 use Rattle.video.specs.declared.Video.{Video}
 use Rattle.video.specs.Video.{videoIn, VideoOutside, VideoCombined}
 use Rattle.video.specs.Modes.{offered}
-use Rattle.clock.specs.Clocks.{tmds, AboveLimit, clockOf}
-use Rattle.clock.specs.Pairs.{Exact}
+use Rattle.clock.specs.Clocks.{clockOf}
+use Rattle.clock.specs.Clocks as clock
+use Rattle.clock.specs.Pairs.{NoExact}
 use Rattle.matrix.specs.Matrix.{Allowed, matrixOf, noMatrix}
 use Rattle.request.specs.declared.Sound.{Sound}
 use Rattle.request.specs.declared.Sound.the-variants.{Off, On}
@@ -64,10 +65,10 @@ Combined b =
     let video : Video = videoIn (b .video) in
     ((video .encoding ≢ 0) × (length (b .matrix) ≡ 0)) ⊎ ((video .link ≡ 0) × Present (b .audio)) ⊎ VideoCombined video
 
--- row 9, "coherent audio, and no exact pair exists"
+-- row 9, "coherent audio, and no exact pair exists": without audio it does not apply
 abbrev pub NoPair : Video → Sound → Type 0
 NoPair video Off = ⊥
-NoPair video (On rate channels coherent) = (coherent ≡ 1) × ((n cts : ℕ) → Exact (clockOf video) rate n cts → ⊥)
+NoPair video (On rate channels coherent) = NoExact (clockOf video) rate coherent
 
 -- the stages: the bytes, by what the walk finds in the input; the fields, by the bodies; the limits and the pair, of the request
 abbrev pub bytesRows : Walk → List Condition
@@ -83,7 +84,7 @@ fieldsRows b =
     combination when Combined b ∷ []
 
 abbrev pub limitsRows : Request → List Condition
-limitsRows r = clockAbove when AboveLimit (tmds (r .video)) ∷ []
+limitsRows r = clock.limitsRows (r .video)
 
 abbrev pub pairRows : Request → List Condition
 pairRows r = noExactPair when NoPair (r .video) (r .sound) ∷ []

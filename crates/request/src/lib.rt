@@ -4,13 +4,14 @@ ghost use mathlib.Core.Bool.{not, _&&_};
 ghost use Prim.Native.Nat.{ℕ, _%_, _<_};
 ghost use lib.ListN.{length, getD};
 ghost use Rattle.matrix.specs.Tests.{isAllowed};
-ghost use Rattle.request.specs.Sections.{audioCount, sections, inTurn, walked, bodiesIn};
+ghost use Rattle.request.specs.Sections.{audioCount, sections, Bodies, inTurn, walked, bodiesIn};
 ghost use Rattle.request.specs.Walks.{Walks, RequestWalks};
 ghost use Rattle.request.specs.Places.{EndsAt, bodies};
 ghost use Rattle.request.specs.Request.{present, soundOf};
 ghost use Rattle.request.specs.Read.{audioOutside, outside, combined, emptied, judged, limitOf};
 ghost use Rattle.request.specs.Read.{Asks, readOf, Reads, Pairs, PairsInput};
 ghost use Rattle.request.specs.Theorems.{Rows, Lengths, ThereAndBack};
+ghost use Rattle.request.specs.Stages.{Stages};
 ghost use Rattle.request.specs.Fits.{Fits};
 ghost use mathlib.Core.List.{List, [], _∷_};
 use clock::Pair;
@@ -255,6 +256,11 @@ pub fn there_and_back()
 // The rows of a request, in document 01's order, and the request that is read.
 pub fn rows()
     ensures { λ _. ⌜ ((input : List ℕ) → Rows input) ⌝ }
+{}
+
+// What each stage of the rows gives, by itself.
+pub fn stages()
+    ensures { λ _. ⌜ ((b : Bodies) → Stages b) ⌝ }
 {}
 
 // What is known of an accepted request.
