@@ -19,9 +19,9 @@ pub fn any_chain()
 pub fn every_point()
     ensures { λ _. ⌜ ((ls : List Link) (s : Chip) → Chain ls s → Point ls s × ((k : ℕ) → Reached k ls s)) ⌝ }
 {
-    chip::step();
     chip::turn();
     decode::at_most_one();
+    cut::any_run();
     cut::fair_run();
     cut::mended_run();
     promises::demand_3();
@@ -37,9 +37,9 @@ pub fn last_finished()
     ensures { λ _. ⌜ ((ls : List Link) (s : Chip) → Chain ls s → (input room : List ℕ) (es : List Event)
         → Last input room es (left ls s) → Ended input room es ls s) ⌝ }
 {
-    chip::step();
     chip::turn();
     decode::at_most_one();
+    cut::any_run();
     cut::fair_run();
     cut::mended_run();
     promises::demand_3();
@@ -56,9 +56,9 @@ pub fn last_list()
     ensures { λ _. ⌜ ((ls : List Link) (s : Chip) → Chain ls s → (list : List ℕ) (ending : Request) (es : List Event)
         → Accepted (vendor list ending) (left ls s) → writesOf es ≡ pairsFor (vendor list ending) (left ls s) → EndedList ending es ls s) ⌝ }
 {
-    chip::step();
     chip::turn();
     decode::at_most_one();
+    cut::any_run();
     cut::fair_run();
     cut::mended_run();
     promises::demand_3();
