@@ -14,7 +14,7 @@ use Rattle.views.specs.Theorems.{LentSized, Entered, EnteredVsync}
 use Rattle.writes.specs.List.{ready}
 use Rattle.plan.specs.Plan.{planOf}
 use Rattle.decode.specs.Ends.{Ends}
-use Rattle.cut.specs.Run.{Event, run, cut, writesOf, allInUse, standing}
+use Rattle.cut.specs.Run.{Event, run, writesOf, allInUse, standing}
 use Rattle.cut.specs.Vsync.{Finished}
 use Rattle.promises.specs.Finished as field
 use Rattle.promises.specs.Rules.{asked, Demand2}

@@ -3,14 +3,13 @@ use mathlib.Core.Path.{_≡_, refl, sym, ap, ap₂, subst, _∙_}
 use mathlib.Core.Logic.{inl}
 use mathlib.Core.Bool.{Bool, true, false, cond}
 use mathlib.Core.List.{List, [], _∷_, _++_}
-use Prim.Native.Nat.{ℕ, _+_, _%_, _<_, _≤_}
-use native.Mathlib.Nat.{add-zero, mod-eq-of-lt}
+use Prim.Native.Nat.{ℕ, _+_, _%_, _<_}
+use native.Mathlib.Nat.{mod-eq-of-lt}
 use native.Mathlib.Omega.{arith}
-use lib.Dec.{eqb, lit<, lit≤}
-use lib.ListN.{length, getD, drop, length-drop}
-use lib.Seq.{length-take-le, getD-take, getD-drop, take-length}
+use lib.Dec.{eqb}
+use lib.ListN.{length, getD, drop}
+use lib.Seq.{take-length}
 use borrow.Author.Tests.{eqb-true}
-use Rattle.lists.proofs.Find.{next}
 use Rattle.bits.specs.Merge.{merge, under, bit}
 use Rattle.bits.proofs.Laws.{merge-small, merge-bit}
 use Rattle.bits.proofs.Fields.{low-same}
@@ -21,7 +20,7 @@ use Rattle.request.specs.Read.{readOf}
 use Rattle.chip.specs.declared.Chip.{Chip}
 use Rattle.chip.specs.Machine.{Write, Group, avi, audio, packets, registersOf, inUse, coefficients}
 use Rattle.plan.specs.Plan.{planOf}
-use Rattle.writes.specs.List.{byte, decided, written, isWritten, leftUp, finished, column, finishedImage}
+use Rattle.writes.specs.List.{byte, written, isWritten, finished, column, finishedImage}
 use Rattle.cut.specs.Run.{Event, run, standing}
 use Rattle.cut.specs.Vsync.{waited, Finished}
 use Rattle.cut.specs.Demand.{toItsEnd, After, Clauses, Same}
@@ -32,22 +31,6 @@ use Rattle.promises.specs.AnyCut.{listOf, Headed, AnyCut, EveryCut}
 use Rattle.chains.specs.Chain.{heads, wholeAs}
 use Rattle.chains.specs.Theorems.{Kept, Last}
 use Rattle.chains.proofs.Runs.{Ready}
-
--- a register of a group, by its place
-pub at-place : (g : Group) (image : List ℕ) (i : ℕ) → i < g .count → getD (registersOf g image) i 0 ≡ getD image (g .first + i) 0
-at-place g image i h = getD-take {A = ℕ} (g .count) (drop (g .first) image) i 0 h ∙ getD-drop (g .first) image i 0
-
--- a group by its first two registers and the rest
-module _ (g : Group) (image : List ℕ) (sized : length image ≡ 256) (inside : g .first + g .count ≤ 256) (two : 2 ≤ g .count) where
-  count : length (registersOf g image) ≡ g .count
-  count = length-take-le (g .count) (drop (g .first) image) (omega (arith, length-drop (g .first) image, sized, inside))
-
-  parted : registersOf g image ≡ getD (registersOf g image) 0 0 ∷ getD (registersOf g image) 1 0 ∷ drop 2 (registersOf g image)
-  parted =
-      let l : List ℕ = registersOf g image in
-      let a : l ≡ getD l 0 0 ∷ drop 1 l = next l 0 0 (omega (arith, count, two)) in
-      let b : drop 1 l ≡ getD l 1 0 ∷ drop 2 l = next l 1 0 (omega (arith, count, two)) in
-      a ∙ ap (λ (more : List ℕ). getD l 0 0 ∷ more) b
 
 -- ---- free bits
 
@@ -100,20 +83,20 @@ module _ (want : ℕ → ℕ) (image : List ℕ) where
   unfolding column
   sized = refl
 
-  -- the first two registers of a packet: the low bits are named, and the others free
+  -- a packet: its first two registers, whose low bits are named and whose others are free, and the rest
   abbrev Parts : Group → Type 0
   Parts g =
-      let v : ℕ = getD end (g .first + 0) 0 in
+      let v : ℕ = getD end (g .first) 0 in
       let c : ℕ = getD end (g .first + 1) 0 in
-      (v ≡ v % 8 + under (free (g .first + 0)) v) × (c ≡ c % 32 + under (free (g .first + 1)) c)
+      (registersOf g end ≡ v ∷ c ∷ drop 2 (registersOf g end)) × (v ≡ v % 8 + under (free (g .first)) v) × (c ≡ c % 32 + under (free (g .first + 1)) c)
 
   avi-parts : Parts avi
   unfolding column finished written isWritten classAt byte
-  avi-parts = (by-three _ (merge-small 8 _ _ _), by-five _ (merge-small 8 _ _ _))
+  avi-parts = (refl, by-three _ (merge-small 8 _ _ _), by-five _ (merge-small 8 _ _ _))
 
   audio-parts : Parts audio
   unfolding column finished written isWritten classAt byte
-  audio-parts = (by-three _ (merge-small 8 _ _ _), by-five _ (merge-small 8 _ _ _))
+  audio-parts = (refl, by-three _ (merge-small 8 _ _ _), by-five _ (merge-small 8 _ _ _))
 
 -- ---- an accepted request
 
@@ -154,27 +137,24 @@ module _ (every : EveryCut) (input room : List ℕ) (s : Chip) (z : planOf input
       (record { bits = λ a j. u .bits a j (length es); unwritten = λ a h. u .unwritten a (length es) })
 
   -- a packet, by its two first registers and the rest
-  packet-whole : (g : Group) (version count : ℕ) (rest : List ℕ) → g .first + g .count ≤ 256 → 2 ≤ g .count
-      → inUse packets g last ≡ registersOf g (last .image) → Headed version count (inUse packets g last) → drop 2 (inUse packets g last) ≡ rest
-      → Parts (asked input) (s .image) g → registersOf g its-end ≡ heads (g .first) version count (s .image) ++ rest
-  packet-whole g version count rest inside two stands headed tail parts =
+  packet-whole : (g : Group) (version count : ℕ) (rest : List ℕ) → inUse packets g last ≡ registersOf g (last .image)
+      → Headed version count (inUse packets g last) → drop 2 (inUse packets g last) ≡ rest → Parts (asked input) (s .image) g
+      → registersOf g its-end ≡ heads (g .first) version count (s .image) ++ rest
+  packet-whole g version count rest stands headed tail parts =
       let e : inUse packets g last ≡ registersOf g its-end = stands ∙ ap (registersOf g) its-last in
-      let h : Headed version count (registersOf g its-end) = subst (Headed version count) e headed in
-      let free-of : (a : ℕ) → under (free a) (getD its-end a 0) ≡ under (free a) (getD (s .image) a 0) =
+      let h = subst (Headed version count) (e ∙ parts .0) headed in
+      let kept-free : (a : ℕ) → under (free a) (getD its-end a 0) ≡ under (free a) (getD (s .image) a 0) =
       λ a. ap (λ (l : List ℕ). under (free a) (getD l a 0)) (sym its-last) ∙ frees s last kept a in
-      let v = at-place g its-end 0 (omega (arith, two)) in
-      let c = at-place g its-end 1 (omega (arith, two)) in
-      parted g its-end (sized (asked input) (s .image)) inside two
-      ∙ ap₂ (λ (x y : ℕ). x ∷ y ∷ drop 2 (registersOf g its-end))
-      (v ∙ parts .0 ∙ ap₂ (λ (m n : ℕ). m + n) (ap (λ (x : ℕ). x % 8) (sym v) ∙ h .0) (free-of (g .first + 0) ∙ ap (λ (a : ℕ). under (free a) (getD (s .image) a 0)) (add-zero (g .first))))
-      (c ∙ parts .1 ∙ ap₂ (λ (m n : ℕ). m + n) (ap (λ (x : ℕ). x % 32) (sym c) ∙ h .1) (free-of (g .first + 1)))
+      parts .0
+      ∙ ap₂ (λ (x y : ℕ). x ∷ y ∷ drop 2 (registersOf g its-end)) (parts .1 ∙ ap₂ (λ (m n : ℕ). m + n) (h .0) (kept-free (g .first)))
+      (parts .2 ∙ ap₂ (λ (m n : ℕ). m + n) (h .1) (kept-free (g .first + 1)))
       ∙ ap (λ (more : List ℕ). heads (g .first) version count (s .image) ++ more) (ap (drop 2) (sym e) ∙ tail)
 
   avi-whole : registersOf avi its-end ≡ wholeAs (s .image) r .avi
-  avi-whole = packet-whole avi 0x02 0x0D _ (lit≤ tt) (lit≤ tt) (after .avi) (any .headAvi) (any .newAvi) (avi-parts (asked input) (s .image))
+  avi-whole = packet-whole avi 0x02 0x0D _ (after .avi) (any .headAvi) (any .newAvi) (avi-parts (asked input) (s .image))
 
   audio-whole : registersOf audio its-end ≡ wholeAs (s .image) r .audio
-  audio-whole = packet-whole audio 0x01 0x0A _ (lit≤ tt) (lit≤ tt) (after .audio) (any .headAudio) (any .newAudio) (audio-parts (asked input) (s .image))
+  audio-whole = packet-whole audio 0x01 0x0A _ (after .audio) (any .headAudio) (any .newAudio) (audio-parts (asked input) (s .image))
 
   -- all three
   pub stands-whole : standing its-end ≡ wholeAs (s .image) r

@@ -10,7 +10,7 @@ use Rattle.chip.specs.Machine.{Write, held}
 use Rattle.chip.specs.Write.{vsyncOf}
 use Rattle.cut.specs.Run.{Event, write, vsync, happens, run, writesOf, Fair, IsFair}
 use Rattle.cut.specs.Vsync.{waits, Finished}
-use Rattle.cut.specs.AnyRun.{Good, AnyRun}
+use Rattle.cut.specs.AnyRun.{Good}
 use Rattle.cut.proofs.Erased.{Alike, alike-self, alike-write, alike-vsync, before-first}
 use Rattle.cut.proofs.Runs.{nothing-waits}
 use Rattle.cut.proofs.any_run.Statement.{statement}
