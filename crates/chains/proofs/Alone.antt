@@ -6,7 +6,8 @@ use Prim.Native.Nat.{ℕ, zero, suc, _+_, _≤_, _<_}
 use native.Mathlib.Nat.{add-zero, not-suc-le-zero, le-of-suc-le-suc}
 use native.Mathlib.Omega.{arith}
 use lib.Dec.{lit≤}
-use lib.ListN.{getD}
+use lib.ListN.{getD, drop}
+use lib.Seq.{getD-take, getD-drop}
 use borrow.Author.Tests.{ne-eqb}
 use Rattle.lists.proofs.Emit.{map-at}
 use Rattle.bits.specs.Merge.{merge, bit}
@@ -20,7 +21,11 @@ use Rattle.cut.specs.Run.{Event, run}
 use Rattle.promises.specs.Rules.{asked}
 use Rattle.promises.specs.AnyCut.{EveryCut}
 use Rattle.chains.specs.Theorems.{Last, NamedIn, Alike}
-use Rattle.chains.proofs.Whole.{at-place, its-registers, ended, its-coefficients}
+use Rattle.chains.proofs.Whole.{its-registers, ended, its-coefficients}
+
+-- a register of a group, by its place
+at-place : (g : Group) (image : List ℕ) (i : ℕ) → i < g .count → getD (registersOf g image) i 0 ≡ getD image (g .first + i) 0
+at-place g image i h = getD-take {A = ℕ} (g .count) (drop (g .first) image) i 0 h ∙ getD-drop (g .first) image i 0
 
 bit-zero : (j : ℕ) → bit j 0 ≡ 0
 bit-zero zero = refl

@@ -1,6 +1,6 @@
 -- Where a chain with its last link finished ends: the last request's, and nothing else but the free bits of the beginning. Assumes nothing.
-use mathlib.Core.Path.{_≡_, refl, sym, ap, subst, _∙_}
-use mathlib.Core.Bool.{Bool, true, false, not, _&&_}
+use mathlib.Core.Path.{_≡_, sym, ap, subst, _∙_}
+use mathlib.Core.Bool.{true}
 use mathlib.Core.List.{List, [], _∷_, _++_, map}
 use Prim.Native.Nat.{ℕ}
 use lib.ListN.{length}
@@ -8,14 +8,14 @@ use lib.Seq.{take-length}
 use Rattle.request.specs.declared.Request.{Request}
 use Rattle.request.specs.Read.{readOf, nctsOf}
 use Rattle.chip.specs.declared.Chip.{Chip}
-use Rattle.chip.specs.Machine.{Write, held}
+use Rattle.chip.specs.Machine.{Write}
 use Rattle.views.specs.Entry.{Lent}
 use Rattle.views.specs.Theorems.{LentSized, Entered, EnteredVsync}
 use Rattle.writes.specs.List.{ready}
 use Rattle.plan.specs.Plan.{planOf}
 use Rattle.decode.specs.Ends.{Ends}
-use Rattle.cut.specs.Run.{Event, run, cut, writesOf, allInUse, standing}
-use Rattle.cut.specs.Vsync.{waits, Finished}
+use Rattle.cut.specs.Run.{Event, run, writesOf, allInUse, standing}
+use Rattle.cut.specs.Vsync.{Finished}
 use Rattle.promises.specs.Finished as field
 use Rattle.promises.specs.Rules.{asked, Demand2}
 use Rattle.promises.specs.LentBytes.{pairsLeft, enteredCuts}
@@ -25,7 +25,7 @@ use Rattle.chains.specs.Chain.{Hand, plugin, vendor, Accepted, pairsFor,
 use Rattle.chains.specs.Chain as chain
 use Rattle.chains.specs.Theorems.{Kept, Last, Ended, EndedList}
 use Rattle.chains.proofs.Below.{Below}
-use Rattle.chains.proofs.Runs.{Ready, Near, near-self, nothing-waits}
+use Rattle.chains.proofs.Runs.{Ready, Near, near-self}
 use Rattle.chains.proofs.Whole.{planned-ready, pairs, stands-whole, done, its-registers, ended, whole-kept}
 use Rattle.chains.proofs.Vetted.{link-ready, list-after}
 use Rattle.chains.proofs.Points.{grown, goes-on, near-chain, start-ready, near-left, same-end, over-slices}
@@ -74,13 +74,6 @@ module _ (b : Below) (enter : (l : Lent) → LentSized l → (address value : �
       (λ j. record { avi = a .avi j; audio = a .audio j; matrix = a .matrix j }) ∙ ap standing (its-registers (b .every) input room es t l)
       ∙ stands-whole (b .every) input room t (l .accepted) ∙ whole-kept r s t (near-left b ls s c there .kept)
 
-  nothing : waits e ≡ false
-  nothing = go (held e) refl
-    where
-      go : (h : Bool) → held e ≡ h → (not h && e .waiting) ≡ false
-      go true q = refl
-      go false q = nothing-waits b (pairsLeft input (t .image) room) es t (there .whole) (l .finished) q
-
   pub last-ended : Ended input room es ls s
   last-ended = record {
     fields = subst (field.Finished r (nctsOf input)) (sym (its-registers (b .every) input room es t l)) (rules input room t .fields (l .accepted));
@@ -90,7 +83,7 @@ module _ (b : Below) (enter : (l : Lent) → LentSized l → (address value : �
     accepted = first;
     same = λ fs g. same-end b ls s c here (asked input) fs es
         (subst (λ (ws : List Write). Finished ws fs) (pairs (b .every) input room s first) g) (done (b .every) input room es t l);
-    idle = nothing;
+    idle = b .runs es t .idle (there .whole) (pairsLeft input (t .image) room) (l .finished);
     said = λ lent z at.
         let o = over-slices enter turn ls s lent z at in
         said input room t (l .accepted) (enteredCuts (map (λ l. l .run) ls) lent) (o .0) (o .1) .ended es (l .finished);

@@ -20,13 +20,14 @@ use Rattle.writes.specs.List.{finishedImage}
 use Rattle.plan.specs.Plan.{planOf}
 use Rattle.cut.specs.Run.{Event, write, vsync, happens, cut, writesOf, writesBy, InUse, standing}
 use Rattle.cut.specs.Vsync.{waits, turnedOver, old}
+use Rattle.cut.specs.AnyRun.{Good}
 use Rattle.cut.specs.Demand.{Cut, Clauses, Demand3}
 use Rattle.promises.specs.Rules.{asked}
 use Rattle.promises.specs.LentBytes.{pairsLeft}
 use Rattle.promises.specs.AnyCut.{listOf}
 use Rattle.chains.specs.Chain.{wholeAs, muteAfter}
 use Rattle.chains.proofs.Below.{Below}
-use Rattle.chains.proofs.Runs.{all-writes, Good, good}
+use Rattle.chains.proofs.Runs.{all-writes}
 use Rattle.chains.proofs.Whole.{any, pairs, stands-whole}
 
 -- ---- a group of a state, as it was, as it was after a Vsync, or new
@@ -185,7 +186,7 @@ module _ (b : Below) (input room : List ℕ) (u : Chip) (z : planOf input (u .im
 
     pub plugin-moved : Moved u c (wholeAs (u .image) (readOf input .request))
     plugin-moved = record {
-      good = let f = d .runs es (e ∙ left) .careful in good es u (f .fair) (f .taken);
+      good = let f = d .runs es (e ∙ left) .careful in λ k h. (f .fair k h, f .taken k h);
       three = subst (λ (new : InUse). Three u new (cut es u (c .place))) asked-new (here es (e ∙ left) (c .place));
       mutes = mute-here es (e ∙ left) (c .place);
     }

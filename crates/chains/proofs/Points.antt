@@ -26,6 +26,7 @@ use Rattle.vendor.specs.Found.{vetOf}
 use Rattle.vendor.specs.Theorems.{Vetted}
 use Rattle.cut.specs.Run.{Event, write, vsync, run, cut, writesOf, writesBy, InUse}
 use Rattle.cut.specs.Vsync.{waits, waited, Finished}
+use Rattle.cut.specs.AnyRun.{Good}
 use Rattle.cut.specs.Demand.{Cut, Same}
 use Rattle.promises.specs.LentBytes.{enters, entered, enteredCuts}
 use Rattle.promises.specs.AnyCut.{EveryCut}
@@ -34,7 +35,7 @@ use Rattle.chains.specs.Chain.{Hand, plugin, vendor, isPlugin, asks, Acc
 use Rattle.chains.specs.Chain.{muteAfter, muteBy, unopened}
 use Rattle.chains.specs.Theorems.{Next, AnyChain, Point, Reached}
 use Rattle.chains.proofs.Below.{Below}
-use Rattle.chains.proofs.Runs.{run-append, writes-append, Good, good-append, good-take, fairly, taken, Ready, Near, near-self, near-trans, near-good}
+use Rattle.chains.proofs.Runs.{run-append, writes-append, good-append, good-take, Ready, Near, near-self, near-trans}
 use Rattle.chains.proofs.Whole.{any, pairs, whole-kept}
 use Rattle.chains.proofs.Links.{OfThree, vsync-use, plugin-matrix}
 use Rattle.chains.proofs.Vetted.{link-ready, link-near, moved}
@@ -141,7 +142,7 @@ module _ (b : Below) where
 
   -- all that has happened in it is fair and taken, and so a list planned where it ends ends as one planned at the beginning
   chain-good : (ls : List Link) (s : Chip) → Chain ls s → Good (happened ls) s
-  chain-good [] s c = tt
+  chain-good [] s c = λ k h. absurd (not-suc-le-zero h)
   chain-good (l ∷ ls) s c =
       let es : List Event = l .run .events in
       good-append (take (l .run .place) es) (happened ls) s (good-take (l .run .place) es s (moved b l s (c .0) (c .1) .good))
@@ -154,7 +155,7 @@ module _ (b : Below) where
       let g : Good es s = chain-good ls s c in
       let there : cut es s (length es) ≡ left ls s = ap (λ (l : List Event). run l s) (take-length es) ∙ sym (left-run ls s) in
       subst (λ (t : Chip). Finished (writeList want (t .image)) gs → Same (run fs s) (run gs t)) there
-      (b .mended want es s (r .whole) (r .holds) (fairly es s g) (taken es s g) .again (length es) fs gs f)
+      (b .mended want es s (r .whole) (r .holds) (λ i h. g i h .0) (λ i h. g i h .1) .again (length es) fs gs f)
 
   -- ---- the mute
 

@@ -25,7 +25,7 @@ use Rattle.promises.specs.Rules.{asked}
 use Rattle.promises.specs.Vendors.{inputOf, Passing}
 use Rattle.chains.specs.Chain.{Hand, plugin, vendor, asks, Accepted, pairsFor, Link, after, wholeAs}
 use Rattle.chains.proofs.Below.{Below}
-use Rattle.chains.proofs.Runs.{good, good-take, Ready, Near, near-good, before-first, as-waited}
+use Rattle.chains.proofs.Runs.{waited-writes, Ready, Near, near-cut}
 use Rattle.chains.proofs.Whole.{sized, planned-ready, its-last}
 use Rattle.chains.proofs.Links.{Three, unmoved, Some, by-place, mute-of, open-of, muted-one, open-two, vsync-use, vsync-gc, Moved}
 use Rattle.chains.proofs.Links.{asked-new, plugin-moved}
@@ -91,7 +91,7 @@ module _ (b : Below) (list : List ℕ) (ending : Request) (u : Chip) (z : vetOf 
     stood g x i h = sym (vsync-use (b .turn) g x) ∙ h ∙ ap (registersOf g) (b .turn x .image ∙ i)
 
     here-list : Three u (standing (last .image)) t
-    here-list = by-place fs k (λ _. Three u (standing (last .image)) t) 0 (λ q. unmoved u (standing (last .image)) t (before-first b fs u k q)) (λ q.
+    here-list = by-place fs k (λ _. Three u (standing (last .image)) t) 0 (λ q. unmoved u (standing (last .image)) t (b .runs fs u .before k q)) (λ q.
         let a = p .anywhere fs e k (q .begun) (hi q) in
         record {
           avi = ⊎-elim inl (λ x. inr (inr (x ∙ stood avi last refl (p .ended .avi)))) (a .1);
@@ -102,10 +102,10 @@ module _ (b : Below) (list : List ℕ) (ending : Request) (u : Chip) (z : vetOf 
 
     pub vendor-moved : Moved u c (wholeAs (u .image) ending)
     vendor-moved = record {
-      good = as-waited b ws fs u (vetted-ready .whole) e (good (waited ws) u (p .careful .fair) (p .careful .taken));
+      good = b .runs (waited ws) u .anywhere (λ i h. (p .careful .fair i h, p .careful .taken i h)) fs (e ∙ sym (waited-writes ws));
       three = subst (λ (new : InUse). Three u new t) ending-new here-list;
       mutes = by-place fs k (λ m. mute t ≡ m) (mute u)
-          (λ q. ⊎-elim (λ x. ap mute x) (λ x. ap mute x ∙ mute-of (vsyncOf u) u (vsync-gc (b .turn) u)) (before-first b fs u k q))
+          (λ q. ⊎-elim (λ x. ap mute x) (λ x. ap mute x ∙ mute-of (vsyncOf u) u (vsync-gc (b .turn) u)) (b .runs fs u .before k q))
           (λ q. muted-one t (p .anywhere fs e k (q .begun) (hi q) .0))
           (λ lo q. mute-of t (vsyncOf t) (sym (vsync-gc (b .turn) t)) ∙ open-two (vsyncOf t) (p .anyEnd (take k fs) (q ∙ e) .1 .opened));
     }
@@ -135,6 +135,4 @@ module _ (b : Below) where
       go (vendor list ending) a e = vendor-moved b list ending u (a .0) (a .1) (l .run) e
 
   pub link-near : (l : Link) (u : Chip) → Accepted (l .hand) u → writesOf (l .run .events) ≡ pairsFor (l .hand) u → Near u (after l u)
-  link-near l u a e =
-      let c : Cut = l .run in
-      near-good b (take (c .place) (c .events)) u (link-ready (l .hand) u a) (good-take (c .place) (c .events) u (moved l u a e .good))
+  link-near l u a e = near-cut b (l .run .events) u (l .run .place) (link-ready (l .hand) u a) (moved l u a e .good)

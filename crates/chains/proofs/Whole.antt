@@ -3,14 +3,13 @@ use mathlib.Core.Path.{_≡_, refl, sym, ap, ap₂, subst, _∙_}
 use mathlib.Core.Logic.{inl}
 use mathlib.Core.Bool.{Bool, true, false, cond}
 use mathlib.Core.List.{List, [], _∷_, _++_}
-use Prim.Native.Nat.{ℕ, _+_, _%_, _<_, _≤_}
+use Prim.Native.Nat.{ℕ, _+_, _%_, _<_}
 use native.Mathlib.Nat.{mod-eq-of-lt}
 use native.Mathlib.Omega.{arith}
-use lib.Dec.{eqb, lit<, lit≤}
-use lib.ListN.{length, getD, drop, length-drop}
-use lib.Seq.{length-take-le, getD-take, getD-drop}
+use lib.Dec.{eqb}
+use lib.ListN.{length, getD, drop}
+use lib.Seq.{take-length}
 use borrow.Author.Tests.{eqb-true}
-use Rattle.lists.proofs.Find.{next}
 use Rattle.bits.specs.Merge.{merge, under, bit}
 use Rattle.bits.proofs.Laws.{merge-small, merge-bit}
 use Rattle.bits.proofs.Fields.{low-same}
@@ -21,7 +20,7 @@ use Rattle.request.specs.Read.{readOf}
 use Rattle.chip.specs.declared.Chip.{Chip}
 use Rattle.chip.specs.Machine.{Write, Group, avi, audio, packets, registersOf, inUse, coefficients}
 use Rattle.plan.specs.Plan.{planOf}
-use Rattle.writes.specs.List.{byte, decided, written, isWritten, leftUp, finished, column, finishedImage}
+use Rattle.writes.specs.List.{byte, written, isWritten, finished, column, finishedImage}
 use Rattle.cut.specs.Run.{Event, run, standing}
 use Rattle.cut.specs.Vsync.{waited, Finished}
 use Rattle.cut.specs.Demand.{toItsEnd, After, Clauses, Same}
@@ -33,46 +32,49 @@ use Rattle.chains.specs.Chain.{heads, wholeAs}
 use Rattle.chains.specs.Theorems.{Kept, Last}
 use Rattle.chains.proofs.Runs.{Ready}
 
--- a register of a group, by its place
-pub at-place : (g : Group) (image : List ℕ) (i : ℕ) → i < g .count → getD (registersOf g image) i 0 ≡ getD image (g .first + i) 0
-at-place g image i h = getD-take {A = ℕ} (g .count) (drop (g .first) image) i 0 h ∙ getD-drop (g .first) image i 0
+-- ---- free bits
 
--- a group by its first two registers and the rest
-module _ (g : Group) (image : List ℕ) (sized : length image ≡ 256) (inside : g .first + g .count ≤ 256) (two : 2 ≤ g .count) where
-  count : length (registersOf g image) ≡ g .count
-  count = length-take-le (g .count) (drop (g .first) image) (omega (arith, length-drop (g .first) image, sized, inside))
+under-same : (m x y : ℕ) → ((j : ℕ) → j < 8 → bit j m ≡ 1 → bit j x ≡ bit j y) → under m x ≡ under m y
+under-same m x y same =
+    sym (mod-eq-of-lt (merge-small 8 m x 0))
+    ∙ low-same 8 (under m x) (under m y)
+    (λ j h. merge-bit 8 j m x 0 h ∙ go j h (eqb (bit j m) 1) refl ∙ sym (merge-bit 8 j m y 0 h))
+    ∙ mod-eq-of-lt (merge-small 8 m y 0)
+  where
+    go : (j : ℕ) → j < 8 → (b : Bool) → eqb (bit j m) 1 ≡ b → cond b (bit j x) (bit j 0) ≡ cond b (bit j y) (bit j 0)
+    go j h true e = same j h (eqb-true (bit j m) 1 e)
+    go j h false e = refl
 
-  parted : registersOf g image ≡ getD (registersOf g image) 0 0 ∷ getD (registersOf g image) 1 0 ∷ drop 2 (registersOf g image)
-  parted =
-      let l : List ℕ = registersOf g image in
-      let a : l ≡ getD l 0 0 ∷ drop 1 l = next l 0 0 (omega (arith, count, two)) in
-      let b : drop 1 l ≡ getD l 1 0 ∷ drop 2 l = next l 1 0 (omega (arith, count, two)) in
-      a ∙ ap (λ (more : List ℕ). getD l 0 0 ∷ more) b
+frees : (s t : Chip) → Kept s t → (a : ℕ) → under (free a) (getD (t .image) a 0) ≡ under (free a) (getD (s .image) a 0)
+frees s t kept a = under-same (free a) (getD (t .image) a 0) (getD (s .image) a 0) (λ j h f. kept .bits a j h (inl f))
 
--- a byte whose low bits are named and whose other bits are free, by its low bits
-no-mask : (a b : ℕ) → merge 8 0 a b ≡ b % 256
+-- a request asks the same beside the same free bits
+pub whole-kept : (r : Request) (s t : Chip) → Kept s t → wholeAs (t .image) r ≡ wholeAs (s .image) r
+whole-kept r s t kept =
+    let head : (first version count : ℕ) → heads first version count (t .image) ≡ heads first version count (s .image) =
+    λ first version count. ap₂ (λ (m n : ℕ). (version + m) ∷ (count + n) ∷ []) (frees s t kept first) (frees s t kept (first + 1)) in
+    λ j. record {
+      avi = head 0x52 0x02 0x0D j ++ drop 3 (aviFrame (r .video));
+      audio = head 0x70 0x01 0x0A j ++ drop 3 (audioPacket (r .sound));
+      matrix = r .matrix .coefficients;
+    }
+
+-- a byte by its low bits and the others
+low : (x y : ℕ) → merge 8 0xF8 x y ≡ y % 8 + under 0xF8 x
 unfolding merge
-no-mask a b = omega arith
+low x y = omega arith
 
-high-five : (a b : ℕ) → (merge 8 0xF8 a b ≡ b % 8 + merge 8 0xF8 a 0) × (merge 8 0xF8 a 0 % 8 ≡ 0)
+both : (x : ℕ) → merge 8 0xF8 x x ≡ x % 256
 unfolding merge
-high-five a b = (omega arith, omega arith)
+both x = omega arith
 
-high-three : (a b : ℕ) → (merge 8 0xE0 a b ≡ b % 32 + merge 8 0xE0 a 0) × (merge 8 0xE0 a 0 % 32 ≡ 0)
+by-three : (x : ℕ) → x < 256 → x ≡ x % 8 + under 0xF8 x
+by-three x h = omega (arith, h, low x x, both x)
+
+by-five : (x : ℕ) → x < 256 → x ≡ x % 32 + under 0xE0 x
 unfolding merge
-high-three a b = (omega arith, omega arith)
+by-five x h = omega (arith, h)
 
-low-three : (old b n : ℕ) → merge 8 0 old (merge 8 0xF8 old b) % 8 ≡ n → merge 8 0 old (merge 8 0xF8 old b) ≡ n + merge 8 0xF8 old 0
-low-three old b n h =
-    let p = high-five old b in
-    omega (arith, h, no-mask old (merge 8 0xF8 old b), p .0, p .1, merge-small 8 0xF8 old b)
-
-low-five : (old b n : ℕ) → merge 8 0 old (merge 8 0xE0 old b) % 32 ≡ n → merge 8 0 old (merge 8 0xE0 old b) ≡ n + merge 8 0xE0 old 0
-low-five old b n h =
-    let p = high-three old b in
-    omega (arith, h, no-mask old (merge 8 0xE0 old b), p .0, p .1, merge-small 8 0xE0 old b)
-
--- the first two registers of a packet in the finished image
 module _ (want : ℕ → ℕ) (image : List ℕ) where
   abbrev end : List ℕ
   end = finishedImage want image
@@ -81,15 +83,20 @@ module _ (want : ℕ → ℕ) (image : List ℕ) where
   unfolding column
   sized = refl
 
-  avi-heads : (version count : ℕ) → getD end 0x52 0 % 8 ≡ version → getD end 0x53 0 % 32 ≡ count
-      → (getD end 0x52 0 ≡ version + under (free 0x52) (getD image 0x52 0)) × (getD end 0x53 0 ≡ count + under (free 0x53) (getD image 0x53 0))
-  unfolding column finished written isWritten decided classAt byte
-  avi-heads version count v c = (low-three (getD image 0x52 0) _ version v, low-five (getD image 0x53 0) _ count c)
+  -- a packet: its first two registers, whose low bits are named and whose others are free, and the rest
+  abbrev Parts : Group → Type 0
+  Parts g =
+      let v : ℕ = getD end (g .first) 0 in
+      let c : ℕ = getD end (g .first + 1) 0 in
+      (registersOf g end ≡ v ∷ c ∷ drop 2 (registersOf g end)) × (v ≡ v % 8 + under (free (g .first)) v) × (c ≡ c % 32 + under (free (g .first + 1)) c)
 
-  audio-heads : (version count : ℕ) → getD end 0x70 0 % 8 ≡ version → getD end 0x71 0 % 32 ≡ count
-      → (getD end 0x70 0 ≡ version + under (free 0x70) (getD image 0x70 0)) × (getD end 0x71 0 ≡ count + under (free 0x71) (getD image 0x71 0))
-  unfolding column finished written isWritten decided classAt byte
-  audio-heads version count v c = (low-three (getD image 0x70 0) _ version v, low-five (getD image 0x71 0) _ count c)
+  avi-parts : Parts avi
+  unfolding column finished written isWritten classAt byte
+  avi-parts = (refl, by-three _ (merge-small 8 _ _ _), by-five _ (merge-small 8 _ _ _))
+
+  audio-parts : Parts audio
+  unfolding column finished written isWritten classAt byte
+  audio-parts = (refl, by-three _ (merge-small 8 _ _ _), by-five _ (merge-small 8 _ _ _))
 
 -- ---- an accepted request
 
@@ -122,29 +129,32 @@ module _ (every : EveryCut) (input room : List ℕ) (s : Chip) (z : planOf input
   pub its-last : last .image ≡ its-end
   its-last = clauses .registers
 
+  kept : Kept s last
+  kept =
+      let es : List Event = waited (listOf input (s .image)) in
+      let u = clauses .untouched in
+      subst (Kept s) (ap (λ (l : List Event). run l s) (take-length es))
+      (record { bits = λ a j. u .bits a j (length es); unwritten = λ a h. u .unwritten a (length es) })
+
   -- a packet, by its two first registers and the rest
-  packet-whole : (g : Group) (version count : ℕ) (rest : List ℕ) → g .first + g .count ≤ 256 → 2 ≤ g .count
-      → inUse packets g last ≡ registersOf g (last .image) → Headed version count (inUse packets g last) → drop 2 (inUse packets g last) ≡ rest
-      → (getD its-end (g .first + 0) 0 % 8 ≡ version → getD its-end (g .first + 1) 0 % 32 ≡ count
-      → (getD its-end (g .first + 0) 0 ≡ version + under (free (g .first)) (getD (s .image) (g .first) 0))
-      × (getD its-end (g .first + 1) 0 ≡ count + under (free (g .first + 1)) (getD (s .image) (g .first + 1) 0)))
+  packet-whole : (g : Group) (version count : ℕ) (rest : List ℕ) → inUse packets g last ≡ registersOf g (last .image)
+      → Headed version count (inUse packets g last) → drop 2 (inUse packets g last) ≡ rest → Parts (asked input) (s .image) g
       → registersOf g its-end ≡ heads (g .first) version count (s .image) ++ rest
-  packet-whole g version count rest inside two stands headed tail byBytes =
+  packet-whole g version count rest stands headed tail parts =
       let e : inUse packets g last ≡ registersOf g its-end = stands ∙ ap (registersOf g) its-last in
-      let h : Headed version count (registersOf g its-end) = subst (Headed version count) e headed in
-      let v = at-place g its-end 0 (omega (arith, two)) in
-      let c = at-place g its-end 1 (omega (arith, two)) in
-      let b = byBytes (ap (λ (x : ℕ). x % 8) (sym v) ∙ h .0) (ap (λ (x : ℕ). x % 32) (sym c) ∙ h .1) in
-      parted g its-end (sized (asked input) (s .image)) inside two
-      ∙ ap₂ (λ (x y : ℕ). x ∷ y ∷ drop 2 (registersOf g its-end)) (v ∙ b .0) (c ∙ b .1)
+      let h = subst (Headed version count) (e ∙ parts .0) headed in
+      let kept-free : (a : ℕ) → under (free a) (getD its-end a 0) ≡ under (free a) (getD (s .image) a 0) =
+      λ a. ap (λ (l : List ℕ). under (free a) (getD l a 0)) (sym its-last) ∙ frees s last kept a in
+      parts .0
+      ∙ ap₂ (λ (x y : ℕ). x ∷ y ∷ drop 2 (registersOf g its-end)) (parts .1 ∙ ap₂ (λ (m n : ℕ). m + n) (h .0) (kept-free (g .first)))
+      (parts .2 ∙ ap₂ (λ (m n : ℕ). m + n) (h .1) (kept-free (g .first + 1)))
       ∙ ap (λ (more : List ℕ). heads (g .first) version count (s .image) ++ more) (ap (drop 2) (sym e) ∙ tail)
 
   avi-whole : registersOf avi its-end ≡ wholeAs (s .image) r .avi
-  avi-whole = packet-whole avi 0x02 0x0D _ (lit≤ tt) (lit≤ tt) (after .avi) (any .headAvi) (any .newAvi) (avi-heads (asked input) (s .image) 0x02 0x0D)
+  avi-whole = packet-whole avi 0x02 0x0D _ (after .avi) (any .headAvi) (any .newAvi) (avi-parts (asked input) (s .image))
 
   audio-whole : registersOf audio its-end ≡ wholeAs (s .image) r .audio
-  audio-whole = packet-whole audio 0x01 0x0A _ (lit≤ tt) (lit≤ tt) (after .audio) (any .headAudio) (any .newAudio)
-      (audio-heads (asked input) (s .image) 0x01 0x0A)
+  audio-whole = packet-whole audio 0x01 0x0A _ (after .audio) (any .headAudio) (any .newAudio) (audio-parts (asked input) (s .image))
 
   -- all three
   pub stands-whole : standing its-end ≡ wholeAs (s .image) r
@@ -177,28 +187,3 @@ module _ (every : EveryCut) (input room : List ℕ) (es : List Event) (t : Chip)
       let d = its .demand in
       let same : Same (toItsEnd (listOf input) t) (run es t) = d .again [] (d .none) (waited (listOf input (t .image))) es (d .waits) done in
       same .matrix ∙ its .newMatrix
-
--- ---- the same with the free bits of the same
-
-under-same : (m x y : ℕ) → ((j : ℕ) → j < 8 → bit j m ≡ 1 → bit j x ≡ bit j y) → under m x ≡ under m y
-under-same m x y same =
-    sym (mod-eq-of-lt (merge-small 8 m x 0))
-    ∙ low-same 8 (under m x) (under m y)
-    (λ j h. merge-bit 8 j m x 0 h ∙ go j h (eqb (bit j m) 1) refl ∙ sym (merge-bit 8 j m y 0 h))
-    ∙ mod-eq-of-lt (merge-small 8 m y 0)
-  where
-    go : (j : ℕ) → j < 8 → (b : Bool) → eqb (bit j m) 1 ≡ b → cond b (bit j x) (bit j 0) ≡ cond b (bit j y) (bit j 0)
-    go j h true e = same j h (eqb-true (bit j m) 1 e)
-    go j h false e = refl
-
-pub whole-kept : (r : Request) (s t : Chip) → Kept s t → wholeAs (t .image) r ≡ wholeAs (s .image) r
-whole-kept r s t kept =
-    let frees : (a : ℕ) → under (free a) (getD (t .image) a 0) ≡ under (free a) (getD (s .image) a 0) =
-    λ a. under-same (free a) (getD (t .image) a 0) (getD (s .image) a 0) (λ j h f. kept .bits a j h (inl f)) in
-    let head : (first version count : ℕ) → heads first version count (t .image) ≡ heads first version count (s .image) =
-    λ first version count. ap₂ (λ (m n : ℕ). (version + m) ∷ (count + n) ∷ []) (frees first) (frees (first + 1)) in
-    λ j. record {
-      avi = head 0x52 0x02 0x0D j ++ drop 3 (aviFrame (r .video));
-      audio = head 0x70 0x01 0x0A j ++ drop 3 (audioPacket (r .sound));
-      matrix = r .matrix .coefficients;
-    }

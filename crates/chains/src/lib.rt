@@ -13,9 +13,9 @@ pub fn any_chain()
 pub fn every_point()
     ensures { λ _. ⌜ EveryPoint ⌝ }
 {
-    chip::step();
     chip::turn();
     decode::at_most_one();
+    cut::any_run();
     cut::fair_run();
     cut::mended_run();
     promises::demand_3();
@@ -30,9 +30,9 @@ pub fn every_point()
 pub fn last_finished()
     ensures { λ _. ⌜ LastFinished ⌝ }
 {
-    chip::step();
     chip::turn();
     decode::at_most_one();
+    cut::any_run();
     cut::fair_run();
     cut::mended_run();
     promises::demand_3();
@@ -48,9 +48,9 @@ pub fn last_finished()
 pub fn last_list()
     ensures { λ _. ⌜ LastList ⌝ }
 {
-    chip::step();
     chip::turn();
     decode::at_most_one();
+    cut::any_run();
     cut::fair_run();
     cut::mended_run();
     promises::demand_3();

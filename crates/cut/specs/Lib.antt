@@ -1,5 +1,6 @@
 pub mod Run
 pub mod Vsync
+pub mod AnyRun
 pub mod Room
 pub mod Retried
 pub mod Demand

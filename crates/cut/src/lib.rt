@@ -7,6 +7,7 @@ ghost use lib.ListN.{length};
 ghost use Rattle.chip.specs.declared.Chip.{Chip};
 ghost use Rattle.writes.specs.List.{fullList, writeList, ready};
 ghost use Rattle.cut.specs.Run.{Event, event, happens, cut, writesOf, IsFair, Untouched};
+ghost use Rattle.cut.specs.AnyRun.{AnyRun};
 ghost use Rattle.cut.specs.Room.{Room};
 ghost use Rattle.cut.specs.Retried.{Retried};
 ghost use Rattle.cut.specs.Demand.{Demand3};
@@ -63,4 +64,9 @@ pub fn mended_run()
 pub fn retried_run()
     ensures { λ _. ⌜ ((es : List Event) (s : Chip) → length (s .image) ≡ 256
         → ((k : ℕ) → k < length es → happens (event es k) (cut es s k) .refusal ≡ 0) → (n : ℕ → ℕ) → Retried n es s) ⌝ }
+{}
+
+// A run of any list, whoever made it, wherever Vsyncs come.
+pub fn any_run()
+    ensures { λ _. ⌜ ((es : List Event) (s : Chip) → AnyRun es s) ⌝ }
 {}

@@ -4,12 +4,9 @@ use Rattle.chains.proofs.Points.{any-chain}
 use Rattle.chains.proofs.any_chain.Statement.{statement}
 use Rattle.chains.proofs.any_chain.Tie as tie
 
-demand-3-requires : tie.Need-demand-3-requires
-demand-3-requires c κs = search needs
-
 returns : tie.Need-returns
 returns c =
     any-chain (c .demand-3 .ensures)
 
 pub any-chain-spec : {M : Type 1} → statement M
-any-chain-spec = tie.close (tie.spec demand-3-requires returns)
+any-chain-spec = tie.close (tie.spec (λ c κs. search needs) returns)

@@ -5,18 +5,9 @@ use Rattle.chains.proofs.Alone.{alone}
 use Rattle.chains.proofs.last_alone.Statement.{statement}
 use Rattle.chains.proofs.last_alone.Tie as tie
 
-demand-3-requires : tie.Need-demand-3-requires
-demand-3-requires c κs = search needs
-
-touched-requires : tie.Need-touched-requires
-touched-requires c κs = search needs
-
-rule-requires : tie.Need-rule-requires
-rule-requires c κs = search needs
-
 returns : tie.Need-returns
 returns c =
     λ ls ms s t d e. alone (c .before .before .demand-3 .ensures) (c .before .touched .ensures) (c .rule .ensures) (left ls s) (left ms t)
 
 pub last-alone-spec : {M : Type 1} → statement M
-last-alone-spec = tie.close (tie.spec demand-3-requires touched-requires rule-requires returns)
+last-alone-spec = tie.close (tie.spec (λ c κs. search needs) (λ c κs. search needs) (λ c κs. search needs) returns)
