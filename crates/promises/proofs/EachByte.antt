@@ -14,8 +14,6 @@ use Rattle.lists.proofs.Among.{stands}
 use Rattle.lists.proofs.Find.{every-at}
 use Rattle.lists.proofs.Both.{both-left, both-right, beq-true}
 use Rattle.bits.proofs.Below.{below, at-below}
-use Rattle.refusals.specs.Rows.{lowest}
-use Rattle.refusals.proofs.Tests.{numbered}
 use Rattle.ratio.specs.Lowest.{steps, divisorOf}
 use Rattle.video.specs.declared.Video.{Video}
 use Rattle.video.specs.Video.{videoIn}
@@ -28,11 +26,13 @@ use Rattle.matrix.specs.Matrix.{Bytes}
 use Rattle.matrix.specs.Tests.{within, inRange, isAllowed}
 use Rattle.request.specs.declared.Checked.{Checked}
 use Rattle.request.specs.declared.Request.{Request}
-use Rattle.request.specs.Sections.{sections, Walk, fits, laid, whole, walked}
+use Rattle.request.specs.Sections.{sections, Bodies, Walk, whole, walked}
+use Rattle.request.specs.Walks.{fits}
+use Rattle.request.specs.Bytes.{laid}
 use Rattle.request.specs.Request.{present, requestIn}
-use Rattle.request.specs.Read.{emptied, audioOutside, outside, combined, bodyTests, judged, checked, readOf, pairFor, nctsOf}
+use Rattle.request.specs.Read.{audioOutside, outside, combined, judged, checked, limited, readOf, pairFor, nctsOf}
 use Rattle.request.proofs.Walks.{walks}
-use Rattle.request.proofs.Ordered.{accepted}
+use Rattle.request.proofs.Ordered.{limit-there, accepted}
 use Rattle.promises.specs.EachByte.{inTheirs, inNone, vics, depthBytes, editionBytes, bitsUnderD, videoBytes, soundBytes}
 use Rattle.promises.specs.EachByte.{modes, highBytes, highInside, matrixInside, together, tooFast, noPair, bytesOf, answerTo, pairTo, Answers, EachByte}
 
@@ -237,12 +237,18 @@ module _ (vic family encoding link range pixel edition : ℕ) (sound matrix : Li
     abbrev input : List ℕ
     input = bytesOf vic family encoding link range pixel edition sound matrix
 
-    read-judged : readOf input ≡ judged asked sound matrix
+    abbrev asking : List ℕ → Bodies
+    asking x = record { video = vic ∷ family ∷ five; audio = x; matrix = matrix }
+
+    abbrev b : Bodies
+    b = asking sound
+
+    read-judged : readOf input ≡ limited (judged b)
     unfolding readOf walked
     read-judged =
         let bodies : List (List ℕ) = (vic ∷ family ∷ five) ∷ sound ∷ matrix ∷ [] in
         let f : fits sections bodies ≡ true = rw (s, m) in
-        ap checked (walks sections input .whole bodies [] .1 (f, rw (append-nil matrix)))
+        ap (λ (w : Walk). limited (checked w)) (walks sections input .whole bodies [] .1 (f, rw (append-nil matrix)))
 
     abbrev inside : Bool
     inside = inTheirs videoBytes five && (inTheirs soundBytes sound && matrixInside matrix)
@@ -252,7 +258,7 @@ module _ (vic family encoding link range pixel edition : ℕ) (sound matrix : Li
     not-all true false c = refl
     not-all true true c = refl
 
-    is-inside : outside asked sound matrix ≡ not inside
+    is-inside : outside b ≡ not inside
     unfolding outside
     is-inside =
         rw (video-inside vic family encoding link range pixel edition h, sound-inside sound s hs, matrix-inside matrix m hm)
@@ -263,7 +269,7 @@ module _ (vic family encoding link range pixel edition : ℕ) (sound matrix : Li
         let t = both-right (among range (0 ∷ 1 ∷ [])) _ (both-right (among link (0 ∷ 1 ∷ [])) _ (both-right (among encoding (0 ∷ 1 ∷ 2 ∷ [])) _ i)) in
         both-left (among pixel depthBytes) _ t
 
-    goes-together : inTheirs videoBytes five ≡ true → combined asked sound matrix ≡ inNone together (five ++ (length sound ∷ length matrix ∷ []))
+    goes-together : inTheirs videoBytes five ≡ true → combined b ≡ inNone together (five ++ (length sound ∷ length matrix ∷ []))
     unfolding combined videoCombined shownCombined
     goes-together i =
         let t = chosen videoBytes (λ five. choices ((0 ∷ 3 ∷ []) ∷ (0 ∷ 25 ∷ []) ∷ []) (apart five)) five refl all-apart i in
@@ -279,19 +285,27 @@ module _ (vic family encoding link range pixel edition : ℕ) (sound matrix : Li
         (both-right (choices (vics 0 ∷ depthBytes ∷ []) (fast 0)) _ all-fast) (rw (o, p))))
     too-fast (suc (suc n)) e o p = absurd (false≢true o)
 
+    -- past 4 and 5: 6 by what goes together, and else 17 by the clock
+    last-two : among vic (vics family) ≡ true → inside ≡ true → (c : Bool) → combined b ≡ c
+        → limited (judged b) .refusal ≡ cond c 6 (cond (not (inNone tooFast (vic ∷ pixel ∷ []))) 17 0)
+    unfolding judged
+    last-two o i true k = rw (offers vic family (h 0) ∙ o, is-inside ∙ ap not i, k)
+    last-two o i false k =
+        let z : judged b .refusal ≡ 0 = rw (offers vic family (h 0) ∙ o, is-inside ∙ ap not i, k) in
+        let v = both-left (inTheirs videoBytes five) _ i in
+        let l : eqb (clockOf asked .refusal) 17 ≡ not (inNone tooFast (vic ∷ pixel ∷ [])) = limit-there b z ∙ too-fast family refl o (its-depth v) in
+        rw (offers vic family (h 0) ∙ o, is-inside ∙ ap not i, k) (ap (λ (t : Bool). cond t 17 0) l)
+
     read : readOf input .refusal ≡ answerTo vic family encoding link range pixel edition sound matrix
     unfolding judged
-    read = ap (λ (c : Checked). c .refusal) read-judged ∙ numbered emptied _ (λ c. c .refusal) (lowest (bodyTests asked sound matrix)) (λ _. refl) refl
-        ∙ go (among vic (vics family)) refl inside refl
+    read = ap (λ (c : Checked). c .refusal) read-judged ∙ go (among vic (vics family)) refl inside refl
       where
-        go : (a : Bool) → among vic (vics family) ≡ a → (b : Bool) → inside ≡ b → lowest (bodyTests asked sound matrix)
-            ≡ cond (not a) 4 (cond (not b) 5
+        go : (a : Bool) → among vic (vics family) ≡ a → (i : Bool) → inside ≡ i → limited (judged b) .refusal
+            ≡ cond (not a) 4 (cond (not i) 5
             (cond (inNone together (five ++ (length sound ∷ length matrix ∷ []))) 6 (cond (not (inNone tooFast (vic ∷ pixel ∷ []))) 17 0)))
-        go false o b i = rw (offers vic family (h 0) ∙ o)
-        go true o false i = rw (offers vic family (h 0) ∙ o, is-inside ∙ ap not i)
-        go true o true i =
-            let v = both-left (inTheirs videoBytes five) _ i in
-            rw (offers vic family (h 0) ∙ o, is-inside ∙ ap not i, goes-together v, too-fast family refl o (its-depth v))
+        go false o i e = rw (offers vic family (h 0) ∙ o)
+        go true o false e = rw (offers vic family (h 0) ∙ o, is-inside ∙ ap not e)
+        go true o true e = last-two o e (inNone together (five ++ (length sound ∷ length matrix ∷ []))) (goes-together (both-left (inTheirs videoBytes five) _ e))
 
     -- none is given: the VIC, every byte, and the clock
     none : (a b c d : Bool) → _≡_ {A = ℕ} (cond (not a) 4 (cond (not b) 5 (cond c 6 (cond d 17 0)))) 0 → (a ≡ true) × (b ≡ true) × (d ≡ false)
@@ -307,10 +321,10 @@ module _ (vic family encoding link range pixel edition : ℕ) (sound matrix : Li
           none (among vic (vics family)) inside (inNone together (five ++ (length sound ∷ length matrix ∷ [])))
           (not (inNone tooFast (vic ∷ pixel ∷ []))) z
 
-      request : readOf input .request ≡ requestIn asked sound matrix
+      request : readOf input .request ≡ requestIn b
       request =
           ap (λ (c : Checked). c .request) read-judged
-          ∙ accepted asked sound matrix (ap (λ (c : Checked). c .refusal) (sym read-judged) ∙ read ∙ z) .request
+          ∙ accepted b (ap (λ (c : Checked). c .refusal) (sym read-judged) ∙ read ∙ z) .request
 
       abbrev numberFor : ℕ → ℕ → ℕ
       numberFor rate coherent = cond (eqb coherent 1 && not (inNone noPair (vic ∷ family ∷ pixel ∷ rate ∷ []))) 9 0
@@ -334,7 +348,7 @@ module _ (vic family encoding link range pixel edition : ℕ) (sound matrix : Li
       pair-of (suc (suc n)) rate coherent e i = absurd (false≢true i)
 
       sound-pair : (x : List ℕ) → among (length x) (0 ∷ 3 ∷ []) ≡ true → inTheirs soundBytes x ≡ true
-          → pairFor (requestIn asked x matrix) .refusal ≡ numberFor (getD x 0 0) (getD x 2 0)
+          → pairFor (requestIn (asking x)) .refusal ≡ numberFor (getD x 0 0) (getD x 2 0)
       unfolding pairFor
       sound-pair [] t i = refl
       sound-pair (r ∷ []) t i = absurd (false≢true t)
@@ -369,7 +383,7 @@ module _ (bodies : List (List ℕ)) (n : ℕ) (rest : List ℕ) where
       → readOf (laid bodies (n ∷ rest)) .refusal ≡ 2
   unfolding readOf walked
   not-counted l f a =
-      ap (λ (w : Walk). checked w .refusal) (walks sections (laid bodies (n ∷ rest)) .notAllowed .1
+      ap (λ (w : Walk). limited (checked w) .refusal) (walks sections (laid bodies (n ∷ rest)) .notAllowed .1
       (record { begun = record { bodies = bodies; left = n ∷ rest; some = l; fitting = f; made = refl }; present = omega arith; refused = a }))
 
 -- ---- an input that ends early, or goes on
@@ -380,12 +394,12 @@ module _ (bodies : List (List ℕ)) (left : List ℕ) where
       → readOf (laid bodies left) .refusal ≡ 1
   unfolding readOf walked
   ended l f e =
-      ap (λ (w : Walk). checked w .refusal) (walks sections (laid bodies left) .ends .1
+      ap (λ (w : Walk). limited (checked w) .refusal) (walks sections (laid bodies left) .ends .1
       (record { begun = record { bodies = bodies; left = left; some = l; fitting = f; made = refl }; there = e }))
 
   goes-on : fits sections bodies ≡ true → length left ≢ 0 → readOf (laid bodies left) .refusal ≡ 3
   unfolding readOf walked
-  goes-on f e = ap (λ (w : Walk). checked w .refusal) (walks sections (laid bodies left) .whole bodies left .1 (f, refl)) ∙ rw (ne-eqb (length left) 0 e)
+  goes-on f e = ap (λ (w : Walk). limited (checked w) .refusal) (walks sections (laid bodies left) .whole bodies left .1 (f, refl)) ∙ rw (ne-eqb (length left) 0 e)
 
 pub each-byte : EachByte
 each-byte =

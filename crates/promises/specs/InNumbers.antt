@@ -30,7 +30,7 @@ use Rattle.chip.specs.Write.{lentAs}
 use Rattle.views.specs.Entry.{Lent, lent, enterOf, turnOf}
 use Rattle.views.specs.View.{viewRefusal, muteOf}
 use Rattle.views.specs.Converter.{matrixAnswer}
-use Rattle.views.specs.Theorems.{enterRules, turnRules, lentRules, viewRules, matrixRules}
+use Rattle.views.specs.Refusals.{enterRules, turnRules, lentRules, viewRules, matrixRules}
 use Rattle.writes.specs.List.{finished}
 use Rattle.plan.specs.Wanted.{wanted}
 use Rattle.plan.specs.Plan.{planOf, planBuffer}

@@ -105,7 +105,7 @@ asked b z =
       apart = none-at (fieldsTests b) 2 n;
     }
 
-limit-there : (b : Bodies) → judged b .refusal ≡ 0 → let v : Video = videoIn (b .video) in eqb (clockOf v .refusal) 17 ≡ aboveLimit (tmds v)
+pub limit-there : (b : Bodies) → judged b .refusal ≡ 0 → let v : Video = videoIn (b .video) in eqb (clockOf v .refusal) 17 ≡ aboveLimit (tmds v)
 unfolding outside
 limit-there b z =
     let j = asked b z in
