@@ -5,6 +5,7 @@ use mathlib.Core.List.{List, [], _∷_, _++_}
 use Prim.Native.Nat.{ℕ}
 use lib.Dec.{eqb}
 use lib.ListN.{length}
+use Rattle.video.specs.declared.Video.{Video}
 use Rattle.video.specs.Video.{videoIn, videoBody, answered}
 use Rattle.video.specs.Video as video
 use Rattle.matrix.specs.declared.Matrix.{Matrix}
@@ -39,18 +40,21 @@ laid (body ∷ bodies) rest = length body ∷ (body ++ laid bodies rest)
 unfoldable pub asBytes : Request → List ℕ
 asBytes r = laid (inTurn (bodiesOf r)) []
 
--- "that request in one of its families"; and with another edition byte
+-- "that request in one of its families"; with another edition byte; and, "the same request, but for the frame-rate family", and for an E that
+-- asks for nothing, as decoding answers it: another video alone
+abbrev pub onVideo : (Video → Video) → Request → Request
+onVideo f r = record { video = f (r .video); sound = r .sound; matrix = r .matrix }
+
 abbrev pub inFamily : ℕ → Request → Request
-inFamily family r = record { video = video.inFamily family (r .video); sound = r .sound; matrix = r .matrix }
+inFamily family r = onVideo (video.inFamily family) r
 
 abbrev pub inEdition : ℕ → Request → Request
-inEdition edition r = record { video = video.inEdition edition (r .video); sound = r .sound; matrix = r .matrix }
+inEdition edition r = onVideo (video.inEdition edition) r
 
--- "the same request, but for the frame-rate family", and for an E that asks for nothing: a request as decoding answers it; and the same of
--- the bytes of an input, of which the video section alone is another. `ThereAndBack` says that the two agree.
 abbrev pub answeredAs : Request → Request
-answeredAs r = record { video = answered (r .video); sound = r .sound; matrix = r .matrix }
+answeredAs r = onVideo answered r
 
+-- the same of the bytes of an input: another video section alone. `ThereAndBack` says that the two agree.
 abbrev pub withVideo : List ℕ → Bodies → Bodies
 withVideo body b = record { video = body; audio = b .audio; matrix = b .matrix }
 

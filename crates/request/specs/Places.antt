@@ -1,4 +1,5 @@
--- How the code walks: where the body of each section ends in the input. Contracts of private functions alone: no promise rests on it.
+-- How the code walks: where the body of each section ends in the input. The contract of `sections::walk` and of private functions alone: no
+-- promise rests on it.
 use mathlib.Core.Path.{_≡_}
 use mathlib.Core.List.{List, [], _∷_}
 use Prim.Native.Nat.{ℕ, suc, _+_}
