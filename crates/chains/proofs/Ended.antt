@@ -20,11 +20,11 @@ use Rattle.promises.specs.Finished as field
 use Rattle.promises.specs.Rules.{asked, Demand2}
 use Rattle.promises.specs.LentBytes.{pairsLeft, enteredCuts}
 use Rattle.promises.specs.Said.{Said}
-use Rattle.promises.specs.Another.{OnAnother}
+use Rattle.plan.specs.Another.{OnAnother}
 use Rattle.chains.specs.Chain.{Hand, plugin, vendor, Accepted, pairsFor, Link, Chain, wholeAs}
 use Rattle.chains.specs.Chain as chain
 use Rattle.chains.specs.Theorems.{Kept, Last, Ended, EndedList}
-use Rattle.chains.proofs.Below.{Below}
+use Rattle.chains.specs.Below.{Below}
 use Rattle.chains.proofs.Runs.{Ready, Near, near-self}
 use Rattle.chains.proofs.Whole.{planned-ready, pairs, stands-whole, done, its-registers, ended, whole-kept}
 use Rattle.chains.proofs.Vetted.{link-ready, list-after}

@@ -29,11 +29,11 @@ use Rattle.cut.specs.AnyRun.{Good}
 use Rattle.cut.specs.Demand.{Cut, Same}
 use Rattle.promises.specs.LentBytes.{enters, entered, enteredCuts}
 use Rattle.promises.specs.AnyCut.{EveryCut}
-use Rattle.promises.specs.Another.{OnAnother}
+use Rattle.plan.specs.Another.{OnAnother}
 use Rattle.chains.specs.Chain.{Hand, plugin, vendor, isPlugin, asks, Accepted, pairsFor, Link, after, left, Chain, happened, wholeAs, OneOf, allAsked}
 use Rattle.chains.specs.Chain.{muteAfter, muteBy, unopened}
 use Rattle.chains.specs.Theorems.{Next, AnyChain, Point, Reached}
-use Rattle.chains.proofs.Below.{Below}
+use Rattle.chains.specs.Below.{Below}
 use Rattle.chains.proofs.Runs.{run-append, writes-append, good-append, good-take, Ready, Near, near-self, near-trans}
 use Rattle.chains.proofs.Whole.{any, pairs, whole-kept}
 use Rattle.chains.proofs.Links.{OfThree, vsync-use, plugin-matrix}

@@ -5,8 +5,22 @@ ghost use Prim.Native.Nat.{ℕ};
 ghost use Rattle.request.specs.declared.Request.{Request};
 ghost use Rattle.chip.specs.declared.Chip.{Chip};
 ghost use Rattle.cut.specs.Run.{Event, run, writesOf};
+ghost use Rattle.chains.specs.Below.{Below};
 ghost use Rattle.chains.specs.Chain.{vendor, Accepted, pairsFor, Link, Chain, left};
 ghost use Rattle.chains.specs.Theorems.{AnyChain, Point, Reached, Last, Ended, EndedList, Alike};
+
+// What the links rest on: the promises of the crates below.
+fn below()
+    ensures { λ _. ⌜ Below ⌝ }
+{
+    chip::turn();
+    decode::at_most_one();
+    cut::any_run();
+    cut::fair_run();
+    cut::mended_run();
+    promises::demand_3();
+    promises::vendors_lists();
+}
 
 // "any chain": what may be a link.
 pub fn any_chain()
@@ -19,17 +33,11 @@ pub fn any_chain()
 pub fn every_point()
     ensures { λ _. ⌜ ((ls : List Link) (s : Chip) → Chain ls s → Point ls s × ((k : ℕ) → Reached k ls s)) ⌝ }
 {
-    chip::turn();
-    decode::at_most_one();
-    cut::any_run();
-    cut::fair_run();
-    cut::mended_run();
-    promises::demand_3();
-    promises::vendors_lists();
+    below();
     views::entered();
     views::entered_vsync();
     vendor::vetted();
-    promises::on_another_image();
+    plan::on_another_image();
 }
 
 // "each cut at any place or finished, and the last one finished".
@@ -37,18 +45,12 @@ pub fn last_finished()
     ensures { λ _. ⌜ ((ls : List Link) (s : Chip) → Chain ls s → (input room : List ℕ) (es : List Event)
         → Last input room es (left ls s) → Ended input room es ls s) ⌝ }
 {
-    chip::turn();
-    decode::at_most_one();
-    cut::any_run();
-    cut::fair_run();
-    cut::mended_run();
-    promises::demand_3();
-    promises::vendors_lists();
+    below();
     views::entered();
     views::entered_vsync();
     promises::demand_2();
     promises::said();
-    promises::on_another_image();
+    plan::on_another_image();
 }
 
 // The last link a vendor's list.
@@ -56,13 +58,7 @@ pub fn last_list()
     ensures { λ _. ⌜ ((ls : List Link) (s : Chip) → Chain ls s → (list : List ℕ) (ending : Request) (es : List Event)
         → Accepted (vendor list ending) (left ls s) → writesOf es ≡ pairsFor (vendor list ending) (left ls s) → EndedList ending es ls s) ⌝ }
 {
-    chip::turn();
-    decode::at_most_one();
-    cut::any_run();
-    cut::fair_run();
-    cut::mended_run();
-    promises::demand_3();
-    promises::vendors_lists();
+    below();
 }
 
 // "depend on the last request alone": two chains from two beginnings, with the same last request.

@@ -16,4 +16,3 @@ pub mod Metered
 pub mod Piped
 pub mod Vendors
 pub mod VendorCases
-pub mod Another

@@ -1,14 +1,10 @@
 // The promises: nothing is computed here. Each function's contract is a theorem about the definitions of the crates below.
 ghost use mathlib.Core.Path.{_≡_};
-ghost use mathlib.Core.Bool.{true};
 ghost use mathlib.Core.List.{List};
 ghost use Prim.Native.Nat.{ℕ};
 ghost use lib.Ieee.{Float};
-ghost use lib.ListN.{length};
 ghost use Rattle.request.specs.declared.Request.{Request};
 ghost use Rattle.chip.specs.declared.Chip.{Chip};
-ghost use Rattle.writes.specs.List.{ready};
-ghost use Rattle.promises.specs.Another.{OnAnother};
 ghost use Rattle.promises.specs.AnyCut.{EveryCut};
 ghost use Rattle.promises.specs.AnyInput.{Demand1};
 ghost use Rattle.promises.specs.Cases.{MarkedCases};
@@ -110,9 +106,4 @@ pub fn vendor_cases()
 // "Take an accepted request": demands 2 and 3 are not empty.
 pub fn worked_example()
     ensures { λ _. ⌜ Example ⌝ }
-{}
-
-// Of an image to which neither 7 nor 8 applies, planning's refusal sees nothing more.
-pub fn on_another_image()
-    ensures { λ _. ⌜ ((input room image : List ℕ) → length image ≡ 256 → ready image ≡ true → OnAnother input room image) ⌝ }
 {}
