@@ -10,7 +10,8 @@ use Rattle.request.specs.Read.{readOf, nctsOf}
 use Rattle.chip.specs.declared.Chip.{Chip}
 use Rattle.chip.specs.Machine.{Write}
 use Rattle.views.specs.Entry.{Lent}
-use Rattle.views.specs.Theorems.{LentSized, Entered, EnteredVsync}
+use Rattle.views.specs.Sized.{LentSized}
+use Rattle.views.specs.Theorems.{Entered, EnteredVsync}
 use Rattle.writes.specs.List.{ready}
 use Rattle.plan.specs.Plan.{planOf}
 use Rattle.decode.specs.Ends.{Ends}
@@ -20,11 +21,11 @@ use Rattle.promises.specs.Finished as field
 use Rattle.promises.specs.Rules.{asked, Demand2}
 use Rattle.promises.specs.LentBytes.{pairsLeft, enteredCuts}
 use Rattle.promises.specs.Said.{Said}
-use Rattle.promises.specs.Another.{OnAnother}
+use Rattle.plan.specs.Another.{AnyOther}
 use Rattle.chains.specs.Chain.{Hand, plugin, vendor, Accepted, pairsFor, Link, Chain, wholeAs}
 use Rattle.chains.specs.Chain as chain
 use Rattle.chains.specs.Theorems.{Kept, Last, Ended, EndedList}
-use Rattle.chains.proofs.Below.{Below}
+use Rattle.chains.specs.Below.{Below}
 use Rattle.chains.proofs.Runs.{Ready, Near, near-self}
 use Rattle.chains.proofs.Whole.{planned-ready, pairs, stands-whole, done, its-registers, ended, whole-kept}
 use Rattle.chains.proofs.Vetted.{link-ready, list-after}
@@ -47,7 +48,7 @@ module _ (b : Below) (ls : List Link) (s : Chip) (c : Chain ls s) (h : Hand) (es
 
 module _ (b : Below) (enter : (l : Lent) → LentSized l → (address value : ℕ) → Entered l address value)
     (turn : (l : Lent) → LentSized l → EnteredVsync l) (rules : (input buffer : List ℕ) (s : Chip) → Demand2 input buffer s) (said : Said)
-    (another : (input room image : List ℕ) → length image ≡ 256 → ready image ≡ true → OnAnother input room image)
+    (another : AnyOther)
     (ls : List Link) (s : Chip) (c : Chain ls s) (input room : List ℕ) (es : List Event) (l : Last input room es (chain.left ls s)) where
   abbrev t : Chip
   t = chain.left ls s

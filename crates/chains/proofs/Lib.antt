@@ -1,4 +1,3 @@
-pub mod Below
 pub mod Runs
 pub mod Whole
 pub mod Links

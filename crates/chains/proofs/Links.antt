@@ -26,7 +26,7 @@ use Rattle.promises.specs.Rules.{asked}
 use Rattle.promises.specs.LentBytes.{pairsLeft}
 use Rattle.promises.specs.AnyCut.{listOf}
 use Rattle.chains.specs.Chain.{wholeAs, muteAfter}
-use Rattle.chains.proofs.Below.{Below}
+use Rattle.chains.specs.Below.{Below}
 use Rattle.chains.proofs.Runs.{all-writes}
 use Rattle.chains.proofs.Whole.{any, pairs, stands-whole}
 

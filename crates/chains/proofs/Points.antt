@@ -30,11 +30,11 @@ use Rattle.cut.specs.AnyRun.{Good}
 use Rattle.cut.specs.Demand.{Cut, Same}
 use Rattle.promises.specs.LentBytes.{enters, entered, enteredCuts}
 use Rattle.promises.specs.AnyCut.{EveryCut}
-use Rattle.promises.specs.Another.{OnAnother}
+use Rattle.plan.specs.Another.{AnyOther}
 use Rattle.chains.specs.Chain.{Hand, plugin, vendor, isPlugin, asks, Accepted, pairsFor, Link, after, left, Chain, happened, wholeAs, OneOf, allAsked}
 use Rattle.chains.specs.Chain.{muteAfter, muteBy, unopened}
 use Rattle.chains.specs.Theorems.{Next, AnyChain, Point, Reached}
-use Rattle.chains.proofs.Below.{Below}
+use Rattle.chains.specs.Below.{Below}
 use Rattle.chains.proofs.Runs.{run-append, writes-append, good-append, good-take, Ready, Near, near-self, near-trans}
 use Rattle.chains.proofs.Whole.{any, pairs, whole-kept}
 use Rattle.chains.proofs.Links.{OfThree, vsync-use, plugin-matrix}
@@ -336,7 +336,7 @@ all-true (l ∷ ls) = all-true ls
 
 module _ (b : Below) (enter : (l : Lent) → LentSized l → (address value : ℕ) → Entered l address value)
     (turn : (l : Lent) → LentSized l → EnteredVsync l) (vetted : (s : Chip) (list : List ℕ) → Vetted s list)
-    (another : (input room image : List ℕ) → length image ≡ 256 → ready image ≡ true → OnAnother input room image) where
+    (another : AnyOther) where
   pub point : (ls : List Link) (s : Chip) → Chain ls s → Point ls s
   point [] s c = record {
     kept = record { bits = λ a j h f. refl; unwritten = λ a h w. refl };

@@ -12,7 +12,7 @@ use Rattle.cut.specs.Run.{Event, write, vsync, happens, run, cut, writesOf, wri
 use Rattle.cut.specs.Vsync.{waited}
 use Rattle.cut.specs.AnyRun.{Good}
 use Rattle.chains.specs.Theorems.{Kept}
-use Rattle.chains.proofs.Below.{Below}
+use Rattle.chains.specs.Below.{Below}
 
 -- ---- parts of a run
 

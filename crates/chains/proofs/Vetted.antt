@@ -24,7 +24,7 @@ use Rattle.vendor.specs.Found.{vetOf}
 use Rattle.promises.specs.Rules.{asked}
 use Rattle.promises.specs.Vendors.{inputOf, Passing}
 use Rattle.chains.specs.Chain.{Hand, plugin, vendor, asks, Accepted, pairsFor, Link, after, wholeAs}
-use Rattle.chains.proofs.Below.{Below}
+use Rattle.chains.specs.Below.{Below}
 use Rattle.chains.proofs.Runs.{waited-writes, Ready, Near, near-cut}
 use Rattle.chains.proofs.Whole.{sized, planned-ready, its-last}
 use Rattle.chains.proofs.Links.{Three, unmoved, Some, by-place, mute-of, open-of, muted-one, open-two, vsync-use, vsync-gc, Moved}

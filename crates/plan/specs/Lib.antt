@@ -1,3 +1,4 @@
 pub mod Wanted
 pub mod Plan
 pub mod Rules
+pub mod Another

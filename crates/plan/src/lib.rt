@@ -1,6 +1,6 @@
 // Planning: from a request and a register image to the write list. Document 01, "The write list"; document 02, request 06.
 ghost use mathlib.Core.Path.{_≡_};
-ghost use mathlib.Core.Bool.{cond, not, _&&_};
+ghost use mathlib.Core.Bool.{true, cond, not, _&&_};
 ghost use mathlib.Core.List.{List};
 ghost use Prim.Native.Nat.{ℕ, _+_, _/_, _%_, _<_, _≤_};
 ghost use lib.Dec.{eqb};
@@ -14,10 +14,12 @@ ghost use Rattle.request.specs.Read.{pairFor};
 ghost use Rattle.request.specs.Theorems.{Shaped};
 ghost use Rattle.request.specs.Fits.{SoundFits, Fits};
 ghost use Rattle.chip.specs.Machine.{up, avi, audio, gc};
+ghost use Rattle.writes.specs.List.{ready};
 ghost use Rattle.plan.specs.Wanted.{laid, stores, twenty, ctsSelect, inputs, rateCode, withAudio, audioBytes, halves, cscBytes};
 ghost use Rattle.plan.specs.Wanted.{clockBytes, inputBytes, repetitionByte, depthCode, enableBytes, frameBytes, wantedBytes};
 ghost use Rattle.plan.specs.Plan.{nothing, PlansWith, Plans, standsIn};
 ghost use Rattle.plan.specs.Rules.{PlanRefusals};
+ghost use Rattle.plan.specs.Another.{AnyOther};
 use clock::Pair;
 use frames::AUDIO_FRAME;
 use frames::AVI_FRAME;
@@ -357,4 +359,9 @@ pub fn stands(input: &[u8], image: &[u8]) -> bool
 // The refusals of planning, in document 01's order.
 pub fn refusals_of_a_plan()
     ensures { λ _. ⌜ ((input : List ℕ) → Bytes input → (image buffer : List ℕ) → PlanRefusals input image buffer) ⌝ }
+{}
+
+// Of an image to which neither 7 nor 8 applies, planning's refusal sees nothing more.
+pub fn on_another_image()
+    ensures { λ _. ⌜ AnyOther ⌝ }
 {}

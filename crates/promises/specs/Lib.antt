@@ -19,4 +19,3 @@ pub mod Piped
 pub mod Vendors
 pub mod VendorCases
 pub mod Looked
-pub mod Another

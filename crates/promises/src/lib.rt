@@ -5,7 +5,6 @@ ghost use Prim.Native.Nat.{ℕ};
 ghost use lib.Ieee.{Float};
 ghost use Rattle.request.specs.declared.Request.{Request};
 ghost use Rattle.chip.specs.declared.Chip.{Chip};
-ghost use Rattle.promises.specs.Another.{AnyOther};
 ghost use Rattle.promises.specs.AnyCut.{EveryCut};
 ghost use Rattle.promises.specs.AnyInput.{Demand1};
 ghost use Rattle.promises.specs.Cases.{MarkedCases};
@@ -129,8 +128,3 @@ pub fn looked_at()
     decode::exactly_when();
     decode::bit_by_bit();
 }
-
-// Of an image to which neither 7 nor 8 applies, planning's refusal sees nothing more.
-pub fn on_another_image()
-    ensures { λ _. ⌜ AnyOther ⌝ }
-{}

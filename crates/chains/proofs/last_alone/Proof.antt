@@ -7,7 +7,8 @@ use Rattle.chains.proofs.last_alone.Tie as tie
 
 returns : tie.Need-returns
 returns c =
-    λ ls ms s t d e. alone (c .before .before .demand-3 .ensures) (c .before .touched .ensures) (c .rule .ensures) (left ls s) (left ms t)
+    let alike = alone (c .before .before .demand-3 .ensures) (c .before .touched .ensures) (c .rule .ensures) in
+    λ ls ms s t d e. alike (left ls s) (left ms t)
 
 pub last-alone-spec : {M : Type 1} → statement M
 last-alone-spec = tie.close (tie.spec (λ c κs. search needs) (λ c κs. search needs) (λ c κs. search needs) returns)

@@ -1,4 +1,4 @@
--- `promises::on_another_image` meets its contract. Assumes nothing.
+-- `plan::on_another_image` meets its contract. Assumes nothing.
 use mathlib.Core.Path.{_≡_, refl, ap}
 use mathlib.Core.Logic.{_≢_}
 use mathlib.Core.Bool.{not}
@@ -9,14 +9,14 @@ use Rattle.refusals.specs.Rows.{imageLength, holdsUp, Condition, _when_}
 use Rattle.refusals.proofs.Tests.{without}
 use Rattle.request.specs.Sections.{walked}
 use Rattle.request.specs.Request.{requestOf, readRules, pairRows}
+use Rattle.plan.specs.declared.Planned.{Planned}
 use Rattle.plan.specs.Plan.{planOf}
 use Rattle.plan.specs.Rules.{HoldsUp, bufferRows}
-use Rattle.plan.proofs.Fine.{fine}
+use Rattle.plan.proofs.Fine.{fine, accepts}
 use Rattle.plan.proofs.Ordered.{holds-up, refusals}
-use Rattle.promises.specs.Another.{AnyOther}
-use Rattle.promises.proofs.AnyCut.{accepted}
-use Rattle.promises.proofs.on_another_image.Statement.{statement}
-use Rattle.promises.proofs.on_another_image.Tie as tie
+use Rattle.plan.specs.Another.{AnyOther}
+use Rattle.plan.proofs.on_another_image.Statement.{statement}
+use Rattle.plan.proofs.on_another_image.Tie as tie
 
 on-another : AnyOther
 on-another input room image whole clear =
@@ -24,7 +24,8 @@ on-another input room image whole clear =
     let n : ℕ = planOf input image room .refusal in
     record {
       accepted = λ other z. let f = fine input other room z in
-          accepted input image room (record { read = f .read; whole = whole; clear = clear; paired = f .paired; long = f .long });
+          ap (λ (p : Planned). p .refusal)
+          (accepts input image room (record { read = f .read; whole = whole; clear = clear; paired = f .paired; long = f .long }));
       refused = λ b.
           without (readRules (walked input)) (holdsUp when HoldsUp image) rest n
           (without (readRules (walked input)) (imageLength when (length image ≢ 256)) (holdsUp when HoldsUp image ∷ rest) n

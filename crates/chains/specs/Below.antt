@@ -1,4 +1,4 @@
--- What the links of a chain rest on: promises of the crates below, as the functions state them that each theorem here calls.
+-- What the links of a chain rest on: promises of the crates below, `EveryCut` among them, as their functions state them.
 use mathlib.Core.Path.{_≡_}
 use mathlib.Core.Bool.{true}
 use mathlib.Core.List.{List}
