@@ -16,7 +16,7 @@ use Rattle.writes.specs.List.{ready}
 use Rattle.plan.specs.Plan.{planOf}
 use Rattle.decode.specs.Ends.{Ends}
 use Rattle.cut.specs.Run.{Event, run, writesOf, allInUse, standing}
-use Rattle.cut.specs.Vsync.{Finished}
+use Rattle.cut.specs.Vsync.{FinishedRun}
 use Rattle.promises.specs.Finished as field
 use Rattle.promises.specs.Rules.{asked, Demand2}
 use Rattle.promises.specs.LentBytes.{pairsLeft, enteredCuts}
@@ -77,13 +77,13 @@ module _ (b : Below) (enter : (l : Lent) → LentSized l → (address value : �
 
   pub last-ended : Ended input room es ls s
   last-ended = record {
-    fields = subst (field.Finished r (nctsOf input)) (sym (its-registers (b .every) input room es t l)) (rules input room t .fields (l .accepted));
+    fields = subst (field.FinishedFields r (nctsOf input)) (sym (its-registers (b .every) input room es t l)) (rules input room t .fields (l .accepted));
     groups = all-new;
     kept = last-kept b ls s c (plugin input room) es (l .accepted) (l .finished .runs);
     opened = ended (b .every) input room es t l .opened;
     accepted = first;
     same = λ fs g. same-end b ls s c here (asked input) fs es
-        (subst (λ (ws : List Write). Finished ws fs) (pairs (b .every) input room s first) g) (done (b .every) input room es t l);
+        (subst (λ (ws : List Write). FinishedRun ws fs) (pairs (b .every) input room s first) g) (done (b .every) input room es t l);
     idle = b .runs es t .idle (there .whole) (pairsLeft input (t .image) room) (l .finished);
     said = λ lent z at.
         let o = over-slices enter turn ls s lent z at in

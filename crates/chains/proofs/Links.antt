@@ -19,7 +19,7 @@ use Rattle.chip.specs.Turn.{Turn}
 use Rattle.writes.specs.List.{finishedImage}
 use Rattle.plan.specs.Plan.{planOf}
 use Rattle.cut.specs.Run.{Event, write, vsync, happens, cut, writesOf, writesBy, InUse, standing}
-use Rattle.cut.specs.Vsync.{waits, turnedOver, old}
+use Rattle.cut.specs.Vsync.{changeWaits, turnedOver, old}
 use Rattle.cut.specs.AnyRun.{Good}
 use Rattle.cut.specs.Demand.{Cut, Clauses, Demand3}
 use Rattle.promises.specs.Rules.{asked}
@@ -125,11 +125,11 @@ module _ (turn : (s : Chip) → Turn s) where
   -- what is old of the coefficients is as it was, or as a Vsync left it
   old-three : (u : Chip) (fs : List Event) (new x : List ℕ) → x ≡ old fs u .matrix → OfThree coefficients u new x
   unfolding coefficients
-  old-three u fs new x e = go (waits u && turnedOver fs) refl e
+  old-three u fs new x e = go (changeWaits u && turnedOver fs) refl e
     where
-      go : (b : Bool) → (waits u && turnedOver fs) ≡ b → x ≡ cond b (fields (registersOf matrix (u .image))) (coefficients u) → OfThree coefficients u new x
+      go : (b : Bool) → (changeWaits u && turnedOver fs) ≡ b → x ≡ cond b (fields (registersOf matrix (u .image))) (coefficients u) → OfThree coefficients u new x
       go true w q =
-          let d : held u ≡ false = not-true (held u) (both-left (not (held u)) (u .waiting) (both-left (waits u) (turnedOver fs) w)) in
+          let d : held u ≡ false = not-true (held u) (both-left (not (held u)) (u .waiting) (both-left (changeWaits u) (turnedOver fs) w)) in
           inr (inl (q ∙ ap fields (sym (turn u .takes d))))
       go false w q = inl q
 

@@ -25,13 +25,13 @@ use Rattle.vendor.specs.Vendor.{vetRules}
 use Rattle.vendor.specs.Found.{vetOf}
 use Rattle.vendor.specs.Theorems.{Vetted}
 use Rattle.cut.specs.Run.{Event, write, vsync, run, cut, writesOf, writesBy, InUse}
-use Rattle.cut.specs.Vsync.{waits, waited, Finished}
+use Rattle.cut.specs.Vsync.{changeWaits, waited, FinishedRun}
 use Rattle.cut.specs.AnyRun.{Good}
 use Rattle.cut.specs.Demand.{Cut, Same}
 use Rattle.promises.specs.LentBytes.{enters, entered, enteredCuts}
 use Rattle.promises.specs.AnyCut.{EveryCut}
 use Rattle.plan.specs.Another.{AnyOther}
-use Rattle.chains.specs.Chain.{Hand, plugin, vendor, isPlugin, asks, Accepted, pairsFor, Link, after, left, Chain, happened, wholeAs, OneOf, allAsked}
+use Rattle.chains.specs.Chain.{Hand, plugin, vendor, isPlugin, asks, Accepted, pairsFor, Link, afterLink, left, Chain, happened, wholeAs, OneOf, allAsked}
 use Rattle.chains.specs.Chain.{muteAfter, muteBy, unopened}
 use Rattle.chains.specs.Theorems.{Next, AnyChain, Point, Reached}
 use Rattle.chains.specs.Below.{Below}
@@ -43,7 +43,7 @@ use Rattle.chains.proofs.Vetted.{link-ready, link-near, moved}
 -- a chain leaves what its events do
 left-run : (ls : List Link) (s : Chip) → left ls s ≡ run (happened ls) s
 left-run [] s = refl
-left-run (l ∷ ls) s = left-run ls (after l s) ∙ sym (run-append (take (l .run .place) (l .run .events)) (happened ls) s)
+left-run (l ∷ ls) s = left-run ls (afterLink l s) ∙ sym (run-append (take (l .run .place) (l .run .events)) (happened ls) s)
 
 -- one more link
 module _ (h : Hand) (c : Cut) where
@@ -52,11 +52,11 @@ module _ (h : Hand) (c : Cut) where
 
   pub grown : (ls : List Link) (s : Chip) → Chain ls s → Accepted h (left ls s) → writesOf (c .events) ≡ pairsFor h (left ls s) → Chain (ls ++ l ∷ []) s
   grown [] s k a e = (a, e, tt)
-  grown (m ∷ ls) s k a e = (k .0, k .1, grown ls (after m s) (k .2) a e)
+  grown (m ∷ ls) s k a e = (k .0, k .1, grown ls (afterLink m s) (k .2) a e)
 
   pub goes-on : (ls : List Link) (s : Chip) → left (ls ++ l ∷ []) s ≡ cut (c .events) (left ls s) (c .place)
   goes-on [] s = refl
-  goes-on (m ∷ ls) s = goes-on ls (after m s)
+  goes-on (m ∷ ls) s = goes-on ls (afterLink m s)
 
   has-happened : (ls : List Link) → happened (ls ++ l ∷ []) ≡ happened ls ++ take (c .place) (c .events)
   has-happened [] = append-nil (take (c .place) (c .events))
@@ -74,7 +74,7 @@ any-chain every s = record {
   list = λ ls k list c a e r ends. one-more (vendor list r) c ls s k (a, ends) e;
   last = λ input room a. (
     λ es f. record { accepted = a; finished = f },
-    subst (λ (ws : List Write). Finished ws (waited ws)) (sym (pairs every input room s a)) (any every input room s a .demand .waits),
+    subst (λ (ws : List Write). FinishedRun ws (waited ws)) (sym (pairs every input room s a)) (any every input room s a .demand .waits),
   );
 }
 
@@ -99,8 +99,8 @@ was-of was (y ∷ ys) = inr (was-of was ys)
 
 -- what a link leaves of a group, and what it would be after one Vsync more
 pub record Latches (shown : Chip → List ℕ) (pick : InUse → List ℕ) (l : Link) (u : Chip) : Type 0 where
-  pub now : OfThree shown u (pick (wholeAs (u .image) (asks (l .hand)))) (shown (after l u))
-  pub later : OfThree shown u (pick (wholeAs (u .image) (asks (l .hand)))) (shown (vsyncOf (after l u)))
+  pub now : OfThree shown u (pick (wholeAs (u .image) (asks (l .hand)))) (shown (afterLink l u))
+  pub later : OfThree shown u (pick (wholeAs (u .image) (asks (l .hand)))) (shown (vsyncOf (afterLink l u)))
 
 module _ (b : Below) (shown : Chip → List ℕ) (pick : InUse → List ℕ) (ok : Link → Bool)
     (latch : (l : Link) (u : Chip) → Accepted (l .hand) u → writesOf (l .run .events) ≡ pairsFor (l .hand) u → ok l ≡ true → Latches shown pick l u)
@@ -115,7 +115,7 @@ module _ (b : Below) (shown : Chip → List ℕ) (pick : InUse → List ℕ) (ok
       subst (λ (g : InUse). Q (pick g)) (sym (whole-kept (asks (l .hand)) s u (n .kept))) (a .0) in
       let of : (x : List ℕ) → OfThree shown u (pick (wholeAs (u .image) (asks (l .hand)))) x → Q x =
       λ x o. ⊎-elim (λ e. subst Q (sym e) q) (λ o. ⊎-elim (λ e. subst Q (sym e) v) (λ e. subst Q (sym e) new) o) o in
-      always Q ls (after l u) (c .2) (both-right (ok l) (every ok ls) t) (near-trans s u (after l u) n (link-near b l u (c .0) (c .1))) (a .1)
+      always Q ls (afterLink l u) (c .2) (both-right (ok l) (every ok ls) t) (near-trans s u (afterLink l u) n (link-near b l u (c .0) (c .1))) (a .1)
       (of _ (r .now)) (of _ (r .later))
 
   one-of : (ls : List Link) → Chain ls s → every ok ls ≡ true → Ready (s .image) → shown (vsyncOf s) ≡ shown s
@@ -130,7 +130,7 @@ module _ (b : Below) (shown : Chip → List ℕ) (pick : InUse → List ℕ) (ok
 module _ (b : Below) where
   pub near-chain : (s : Chip) (ls : List Link) (u : Chip) → Chain ls u → Near s u → Near s (left ls u)
   near-chain s [] u c n = n
-  near-chain s (l ∷ ls) u c n = near-chain s ls (after l u) (c .2) (near-trans s u (after l u) n (link-near b l u (c .0) (c .1)))
+  near-chain s (l ∷ ls) u c n = near-chain s ls (afterLink l u) (c .2) (near-trans s u (afterLink l u) n (link-near b l u (c .0) (c .1)))
 
   -- planning takes the beginning of a chain, and so a chain ends near it
   pub start-ready : (ls : List Link) (s : Chip) → Chain ls s → Ready (left ls s .image) → Ready (s .image)
@@ -146,27 +146,27 @@ module _ (b : Below) where
   chain-good (l ∷ ls) s c =
       let es : List Event = l .run .events in
       good-append (take (l .run .place) es) (happened ls) s (good-take (l .run .place) es s (moved b l s (c .0) (c .1) .good))
-      (chain-good ls (after l s) (c .2))
+      (chain-good ls (afterLink l s) (c .2))
 
   pub same-end : (ls : List Link) (s : Chip) → Chain ls s → Ready (s .image) → (want : ℕ → ℕ) (fs gs : List Event)
-      → Finished (writeList want (s .image)) fs → Finished (writeList want (left ls s .image)) gs → Same (run fs s) (run gs (left ls s))
+      → FinishedRun (writeList want (s .image)) fs → FinishedRun (writeList want (left ls s .image)) gs → Same (run fs s) (run gs (left ls s))
   same-end ls s c r want fs gs f =
       let es : List Event = happened ls in
       let g : Good es s = chain-good ls s c in
       let there : cut es s (length es) ≡ left ls s = ap (λ (l : List Event). run l s) (take-length es) ∙ sym (left-run ls s) in
-      subst (λ (t : Chip). Finished (writeList want (t .image)) gs → Same (run fs s) (run gs t)) there
+      subst (λ (t : Chip). FinishedRun (writeList want (t .image)) gs → Same (run fs s) (run gs t)) there
       (b .mended want es s (r .whole) (r .holds) (λ i h. g i h .0) (λ i h. g i h .1) .again (length es) fs gs f)
 
   -- ---- the mute
 
   pub mute-chain : (ls : List Link) (u : Chip) → Chain ls u → mute (left ls u) ≡ muteBy ls (mute u)
   mute-chain [] u c = refl
-  mute-chain (l ∷ ls) u c = mute-chain ls (after l u) (c .2) ∙ ap (muteBy ls) (moved b l u (c .0) (c .1) .mutes)
+  mute-chain (l ∷ ls) u c = mute-chain ls (afterLink l u) (c .2) ∙ ap (muteBy ls) (moved b l u (c .0) (c .1) .mutes)
 
   -- ---- of each group what a link leaves
 
   -- where no change waits a Vsync changes nothing
-  idle : (s : Chip) → waits s ≡ false → vsyncOf s ≡ s
+  idle : (s : Chip) → changeWaits s ≡ false → vsyncOf s ≡ s
   idle s w = go (held s) refl w
     where
       go : (h : Bool) → held s ≡ h → (not h && s .waiting) ≡ false → vsyncOf s ≡ s
@@ -179,14 +179,14 @@ module _ (b : Below) where
     where
       go : (h : Hand) → Accepted h u → writesOf (l .run .events) ≡ pairsFor h u → isPlugin h ≡ true
           → let new : List ℕ = wholeAs (u .image) (asks h) .matrix in
-          OfThree coefficients u new (coefficients (after l u)) × OfThree coefficients u new (coefficients (vsyncOf (after l u)))
+          OfThree coefficients u new (coefficients (afterLink l u)) × OfThree coefficients u new (coefficients (vsyncOf (afterLink l u)))
       go (plugin input room) a e t = plugin-matrix b input room u a (l .run) e
       go (vendor list ending) a e t = absurd (false≢true t)
 
   -- a packet does not see a Vsync
   latch-packet : (g : Group) (pick : InUse → List ℕ) (l : Link) (u : Chip)
-      → OfThree (inUse packets g) u (pick (wholeAs (u .image) (asks (l .hand)))) (inUse packets g (after l u)) → Latches (inUse packets g) pick l u
-  latch-packet g pick l u m = record { now = m; later = subst (OfThree (inUse packets g) u _) (sym (vsync-use (b .turn) g (after l u))) m }
+      → OfThree (inUse packets g) u (pick (wholeAs (u .image) (asks (l .hand)))) (inUse packets g (afterLink l u)) → Latches (inUse packets g) pick l u
+  latch-packet g pick l u m = record { now = m; later = subst (OfThree (inUse packets g) u _) (sym (vsync-use (b .turn) g (afterLink l u))) m }
 
 -- ---- muted
 
@@ -276,7 +276,7 @@ module _ (enter : (l : Lent) → LentSized l → (address value : ℕ) → Enter
   over-slices (x ∷ ls) u l z e =
       let es : List Event = take (x .run .place) (x .run .events) in
       let q = by-events es l z in
-      over-slices ls (after x u) (entered es l) (q .0) (q .1 ∙ ap (run es) e)
+      over-slices ls (afterLink x u) (entered es l) (q .0) (q .1 ∙ ap (run es) e)
 
 -- ---- every point
 
@@ -313,7 +313,7 @@ reaching (l ∷ ls) s c k =
     let es : List Event = l .run .events in
     let p : ℕ = l .run .place in
     let w = within k (take p es) (happened ls) in
-    let more = reaching ls (after l s) (c .2) (w .rest) in
+    let more = reaching ls (afterLink l s) (c .2) (w .rest) in
     ⊎-elim
     (λ e. record {
       links = record { hand = l .hand; run = record { events = es; place = length (take k (take p es)) } } ∷ [];

@@ -9,7 +9,7 @@ use Rattle.frames.specs.Frames.{aviFrame}
 use Rattle.request.specs.declared.Request.{Request}
 use Rattle.request.specs.declared.Checked.{Checked}
 use Rattle.request.specs.Read.{readOf}
-use Rattle.request.specs.Bytes.{inFamily}
+use Rattle.request.specs.Bytes.{requestInFamily}
 use Rattle.chip.specs.declared.Chip.{Chip}
 use Rattle.chip.specs.Machine.{Write, Group, avi, audio, matrix, packets, registersOf, inUse, Open, mute}
 use Rattle.chip.specs.Write.{vsyncOf}
@@ -23,7 +23,7 @@ use Rattle.vendor.specs.Vendor.{endOf}
 use Rattle.vendor.specs.Found.{vetOf}
 use Rattle.promises.specs.Rules.{asked}
 use Rattle.promises.specs.Vendors.{inputOf, Passing}
-use Rattle.chains.specs.Chain.{Hand, plugin, vendor, asks, Accepted, pairsFor, Link, after, wholeAs}
+use Rattle.chains.specs.Chain.{Hand, plugin, vendor, asks, Accepted, pairsFor, Link, afterLink, wholeAs}
 use Rattle.chains.specs.Below.{Below}
 use Rattle.chains.proofs.Runs.{waited-writes, Ready, Near, near-cut}
 use Rattle.chains.proofs.Whole.{sized, planned-ready, its-last}
@@ -31,7 +31,7 @@ use Rattle.chains.proofs.Links.{Three, unmoved, Some, by-place, mute-of
 use Rattle.chains.proofs.Links.{asked-new, plugin-moved}
 
 -- a request's frames do not ask for its family
-any-family : (image : List ℕ) (r : Request) (family : ℕ) → wholeAs image (inFamily family r) ≡ wholeAs image r
+any-family : (image : List ℕ) (r : Request) (family : ℕ) → wholeAs image (requestInFamily family r) ≡ wholeAs image r
 unfolding aviFrame
 any-family image r family = refl
 
@@ -61,10 +61,10 @@ module _ (b : Below) (list : List ℕ) (ending : Request) (u : Chip) (z : vetOf 
   last-image : last .image ≡ finishedImage (asked input) (u .image)
   last-image = sym (b .turn last .image) ∙ p .ours .registers ∙ its-last (b .every) input room u ours
 
-  is-ending : readOf input .request ≡ inFamily (p .ends .ends .family) ending
+  is-ending : readOf input .request ≡ requestInFamily (p .ends .ends .family) ending
   is-ending =
       ap (λ (x : Checked). x .request) (p .ends .ends .acceptable .read)
-      ∙ ap (inFamily (p .ends .ends .family)) (b .one (last .image) .ends (ap length last-image ∙ sized (asked input) (u .image))
+      ∙ ap (requestInFamily (p .ends .ends .family)) (b .one (last .image) .ends (ap length last-image ∙ sized (asked input) (u .image))
       (p .ends .request) ending (p .ends .ends) ends)
 
   ending-new : standing (last .image) ≡ wholeAs (u .image) ending
@@ -134,5 +134,5 @@ module _ (b : Below) where
       go (plugin input room) a e = plugin-moved b input room u a (l .run) e
       go (vendor list ending) a e = vendor-moved b list ending u (a .0) (a .1) (l .run) e
 
-  pub link-near : (l : Link) (u : Chip) → Accepted (l .hand) u → writesOf (l .run .events) ≡ pairsFor (l .hand) u → Near u (after l u)
+  pub link-near : (l : Link) (u : Chip) → Accepted (l .hand) u → writesOf (l .run .events) ≡ pairsFor (l .hand) u → Near u (afterLink l u)
   link-near l u a e = near-cut b (l .run .events) u (l .run .place) (link-ready (l .hand) u a) (moved l u a e .good)

@@ -22,7 +22,7 @@ use Rattle.chip.specs.Machine.{Write, Group, avi, audio, packets, registersOf, 
 use Rattle.plan.specs.Plan.{planOf}
 use Rattle.writes.specs.List.{byte, written, isWritten, finished, column, finishedImage}
 use Rattle.cut.specs.Run.{Event, run, standing}
-use Rattle.cut.specs.Vsync.{waited, Finished}
+use Rattle.cut.specs.Vsync.{waited, FinishedRun}
 use Rattle.cut.specs.Demand.{toItsEnd, After, Clauses, Same}
 use Rattle.promises.specs.Finished.{audioPacket}
 use Rattle.promises.specs.Rules.{asked}
@@ -170,8 +170,8 @@ module _ (every : EveryCut) (input room : List ℕ) (es : List Event) (t : Chip)
   its : AnyCut input room t
   its = every input room t (l .accepted)
 
-  pub done : Finished (listOf input (t .image)) es
-  done = subst (λ (ws : List Write). Finished ws es) (its .listed .pairs) (l .finished)
+  pub done : FinishedRun (listOf input (t .image)) es
+  done = subst (λ (ws : List Write). FinishedRun ws es) (its .listed .pairs) (l .finished)
 
   of : Clauses (finishedImage (asked input) (t .image)) (listOf input (t .image)) es t
   of = its .demand .runs es (done .runs)

@@ -54,8 +54,8 @@ pub record Link : Type 0 where
   pub run : Cut
 
 -- the state after a link, and after all of them: each begins "on the registers as the cut left them", with whatever wait it left
-abbrev pub after : Link → Chip → Chip
-after l s = cut (l .run .events) s (l .run .place)
+abbrev pub afterLink : Link → Chip → Chip
+afterLink l s = cut (l .run .events) s (l .run .place)
 
 abbrev pub left : List Link → Chip → Chip
 left ls = cuts (map (λ l. l .run) ls)
@@ -64,7 +64,7 @@ left ls = cuts (map (λ l. l .run) ls)
 -- anywhere among them
 abbrev pub Chain : List Link → Chip → Type 0
 Chain [] s = Unit {0}
-Chain (l ∷ ls) s = Accepted (l .hand) s × (writesOf (l .run .events) ≡ pairsFor (l .hand) s) × Chain ls (after l s)
+Chain (l ∷ ls) s = Accepted (l .hand) s × (writesOf (l .run .events) ≡ pairsFor (l .hand) s) × Chain ls (afterLink l s)
 
 -- all that has happened in it, one event after the other: each point is a cut of this
 abbrev pub happened : List Link → List Event

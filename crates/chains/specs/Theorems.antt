@@ -26,7 +26,7 @@ use Rattle.decode.specs.Ends.{Ends}
 use Rattle.vendor.specs.Found.{vetOf}
 use Rattle.vendor.specs.Vendor.{endOf}
 use Rattle.cut.specs.Run.{Event, run, cut, writesOf, allInUse, Stays}
-use Rattle.cut.specs.Vsync.{waits, waited, Finished}
+use Rattle.cut.specs.Vsync.{changeWaits, waited, FinishedRun}
 use Rattle.cut.specs.Demand.{Same, Cut}
 use Rattle.promises.specs.Finished as field
 use Rattle.promises.specs.LentBytes.{pairsLeft, entered, enteredCuts}
@@ -44,7 +44,7 @@ pub record Next (hand : Hand) (c : Cut) (ls : List Link) (s : Chip) : Type 0 whe
 -- "and the last one finished": a plug-in's, accepted as the others left the chip, t, and run to its end, with its Vsync
 pub record Last (input room : List ℕ) (es : List Event) (t : Chip) : Type 0 where
   pub accepted : planOf input (t .image) room .refusal ≡ 0
-  pub finished : Finished (pairsLeft input (t .image) room) es
+  pub finished : FinishedRun (pairsLeft input (t .image) room) es
 
 -- from no link on: a request that planning accepts where a chain ends, with the pairs that planning leaves in the buffer; a vendor's list
 -- that the verdict passes there
@@ -56,7 +56,7 @@ pub record AnyChain (s : Chip) : Type 0 where
       → writesOf (c .events) ≡ pairsOf list → (r : Request) → Ends r (endOf (pairsOf list) (left ls s) .image) → Next (vendor list r) c ls s
   -- a request that is accepted may be the last, with any finished run; its pairs with one Vsync before the last of them are one
   pub last : (input room : List ℕ) → planOf input (s .image) room .refusal ≡ 0 → let ws : List Write = pairsLeft input (s .image) room in
-      ((es : List Event) → Finished ws es → Last input room es s) × Finished ws (waited ws)
+      ((es : List Event) → FinishedRun ws es → Last input room es s) × FinishedRun ws (waited ws)
 
 -- ---- "At every point"
 
@@ -77,7 +77,7 @@ pub record Point (ls : List Link) (s : Chip) : Type 0 where
   pub audio : OneOf (inUse packets audio s) (map (λ g. g .audio) (allAsked (s .image) ls)) (inUse packets audio (left ls s))
   -- "No matrix change waits at the beginning." With a vendor's list in the chain nothing is said of the coefficients here: it may lower
   -- their hold half way. At the end `Ended` says it, whoever the links were and whatever waited
-  pub matrix : waits s ≡ false → every (λ l. isPlugin (l .hand)) ls ≡ true
+  pub matrix : changeWaits s ≡ false → every (λ l. isPlugin (l .hand)) ls ≡ true
       → OneOf (coefficients s) (map (λ g. g .matrix) (allAsked (s .image) ls)) (coefficients (left ls s))
   -- the picture: as at the beginning until the first write, muted from a link's first write until its last, and then open until the next
   -- link's first
@@ -109,16 +109,16 @@ EveryPoint = (ls : List Link) (s : Chip) → Chain ls s → Point ls s × ((k : 
 -- where the last link ends
 pub record Ended (input room : List ℕ) (es : List Event) (ls : List Link) (s : Chip) : Type 0 where
   -- "the named bits, in the registers ..": the number of each named field is the last request's; mandated bits are the table's
-  pub fields : field.Finished (readOf input .request) (nctsOf input) (run es (left ls s) .image)
+  pub fields : field.FinishedFields (readOf input .request) (nctsOf input) (run es (left ls s) .image)
   -- ".. and in the three groups in use"; "and free bits are those of the beginning"
   pub groups : allInUse (run es (left ls s)) ≡ wholeAs (s .image) (readOf input .request)
   pub kept : Kept s (run es (left ls s))
   pub opened : Open (run es (left ls s))
   -- as if the last request alone had been run, from the beginning, where it is accepted too
   pub accepted : planOf input (s .image) room .refusal ≡ 0
-  pub same : (fs : List Event) → Finished (pairsLeft input (s .image) room) fs → Same (run fs s) (run es (left ls s))
+  pub same : (fs : List Event) → FinishedRun (pairsLeft input (s .image) room) fs → Same (run fs s) (run es (left ls s))
   -- no change waits, so that another chain may begin here
-  pub idle : waits (run es (left ls s)) ≡ false
+  pub idle : changeWaits (run es (left ls s)) ≡ false
   -- what the calls then answer, over lent slices that hold the beginning
   pub said : (lent : Lent) → LentSized lent → stateOf lent ≡ s
       → SaidAfter (readOf input .request) (entered es (enteredCuts (map (λ l. l .run) ls) lent))

@@ -12,7 +12,8 @@ use borrow.Author.Tests.{eq-eqb, ne-eqb, eqb-true, eqb-false, leb-true, not-true
 use Rattle.lists.specs.Find.{every}
 use Rattle.lists.proofs.Both.{both-left, both-right, neither-right}
 use Rattle.lists.proofs.Decides.{Decides, itself, either, together}
-use Rattle.refusals.specs.Rows.{Given, lowest}
+use Rattle.refusals.specs.Rows.{Given}
+use Rattle.refusals.specs.Tests.{lowest}
 use Rattle.refusals.proofs.Tests.{lowest-given, answer-given}
 use Rattle.bits.specs.Merge.{bit}
 use Rattle.bits.proofs.Laws.{merge-bit, bit-code, two-bits-code}
@@ -21,7 +22,7 @@ use Rattle.chip.specs.declared.Chip.{Chip}
 use Rattle.chip.specs.declared.Wrote.{Wrote}
 use Rattle.chip.specs.Machine.{Group, Buffer, avi, audio, gc, matrix, packets, converter, up, registersOf, holdsOf, held, inUse}
 use Rattle.chip.specs.Write.{filled, bufferAfter, markAs, put, vsyncOf, lentAs, stored, imageAfter, two, refuses, writeTests, refusedWrite, writeOf, holdsAfter, Stores}
-use Rattle.chip.specs.Step.{TwoUp, writeRules, rises, Keeps, Step}
+use Rattle.chip.specs.Step.{TwoUp, writeRules, rises, Keeps, OneWrite}
 use Rattle.chip.specs.Turn.{Turn, AtOnce}
 
 -- a test for two packet holds decides that two are up
@@ -92,7 +93,7 @@ holds-stored image address byte whole = go (eqb address (packets .register)) ref
 odd : (n : ℕ) → n % 2 ≢ 0 → n % 2 ≡ 1
 odd n h = omega arith
 
--- what the crates above cite of a write; `Step` has it in the document's words
+-- what the crates above cite of a write; `OneWrite` has it in the document's words
 pub record Stepped (s : Chip) (address value : ℕ) : Type 0 where
   pub refusals : Given (writeRules s address value) (writeOf s address value .refusal)
   pub refused : writeOf s address value .refusal ≢ 0 → writeOf s address value .chip ≡ s
@@ -390,7 +391,7 @@ module _ (s : Chip) (address value : ℕ) where
       waits = mark-stays;
     }
 
-    pub step : Step address value s (writeOf s address value .refusal) (writeOf s address value .chip)
+    pub step : OneWrite address value s (writeOf s address value .refusal) (writeOf s address value .chip)
     step =
         let n : ℕ = holdsOf packets (imageAfter s address value) in
         record {

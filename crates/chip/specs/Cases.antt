@@ -11,17 +11,17 @@ use Rattle.chip.specs.Machine.{Write, _gets_, avi, audio, packets, inUse
 use Rattle.chip.specs.Write.{lentAs, writeOf, vsyncOf}
 
 -- so many numbers from one on
-abbrev pub from : ℕ → ℕ → List ℕ
-from first zero = []
-from first (suc count) = first ∷ from (first + 1) count
+abbrev pub startingAt : ℕ → ℕ → List ℕ
+startingAt first zero = []
+startingAt first (suc count) = first ∷ startingAt (first + 1) count
 
 -- register a holds a, but for the two with the holds
 abbrev pub image : ℕ → ℕ → List ℕ
-image at4A at1A = set (set (from 0x00 256) 0x4A at4A) 0x1A at1A
+image at4A at1A = set (set (startingAt 0x00 256) 0x4A at4A) 0x1A at1A
 
 -- place i of the packet buffer holds 0x80 + i, and of the coefficient buffer 0xC0 + i
 abbrev pub state : ℕ → ℕ → Bool → Chip
-state at4A at1A waiting = lentAs (image at4A at1A) (from 0x80 32) (from 0xC0 24) waiting
+state at4A at1A waiting = lentAs (image at4A at1A) (startingAt 0x80 32) (startingAt 0xC0 24) waiting
 
 -- no hold is up in 0x8A and in 0x1A, and nothing waits
 abbrev pub idle : Chip
@@ -35,13 +35,13 @@ marks = false ∷ true ∷ []
 abbrev pub taken : Chip → Wrote
 taken s = record { refusal = 0; chip = s }
 
-abbrev pub refused : Chip → Wrote
-refused s = record { refusal = 13; chip = s }
+abbrev pub refusedBy : Chip → Wrote
+refusedBy s = record { refusal = 13; chip = s }
 
 -- the state after some writes
-abbrev pub after : List Write → Chip → Chip
-after [] s = s
-after (w ∷ ws) s = after ws (writeOf s (w .address) (w .value) .chip)
+abbrev pub afterWrites : List Write → Chip → Chip
+afterWrites [] s = s
+afterWrites (w ∷ ws) s = afterWrites ws (writeOf s (w .address) (w .value) .chip)
 
 -- 0x4A with the GC hold up, the audio hold, the AVI hold; with none or one of them, and with any
 abbrev pub lone : List ℕ
@@ -59,16 +59,16 @@ twice l = l ++ l
 
 -- the packet buffer, filled by GC, by audio, by AVI: "a packet fills its front, the rest stays"
 abbrev pub buffer : List ℕ
-buffer = from 0x80 32
+buffer = startingAt 0x80 32
 
 abbrev pub gcIn : List ℕ
-gcIn = 0x4B ∷ from 0x81 31
+gcIn = 0x4B ∷ startingAt 0x81 31
 
 abbrev pub audioIn : List ℕ
-audioIn = from 0x70 13 ++ from 0x8D 19
+audioIn = startingAt 0x70 13 ++ startingAt 0x8D 19
 
 abbrev pub aviIn : List ℕ
-aviIn = from 0x52 16 ++ from 0x90 16
+aviIn = startingAt 0x52 16 ++ startingAt 0x90 16
 
 -- the twelve coefficients of the registers, and of the coefficient buffer: "the low 13 bits" of each pair, 0x2021 as 0x0021 and 0xC0C1 as
 -- 0x00C1
@@ -98,30 +98,30 @@ pub record MachineCases : Type 0 where
       (mark : Bool) → map (λ before. map (λ left. writeOf (state before 0x1A mark) 0x4A left .refusal) any) any
       ≡ byTheNew ∷ byTheNew ∷ byTheNew ∷ always ∷ byTheNew ∷ always ∷ always ∷ always ∷ []
   -- by every byte that is written there, and by every byte that stands there, of a write elsewhere; a refused write changes nothing
-  pub written : map (λ byte. writeOf idle 0x4A byte .refusal) (from 0x00 256) ≡ twice thirteens
-  pub standing : map (λ byte. writeOf (state byte 0x1A false) 0x55 0xFF .refusal) (from 0x00 256) ≡ twice thirteens
+  pub written : map (λ byte. writeOf idle 0x4A byte .refusal) (startingAt 0x00 256) ≡ twice thirteens
+  pub standing : map (λ byte. writeOf (state byte 0x1A false) 0x55 0xFF .refusal) (startingAt 0x00 256) ≡ twice thirteens
   pub kept : (mark : Bool)
-      → (writeOf (state 0x9A 0x1A mark) 0x4A 0xDA ≡ refused (state 0x9A 0x1A mark))
-      × (writeOf (state 0xEA 0x1A mark) 0x4A 0x8A ≡ refused (state 0xEA 0x1A mark))
+      → (writeOf (state 0x9A 0x1A mark) 0x4A 0xDA ≡ refusedBy (state 0x9A 0x1A mark))
+      × (writeOf (state 0xEA 0x1A mark) 0x4A 0x8A ≡ refusedBy (state 0xEA 0x1A mark))
   -- the GC hold alone, raised: taken, and "GC's is 0x4B alone"
   pub gcAlone : map (λ mark. writeOf (state 0x8A 0x1A mark) 0x4A 0x9A) marks
-      ≡ map (λ mark. taken (lentAs (image 0x9A 0x1A) gcIn (from 0xC0 24) mark)) marks
+      ≡ map (λ mark. taken (lentAs (image 0x9A 0x1A) gcIn (startingAt 0xC0 24) mark)) marks
   -- the packet buffer by the hold before the write, a row for each, and after it: the one that rises copies, though another falls
   pub copies : (mark : Bool) → map (λ before. map (λ left. writeOf (state before 0x1A mark) 0x4A left .chip .packet) lone) lone
       ≡ (buffer ∷ gcIn ∷ audioIn ∷ aviIn ∷ [])
       ∷ (buffer ∷ buffer ∷ audioIn ∷ aviIn ∷ [])
       ∷ (buffer ∷ gcIn ∷ buffer ∷ aviIn ∷ [])
       ∷ (buffer ∷ gcIn ∷ audioIn ∷ buffer ∷ []) ∷ []
-  pub exchanged : writeOf (state 0xAA 0x1A false) 0x4A 0xCA ≡ taken (lentAs (image 0xCA 0x1A) aviIn (from 0xC0 24) false)
+  pub exchanged : writeOf (state 0xAA 0x1A false) 0x4A 0xCA ≡ taken (lentAs (image 0xCA 0x1A) aviIn (startingAt 0xC0 24) false)
   -- "While it is up the buffer is sent; when down, the registers": the packets and the GC byte in use, by the hold that is up
-  pub aviInUse : map (λ holds. inUse packets avi (state holds 0x1A true)) lone ≡ from 0x52 16 ∷ from 0x52 16 ∷ from 0x52 16 ∷ from 0x80 16 ∷ []
-  pub audioInUse : map (λ holds. inUse packets audio (state holds 0x1A true)) lone ≡ from 0x70 13 ∷ from 0x70 13 ∷ from 0x80 13 ∷ from 0x70 13 ∷ []
+  pub aviInUse : map (λ holds. inUse packets avi (state holds 0x1A true)) lone ≡ startingAt 0x52 16 ∷ startingAt 0x52 16 ∷ startingAt 0x52 16 ∷ startingAt 0x80 16 ∷ []
+  pub audioInUse : map (λ holds. inUse packets audio (state holds 0x1A true)) lone ≡ startingAt 0x70 13 ∷ startingAt 0x70 13 ∷ startingAt 0x80 13 ∷ startingAt 0x70 13 ∷ []
   pub gcInUse : map (λ holds. gcInUse (state holds 0x1A true)) lone ≡ 0x4B ∷ 0x80 ∷ 0x4B ∷ 0x4B ∷ []
   -- the AVI hold raised, a register written under it, and lowered: all old, and all new at once
-  pub underTheHold : inUse packets avi (after (0x4A gets 0xCA ∷ 0x55 gets 0xEE ∷ []) idle) ≡ from 0x52 16
-  pub atOnce : inUse packets avi (after (0x4A gets 0xCA ∷ 0x55 gets 0xEE ∷ 0x4A gets 0x8A ∷ []) idle) ≡ set (from 0x52 16) 3 0xEE
+  pub underTheHold : inUse packets avi (afterWrites (0x4A gets 0xCA ∷ 0x55 gets 0xEE ∷ []) idle) ≡ startingAt 0x52 16
+  pub atOnce : inUse packets avi (afterWrites (0x4A gets 0xCA ∷ 0x55 gets 0xEE ∷ 0x4A gets 0x8A ∷ []) idle) ≡ set (startingAt 0x52 16) 3 0xEE
   -- the coefficient hold. A rise copies the 24 "as they stood before the write", and in a wait nothing; either way no mark is left
-  pub rise : writeOf idle 0x1A 0x25 ≡ taken (lentAs (image 0x8A 0x25) buffer (from 0x18 24) false)
+  pub rise : writeOf idle 0x1A 0x25 ≡ taken (lentAs (image 0x8A 0x25) buffer (startingAt 0x18 24) false)
   pub riseInAWait : writeOf (state 0x8A 0x1A true) 0x1A 0x25 ≡ taken (state 0x8A 0x25 false)
   -- a fall sets the mark, and copies nothing; a write that leaves the hold leaves both
   pub fall : (writeOf (state 0x8A 0x3A false) 0x1A 0x05 ≡ taken (state 0x8A 0x05 true))
@@ -130,8 +130,8 @@ pub record MachineCases : Type 0 where
   pub leavesUp : map (λ mark. writeOf (state 0x8A 0x3A mark) 0x1A 0x25) marks ≡ map (λ mark. taken (state 0x8A 0x25 mark)) marks
   -- the mark by every byte: after a fall, and after a rise in a wait
   pub marked : let by32 : List Bool = replicate 32 true ++ replicate 32 false in
-      (map (λ byte. writeOf (state 0x8A 0x3A false) 0x1A byte .chip .waiting) (from 0x00 256) ≡ twice (twice by32))
-      × (map (λ byte. writeOf (state 0x8A 0x1A true) 0x1A byte .chip .waiting) (from 0x00 256) ≡ twice (twice by32))
+      (map (λ byte. writeOf (state 0x8A 0x3A false) 0x1A byte .chip .waiting) (startingAt 0x00 256) ≡ twice (twice by32))
+      × (map (λ byte. writeOf (state 0x8A 0x1A true) 0x1A byte .chip .waiting) (startingAt 0x00 256) ≡ twice (twice by32))
   -- a Vsync ends a wait, and else changes nothing: a mark beside a raised hold stays; two packet holds do not matter
   pub vsyncs : (mark : Bool)
       → (vsyncOf (state 0xFA 0x1A mark) ≡ state 0xFA 0x1A false) × (vsyncOf (state 0xFA 0x3A mark) ≡ state 0xFA 0x3A mark)
@@ -139,19 +139,19 @@ pub record MachineCases : Type 0 where
   pub twelve : (coefficients (state 0x8A 0x1A false) ≡ ofRegisters) × (coefficients (state 0x8A 0x1A true) ≡ ofBuffer)
       × (coefficients (state 0x8A 0x3A false) ≡ ofBuffer) × (coefficients (state 0x8A 0x3A true) ≡ ofBuffer)
   -- a change of the matrix, from 0x18 to C4: old until the Vsync, whatever is written in the wait; then the registers as they stand
-  pub old : map (λ ws. coefficients (after ws idle)) (underHold ∷ lowered ∷ inTheWait ∷ []) ≡ ofRegisters ∷ ofRegisters ∷ ofRegisters ∷ []
-  pub waits : map (λ ws. after ws idle .waiting) (underHold ∷ lowered ∷ inTheWait ∷ []) ≡ false ∷ true ∷ true ∷ []
-  pub new : (coefficients (vsyncOf (after inTheWait idle)) ≡ changed) × (vsyncOf (after inTheWait idle) .waiting ≡ false)
+  pub old : map (λ ws. coefficients (afterWrites ws idle)) (underHold ∷ lowered ∷ inTheWait ∷ []) ≡ ofRegisters ∷ ofRegisters ∷ ofRegisters ∷ []
+  pub waits : map (λ ws. afterWrites ws idle .waiting) (underHold ∷ lowered ∷ inTheWait ∷ []) ≡ false ∷ true ∷ true ∷ []
+  pub new : (coefficients (vsyncOf (afterWrites inTheWait idle)) ≡ changed) × (vsyncOf (afterWrites inTheWait idle) .waiting ≡ false)
   -- raised again in the wait: the change is dropped, the mark too, and a Vsync then changes nothing
-  pub dropped : let again : Chip = after (inTheWait ++ 0x1A gets 0x3A ∷ []) idle in
-      (again .coefficients ≡ from 0x18 24) × (again .waiting ≡ false) × (coefficients again ≡ ofRegisters) × (vsyncOf again ≡ again)
+  pub dropped : let again : Chip = afterWrites (inTheWait ++ 0x1A gets 0x3A ∷ []) idle in
+      (again .coefficients ≡ startingAt 0x18 24) × (again .waiting ≡ false) × (coefficients again ≡ ofRegisters) × (vsyncOf again ≡ again)
   -- "Enable and mode in 0x18[7:5] act at once", with the hold up, and in a wait; the coefficients are old
-  pub enable : (mark : Bool) → map (λ byte. enableInUse (after (0x18 gets byte ∷ []) (state 0x8A 0x3A mark))) (from 0x00 256)
+  pub enable : (mark : Bool) → map (λ byte. enableInUse (afterWrites (0x18 gets byte ∷ []) (state 0x8A 0x3A mark))) (startingAt 0x00 256)
       ≡ replicate 128 0 ++ replicate 128 1
   pub mode : (mark : Bool) → let quarter : ℕ → List ℕ = λ mode. replicate 32 mode in
-      map (λ byte. modeInUse (after (0x18 gets byte ∷ []) (state 0x8A 0x3A mark))) (from 0x00 256)
+      map (λ byte. modeInUse (afterWrites (0x18 gets byte ∷ []) (state 0x8A 0x3A mark))) (startingAt 0x00 256)
       ≡ quarter 0 ++ quarter 1 ++ quarter 2 ++ quarter 3 ++ quarter 0 ++ quarter 1 ++ quarter 2 ++ quarter 3
-  pub inAWait : let s : Chip = after (0x18 gets 0xC7 ∷ []) (state 0x8A 0x1A true) in
+  pub inAWait : let s : Chip = afterWrites (0x18 gets 0xC7 ∷ []) (state 0x8A 0x1A true) in
       (enableInUse s ≡ 1) × (modeInUse s ≡ 2) × (coefficients s ≡ ofBuffer)
   -- "Read-only bits never change": 0x00 whole, 0x3E[7:2], 0x42[7:2], 0x9E[4:0], 0xC7[6:0]; the other bits are the value's
   pub zeros : map (λ a. writeOf idle a 0x00 .chip .image) (0x00 ∷ 0x3E ∷ 0x42 ∷ 0x9E ∷ 0xC7 ∷ 0x55 ∷ [])

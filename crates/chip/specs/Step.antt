@@ -23,10 +23,6 @@ TwoUp image = let Up : Group → Type 0 = λ g. up g (holdsOf packets image) ≡
 abbrev pub writeRules : Chip → ℕ → ℕ → List Condition
 writeRules s address value = twoHolds when (TwoUp (s .image) ⊎ TwoUp (imageAfter s address value)) ∷ []
 
--- what a write promises: the state that it hands back, and the number of its refusal; `Step` ties it to document 01
-abbrev pub Hands : Chip → ℕ → ℕ → Wrote → Type 0
-Hands s address value wrote = wrote ≡ writeOf s address value
-
 -- ---- a state before a write, s, and the state after it, t
 
 -- a group's hold rises
@@ -42,7 +38,7 @@ abbrev pub Keeps : Buffer → Chip → Chip → Type 0
 Keeps b s t = every (λ g. not (rises b g s t)) (b .groups) ≡ true → b .bytes t ≡ b .bytes s
 
 -- a write of a value at an address, and the number of its refusal
-pub record Step (address value : ℕ) (s : Chip) (number : ℕ) (t : Chip) : Type 0 where
+pub record OneWrite (address value : ℕ) (s : Chip) (number : ℕ) (t : Chip) : Type 0 where
   -- a write is refused by 13 alone, and a refused one changes nothing
   pub refusals : Given (writeRules s address value) number
   pub refused : number ≢ 0 → t ≡ s
@@ -66,4 +62,4 @@ pub record Step (address value : ℕ) (s : Chip) (number : ℕ) (t : Chip) : Typ
 -- whatever the state and the write: an image of 256 bytes, and `writeOf`
 abbrev pub AnyStep : Type 0
 AnyStep = (s : Chip) → length (s .image) ≡ 256 → (address value : ℕ)
-    → let wrote : Wrote = writeOf s address value in Step address value s (wrote .refusal) (wrote .chip)
+    → let wrote : Wrote = writeOf s address value in OneWrite address value s (wrote .refusal) (wrote .chip)

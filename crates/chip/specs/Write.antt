@@ -8,7 +8,8 @@ use lib.Dec.{eqb}
 use lib.ListN.{getD, set, drop}
 use Rattle.bits.specs.Merge.{merge}
 use Rattle.registers.specs.Classes.{readOnly}
-use Rattle.refusals.specs.Rows.{twoHolds, Test, _if_, lowest, answer}
+use Rattle.refusals.specs.Rows.{twoHolds}
+use Rattle.refusals.specs.Tests.{Test, _if_, lowest, answer}
 use Rattle.chip.specs.declared.Chip.{Chip}
 use Rattle.chip.specs.declared.Wrote.{Wrote}
 use Rattle.chip.specs.Machine.{Group, Buffer, avi, audio, gc, matrix, packets, converter, holdsOf, up, registersOf, held}
@@ -91,3 +92,7 @@ writeOf s address value =
 -- a Vsync: where the hold is down the wait is over; "a mark beside a raised hold counts for nothing", and stays
 unfoldable pub vsyncOf : Chip → Chip
 vsyncOf s = lentAs (s .image) (s .packet) (s .coefficients) (held s && s .waiting)
+
+-- what a write promises: the state that it hands back, and the number of its refusal; `Step` ties it to document 01
+abbrev pub Hands : Chip → ℕ → ℕ → Wrote → Type 0
+Hands s address value wrote = wrote ≡ writeOf s address value

@@ -8,12 +8,14 @@ use native.Mathlib.Nat.{eq-of-mul-eq-mul-left, mul-pos, le-antisymm}
 use native.Mathlib.Omega.{arith}
 use lib.Dec.{eqb, ltb}
 use borrow.Author.Tests.{eqb-true, eqb-false, le-ltb}
-use Rattle.refusals.specs.Rows.{noExactPair, _if_, lowest, answer}
+use Rattle.refusals.specs.Rows.{noExactPair}
+use Rattle.refusals.specs.Tests.{_if_, lowest, answer}
 use Rattle.video.specs.declared.Video.{Video}
 use Rattle.clock.specs.declared.Clock.{Clock}
 use Rattle.clock.specs.declared.Pair.{Pair}
-use Rattle.clock.specs.Clocks.{clockOf}
-use Rattle.clock.specs.Pairs.{reference, Exact, recommendedOf, Coherent, thePair, noPair, other}
+use Rattle.clock.specs.Answers.{clockOf}
+use Rattle.clock.specs.Pairs.{reference, Exact, recommendedOf, Coherent}
+use Rattle.clock.specs.Answers.{thePair, noPair, other}
 use Rattle.clock.specs.Found.{exactly, leastK, mostK, nearestIn, nearestOf, coherentOf, pairOf}
 use Rattle.clock.specs.Theorems.{PairRule}
 use Rattle.clock.proofs.Rates.{reference-some}

@@ -10,7 +10,7 @@ use lib.ListN.{getD}
 use borrow.Author.Tests.{eqb-true, eqb-false, eq-eqb, ltb-true}
 use Rattle.lists.proofs.Both.{both-left, both-right}
 use Rattle.bits.proofs.Below.{below, at-below}
-use Rattle.ratio.specs.Lowest.{divisorOf, steps, topOf, bottomOf}
+use Rattle.ratio.specs.Terms.{divisorOf, euclid, topOf, bottomOf}
 use Rattle.ratio.proofs.Divisor.{in-lowest}
 use Rattle.ratio.proofs.Unique.{only}
 use Rattle.clock.specs.declared.Clock.{Clock}
@@ -41,7 +41,7 @@ inTerms i =
     && (eqb (topOf (rowAt i .num) (rowAt i .den)) (getD nums i 0) && eqb (bottomOf (rowAt i .num) (rowAt i .den)) (getD dens i 0))
 
 all-terms : below inTerms 10 ≡ true
-unfolding divisorOf steps
+unfolding divisorOf euclid
 all-terms = refl
 
 -- a clock in lowest terms is a row's exactly if its two numbers are the row's in lowest terms

@@ -7,10 +7,11 @@ use native.Mathlib.Nat.{mul-assoc, mul-comm, mul-pos}
 use native.Mathlib.Omega.{arith}
 use lib.Dec.{ltb}
 use borrow.Author.Tests.{leb-true, le-leb, eqb-true, eq-eqb, ltb-true, ltb-false}
-use Rattle.ratio.specs.Lowest.{topOf, bottomOf}
+use Rattle.ratio.specs.Terms.{topOf, bottomOf}
 use Rattle.ratio.proofs.Multiples.{meets, multiple, u-some, v-some}
 use Rattle.clock.specs.declared.Clock.{Clock}
-use Rattle.clock.specs.Pairs.{reference, Exact, far, thePair, noPair}
+use Rattle.clock.specs.Pairs.{reference, Exact, far}
+use Rattle.clock.specs.Answers.{thePair, noPair}
 use Rattle.clock.specs.Found.{exactly, nearestK, nearestIn, nearestOf, leastK, mostK}
 use Rattle.clock.proofs.Range.{least-in, most-in, between, best, below-low, below-high, Better}
 

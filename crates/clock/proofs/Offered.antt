@@ -13,9 +13,10 @@ use Rattle.lists.proofs.Find.{found}
 use Rattle.lists.proofs.Both.{both-left, both-right, beq-true}
 use Rattle.lists.proofs.Decides.{less, refuted}
 use Rattle.bits.proofs.Below.{below, at-below}
-use Rattle.refusals.specs.Rows.{lowest}
+use Rattle.refusals.specs.Tests.{lowest}
 use Rattle.refusals.proofs.Tests.{none-at, numbered, answer-none}
-use Rattle.ratio.specs.Lowest.{Lowest, divisorOf, steps}
+use Rattle.ratio.specs.Lowest.{Lowest}
+use Rattle.ratio.specs.Terms.{divisorOf, euclid}
 use Rattle.ratio.proofs.Divisor.{in-lowest}
 use Rattle.video.specs.declared.Mode.{Mode}
 use Rattle.video.specs.declared.Video.{Video}
@@ -24,7 +25,8 @@ use Rattle.video.specs.Video.{depth, repetition, inFamily, PixelOutside}
 use Rattle.video.specs.Tests.{pixelOutside}
 use Rattle.video.proofs.Fits.{is-pixel-outside}
 use Rattle.clock.specs.declared.Clock.{Clock}
-use Rattle.clock.specs.Clocks.{tmdsTop, tmdsBottom, tmdsOf, tmds, limit, aboveLimit, AboveLimit, clockTests, noClock, clockOf}
+use Rattle.clock.specs.Clocks.{tmdsTop, tmdsBottom, tmdsOf, tmds, limit, AboveLimit}
+use Rattle.clock.specs.Answers.{aboveLimit, clockTests, noClock, clockOf}
 use Rattle.clock.specs.Bounds.{denMost, WithinBounds}
 use Rattle.clock.specs.Found.{quarterOf, foundClock}
 use Rattle.clock.specs.Theorems.{ClockRule}
@@ -83,19 +85,19 @@ abbrev alike : ℕ → ℕ → ℕ → ℕ → Bool
 alike h f d r = Bool·beq (aboveLimit (tmdsOf h 0 d r)) (aboveLimit (tmdsOf h 1 d r))
 
 all-same : every (passed same) modes ≡ true
-unfolding quarterOf divisorOf steps
+unfolding quarterOf divisorOf euclid
 all-same = refl
 
 all-sizes : every (passed sizes) modes ≡ true
-unfolding divisorOf steps
+unfolding divisorOf euclid
 all-sizes = refl
 
 all-alone : every (passed alone) modes ≡ true
-unfolding divisorOf steps
+unfolding divisorOf euclid
 all-alone = refl
 
 all-alike : every (passed alike) modes ≡ true
-unfolding divisorOf steps
+unfolding divisorOf euclid
 all-alike = refl
 
 module _ (video : Video) (o : offered video ≡ true) (p : pixelOutside video ≡ false) where

@@ -9,7 +9,8 @@ use lib.Dec.{eqb, ltb}
 use borrow.Author.Tests.{ltb-false, eqb-true, eqb-false, not-true, not-false}
 use Rattle.lists.proofs.Both.{neither-left, neither-right}
 use Rattle.lists.proofs.Decides.{Decides, failing, equal, less, either, together}
-use Rattle.refusals.specs.Rows.{Condition, Given, Test, lowest}
+use Rattle.refusals.specs.Rows.{Condition, Given}
+use Rattle.refusals.specs.Tests.{Test, lowest}
 use Rattle.refusals.proofs.Tests.{Decided, lowest-given, none-at, answer-given, answer-beside}
 use Rattle.clock.specs.declared.Clock.{Clock}
 use Rattle.clock.specs.declared.Pair.{Pair}
@@ -17,8 +18,10 @@ use Rattle.video.specs.declared.Video.{Video}
 use Rattle.video.specs.Modes.{offered}
 use Rattle.video.specs.Tests.{pixelOutside}
 use Rattle.video.proofs.Fits.{is-pixel-outside}
-use Rattle.clock.specs.Clocks.{tmds, limit, aboveLimit, clockTests, noClock, clockOf}
-use Rattle.clock.specs.Pairs.{Coherent, noPair, other}
+use Rattle.clock.specs.Clocks.{tmds, limit}
+use Rattle.clock.specs.Answers.{aboveLimit, clockTests, noClock, clockOf}
+use Rattle.clock.specs.Pairs.{Coherent}
+use Rattle.clock.specs.Answers.{noPair, other}
 use Rattle.clock.specs.Found.{coherentOf, pairTests, pairOf}
 use Rattle.clock.specs.Theorems.{clockRules, pairRules, ClockRefusals}
 use Rattle.clock.proofs.Exactness.{None}

@@ -1,16 +1,15 @@
 -- Document 01, "Modes and clocks", and document 02, request 06: the clock of a video, kept exact, over its mode, family, depth and repetition.
-use mathlib.Core.Path.{_≡_}
-use mathlib.Core.Bool.{Bool, cond, not}
+use mathlib.Core.Bool.{cond}
 use mathlib.Core.List.{List, [], _∷_}
 use Prim.Native.Nat.{ℕ, _*_, _<_}
-use lib.Dec.{eqb, ltb}
+use lib.Dec.{eqb}
 use lib.ListN.{getD}
-use Rattle.refusals.specs.Rows.{modeNotOffered, fieldOutOfRange, clockAbove, Condition, _when_, Test, _if_, lowest, answer}
-use Rattle.ratio.specs.Lowest.{topOf, bottomOf}
+use Rattle.refusals.specs.Rows.{clockAbove, Condition, _when_}
+use Rattle.refusals.specs.Tests.{lowest}
+use Rattle.ratio.specs.Terms.{topOf, bottomOf}
 use Rattle.video.specs.declared.Video.{Video}
-use Rattle.video.specs.Modes.{modeOf, offered}
+use Rattle.video.specs.Modes.{modeOf}
 use Rattle.video.specs.Video.{depth, repetition}
-use Rattle.video.specs.Tests.{pixelOutside}
 use Rattle.clock.specs.declared.Clock.{Clock}
 
 -- "The clock that N and CTS rest on is the TMDS clock, which is the pixel clock times 5/4 or 3/2": so many quarters at 24, 30 and 36 bits
@@ -47,24 +46,3 @@ AboveLimit clock = limit * clock .den < clock .num
 
 abbrev pub limitsRows : Video → List Condition
 limitsRows video = clockAbove when AboveLimit (tmds video) ∷ []
-
-abbrev pub aboveLimit : Clock → Bool
-aboveLimit clock = ltb (limit * clock .den) (clock .num)
-
--- the tests of rows 4, 5 and 17; they decide the conditions of `clockRules` (`ClockRefusals`)
-abbrev pub clockTests : Video → List Test
-clockTests video =
-    modeNotOffered if not (offered video) ∷
-    fieldOutOfRange if pixelOutside video ∷
-    clockAbove if aboveLimit (tmds video) ∷ []
-
--- a refusal has its number, and zeros beside it
-abbrev pub noClock : ℕ → Clock
-noClock number = record { refusal = number; num = 0; den = 0 }
-
-unfoldable pub clockOf : Video → Clock
-clockOf video = answer (lowest (clockTests video)) noClock (tmds video)
-
--- what `clock_of` promises
-abbrev pub GivesClock : Video → Clock → Type 0
-GivesClock video r = r ≡ clockOf video

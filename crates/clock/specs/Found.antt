@@ -5,17 +5,20 @@ use mathlib.Core.Bool.{Bool, cond, _&&_, _||_, not}
 use mathlib.Core.List.{List, [], _∷_}
 use Prim.Native.Nat.{ℕ, _+_, _-_, _*_, _/_, min}
 use lib.Dec.{eqb, leb, ltb}
-use Rattle.refusals.specs.Rows.{modeNotOffered, fieldOutOfRange, clockAbove, noExactPair, number, Test, _if_, lowest, answer}
+use Rattle.refusals.specs.Rows.{modeNotOffered, fieldOutOfRange, clockAbove, noExactPair, number}
+use Rattle.refusals.specs.Tests.{Test, _if_, lowest, answer}
 use Rattle.video.specs.declared.Video.{Video}
 use Rattle.video.specs.Modes.{offered}
 use Rattle.video.specs.Tests.{pixelOutside}
-use Rattle.ratio.specs.Lowest.{topOf, bottomOf}
+use Rattle.ratio.specs.Terms.{topOf, bottomOf}
 use Rattle.clock.specs.declared.Clock.{Clock}
 use Rattle.clock.specs.declared.NCts.{NCts}
 use Rattle.clock.specs.declared.Pair.{Pair}
 use Rattle.clock.specs.declared.Quarter.{Quarter}
-use Rattle.clock.specs.Clocks.{quarters, times, tmds, aboveLimit, clockOf}
-use Rattle.clock.specs.Pairs.{reference, recommendedOf, thePair, noPair, other}
+use Rattle.clock.specs.Clocks.{quarters, times, tmds}
+use Rattle.clock.specs.Answers.{aboveLimit, clockOf}
+use Rattle.clock.specs.Pairs.{reference, recommendedOf}
+use Rattle.clock.specs.Answers.{thePair, noPair, other}
 
 -- a quarter of a mode's clock in lowest terms, in each family, by the clock at family 0: a row for each clock of the modes that offer family 1
 abbrev pub quarter : ℕ → ℕ → Quarter

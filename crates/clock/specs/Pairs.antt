@@ -9,7 +9,7 @@ use lib.ListN.{getD}
 use Rattle.clock.specs.declared.Clock.{Clock}
 use Rattle.clock.specs.declared.NCts.{NCts}
 use Rattle.clock.specs.declared.Pair.{Pair}
-use Rattle.clock.specs.Tables.{rates, pair, Recommended, recommended, otherRow}
+use Rattle.clock.specs.Tables.{rates, pair, Recommended, recommended}
 
 -- 128·fs
 unfoldable pub reference : ℕ → ℕ
@@ -55,18 +55,3 @@ pub record Coherent (clock : Clock) (rate : ℕ) (answer : Pair) : Type 0 where
   pub nearest : (Exact clock rate (recommendedOf clock rate .n) (recommendedOf clock rate .cts) → ⊥)
       → (n cts : ℕ) → Exact clock rate n cts
       → (far rate (answer .n) ≤ far rate n) × (far rate (answer .n) ≡ far rate n → answer .n ≤ n)
-
--- N and CTS that are answered; a refusal has its number, and zeros beside it
-abbrev pub thePair : ℕ → ℕ → Pair
-thePair n cts = record { refusal = 0; n = n; cts = cts }
-
-abbrev pub noPair : ℕ → Pair
-noPair number = record { refusal = number; n = 0; cts = 0 }
-
--- "For other audio: N from the "Other" row, CTS 0, automatic"
-abbrev pub other : ℕ → Pair
-other rate = thePair (getD otherRow rate 0) 0
-
--- "Audio off: N 6144, CTS 0, automatic"
-abbrev pub audioOff : Pair
-audioOff = thePair 6144 0

@@ -12,8 +12,10 @@ use Rattle.video.specs.Modes.{modeOf, offered}
 use Rattle.video.specs.Video.{depth, repetition, inFamily, PixelOutside}
 use Rattle.clock.specs.declared.Clock.{Clock}
 use Rattle.clock.specs.declared.Pair.{Pair}
-use Rattle.clock.specs.Clocks.{tmdsTop, tmdsBottom, tmds, limit, AboveLimit, limitsRows, clockOf}
-use Rattle.clock.specs.Pairs.{NoExact, Coherent, other}
+use Rattle.clock.specs.Clocks.{tmdsTop, tmdsBottom, tmds, limit, AboveLimit, limitsRows}
+use Rattle.clock.specs.Answers.{clockOf}
+use Rattle.clock.specs.Pairs.{NoExact, Coherent}
+use Rattle.clock.specs.Answers.{other}
 use Rattle.clock.specs.Found.{pairOf}
 
 -- "The clock routine answers that exact fraction": once over mode, family, depth and repetition

@@ -1,9 +1,11 @@
 // The exact clock fraction, and N and CTS: document 01, "Modes and clocks" and "N and CTS"; document 02, request 06.
 ghost use mathlib.Core.Path.{_≡_};
 ghost use Prim.Native.Nat.{_<_, _≤_, _+_, _-_, _*_, min};
-ghost use Rattle.clock.specs.Clocks.{quarters, times, noClock, GivesClock};
+ghost use Rattle.clock.specs.Clocks.{quarters, times};
+ghost use Rattle.clock.specs.Answers.{noClock, GivesClock};
 ghost use Rattle.clock.specs.Bounds.{WithinBounds, numMost, referenceMost, partsMost, stepMost};
-ghost use Rattle.clock.specs.Pairs.{reference, recommendedOf, thePair, noPair, audioOff};
+ghost use Rattle.clock.specs.Pairs.{reference, recommendedOf};
+ghost use Rattle.clock.specs.Answers.{thePair, noPair, audioOff};
 ghost use Rattle.clock.specs.Found.{quarter, slowQuarter, quarterOf};
 ghost use Rattle.clock.specs.Found.{nearestK, leastK, mostK, nearestIn, nearestOf, exactly, coherentOf, GivesPair};
 ghost use Rattle.clock.specs.Theorems.{ClockRule, PairRule, ClockRefusals};

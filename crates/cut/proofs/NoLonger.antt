@@ -25,11 +25,11 @@ use Rattle.writes.proofs.Fewer.{plain, raises-none, every-plain, leftSteps, ste
 use Rattle.cut.specs.Run.{Event, cut, writesOf, writesBy}
 use Rattle.cut.specs.Demand.{Cut, cuts, PlannedAgain}
 use Rattle.cut.specs.Within.{NoLonger}
-use Rattle.cut.proofs.Cut.{Ready, Near, near-self, finished-near, take-map, cut-acts, stand}
-use Rattle.cut.proofs.Runs.{alike}
-use Rattle.cut.proofs.Demanded.{near-run}
-use Rattle.cut.proofs.Fewer.{plain-those, fewer-good, left-fair}
-use Rattle.cut.proofs.Within.{every-take}
+use Rattle.cut.proofs.AtEveryCut.{Ready, Near, near-self, finished-near, take-map, cut-acts, stand}
+use Rattle.cut.proofs.ClausesOfRuns.{alike}
+use Rattle.cut.proofs.DemandOfGoodLists.{near-run}
+use Rattle.cut.proofs.DemandOfWriteList.{plain-those, fewer-good, left-fair}
+use Rattle.cut.proofs.ShorterWithin.{every-take}
 
 -- the last of some plain steps at a register: none, or one that raises nothing
 plain-last : (a : ℕ) → among a theThree ≡ false → (is : List Step) (o : ℕ) → every plain is ≡ true

@@ -9,7 +9,7 @@ use Rattle.chip.specs.declared.Chip.{Chip}
 use Rattle.chip.specs.Machine.{Write}
 use Rattle.chip.specs.Write.{vsyncOf}
 use Rattle.cut.specs.Run.{Event, happens, run, cut, event, writesOf, writesBy, IsFair}
-use Rattle.cut.specs.Vsync.{waits, Finished}
+use Rattle.cut.specs.Vsync.{changeWaits, FinishedRun}
 
 -- every event is fair where it happens, and none is refused
 abbrev pub Good : List Event → Chip → Type 0
@@ -21,4 +21,4 @@ pub record AnyRun (es : List Event) (s : Chip) : Type 0 where
   -- where it is good, so is every run of the same writes
   pub anywhere : Good es s → (fs : List Event) → writesOf fs ≡ writesOf es → Good fs s
   -- a finished one ends with nothing waiting
-  pub idle : length (s .image) ≡ 256 → (ws : List Write) → Finished ws es → waits (run es s) ≡ false
+  pub idle : length (s .image) ≡ 256 → (ws : List Write) → FinishedRun ws es → changeWaits (run es s) ≡ false

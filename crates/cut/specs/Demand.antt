@@ -13,7 +13,7 @@ use Rattle.chip.specs.Machine.{Write, avi, audio, matrix, packets, registersOf,
 use Rattle.chip.specs.Write.{vsyncOf}
 use Rattle.writes.specs.List.{finishedImage, ready}
 use Rattle.cut.specs.Run.{Event, run, cut, writesOf, writesBy, standing, Either, Careful, Covered, Untouched}
-use Rattle.cut.specs.Vsync.{old, waited, Finished}
+use Rattle.cut.specs.Vsync.{old, waited, FinishedRun}
 
 -- planned on the registers as they stand, "and run to its end", with its Vsync
 abbrev pub toItsEnd : (List ℕ → List Write) → Chip → Chip
@@ -64,9 +64,9 @@ pub record Clauses (end : List ℕ) (ws : List Write) (es : List Event) (s : Chi
   -- the registers after the last write
   pub registers : run es s .image ≡ end
   -- "After the last, all are new and the picture is open.", of a finished run
-  pub ended : Finished ws es → After (run es s)
+  pub ended : FinishedRun ws es → After (run es s)
   -- and so from the last write on: the picture does not open on what is old
-  pub since : Finished ws es → (k : ℕ) → writesBy es k ≡ length ws → After (cut es s k)
+  pub since : FinishedRun ws es → (k : ℕ) → writesBy es k ≡ length ws → After (cut es s k)
   -- a run that is not finished has opened the picture all the same, its coefficients old or new; and all are new after one Vsync more
   pub opened : Open (run es s)
   pub whole : Either (old es s .matrix) (standing end .matrix) (coefficients (run es s))
@@ -79,7 +79,7 @@ pub record Demand3 (planned : List ℕ → List Write) (want : ℕ → ℕ) (s :
   -- every run of the list: "Vsync events anywhere between the writes"
   pub runs : (es : List Event) → writesOf es ≡ planned (s .image) → Clauses (finishedImage want (s .image)) (planned (s .image)) es s
   -- with one Vsync just before its last write a run is finished
-  pub waits : Finished (planned (s .image)) (waited (planned (s .image)))
+  pub waits : FinishedRun (planned (s .image)) (waited (planned (s .image)))
   -- `PlannedAgain` leaves no cuts out: from none on, any run of the list that is planned where some cuts left off, cut anywhere, is one more
   pub none : PlannedAgain planned [] s
   pub more : (cs : List Cut) → PlannedAgain planned cs s → (c : Cut) → writesOf (c .events) ≡ planned (cuts cs s .image)
@@ -89,5 +89,5 @@ pub record Demand3 (planned : List ℕ → List Write) (want : ℕ → ℕ) (s :
   pub ready : (cs : List Cut) → PlannedAgain planned cs s → ready (cuts cs s .image) ≡ true
   -- "If the same request is planned again on the registers as the cut left them, and run to its end, the registers and all three groups in
   -- use are those of the run without a cut": of finished runs
-  pub again : (cs : List Cut) → PlannedAgain planned cs s → (es fs : List Event) → Finished (planned (s .image)) es
-      → Finished (planned (cuts cs s .image)) fs → Same (run es s) (run fs (cuts cs s))
+  pub again : (cs : List Cut) → PlannedAgain planned cs s → (es fs : List Event) → FinishedRun (planned (s .image)) es
+      → FinishedRun (planned (cuts cs s .image)) fs → Same (run es s) (run fs (cuts cs s))

@@ -2,18 +2,22 @@
 use mathlib.Core.Path.{_≡_}
 use mathlib.Core.Logic.{_↔_}
 use mathlib.Core.Bool.{true, false, not, _||_}
-use mathlib.Core.List.{List, [], _∷_, _++_}
+use mathlib.Core.List.{List, [], _∷_, _++_, map}
 use Prim.Native.Nat.{ℕ, _<_}
 use lib.Dec.{eqb}
 use lib.ListN.{length}
 use Rattle.lists.specs.Find.{every}
 use Rattle.bits.specs.Merge.{bit}
 use Rattle.chip.specs.Machine.{Write}
-use Rattle.cut.specs.Run.{Event, vsync, event, writesOf, writesBy}
-use Rattle.cut.specs.Vsync.{leavesHold, Finished}
+use Rattle.cut.specs.Run.{Event, write, vsync, event, writesOf, writesBy}
+use Rattle.cut.specs.Vsync.{leavesHold, FinishedRun}
+
+-- a list of writes, sent one after the other with no Vsync
+abbrev pub sent : List Write → List Event
+sent = map write
 
 -- a Vsync comes after the write at place n and before the last of m writes
-pub record Turns (n m : ℕ) (es : List Event) : Type 0 where
+pub record VsyncBetween (n m : ℕ) (es : List Event) : Type 0 where
   pub place : ℕ
   pub within : place < length es
   pub turns : event es place ≡ vsync
@@ -36,4 +40,4 @@ pub record Room (ws : List Write) : Type 0 where
   pub mute : opening .address ≡ 0x4B
   pub opens : (bit 6 (opening .value) ≡ 0) × (bit 7 (opening .value) ≡ 1)
   -- a run is finished exactly if a Vsync comes between these two writes, the lowering one and the opening one
-  pub exactly : (es : List Event) → writesOf es ≡ ws → Finished ws es ↔ Turns (length front) (length ws) es
+  pub exactly : (es : List Event) → writesOf es ≡ ws → FinishedRun ws es ↔ VsyncBetween (length front) (length ws) es

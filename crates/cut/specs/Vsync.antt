@@ -1,23 +1,21 @@
 -- Request 04 of document 02, in its words: what is old where a change waits at the start, and which runs are finished.
 use mathlib.Core.Path.{_≡_}
-use mathlib.Core.Logic.{_↔_}
-use mathlib.Core.Bool.{Bool, true, false, cond, not, _&&_, _||_}
-use mathlib.Core.List.{List, [], _∷_, _++_, map}
-use Prim.Native.Nat.{ℕ, _<_}
+use mathlib.Core.Bool.{Bool, true, false, cond, not, _&&_}
+use mathlib.Core.List.{List, [], _∷_, _++_}
+use Prim.Native.Nat.{_<_}
 use lib.Dec.{eqb}
 use lib.ListN.{length}
 use Rattle.lists.specs.Find.{every}
-use Rattle.bits.specs.Merge.{bit}
 use Rattle.matrix.specs.Matrix.{fields}
 use Rattle.chip.specs.declared.Chip.{Chip}
 use Rattle.chip.specs.Machine.{Write, avi, audio, matrix, packets, up, registersOf, held, inUse, coefficients}
-use Rattle.cut.specs.Run.{Event, write, vsync, event, writesOf, writesBy, InUse}
+use Rattle.cut.specs.Run.{Event, write, vsync, event, writesOf, InUse}
 
 -- ---- what is old
 
 -- a change waits: a lowered coefficient hold whose Vsync has not come
-abbrev pub waits : Chip → Bool
-waits s = not (held s) && s .waiting
+abbrev pub changeWaits : Chip → Bool
+changeWaits s = not (held s) && s .waiting
 
 -- a Vsync comes among these events, and no write before it raises the coefficient hold, 0x1A[5]
 abbrev pub turnedOver : List Event → Bool
@@ -32,14 +30,10 @@ abbrev pub old : List Event → Chip → InUse
 old es s = record {
   avi = inUse packets avi s;
   audio = inUse packets audio s;
-  matrix = cond (waits s && turnedOver es) (fields (registersOf matrix (s .image))) (coefficients s);
+  matrix = cond (changeWaits s && turnedOver es) (fields (registersOf matrix (s .image))) (coefficients s);
 }
 
 -- ---- a finished run
-
--- a list of writes, sent one after the other with no Vsync
-abbrev pub sent : List Write → List Event
-sent = map write
 
 -- the same with one Vsync just before the last write, as a host sends it
 abbrev pub waited : List Write → List Event
@@ -54,7 +48,7 @@ leavesHold = every (λ w. not (eqb (w .address) 0x1A))
 -- "The host waits for one Vsync between the lowered coefficient hold and the opening write; a run without that event is not a finished one":
 -- a Vsync with no write to 0x1A after it, and with the opening write still to come. (That the last write to 0x1A lowers the hold, and the
 -- last of all opens, and that this is the very place: `Room`.)
-pub record Finished (ws : List Write) (es : List Event) : Type 0 where
+pub record FinishedRun (ws : List Write) (es : List Event) : Type 0 where
   pub runs : writesOf es ≡ ws
   pub before : List Event
   pub after : List Event

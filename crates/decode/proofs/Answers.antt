@@ -11,7 +11,7 @@ use lib.ListN.{length, getD, take, drop, length-take, length-drop}
 use borrow.Author.Tests.{eqb-true, eq-eqb, le-ltb, not-true, not-false}
 use Rattle.lists.proofs.Both.{both-left, both-right}
 use Rattle.lists.proofs.Decides.{Decides, equal, less, opposite}
-use Rattle.refusals.specs.Rows.{Test}
+use Rattle.refusals.specs.Tests.{Test}
 use Rattle.refusals.proofs.Tests.{Decided, lowest-given, none-at, numbered, answer-none, answer-some}
 use Rattle.bits.specs.Merge.{merge}
 use Rattle.bits.proofs.Truth.{E, var, by, law}
@@ -25,8 +25,8 @@ use Rattle.request.specs.declared.Request.{Request}
 use Rattle.request.specs.declared.Checked.{Checked}
 use Rattle.request.specs.Sections.{longest}
 use Rattle.request.specs.Read.{readOf, pairFor}
-use Rattle.request.specs.Bytes.{asBytes, inFamily, answeredAs}
-use Rattle.request.specs.Theorems.{Shaped}
+use Rattle.request.specs.Bytes.{asBytes, requestInFamily, answeredAs}
+use Rattle.request.specs.ThereAndBack.{Shaped}
 use Rattle.request.specs.Fits.{Fits}
 use Rattle.plan.specs.Wanted.{wanted}
 use Rattle.writes.specs.List.{byte, decided, written, isWritten, finished}
@@ -35,7 +35,8 @@ use Rattle.decode.specs.Ends.{Acceptable, Stands, Ends}
 use Rattle.decode.specs.Extract.{byteIn, matrixIn, dataIn, extract}
 use Rattle.writes.specs.List.{standsBelow}
 use Rattle.decode.specs.Decode.{endsIn, someEnds, decodeTests, decodeRefusal, notDecoded, decodeOf, decodedBuffer}
-use Rattle.decode.specs.Theorems.{Answered, ExactlyWhen, AtMostOne, decodeRules, Refusals, Ran, ReadBack}
+use Rattle.decode.specs.Theorems.{Answered, ExactlyWhen, AtMostOne, decodeRules, Refusals}
+use Rattle.decode.specs.ReadBack.{Ran, ReadBack}
 use Rattle.request.proofs.Fits.{fits}
 use Rattle.request.proofs.Said.{said}
 use Rattle.request.proofs.Back.{back, there-and-back}
@@ -66,17 +67,17 @@ acceptable-fits r a = subst Fits (ap (λ (c : Checked). c .request) (a .read)) (
 
 -- ---- one family
 
-ends-tested : (r : Request) (f : ℕ) (image : List ℕ) → Acceptable (inFamily f r) → Stands (inFamily f r) image → endsIn r f image ≡ true
+ends-tested : (r : Request) (f : ℕ) (image : List ℕ) → Acceptable (requestInFamily f r) → Stands (requestInFamily f r) image → endsIn r f image ≡ true
 unfolding endsIn
 ends-tested r f image a s =
-    let q : Request = inFamily f r in
+    let q : Request = requestInFamily f r in
     let z : readOf (asBytes q) .refusal ≡ 0 = ap (λ (c : Checked). c .refusal) (a .read) in
     rw (eq-eqb (readOf (asBytes q) .refusal) 0 z, eq-eqb (pairFor q .refusal) 0 (a .paired)) (stands-tested q image 256 s)
 
 test-ends : (r : Request) (f : ℕ) (image : List ℕ) → Shaped (r .matrix) → answeredAs r ≡ r → endsIn r f image ≡ true → Ends r image
 unfolding endsIn
 test-ends r f image h e t =
-    let q : Request = inFamily f r in
+    let q : Request = requestInFamily f r in
     let u : (eqb (readOf (asBytes q) .refusal) 0 && eqb (pairFor q .refusal) 0) ≡ true = both-left _ (standsBelow (wanted q) image 256) t in
     record {
       family = f;
@@ -136,11 +137,11 @@ module _ (image : List ℕ) (long : length image ≡ 256) where
 
   is-extracted : (r : Request) → Ends r image → extract image ≡ r
   is-extracted r e =
-      extracted (inFamily (e .family) r) image long (acceptable-fits (inFamily (e .family) r) (e .acceptable)) (e .stands) ∙ e .answered
+      extracted (requestInFamily (e .family) r) image long (acceptable-fits (requestInFamily (e .family) r) (e .acceptable)) (e .stands) ∙ e .answered
 
   ends-found : (r : Request) → Ends r image → someEnds image ≡ true
   unfolding someEnds
-  ends-found r e = rw (is-extracted r e) (go (e .family) (family-small _ (acceptable-fits (inFamily (e .family) r) (e .acceptable) .video)) (ends-tested r (e .family) image (e .acceptable) (e .stands)))
+  ends-found r e = rw (is-extracted r e) (go (e .family) (family-small _ (acceptable-fits (requestInFamily (e .family) r) (e .acceptable) .video)) (ends-tested r (e .family) image (e .acceptable) (e .stands)))
     where
       right : (b : Bool) → (b || true) ≡ true
       right true = refl

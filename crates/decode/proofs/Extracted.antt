@@ -14,7 +14,7 @@ use Rattle.registers.specs.Classes.{classAt}
 use Rattle.map.specs.Map as reg
 use Rattle.video.specs.Video.{depth, answered}
 use Rattle.video.proofs.Fits.{link-fits, depth-fits}
-use Rattle.frames.specs.Frames.{videoNamed}
+use Rattle.frames.specs.Named.{videoNamed}
 use Rattle.frames.proofs.Named.{named}
 use Rattle.request.specs.declared.Sound.{Sound}
 use Rattle.request.specs.declared.Sound.the-variants.{Off, On}
@@ -27,7 +27,7 @@ use Rattle.decode.proofs.Stored.{cc, Wants, wants}
 use Rattle.decode.proofs.Standing.{reads}
 use Rattle.decode.proofs.Groups.{avi-data, matrix-in}
 use Rattle.request.specs.Bytes.{answeredAs}
-use Rattle.request.specs.Theorems.{Shaped}
+use Rattle.request.specs.ThereAndBack.{Shaped}
 use Rattle.request.specs.Fits.{SoundFits, Fits}
 
 -- ---- codes of four bits: rates and depths

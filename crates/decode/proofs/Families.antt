@@ -16,7 +16,8 @@ use Rattle.video.proofs.Fits.{is-pixel-outside, pixel-inside}
 use Rattle.video.specs.Video as video
 use Rattle.video.specs.Modes.{modeOf, offered}
 use Rattle.clock.specs.declared.Pair.{Pair}
-use Rattle.clock.specs.Clocks.{tmds, aboveLimit}
+use Rattle.clock.specs.Clocks.{tmds}
+use Rattle.clock.specs.Answers.{aboveLimit}
 use Rattle.clock.proofs.Offered.{families}
 use Rattle.clock.proofs.Rows.{is-above}
 use Rattle.clock.proofs.Coherence.{pair-in}
@@ -26,13 +27,13 @@ use Rattle.request.specs.declared.Sound.the-variants.{Off, On}
 use Rattle.request.specs.declared.Request.{Request}
 use Rattle.request.specs.declared.Checked.{Checked}
 use Rattle.request.specs.Read.{outside, combined, judged, limited, readOf, pairIn, pairFor}
-use Rattle.request.specs.Bytes.{bodiesOf, asBytes, inFamily}
-use Rattle.request.specs.Theorems.{Shaped}
+use Rattle.request.specs.Bytes.{bodiesOf, asBytes, requestInFamily}
+use Rattle.request.specs.ThereAndBack.{Shaped}
 use Rattle.request.specs.Fits.{SoundFits, Fits}
 use Rattle.request.proofs.Fits.{fits}
 use Rattle.request.proofs.Ordered.{accepted, not-refused}
 use Rattle.request.proofs.Said.{read-judged, said}
-use Rattle.plan.specs.Wanted.{laid, stores, clockBytes, inputBytes, cscBytes, enableBytes, frameBytes, wantedImage, wanted}
+use Rattle.plan.specs.Wanted.{laidBytes, stores, clockBytes, inputBytes, cscBytes, enableBytes, frameBytes, wantedImage, wanted}
 use Rattle.writes.specs.List.{standsBelow}
 use Rattle.decode.specs.Decode.{isCoherent, endsIn}
 
@@ -49,27 +50,27 @@ first-within v o x w =
     (λ h. is-above (video.inFamily 1 v) .fails w (families v o (is-pixel-outside v .fails (pixel-inside v x)) .0 h))
 
 module _ (r : Request) (s : Shaped (r .matrix)) where
-  judged-first : limited (judged (bodiesOf (inFamily 1 r))) .refusal ≡ 0 → limited (judged (bodiesOf (inFamily 0 r))) .refusal ≡ 0
+  judged-first : limited (judged (bodiesOf (requestInFamily 1 r))) .refusal ≡ 0 → limited (judged (bodiesOf (requestInFamily 0 r))) .refusal ≡ 0
   unfolding outside combined videoOutside shownOutside videoCombined shownCombined
   judged-first z =
       let v : Video = r .video in
-      let j = accepted (bodiesOf (inFamily 1 r)) z in
+      let j = accepted (bodiesOf (requestInFamily 1 r)) z in
       let i : videoOutside v ≡ false = neither-left (videoOutside v) _ (j .inside) in
-      not-refused (bodiesOf (inFamily 0 r)) (first-offered v (j .mode)) (j .inside) (j .apart) (first-within v (j .mode) i (j .within))
+      not-refused (bodiesOf (requestInFamily 0 r)) (first-offered v (j .mode)) (j .inside) (j .apart) (first-within v (j .mode) i (j .within))
 
-  read-first : readOf (asBytes (inFamily 1 r)) .refusal ≡ 0 → readOf (asBytes (inFamily 0 r)) .refusal ≡ 0
+  read-first : readOf (asBytes (requestInFamily 1 r)) .refusal ≡ 0 → readOf (asBytes (requestInFamily 0 r)) .refusal ≡ 0
   read-first z =
       let n : Checked → ℕ = λ c. c .refusal in
-      ap n (read-judged (inFamily 0 r) s) ∙ judged-first (sym (ap n (read-judged (inFamily 1 r) s)) ∙ z)
+      ap n (read-judged (requestInFamily 0 r) s) ∙ judged-first (sym (ap n (read-judged (requestInFamily 1 r) s)) ∙ z)
 
   -- ---- N and CTS
 
-  module _ (z : readOf (asBytes (inFamily 1 r)) .refusal ≡ 0) where
-    fitting : (family : ℕ) → readOf (asBytes (inFamily family r)) .refusal ≡ 0 → Fits (inFamily family r)
+  module _ (z : readOf (asBytes (requestInFamily 1 r)) .refusal ≡ 0) where
+    fitting : (family : ℕ) → readOf (asBytes (requestInFamily family r)) .refusal ≡ 0 → Fits (requestInFamily family r)
     fitting family z =
-        subst Fits (ap (λ (c : Checked). c .request) (said (inFamily family r) s z)) (fits (asBytes (inFamily family r)) z)
+        subst Fits (ap (λ (c : Checked). c .request) (said (requestInFamily family r) s z)) (fits (asBytes (requestInFamily family r)) z)
 
-    pair-same : (t : Sound) → isCoherent t ≡ false → SoundFits t → pairIn (inFamily 0 r) t ≡ pairIn (inFamily 1 r) t
+    pair-same : (t : Sound) → isCoherent t ≡ false → SoundFits t → pairIn (requestInFamily 0 r) t ≡ pairIn (requestInFamily 1 r) t
     pair-same Off n f = refl
     pair-same (On rate channels coherent) n f =
         let h : rate < 7 = omega (arith, f .0) in
@@ -78,25 +79,25 @@ module _ (r : Request) (s : Shaped (r .matrix)) where
         let g = pair-in (video.inFamily 1 (r .video)) rate coherent (fitting 1 z .clock) h k in
         (rw n at e) ∙ sym (rw n at g)
 
-    same-pair : isCoherent (r .sound) ≡ false → pairFor (inFamily 0 r) ≡ pairFor (inFamily 1 r)
+    same-pair : isCoherent (r .sound) ≡ false → pairFor (requestInFamily 0 r) ≡ pairFor (requestInFamily 1 r)
     unfolding pairFor
     same-pair n = pair-same (r .sound) n (fitting 1 z .sound)
 
     -- ---- the wanted bytes
 
-    same-wanted : isCoherent (r .sound) ≡ false → wanted (inFamily 0 r) ≡ wanted (inFamily 1 r)
+    same-wanted : isCoherent (r .sound) ≡ false → wanted (requestInFamily 0 r) ≡ wanted (requestInFamily 1 r)
     unfolding wanted wantedImage aviFrame
     same-wanted n =
         let with : Pair → ℕ → ℕ = λ p a. getD (stores (replicate 256 0)
-        (clockBytes p ++ inputBytes r ++ laid reg.csc (cscBytes (r .matrix)) ++ enableBytes r ++ frameBytes r)) a 0 in
+        (clockBytes p ++ inputBytes r ++ laidBytes reg.csc (cscBytes (r .matrix)) ++ enableBytes r ++ frameBytes r)) a 0 in
         ap with (same-pair n)
 
   pub spared : (image : List ℕ) → isCoherent (r .sound) ≡ false → endsIn r 1 image ≡ true → endsIn r 0 image ≡ true
   unfolding endsIn
   spared image n t =
-      let q : Request = inFamily 1 r in
+      let q : Request = requestInFamily 1 r in
       let u : (eqb (readOf (asBytes q) .refusal) 0 && eqb (pairFor q .refusal) 0) ≡ true = both-left _ (standsBelow (wanted q) image 256) t in
       let z : readOf (asBytes q) .refusal ≡ 0 = eqb-true _ _ (both-left _ (eqb (pairFor q .refusal) 0) u) in
       let p : eqb (pairFor q .refusal) 0 ≡ true = both-right (eqb (readOf (asBytes q) .refusal) 0) _ u in
       let b : standsBelow (wanted q) image 256 ≡ true = both-right (eqb (readOf (asBytes q) .refusal) 0 && eqb (pairFor q .refusal) 0) _ t in
-      rw (eq-eqb (readOf (asBytes (inFamily 0 r)) .refusal) 0 (read-first z), same-pair z n, p, same-wanted z n) b
+      rw (eq-eqb (readOf (asBytes (requestInFamily 0 r)) .refusal) 0 (read-first z), same-pair z n, p, same-wanted z n) b

@@ -10,8 +10,8 @@ use borrow.Author.Tests.{eqb-true, eq-eqb, ne-eqb, lt-ltb, le-ltb}
 use Rattle.request.specs.declared.Request.{Request}
 use Rattle.request.specs.Sections.{longest}
 use Rattle.request.specs.Read.{readOf, pairFor}
-use Rattle.request.specs.Bytes.{asBytes, inFamily}
-use Rattle.request.specs.Theorems.{Shaped}
+use Rattle.request.specs.Bytes.{asBytes, requestInFamily}
+use Rattle.request.specs.ThereAndBack.{Shaped}
 use Rattle.request.proofs.Fits.{coefficients-small}
 use Rattle.request.proofs.Said.{said}
 use Rattle.writes.specs.List.{standsBelow}
@@ -25,23 +25,23 @@ use Rattle.decode.proofs.Families.{spared}
 
 -- accepted on some image, and standing in this one: on the bytes, and on the request
 stands-ends : (r : Request) (family : ℕ) (image : List ℕ) → Shaped (r .matrix) → length image ≡ 256
-    → standsIn (asBytes (inFamily family r)) image ≡ endsIn r family image
+    → standsIn (asBytes (requestInFamily family r)) image ≡ endsIn r family image
 unfolding standsIn endsIn
-stands-ends r family image s l = go (eqb (readOf (asBytes (inFamily family r)) .refusal) 0) refl
+stands-ends r family image s l = go (eqb (readOf (asBytes (requestInFamily family r)) .refusal) 0) refl
   where
-    go : (b : Bool) → eqb (readOf (asBytes (inFamily family r)) .refusal) 0 ≡ b
-        → (b && eqb (length image) 256 && eqb (pairFor (readOf (asBytes (inFamily family r)) .request) .refusal) 0
-        && standsBelow (wanted (readOf (asBytes (inFamily family r)) .request)) image 256)
-        ≡ (b && eqb (pairFor (inFamily family r) .refusal) 0 && standsBelow (wanted (inFamily family r)) image 256)
+    go : (b : Bool) → eqb (readOf (asBytes (requestInFamily family r)) .refusal) 0 ≡ b
+        → (b && eqb (length image) 256 && eqb (pairFor (readOf (asBytes (requestInFamily family r)) .request) .refusal) 0
+        && standsBelow (wanted (readOf (asBytes (requestInFamily family r)) .request)) image 256)
+        ≡ (b && eqb (pairFor (requestInFamily family r) .refusal) 0 && standsBelow (wanted (requestInFamily family r)) image 256)
     go false e = refl
-    go true e = rw (said (inFamily family r) s (eqb-true _ _ e), eq-eqb (length image) 256 l)
+    go true e = rw (said (requestInFamily family r) s (eqb-true _ _ e), eq-eqb (length image) 256 l)
 
 -- where the first family is not found, and the sound is not coherent, neither is the second
 pub not-second : (r : Request) (image : List ℕ) → Shaped (r .matrix) → length image ≡ 256 → isCoherent (r .sound) ≡ false
-    → standsIn (asBytes (inFamily 0 r)) image ≡ false → standsIn (asBytes (inFamily 1 r)) image ≡ false
+    → standsIn (asBytes (requestInFamily 0 r)) image ≡ false → standsIn (asBytes (requestInFamily 1 r)) image ≡ false
 not-second r image s l n f = go (endsIn r 1 image) refl
   where
-    go : (b : Bool) → endsIn r 1 image ≡ b → standsIn (asBytes (inFamily 1 r)) image ≡ false
+    go : (b : Bool) → endsIn r 1 image ≡ b → standsIn (asBytes (requestInFamily 1 r)) image ≡ false
     go false e = stands-ends r 1 image s l ∙ e
     go true e = absurd (false≢true (sym f ∙ stands-ends r 0 image s l ∙ spared r s image n e))
 
@@ -53,11 +53,11 @@ module _ (image : List ℕ) (sized : length image ≡ 256) where
   pub small : (i : ℕ) → getD (extract image .matrix .coefficients) i 0 < 8192
   small = coefficients-small (extract image .matrix) matrix-shaped
 
-  pub found-by : (standsIn (asBytes (inFamily 0 (extract image))) image || standsIn (asBytes (inFamily 1 (extract image))) image) ≡ someEnds image
+  pub found-by : (standsIn (asBytes (requestInFamily 0 (extract image))) image || standsIn (asBytes (requestInFamily 1 (extract image))) image) ≡ someEnds image
   unfolding someEnds
   found-by = ap₂ (λ (a b : Bool). a || b) (of 0) (of 1)
     where
-      of : (family : ℕ) → standsIn (asBytes (inFamily family (extract image))) image ≡ endsIn (extract image) family image
+      of : (family : ℕ) → standsIn (asBytes (requestInFamily family (extract image))) image ≡ endsIn (extract image) family image
       of family = stands-ends (extract image) family image matrix-shaped sized
 
 -- ---- rows 7, 10 and 11

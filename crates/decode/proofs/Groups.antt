@@ -13,14 +13,15 @@ use Rattle.lists.proofs.Both.{both-left, both-right}
 use Rattle.bits.specs.Merge.{merge}
 use Rattle.registers.specs.Classes.{classAt}
 use Rattle.map.specs.Map as reg
-use Rattle.frames.specs.Frames.{aviCount, aviPayload, aviFrame, audioFrame, audioOffFrame}
+use Rattle.frames.specs.Frames.{aviCount, aviPayload, aviFrame}
+use Rattle.frames.specs.Audio.{audioFrame, audioOffFrame}
 use Rattle.frames.proofs.Bytes.{Bytes, frame-bytes, audio-bytes, off-bytes}
 use Rattle.matrix.specs.declared.Matrix.{Matrix}
 use Rattle.matrix.specs.Matrix.{fields}
 use Rattle.request.specs.declared.Sound.{Sound}
 use Rattle.request.specs.declared.Sound.the-variants.{Off, On}
 use Rattle.request.specs.declared.Request.{Request}
-use Rattle.request.specs.Theorems.{Shaped}
+use Rattle.request.specs.ThereAndBack.{Shaped}
 use Rattle.request.specs.Fits.{SoundFits, Fits}
 use Rattle.request.proofs.Fits.{coefficients-small}
 use Rattle.chip.specs.Machine.{avi, audio, matrix, registersOf}

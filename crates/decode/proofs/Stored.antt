@@ -9,7 +9,8 @@ use lib.ListN.{length, getD, set, take, drop, replicate, length-set, getD-replic
 use lib.Seq.{getD-set-same, getD-set-other, drop-cons}
 use borrow.Author.Tests.{eqb-true, eqb-false}
 use Rattle.map.specs.Map as reg
-use Rattle.frames.specs.Frames.{aviCount, aviFrame, audioFrame, audioOffFrame}
+use Rattle.frames.specs.Frames.{aviCount, aviFrame}
+use Rattle.frames.specs.Audio.{audioFrame, audioOffFrame}
 use Rattle.chip.specs.Machine.{Write}
 use Rattle.request.specs.declared.Sound.{Sound}
 use Rattle.request.specs.declared.Sound.the-variants.{Off, On}

@@ -11,7 +11,8 @@ use Rattle.map.specs.Map as reg
 use Rattle.video.specs.Video.{answeredEdition}
 use Rattle.video.specs.Video as video
 use Rattle.clock.specs.declared.Pair.{Pair}
-use Rattle.clock.specs.Clocks.{tmds, clockOf}
+use Rattle.clock.specs.Clocks.{tmds}
+use Rattle.clock.specs.Answers.{clockOf}
 use Rattle.clock.specs.Found.{pairOf}
 use Rattle.frames.specs.Frames.{aviFrame}
 use Rattle.request.specs.declared.Sound.{Sound}
@@ -19,22 +20,22 @@ use Rattle.request.specs.declared.Sound.the-variants.{Off, On}
 use Rattle.request.specs.declared.Request.{Request}
 use Rattle.request.specs.declared.Checked.{Checked}
 use Rattle.request.specs.Read.{pairIn, pairFor}
-use Rattle.request.specs.Bytes.{inEdition}
+use Rattle.request.specs.ThereAndBack.{requestInEdition}
 use Rattle.request.specs.Fits.{Fits}
 use Rattle.request.proofs.Alone.{accepted-under-d}
-use Rattle.plan.specs.Wanted.{audioBytes, laid, stores, clockBytes, inputBytes, cscBytes, enableBytes, wantedImage, wanted}
+use Rattle.plan.specs.Wanted.{audioBytes, laidBytes, stores, clockBytes, inputBytes, cscBytes, enableBytes, wantedImage, wanted}
 use Rattle.decode.specs.Ends.{Acceptable}
 
 -- N and CTS are those of any edition byte
-pub same-pair : (r : Request) (byte : ℕ) → pairFor (inEdition byte r) ≡ pairFor r
+pub same-pair : (r : Request) (byte : ℕ) → pairFor (requestInEdition byte r) ≡ pairFor r
 unfolding pairFor pairOf clockOf tmds
 same-pair r byte = go (r .sound)
   where
-    go : (t : Sound) → pairIn (inEdition byte r) t ≡ pairIn r t
+    go : (t : Sound) → pairIn (requestInEdition byte r) t ≡ pairIn r t
     go Off = refl
     go (On rate channels coherent) = refl
 
-pub taken-under-d : (r : Request) → Fits r → Acceptable r → Acceptable (inEdition 0x00 r)
+pub taken-under-d : (r : Request) → Fits r → Acceptable r → Acceptable (requestInEdition 0x00 r)
 taken-under-d r g t =
     record {
       read = accepted-under-d r (g .matrix) (g .video) (ap (λ (c : Checked). c .refusal) (t .read));
@@ -46,22 +47,22 @@ same-frame : (r : Request) → aviFrame (video.inEdition 0x01 (r .video)) ≡ av
 unfolding aviFrame
 same-frame r = refl
 
-same-wanted : (r : Request) → wanted (inEdition 0x01 r) ≡ wanted (inEdition 0x00 r)
+same-wanted : (r : Request) → wanted (requestInEdition 0x01 r) ≡ wanted (requestInEdition 0x00 r)
 unfolding wanted wantedImage
 same-wanted r =
     let of : Pair → List ℕ → ℕ → ℕ = λ p frame a. getD (stores (replicate 256 0)
-    (clockBytes p ++ inputBytes r ++ laid reg.csc (cscBytes (r .matrix)) ++ enableBytes r
-    ++ laid reg.aviInfoframeVersion (drop 1 frame) ++ laid reg.audioInfoframeVersion (drop 1 (audioBytes (r .sound))))) a 0 in
+    (clockBytes p ++ inputBytes r ++ laidBytes reg.csc (cscBytes (r .matrix)) ++ enableBytes r
+    ++ laidBytes reg.aviInfoframeVersion (drop 1 frame) ++ laidBytes reg.audioInfoframeVersion (drop 1 (audioBytes (r .sound))))) a 0 in
     ap₂ of (same-pair r 0x01 ∙ sym (same-pair r 0x00)) (same-frame r)
 
 -- with the edition byte as it is answered
 pub unasked : (r : Request) → Fits r → Acceptable r
-    → Acceptable (inEdition (answeredEdition (r .video .edition)) r) × (wanted (inEdition (answeredEdition (r .video .edition)) r) ≡ wanted r)
+    → Acceptable (requestInEdition (answeredEdition (r .video .edition)) r) × (wanted (requestInEdition (answeredEdition (r .video .edition)) r) ≡ wanted r)
 unasked r g t = go (eqb (r .video .edition) 0x01) refl
   where
     go : (b : Bool) → eqb (r .video .edition) 0x01 ≡ b
-        → Acceptable (inEdition (cond b 0x00 (r .video .edition)) r) × (wanted (inEdition (cond b 0x00 (r .video .edition)) r) ≡ wanted r)
+        → Acceptable (requestInEdition (cond b 0x00 (r .video .edition)) r) × (wanted (requestInEdition (cond b 0x00 (r .video .edition)) r) ≡ wanted r)
     go false e = (t, refl)
     go true e =
-        let same : r ≡ inEdition 0x01 r = ap (λ (byte : ℕ). inEdition byte r) (eqb-true _ _ e) in
+        let same : r ≡ requestInEdition 0x01 r = ap (λ (byte : ℕ). requestInEdition byte r) (eqb-true _ _ e) in
         (taken-under-d r g t, sym (same-wanted r) ∙ sym (ap wanted same))

@@ -5,13 +5,14 @@ use mathlib.Core.List.{List, [], _∷_, _++_}
 use Prim.Native.Nat.{ℕ}
 use lib.Dec.{eqb}
 use lib.ListN.{length, drop}
-use Rattle.refusals.specs.Rows.{noRequest, Test, _if_, lowest, answer}
+use Rattle.refusals.specs.Rows.{noRequest}
+use Rattle.refusals.specs.Tests.{Test, _if_, lowest, answer}
 use Rattle.request.specs.declared.Sound.{Sound}
 use Rattle.request.specs.declared.Sound.the-variants.{Off, On}
 use Rattle.request.specs.declared.Request.{Request}
 use Rattle.request.specs.Sections.{longest}
 use Rattle.request.specs.Read.{readOf, pairFor}
-use Rattle.request.specs.Bytes.{asBytes, inFamily}
+use Rattle.request.specs.Bytes.{asBytes, requestInFamily}
 use Rattle.plan.specs.Wanted.{wanted}
 use Rattle.plan.specs.Plan.{sizeTests, bufferTests}
 use Rattle.writes.specs.List.{standsBelow}
@@ -21,7 +22,7 @@ use Rattle.decode.specs.Extract.{extract}
 -- the request in a family is acceptable, and stands in the image; and so in one of the two
 unfoldable pub endsIn : Request → ℕ → List ℕ → Bool
 endsIn r family image =
-    let q : Request = inFamily family r in
+    let q : Request = requestInFamily family r in
     eqb (readOf (asBytes q) .refusal) 0 && eqb (pairFor q .refusal) 0 && standsBelow (wanted q) image 256
 
 -- sound that is coherent: only its N and CTS differ between the families, so the code tries the second with no other

@@ -5,7 +5,7 @@ use Prim.Native.Nat.{ℕ, _<_}
 use lib.ListN.{getD}
 use Rattle.request.specs.declared.Request.{Request}
 use Rattle.request.specs.Read.{readOf, pairFor}
-use Rattle.request.specs.Bytes.{asBytes, inFamily, answeredAs}
+use Rattle.request.specs.Bytes.{asBytes, requestInFamily, answeredAs}
 use Rattle.plan.specs.Wanted.{wanted}
 use Rattle.writes.specs.List.{finished}
 
@@ -25,5 +25,5 @@ Stands r image = (a : ℕ) → a < 256 → finished (wanted r) image a ≡ getD 
 pub record Ends (r : Request) (image : List ℕ) : Type 0 where
   pub family : ℕ
   pub answered : answeredAs r ≡ r
-  pub acceptable : Acceptable (inFamily family r)
-  pub stands : Stands (inFamily family r) image
+  pub acceptable : Acceptable (requestInFamily family r)
+  pub stands : Stands (requestInFamily family r) image

@@ -8,7 +8,8 @@ use lib.ListN.{getD, take, drop}
 use Rattle.map.specs.Map as reg
 use Rattle.matrix.specs.declared.Matrix.{Matrix}
 use Rattle.matrix.specs.Matrix.{fields, noMatrix}
-use Rattle.frames.specs.Frames.{aviCount, videoNamed}
+use Rattle.frames.specs.Frames.{aviCount}
+use Rattle.frames.specs.Named.{videoNamed}
 use Rattle.request.specs.declared.Sound.{Sound}
 use Rattle.request.specs.declared.Sound.the-variants.{Off, On}
 use Rattle.request.specs.declared.Request.{Request}

@@ -11,8 +11,7 @@ use Rattle.registers.specs.Classes.{named, mandated}
 use Rattle.matrix.specs.Matrix.{Bytes}
 use Rattle.request.specs.declared.Request.{Request}
 use Rattle.request.specs.Sections.{longest}
-use Rattle.request.specs.Read.{readOf, pairFor}
-use Rattle.request.specs.Bytes.{asBytes, answeredAs, asReadBack}
+use Rattle.request.specs.Bytes.{asBytes, answeredAs}
 use Rattle.plan.specs.Wanted.{wanted}
 use Rattle.plan.specs.Rules.{sizeRows, bufferRows}
 use Rattle.lists.specs.Among.{among}
@@ -71,17 +70,3 @@ decodeRules image buffer = sizeRows image ++ bufferRows longest buffer ++ noRequ
 pub record Refusals (image buffer : List ℕ) : Type 0 where
   pub given : Given (decodeRules image buffer) (decodeOf image buffer .refusal)
   pub unchanged : decodeOf image buffer .refusal ≢ 0 → (decodeOf image buffer .count ≡ 0) × (decodedBuffer image buffer ≡ buffer)
-
--- an accepted input, and an image as its list leaves it: each of the 256 registers is `finished`
-pub record Ran (input before image : List ℕ) : Type 0 where
-  pub bytes : Bytes input
-  pub read : readOf input .refusal ≡ 0
-  pub paired : pairFor (readOf input .request) .refusal ≡ 0
-  pub sized : length image ≡ 256
-  pub registers : (a : ℕ) → a < 256 → getD image a 0 ≡ finished (wanted (readOf input .request)) before a
-
--- "the finished image reads back as the same request, but for the frame-rate family, which no register names", and for an E that asks for
--- nothing
-pub record ReadBack (input before image : List ℕ) : Type 0 where
-  pub ends : Ran input before image → Ends (answeredAs (readOf input .request)) image
-  pub answered : Ran input before image → (buffer : List ℕ) → longest ≤ length buffer → Answered (asReadBack input) image buffer

@@ -7,12 +7,13 @@ ghost use lib.ListN.{getD, length};
 ghost use lib.Seq.{sets};
 ghost use Rattle.request.specs.declared.Request.{Request};
 ghost use Rattle.request.specs.Sections.{audioCount, matrixCount, longest};
-ghost use Rattle.request.specs.Bytes.{audioBody, matrixBody, asBytes, inFamily};
-ghost use Rattle.request.specs.Theorems.{Shaped};
+ghost use Rattle.request.specs.Bytes.{audioBody, matrixBody, asBytes, requestInFamily};
+ghost use Rattle.request.specs.ThereAndBack.{Shaped};
 ghost use Rattle.plan.specs.Plan.{standsIn};
 ghost use Rattle.decode.specs.Extract.{rateOf, soundIn, matrixIn, depthOf, extract};
 ghost use Rattle.decode.specs.Decode.{inFront, isCoherent, notDecoded, Decodes};
-ghost use Rattle.decode.specs.Theorems.{ExactlyWhen, BitByBit, AtMostOne, Refusals, ReadBack};
+ghost use Rattle.decode.specs.Theorems.{ExactlyWhen, BitByBit, AtMostOne, Refusals};
+ghost use Rattle.decode.specs.ReadBack.{ReadBack};
 use frames::AVI_COUNT;
 use map::Map;
 use matrix::Matrix;
@@ -166,7 +167,7 @@ fn emit(q: Request, buffer: &mut [u8]) -> usize
 
 // The request in a family.
 fn in_family(q: Request, family: u8) -> Request
-    ensures { λ r. ⌜ r ≡ inFamily family q ⌝ }
+    ensures { λ r. ⌜ r ≡ requestInFamily family q ⌝ }
 {
     let video = video::in_family(q.video, family);
     let sound = q.sound;
@@ -181,7 +182,7 @@ fn in_family(q: Request, family: u8) -> Request
 // Whether the request in a family is accepted on some image and stands in this one.
 fn ends_in(q: Request, family: u8, image: &[u8]) -> bool
     requires { ⌜ ((i : ℕ) → getD (q .matrix .coefficients) i 0 < 8192) ⌝ }
-    ensures { λ r. ⌜ r ≡ standsIn (asBytes (inFamily family q)) (now (image .entry)) ⌝ }
+    ensures { λ r. ⌜ r ≡ standsIn (asBytes (requestInFamily family q)) (now (image .entry)) ⌝ }
 {
     let mut bytes = [0u8; LONGEST];
     let count = emit(in_family(q, family), &mut bytes);
@@ -205,8 +206,8 @@ fn is_coherent(sound: Sound) -> bool
 // In one of its families. Where the sound is not coherent, the second wants what the first does.
 fn ends(q: Request, image: &[u8]) -> bool
     requires { ⌜ Shaped (q .matrix) × (length (now image) ≡ 256) ⌝ }
-    ensures { λ r. ⌜ r ≡ (standsIn (asBytes (inFamily 0 q)) (now (image .entry))
-        || standsIn (asBytes (inFamily 1 q)) (now (image .entry))) ⌝ }
+    ensures { λ r. ⌜ r ≡ (standsIn (asBytes (requestInFamily 0 q)) (now (image .entry))
+        || standsIn (asBytes (requestInFamily 1 q)) (now (image .entry))) ⌝ }
 {
     let sound = q.sound;
     if ends_in(q, 0, image) {

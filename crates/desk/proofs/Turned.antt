@@ -10,15 +10,15 @@ use borrow.Author.Tests.{eqb-true, eqb-false, not-true}
 use Rattle.lists.proofs.Both.{both-left, both-right}
 use Rattle.pipe.specs.Bytes.{countIn, fresh}
 use Rattle.pipe.specs.Found.{takeOf, takePipe}
-use Rattle.pipe.specs.Pipe.{Open, fed, after}
+use Rattle.pipe.specs.Pipe.{OpenPipe, fed, afterParts}
 use Rattle.pipe.proofs.Grows.{takes-more}
 use Rattle.desk.specs.Turns.{goesOn, SomePart, AllParts}
 
 -- while the loop goes on: some parts, and no answer yet
 pub record Reading (pipe : List ℕ) : Type 0 where
   pub parts : List (List ℕ)
-  pub taken : pipe ≡ after parts
-  pub still : Open pipe
+  pub taken : pipe ≡ afterParts parts
+  pub still : OpenPipe pipe
 
 pub begun : Reading fresh
 begun = record { parts = []; taken = refl; still = record { one = record { long = refl; counted = omega arith }; unanswered = refl } }
@@ -29,18 +29,18 @@ fed-one pipe [] part = refl
 fed-one pipe (p ∷ parts) part = fed-one (takePipe pipe p) parts part
 
 -- a part that goes on is not empty, and not answered
-grows : (pipe part : List ℕ) → Open pipe → goesOn pipe part ≡ true → Open (takePipe pipe part) × (countIn pipe < countIn (takePipe pipe part))
+grows : (pipe part : List ℕ) → OpenPipe pipe → goesOn pipe part ≡ true → OpenPipe (takePipe pipe part) × (countIn pipe < countIn (takePipe pipe part))
 grows pipe part o g =
     let z : length part ≡ 0 → ⊥ = eqb-false (length part) 0 (not-true (eqb (length part) 0) (both-left (not (eqb (length part) 0)) _ g)) in
     takes-more pipe part o (eqb-true (takeOf pipe part .answered) 0 (both-right (not (eqb (length part) 0)) _ g)) (omega arith)
 
 module _ (pipe : List ℕ) (more : Bool) (left : List ℕ) (r : Reading pipe) (s : SomePart pipe more left) where
-  part-taken : left ≡ after (r .parts ++ (s .part ∷ []))
+  part-taken : left ≡ afterParts (r .parts ++ (s .part ∷ []))
   part-taken = s .turned .1 ∙ ap (λ (p : List ℕ). takePipe p (s .part)) (r .taken) ∙ fed-one fresh (r .parts) (s .part)
 
-  grown : more ≡ true → Open left × (countIn pipe < countIn left)
+  grown : more ≡ true → OpenPipe left × (countIn pipe < countIn left)
   grown e =
-      subst (λ (l : List ℕ). Open l × (countIn pipe < countIn l)) (sym (s .turned .1)) (grows pipe (s .part) (r .still) (sym (s .turned .0) ∙ e))
+      subst (λ (l : List ℕ). OpenPipe l × (countIn pipe < countIn l)) (sym (s .turned .1)) (grows pipe (s .part) (r .still) (sym (s .turned .0) ∙ e))
 
   pub reads-on : more ≡ true → Reading left
   reads-on e = record { parts = r .parts ++ (s .part ∷ []); taken = part-taken; still = grown e .0 }

@@ -6,8 +6,8 @@ use mathlib.Core.List.{List, [], _∷_, _++_}
 use Prim.Native.Nat.{ℕ}
 use lib.Dec.{eqb}
 use lib.ListN.{length, take}
-use Rattle.pipe.specs.Found.{takeOf, takePipe, endOf, endPipe}
-use Rattle.pipe.specs.Pipe.{after}
+use Rattle.pipe.specs.Found.{takeOf, takePipe, endPipeOf, endPipe}
+use Rattle.pipe.specs.Pipe.{afterParts}
 use Rattle.line.specs.Words.{PrintsAnswer}
 
 -- whether there is more to come after a part
@@ -15,21 +15,21 @@ abbrev pub goesOn : List ℕ → List ℕ → Bool
 goesOn pipe part = not (eqb (length part) 0) && eqb (takeOf pipe part .answered) 0
 
 -- a part goes into the pipe
-abbrev pub Turns : List ℕ → List ℕ → Bool → List ℕ → Type 0
-Turns pipe part more left = (more ≡ goesOn pipe part) × (left ≡ takePipe pipe part)
+abbrev pub DeskTurns : List ℕ → List ℕ → Bool → List ℕ → Type 0
+DeskTurns pipe part more left = (more ≡ goesOn pipe part) × (left ≡ takePipe pipe part)
 
 -- some part does, whichever was read
 pub record SomePart (pipe : List ℕ) (more : Bool) (left : List ℕ) : Type 0 where
   pub part : List ℕ
-  pub turned : Turns pipe part more left
+  pub turned : DeskTurns pipe part more left
 
 -- some parts, the last of which is the first after which nothing is to come
 pub record AllParts (left : List ℕ) : Type 0 where
   pub parts : List (List ℕ)
   pub last : List ℕ
-  pub taken : left ≡ after (parts ++ (last ∷ []))
-  pub stopped : goesOn (after parts) last ≡ false
+  pub taken : left ≡ afterParts (parts ++ (last ∷ []))
+  pub stopped : goesOn (afterParts parts) last ≡ false
 
 -- what is printed of a pipe: the end is said, and then its answer told
 abbrev pub PrintsPipe : List ℕ → ℕ → List ℕ → Type 0
-PrintsPipe pipe count line = PrintsAnswer (endOf pipe .refusal) (take (endOf pipe .count) (endPipe pipe)) count line
+PrintsPipe pipe count line = PrintsAnswer (endPipeOf pipe .refusal) (take (endPipeOf pipe .count) (endPipe pipe)) count line

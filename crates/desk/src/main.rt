@@ -6,7 +6,7 @@ ghost use lib.ListN.{length};
 ghost use Rattle.io.specs.Counts.{Counts};
 ghost use Rattle.request.specs.Sections.{longest};
 ghost use Rattle.pipe.specs.Bytes.{fresh, pipeLength};
-ghost use Rattle.desk.specs.Turns.{Turns, SomePart, AllParts, PrintsPipe};
+ghost use Rattle.desk.specs.Turns.{DeskTurns, SomePart, AllParts, PrintsPipe};
 use libc::STDIN_FILENO;
 use libc::STDOUT_FILENO;
 use pipe::ENOUGH;
@@ -14,7 +14,7 @@ use pipe::PIPE;
 
 // A part goes into the pipe. Whether to go on: not after the empty part, the end of the input, and not after an answer.
 fn turn(pipe: &mut [u8], part: &[u8]) -> bool
-    ensures { λ r. ⌜ Turns (now (pipe .entry)) (now (part .entry)) r (now (pipe .exit)) ⌝ }
+    ensures { λ r. ⌜ DeskTurns (now (pipe .entry)) (now (part .entry)) r (now (pipe .exit)) ⌝ }
 {
     let piped = pipe::take(pipe, part);
     (part.len() != 0) & (piped.answered == 0)

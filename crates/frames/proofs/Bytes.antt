@@ -14,7 +14,8 @@ use Rattle.video.specs.declared.Video.{Video}
 use Rattle.video.specs.Modes.{modeOf}
 use Rattle.video.specs.Fits.{VideoFits}
 use Rattle.video.proofs.Fits.{vic-small, encoding-fits, ycc-fits}
-use Rattle.frames.specs.Frames.{checksumOf, frame, aviHeader, aviPayload, aviFrame, audioCount, audioHeader, audioPayload, allocation, audioFrame, audioOffFrame}
+use Rattle.frames.specs.Frames.{checksumOf, frame, aviHeader, aviPayload, aviFrame}
+use Rattle.frames.specs.Audio.{audioDataBytes, audioHeader, audioPayload, allocation, audioFrame, audioOffFrame}
 use Rattle.frames.proofs.Small.{mode-small, colour-small, quantisation-small, repeats-small}
 use Rattle.frames.proofs.Sealed.{holds}
 
@@ -74,4 +75,4 @@ audio-bytes channels h = audio-sealed (audioPayload (channels - 1) (allocation c
 
 pub off-bytes : Bytes audioOffFrame
 unfolding audioOffFrame
-off-bytes = audio-sealed (replicate audioCount 0) (zeros audioCount)
+off-bytes = audio-sealed (replicate audioDataBytes 0) (zeros audioDataBytes)

@@ -14,7 +14,8 @@ use Rattle.video.specs.Fits.{VideoFits}
 use Rattle.video.specs.Video.{depth, repetition, yccQuantisation, contentType, AsksE, answeredEdition}
 use Rattle.video.proofs.Fits.{encoding-fits, range-fits, range-limited, repetition-fits, no-more}
 use Rattle.video.proofs.Alike.{parts, exceptions}
-use Rattle.frames.specs.Frames.{quantisation, aviPayload, editionNamed, videoNamed}
+use Rattle.frames.specs.Frames.{quantisation, aviPayload}
+use Rattle.frames.specs.Named.{editionNamed, videoNamed}
 use Rattle.frames.specs.Theorems.{NamedBack}
 use Rattle.frames.proofs.Small.{fifth, fields}
 

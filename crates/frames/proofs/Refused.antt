@@ -7,7 +7,7 @@ use Prim.Native.Nat.{ℕ}
 use lib.Dec.{eqb}
 use borrow.Author.Tests.{ne-eqb}
 use Rattle.lists.proofs.Decides.{equal, opposite, together, refuted, confirmed}
-use Rattle.refusals.specs.Rows.{Test, lowest}
+use Rattle.refusals.specs.Tests.{Test, lowest}
 use Rattle.refusals.proofs.Tests.{Decided, lowest-given, answer-given, answer-beside, answer-none, none-in-stages, none-at, numbered}
 use Rattle.video.specs.declared.Video.{Video}
 use Rattle.video.specs.Fits.{VideoFits}

@@ -5,20 +5,23 @@ use mathlib.Core.List.{List, [], _∷_}
 use Prim.Native.Nat.{ℕ}
 use lib.Dec.{eqb}
 use lib.ListN.{replicate}
-use Rattle.refusals.specs.Rows.{modeNotOffered, fieldOutOfRange, combination, Test, _if_, lowest, answer}
+use Rattle.refusals.specs.Rows.{modeNotOffered, fieldOutOfRange, combination}
+use Rattle.refusals.specs.Tests.{Test, _if_, lowest, answer}
 use Rattle.video.specs.declared.Video.{Video}
 use Rattle.video.specs.Modes.{modeOf}
 use Rattle.video.specs.Tests.{shownOutside, shownCombined}
 use Rattle.frames.specs.declared.Avi.{Avi}
 use Rattle.frames.specs.declared.Audio.{Audio}
-use Rattle.frames.specs.Frames.{framed, aviCount, aviFrame, audioCount, audioFrame}
+use Rattle.frames.specs.Frames.{aviCount, aviFrame}
+use Rattle.frames.specs.Named.{framed}
+use Rattle.frames.specs.Audio.{audioDataBytes, audioFrame}
 
 -- a refusal has its number, and zeros beside it
 abbrev pub noAvi : ℕ → Avi
 noAvi number = record { refusal = number; bytes = replicate (framed aviCount) 0 }
 
 abbrev pub noAudio : ℕ → Audio
-noAudio number = record { refusal = number; bytes = replicate (framed audioCount) 0 }
+noAudio number = record { refusal = number; bytes = replicate (framed audioDataBytes) 0 }
 
 -- the AVI frame: the tests of rows 4, 5 and 6
 abbrev pub aviTests : Video → List Test

@@ -2,13 +2,13 @@
 -- bits above PR request 11's.
 use mathlib.Core.Bool.{cond}
 use mathlib.Core.List.{List, [], _∷_, _++_}
-use Prim.Native.Nat.{ℕ, _+_, _-_, _*_, _/_, _%_}
+use Prim.Native.Nat.{ℕ, _+_, _-_, _*_, _%_}
 use lib.Dec.{eqb}
 use lib.ListN.{getD, replicate}
 use Rattle.video.specs.declared.Mode.{Mode}
 use Rattle.video.specs.declared.Video.{Video}
 use Rattle.video.specs.Modes.{modeOf}
-use Rattle.video.specs.Video.{repetition, yccQuantisation, contentType, answeredEdition}
+use Rattle.video.specs.Video.{repetition, yccQuantisation, contentType}
 
 -- "the sum of all bytes"
 unfoldable pub total : List ℕ → ℕ
@@ -22,10 +22,6 @@ checksumOf bytes = (256 - total bytes % 256) % 256
 -- a frame: its header of three bytes, the checksum, its payload, which are the data bytes 1 to the count that the header's third byte is
 abbrev pub frame : List ℕ → List ℕ → List ℕ
 frame header payload = header ++ checksumOf (header ++ payload) ∷ payload
-
--- the bytes of a frame with so many data bytes
-abbrev pub framed : ℕ → ℕ
-framed count = 3 + 1 + count
 
 -- "C is 0 for RGB, else 1 for VIC 1, 2, 3, 17, 18 and 2 for the rest"
 abbrev pub colorimetry : Mode → ℕ → ℕ
@@ -61,42 +57,3 @@ aviPayload v =
 
 unfoldable pub aviFrame : Video → List ℕ
 aviFrame video = frame aviHeader (aviPayload video)
-
--- request 11: the edition byte, by data byte 5: E's, with those bits, as it is answered ("Decoding answers D when the bits are 0")
-abbrev pub editionNamed : ℕ → ℕ
-editionNamed fifth = answeredEdition (1 + fifth / 64 % 4 * 4 + fifth / 16 % 4 * 16)
-
--- what the data bytes of an AVI frame name, over a link and at a depth: Y of byte 1, the high bit of Q in byte 3, byte 4, PR in byte 5 and
--- the bits above it. "Family is answered as 0". `NamedBack` ties it to them.
-abbrev pub videoNamed : ℕ → ℕ → List ℕ → Video
-videoNamed link depth bytes =
-    record {
-      vic = getD bytes 3 0;
-      family = 0;
-      encoding = getD bytes 0 0 / 32 % 4;
-      link = link;
-      range = getD bytes 2 0 / 8 % 2;
-      pixel = (getD bytes 4 0 % 16 + 1) / 2 * 16 + depth % 16;
-      edition = editionNamed (getD bytes 4 0);
-    }
-
--- "CC is channels less one; CA is 0x00 for 2 and 0x13 for 8; the rest 0." Byte 1 is CT3 to CT0 0 CC2 to CC0, byte 4 is CA.
-abbrev pub audioPayload : ℕ → ℕ → List ℕ
-audioPayload cc ca = cc ∷ 0 ∷ 0 ∷ ca ∷ replicate 6 0
-
-abbrev pub allocation : ℕ → ℕ
-allocation channels = cond (eqb channels 8) 0x13 0x00
-
--- "audio header 0x84, 0x01, 0x0A"
-abbrev pub audioCount : ℕ
-audioCount = 0x0A
-
-abbrev pub audioHeader : List ℕ
-audioHeader = 0x84 ∷ 0x01 ∷ audioCount ∷ []
-
-unfoldable pub audioFrame : ℕ → List ℕ
-audioFrame channels = frame audioHeader (audioPayload (channels - 1) (allocation channels))
-
--- "Audio off: payload all 0."
-unfoldable pub audioOffFrame : List ℕ
-audioOffFrame = frame audioHeader (replicate audioCount 0)

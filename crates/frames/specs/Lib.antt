@@ -1,4 +1,6 @@
 pub mod Frames
+pub mod Audio
+pub mod Named
 pub mod Answers
 pub mod Theorems
 pub mod Editions

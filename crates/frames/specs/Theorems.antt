@@ -12,7 +12,10 @@ use Rattle.video.specs.declared.Video.{Video}
 use Rattle.video.specs.Modes.{listed}
 use Rattle.video.specs.Video.{depth, answered, ShownOutside, ShownCombined}
 use Rattle.video.specs.Fits.{VideoFits}
-use Rattle.frames.specs.Frames.{total, checksumOf, frame, framed, aviCount, aviPayload, aviFrame, videoNamed, audioCount, audioFrame}
+use Rattle.frames.specs.Frames.{total, checksumOf, frame, aviCount, aviPayload, aviFrame}
+use Rattle.frames.specs.Named.{framed}
+use Rattle.frames.specs.Audio.{audioDataBytes, audioFrame}
+use Rattle.frames.specs.Named.{videoNamed}
 use Rattle.frames.specs.Answers.{aviOf, audioOf}
 
 -- "A call on single fields checks those .. whose fields it takes": the AVI frame row 4, "VIC not listed below", row 5, "any other field
@@ -32,7 +35,7 @@ pub record FrameRefusals : Type 0 where
   pub noAvi : (video : Video) → aviOf video .refusal ≢ 0 → aviOf video .bytes ≡ replicate (framed aviCount) 0
   pub aviGiven : (video : Video) → aviOf video .refusal ≡ 0 → aviOf video .bytes ≡ aviFrame video
   pub audio : (channels : ℕ) → Given (audioRules channels) (audioOf channels .refusal)
-  pub noAudio : (channels : ℕ) → audioOf channels .refusal ≢ 0 → audioOf channels .bytes ≡ replicate (framed audioCount) 0
+  pub noAudio : (channels : ℕ) → audioOf channels .refusal ≢ 0 → audioOf channels .bytes ≡ replicate (framed audioDataBytes) 0
   pub audioGiven : (channels : ℕ) → audioOf channels .refusal ≡ 0 → audioOf channels .bytes ≡ audioFrame channels
 
 -- The checksum does what document 01 says, whatever the header and the payload; and no other byte does.

@@ -8,7 +8,7 @@ use lib.ListN.{length, getD, take, drop, set, replicate, length-append, length-r
 use lib.Seq.{sets, take-suc, length-take-le}
 use Rattle.lists.proofs.Emit.{sets-append, sets-front}
 use Rattle.line.specs.declared.Printed.{Printed}
-use Rattle.line.specs.Words.{Stores, lineBytes, Leaves}
+use Rattle.line.specs.Words.{StoresText, lineBytes, LeavesText}
 
 -- a byte more
 pub one-more : (xs d : List ℕ) (at n v : ℕ) → at + length xs ≡ n → set (sets d at xs) n v ≡ sets d at (xs ++ (v ∷ []))
@@ -21,19 +21,19 @@ letter xs d at i h =
     ∙ ap (sets d at) (sym (ap (λ (n : ℕ). take n xs) (add-one i) ∙ take-suc xs i 0 h))
 
 -- some bytes, and then others
-pub then : (d : List ℕ) (at : ℕ) (xs ys : List ℕ) {next last : ℕ} {e f : List ℕ} → Stores d at xs next e → Stores e next ys last f → Stores d at (xs ++ ys) last f
+pub then : (d : List ℕ) (at : ℕ) (xs ys : List ℕ) {next last : ℕ} {e f : List ℕ} → StoresText d at xs next e → StoresText e next ys last f → StoresText d at (xs ++ ys) last f
 then d at xs ys (p, q) (r, s) =
     (r ∙ rw (p, length-append) (omega arith), s ∙ rw (q, p) (sym (sets-append xs ys d at)))
 
 -- bytes at the front of eighty
-pub at-front : (xs : List ℕ) (n : ℕ) (e : List ℕ) → Stores (replicate 80 0) 0 xs n e → n ≤ 80 → record { bytes = e; count = n } ≡ lineBytes xs
+pub at-front : (xs : List ℕ) (n : ℕ) (e : List ℕ) → StoresText (replicate 80 0) 0 xs n e → n ≤ 80 → record { bytes = e; count = n } ≡ lineBytes xs
 at-front xs n e (p, q) h =
     let l : n ≡ length xs = omega arith in
     let f : e ≡ xs ++ drop (length xs) (replicate 80 0) = q ∙ sets-front xs (replicate 80 0) (omega (arith, length-replicate {A = ℕ} 80 0)) in
     rw (l, f)
 
 -- what a call that leaves them there promises
-pub left : (xs : List ℕ) {n : ℕ} {e : List ℕ} → Stores (replicate 80 0) 0 xs n e → n ≤ 80 → Leaves xs n e × (n ≤ length e)
+pub left : (xs : List ℕ) {n : ℕ} {e : List ℕ} → StoresText (replicate 80 0) 0 xs n e → n ≤ 80 → LeavesText xs n e × (n ≤ length e)
 left xs {n} {e} s h =
     let r = at-front xs n e s h in
     let f : e ≡ lineBytes xs .bytes = ap (λ (p : Printed). p .bytes) r in

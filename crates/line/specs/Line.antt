@@ -4,9 +4,10 @@ use mathlib.Core.Path.{_≡_}
 use mathlib.Core.List.{List}
 use Prim.Native.Nat.{ℕ, _<_}
 use lib.ListN.{getD, take}
-use Rattle.refusals.specs.Rows.{Given, answer}
+use Rattle.refusals.specs.Rows.{Given}
+use Rattle.refusals.specs.Tests.{answer}
 use Rattle.clock.specs.declared.Pair.{Pair}
-use Rattle.frames.specs.Frames.{audioOffFrame}
+use Rattle.frames.specs.Audio.{audioOffFrame}
 use Rattle.frames.specs.Answers.{aviOf, audioOf}
 use Rattle.matrix.specs.Matrix.{Bytes}
 use Rattle.request.specs.declared.Sound.{Sound}

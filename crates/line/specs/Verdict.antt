@@ -6,7 +6,7 @@ use mathlib.Core.List.{List, _++_}
 use Prim.Native.Nat.{ℕ}
 use lib.Dec.{eqb}
 use Rattle.refusals.specs.Rows.{number, badPair}
-use Rattle.line.specs.Words.{ascii, decimal, refusedText, Leaves}
+use Rattle.line.specs.Words.{ascii, decimal, refusedText, LeavesText}
 
 -- "15 with the place of the first bad pair, counted from 0"
 unfoldable pub placedText : ℕ → ℕ → List ℕ
@@ -19,7 +19,7 @@ verdictText refusal place =
 
 -- what the call that prints it promises
 abbrev pub PrintsVerdict : ℕ → ℕ → ℕ → List ℕ → Type 0
-PrintsVerdict refusal place count left = Leaves (verdictText refusal place) count left
+PrintsVerdict refusal place count left = LeavesText (verdictText refusal place) count left
 
 -- the lines in plain words: a place stands with 15 alone, and of 512 pairs it is 0 to 511
 pub record Verdicts (place : ℕ) : Type 0 where

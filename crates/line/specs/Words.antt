@@ -47,8 +47,8 @@ abbrev pub textOf : Line → List ℕ
 textOf l = cond (eqb (l .refusal) 0) (acceptedText l) (refusedText (l .refusal))
 
 -- how the code writes: some bytes from a place on, and the place after them
-abbrev pub Stores : List ℕ → ℕ → List ℕ → ℕ → List ℕ → Type 0
-Stores before at bytes next after = (next ≡ at + length bytes) × (after ≡ sets before at bytes)
+abbrev pub StoresText : List ℕ → ℕ → List ℕ → ℕ → List ℕ → Type 0
+StoresText before at bytes next after = (next ≡ at + length bytes) × (after ≡ sets before at bytes)
 
 -- the line of an input
 abbrev pub lineText : List ℕ → List ℕ
@@ -59,19 +59,19 @@ abbrev pub lineBytes : List ℕ → Printed
 lineBytes text = record { bytes = text ++ drop (length text) (replicate 80 0); count = length text }
 
 -- what a call that prints a text promises: the count, and what it leaves in the lent bytes
-abbrev pub Leaves : List ℕ → ℕ → List ℕ → Type 0
-Leaves text count left = (count ≡ lineBytes text .count) × (left ≡ lineBytes text .bytes)
+abbrev pub LeavesText : List ℕ → ℕ → List ℕ → Type 0
+LeavesText text count left = (count ≡ lineBytes text .count) × (left ≡ lineBytes text .bytes)
 
 -- the program's call
 abbrev pub Prints : List ℕ → ℕ → List ℕ → Type 0
-Prints input count left = Leaves (lineText input) count left
+Prints input count left = LeavesText (lineText input) count left
 
 -- of a request that came in parts (document 02, request 08): the line of its refusal, or that of the request
 abbrev pub answerText : ℕ → List ℕ → List ℕ
 answerText refusal request = cond (eqb refusal 0) (lineText request) (refusedText refusal)
 
 abbrev pub PrintsAnswer : ℕ → List ℕ → ℕ → List ℕ → Type 0
-PrintsAnswer refusal request count left = Leaves (answerText refusal request) count left
+PrintsAnswer refusal request count left = LeavesText (answerText refusal request) count left
 
 -- the number that decimal digits say, read from the left
 abbrev pub said : ℕ → List ℕ → ℕ

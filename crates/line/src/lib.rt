@@ -5,7 +5,7 @@ ghost use Prim.Native.Nat.{ℕ, _+_, _<_, _≤_};
 ghost use lib.ListN.{length};
 ghost use Rattle.line.specs.Line.{audioChecksum, lineOf, Lines};
 ghost use Rattle.line.specs.Verdict.{placedText, PrintsVerdict, Verdicts};
-ghost use Rattle.line.specs.Words.{digit, decimal, hex, acceptedText, refusedText, Stores, textOf, lineBytes, Prints, PrintsAnswer, Numeral};
+ghost use Rattle.line.specs.Words.{digit, decimal, hex, acceptedText, refusedText, StoresText, textOf, lineBytes, Prints, PrintsAnswer, Numeral};
 use refusals::Refusal;
 use request::Sound;
 
@@ -90,7 +90,7 @@ fn digit(n: u8) -> u8
 // A number in decimal, from a place on. The place after it is handed back.
 fn decimal(out: &mut [u8; 80], at: usize, n: u32) -> usize
     requires { ⌜ at + length (decimal n) ≤ 80 ⌝ }
-    ensures { λ r. ⌜ Stores (now (out .entry)) at (decimal n) r (now (out .exit)) ⌝ }
+    ensures { λ r. ⌜ StoresText (now (out .entry)) at (decimal n) r (now (out .exit)) ⌝ }
 {
     if n < 10 {
         out[at] = digit(n as u8);
@@ -104,7 +104,7 @@ fn decimal(out: &mut [u8; 80], at: usize, n: u32) -> usize
 // A text, from a place on.
 fn text(out: &mut [u8; 80], at: usize, letters: &[u8]) -> usize
     requires { ⌜ at + length (now letters) ≤ 80 ⌝ }
-    ensures { λ r. ⌜ Stores (now (out .entry)) at (now (letters .entry)) r (now (out .exit)) ⌝ }
+    ensures { λ r. ⌜ StoresText (now (out .entry)) at (now (letters .entry)) r (now (out .exit)) ⌝ }
 {
     let mut i: usize = 0;
     while i < letters.len() {
@@ -117,7 +117,7 @@ fn text(out: &mut [u8; 80], at: usize, letters: &[u8]) -> usize
 // A name, and a number in decimal.
 fn named(out: &mut [u8; 80], at: usize, name: &[u8], n: u32) -> usize
     requires { ⌜ at + length (now name) + 10 ≤ 80 ⌝ }
-    ensures { λ r. ⌜ Stores (now (out .entry)) at (now (name .entry) ++ decimal n) r (now (out .exit)) ⌝ }
+    ensures { λ r. ⌜ StoresText (now (out .entry)) at (now (name .entry) ++ decimal n) r (now (out .exit)) ⌝ }
     ensures { λ r. ⌜ r ≤ at + length (now (name .entry)) + 10 ⌝ }
 {
     let next = text(out, at, name);
@@ -127,7 +127,7 @@ fn named(out: &mut [u8; 80], at: usize, name: &[u8], n: u32) -> usize
 // A name, and a checksum as two lower-case hex digits.
 fn checked(out: &mut [u8; 80], at: usize, name: &[u8], byte: u8) -> usize
     requires { ⌜ at + length (now name) + 2 ≤ 80 ⌝ }
-    ensures { λ r. ⌜ Stores (now (out .entry)) at (now (name .entry) ++ hex byte) r (now (out .exit)) ⌝ }
+    ensures { λ r. ⌜ StoresText (now (out .entry)) at (now (name .entry) ++ hex byte) r (now (out .exit)) ⌝ }
     ensures { λ r. ⌜ r ≡ at + length (now (name .entry)) + 2 ⌝ }
 {
     let next = text(out, at, name);
@@ -138,7 +138,7 @@ fn checked(out: &mut [u8; 80], at: usize, name: &[u8], byte: u8) -> usize
 
 // The line of an accepted request.
 fn accepted(out: &mut [u8; 80], line: Line) -> usize
-    ensures { λ r. ⌜ Stores (now (out .entry)) 0 (acceptedText line) r (now (out .exit)) ⌝ }
+    ensures { λ r. ⌜ StoresText (now (out .entry)) 0 (acceptedText line) r (now (out .exit)) ⌝ }
     ensures { λ r. ⌜ r ≤ 80 ⌝ }
 {
     let vic = named(out, 0, b"accepted vic ", line.vic as u32);
@@ -151,7 +151,7 @@ fn accepted(out: &mut [u8; 80], line: Line) -> usize
 
 // The line of a refused one.
 fn refused(out: &mut [u8; 80], number: u8) -> usize
-    ensures { λ r. ⌜ Stores (now (out .entry)) 0 (refusedText number) r (now (out .exit)) ⌝ }
+    ensures { λ r. ⌜ StoresText (now (out .entry)) 0 (refusedText number) r (now (out .exit)) ⌝ }
     ensures { λ r. ⌜ r ≤ 80 ⌝ }
 {
     let end = named(out, 0, b"refused ", number as u32);
@@ -204,7 +204,7 @@ pub fn print_answer(refusal: u8, request: &[u8], out: &mut [u8; 80]) -> usize
 
 // The line of a vendor's list that is refused for one of its pairs.
 fn placed(out: &mut [u8; 80], number: u8, place: u32) -> usize
-    ensures { λ r. ⌜ Stores (now (out .entry)) 0 (placedText number place) r (now (out .exit)) ⌝ }
+    ensures { λ r. ⌜ StoresText (now (out .entry)) 0 (placedText number place) r (now (out .exit)) ⌝ }
     ensures { λ r. ⌜ r ≤ 80 ⌝ }
 {
     let at = named(out, 0, b"refused ", number as u32);

@@ -15,7 +15,7 @@ use lib.Seq.{sets, sets-eq, take-suc, take-all, length-take-le}
 use borrow.Author.Tests.{le-leb}
 use Rattle.lists.proofs.Emit.{sets-two}
 use Rattle.matrix.specs.declared.Matrix.{Matrix}
-use Rattle.matrix.specs.Coefficient.{field, highByte, coefficientBytes}
+use Rattle.matrix.specs.Coefficient.{lowThirteen, highByte, coefficientBytes}
 use Rattle.matrix.specs.Tests.{inRange, isAllowed}
 use Rattle.matrix.specs.Matrix.{Bytes}
 use Rattle.matrix.specs.Body.{bodyOf, Whole, BodyBack}
@@ -45,7 +45,7 @@ whole-matrix cs mode i l h =
     ∙ sets-eq (coefficientBytes cs) (mode ∷ replicate 24 0) 1 (omega arith)
     ∙ rw (drop-of-length-le (mode ∷ replicate 24 0) past, append-nil (coefficientBytes cs))
 
-pub unmoved : (cs : List ℕ) → ((i : ℕ) → getD cs i 0 < 8192) → map field cs ≡ cs
+pub unmoved : (cs : List ℕ) → ((i : ℕ) → getD cs i 0 < 8192) → map lowThirteen cs ≡ cs
 unmoved [] h = refl
 unmoved (c ∷ cs) h = ap₂ (λ (x : ℕ) (l : List ℕ). x ∷ l) (mod-eq-of-lt (h 0)) (unmoved cs (λ i. h (suc i)))
 
@@ -63,7 +63,7 @@ high-small c h = go (ltb c 4096)
     go true = omega arith
     go false = omega arith
 
-bytes-small : (cs : List ℕ) (i : ℕ) → getD (coefficientBytes (map field cs)) i 0 < 256
+bytes-small : (cs : List ℕ) (i : ℕ) → getD (coefficientBytes (map lowThirteen cs)) i 0 < 256
 bytes-small [] i = lit< tt
 bytes-small (c ∷ cs) zero = high-small (c % 8192) (omega arith)
 bytes-small (c ∷ cs) (suc zero) = omega arith
@@ -77,7 +77,7 @@ pub body-back : (m : Matrix) → Whole m → BodyBack m
 unfolding isAllowed
 body-back m w =
     let cs = m .coefficients in
-    let e : map field cs ≡ cs = unmoved cs (w .each) in
+    let e : map lowThirteen cs ≡ cs = unmoved cs (w .each) in
     let l : length (coefficientBytes cs) ≡ 24 = omega (arith, length-bytes cs, w .twelve) in
     record {
       bytes = body-bytes m (omega (arith, w .mode));

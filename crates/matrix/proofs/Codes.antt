@@ -9,7 +9,7 @@ use lib.Dec.{ltb}
 use borrow.Author.Tests.{ltb-false}
 use Rattle.lists.proofs.Both.{neither-left, neither-right}
 use Rattle.lists.proofs.Decides.{itself, less, opposite, either, restated}
-use Rattle.refusals.specs.Rows.{lowest}
+use Rattle.refusals.specs.Tests.{lowest}
 use Rattle.refusals.proofs.Tests.{Decided, lowest-given, numbered, answer-some}
 use Rattle.matrix.specs.Matrix.{Bytes}
 use Rattle.matrix.specs.Tests.{isAllowed}

@@ -9,9 +9,10 @@ use native.Mathlib.Omega.{arith}
 use lib.ListN.{length, getD, drop}
 use borrow.Author.Tests.{eq-eqb, le-leb}
 use Rattle.lists.proofs.Both.{both-left, both-right}
-use Rattle.matrix.specs.Coefficient.{field, valueOf}
+use Rattle.matrix.specs.Coefficient.{lowThirteen, valueOf}
 use Rattle.matrix.specs.Tests.{within, Sent}
-use Rattle.matrix.specs.Matrix.{fields, wordAt, Numbers, Bytes}
+use Rattle.matrix.specs.Matrix.{fields, wordAt, Bytes}
+use Rattle.matrix.specs.Numbers.{Numbers}
 use Rattle.matrix.specs.Tests.{inRange, isAllowed}
 use Rattle.matrix.proofs.Pairs.{rest, range-more, range-end, fields-more, sized, mode-small, ranged}
 use Rattle.matrix.proofs.Signs.{sent}
@@ -31,10 +32,10 @@ module _ (body : List ℕ) (l : length body ≡ 25) where
   all-pass (suc n) i h e = range-more body i (omega arith) ∙ rw (e i (omega arith)) (all-pass n (i + 1) (omega arith) e)
 
   -- field i of what is left from j on
-  field-at : (i j : ℕ) → i + j < 12 → getD (fields (rest body j)) i 0 ≡ field (wordAt body (i + j))
-  field-at zero j h = rw (fields-more body j (omega arith)) (ap (λ (n : ℕ). field (wordAt body n)) (omega arith))
+  field-at : (i j : ℕ) → i + j < 12 → getD (fields (rest body j)) i 0 ≡ lowThirteen (wordAt body (i + j))
+  field-at zero j h = rw (fields-more body j (omega arith)) (ap (λ (n : ℕ). lowThirteen (wordAt body n)) (omega arith))
   field-at (suc i) j h =
-      rw (fields-more body j (omega arith)) (field-at i (j + 1) (omega arith) ∙ ap (λ (n : ℕ). field (wordAt body n)) (omega arith))
+      rw (fields-more body j (omega arith)) (field-at i (j + 1) (omega arith) ∙ ap (λ (n : ℕ). lowThirteen (wordAt body n)) (omega arith))
 
 module _ (body : List ℕ) (bytes : Bytes body) where
   said : (i : ℕ) → Sent (wordAt body i)
@@ -49,6 +50,6 @@ module _ (body : List ℕ) (bytes : Bytes body) where
           simp (eq-eqb _ _ (r .sized), le-leb _ _ (r .mode), p),
     );
     values = λ s i h. let n = sized body s in
-        ap valueOf (field-at body n i 0 (omega arith) ∙ ap (λ (m : ℕ). field (wordAt body m)) (omega arith))
+        ap valueOf (field-at body n i 0 (omega arith) ∙ ap (λ (m : ℕ). lowThirteen (wordAt body m)) (omega arith))
         ∙ said i .same (each-passes body n i h (ranged body s));
   }

@@ -11,7 +11,7 @@ use borrow.Author.Tests.{eqb-true, leb-true}
 use lib.ListN.{length, getD, take, drop, set, drop-of-length-le}
 use lib.Seq.{drop-cons, take-suc-set, append-snoc, take-all}
 use Rattle.lists.proofs.Both.{both-left, both-right}
-use Rattle.matrix.specs.Coefficient.{word, field, coefficientBytes}
+use Rattle.matrix.specs.Coefficient.{word, lowThirteen, coefficientBytes}
 use Rattle.matrix.specs.Tests.{within}
 use Rattle.matrix.specs.Matrix.{fields, wordAt, noMatrix}
 use Rattle.matrix.specs.Tests.{inRange, isAllowed}
@@ -36,7 +36,7 @@ pub range-more : (body : List ℕ) (i : ℕ) → 2 * i + 2 < length body → inR
 unfolding inRange
 range-more body i h = ap inRange (next body i h)
 
-pub fields-more : (body : List ℕ) (i : ℕ) → 2 * i + 2 < length body → fields (rest body i) ≡ field (wordAt body i) ∷ fields (rest body (i + 1))
+pub fields-more : (body : List ℕ) (i : ℕ) → 2 * i + 2 < length body → fields (rest body i) ≡ lowThirteen (wordAt body i) ∷ fields (rest body (i + 1))
 unfolding fields
 fields-more body i h = ap fields (next body i h)
 
@@ -45,7 +45,7 @@ unfolding inRange
 range-end body i h = ap inRange (drop-of-length-le body h)
 
 -- a turn stores the field of one pair more: what is stored, and what is left to store, is the whole
-pub fields-turn : (out bytes : List ℕ) (i v : ℕ) → i < length out → 2 * i + 1 < length bytes → v ≡ field (word (getD bytes (2 * i) 0) (getD bytes (2 * i + 1) 0))
+pub fields-turn : (out bytes : List ℕ) (i v : ℕ) → i < length out → 2 * i + 1 < length bytes → v ≡ lowThirteen (word (getD bytes (2 * i) 0) (getD bytes (2 * i + 1) 0))
     → take (i + 1) (set out i v) ++ fields (drop (2 * (i + 1)) bytes) ≡ take i out ++ fields (drop (2 * i) bytes)
 unfolding fields
 fields-turn out bytes i v h l e =
@@ -53,7 +53,7 @@ fields-turn out bytes i v h l e =
     ap (λ (n : ℕ). take n (set out i v) ++ fields (drop (2 * (i + 1)) bytes)) (add-one i)
     ∙ ap (λ (s : List ℕ). s ++ fields (drop (2 * (i + 1)) bytes)) (take-suc-set out i v h)
     ∙ append-snoc (take i out) v (fields (drop (2 * (i + 1)) bytes))
-    ∙ ap₂ (λ (n : ℕ) (s : List ℕ). take i out ++ n ∷ fields s) (e ∙ ap (λ (n : ℕ). field (word (getD bytes (2 * i) 0) (getD bytes n 0))) (add-one (2 * i)))
+    ∙ ap₂ (λ (n : ℕ) (s : List ℕ). take i out ++ n ∷ fields s) (e ∙ ap (λ (n : ℕ). lowThirteen (word (getD bytes (2 * i) 0) (getD bytes n 0))) (add-one (2 * i)))
     (ap (λ (n : ℕ). drop n bytes) f)
     ∙ ap (λ (s : List ℕ). take i out ++ fields s) (sym (two-left bytes (2 * i) (omega arith)))
 

@@ -1,4 +1,4 @@
--- `shrZ` rounds down, and `held` holds within 0 to 4095.
+-- `shrZ` rounds down, and `heldWithin` holds within 0 to 4095.
 -- Assumes nothing.
 use mathlib.Core.Path.{refl, ap}
 use Prim.Native.Nat.{ℕ, zero, suc, _+_, _*_, _/_, _<_, _≤_}
@@ -6,7 +6,7 @@ use native.Mathlib.Nat.{min-eq-left, min-eq-right, min-le-right}
 use native.Mathlib.Omega.{arith}
 use lib.IntN.{ℤ, pos, negsuc, sucℤ, _*ℤ_, +ℤ-one}
 use lib.Signed.{shrZ, _<ℤ_, ltZ-yes}
-use Rattle.matrix.specs.Preview.{held, RoundedDown, Clamped}
+use Rattle.matrix.specs.Preview.{heldWithin, RoundedDown, Clamped}
 use Rattle.matrix.proofs.Order.{pos-le, of-pos-le, pos-lt, neg-le, lt-neg}
 
 pub down : (z : ℤ) → RoundedDown z (shrZ z 4096)
@@ -17,7 +17,7 @@ down (negsuc a) = record { below = neg-le (suc (a / 4096) * 4096) a (omega arith
     next zero h = ltZ-yes tt
     next (suc q) h = lt-neg a (suc q * 4096) h
 
-pub holds : (z : ℤ) → Clamped z (held z)
+pub holds : (z : ℤ) → Clamped z (heldWithin z)
 holds (pos n) = record {
   high = min-le-right n 4095;
   inside = λ l h. ap pos (min-eq-left (of-pos-le h));

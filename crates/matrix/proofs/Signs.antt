@@ -11,8 +11,9 @@ use lib.IntN.{ℤ, pos, negsuc}
 use lib.Signed.{leZ-yes}
 use lib.Pow.{pow-pos}
 use borrow.Author.Tests.{lt-ltb, le-ltb, le-leb, ltb-true, ltb-false, leb-true}
-use Rattle.matrix.specs.Coefficient.{signed, bitsOf, field, word, Spans, TwosComplement}
-use Rattle.matrix.specs.Tests.{within, Sent, Said}
+use Rattle.matrix.specs.Coefficient.{signed, lowThirteen, word, Spans}
+use Rattle.matrix.specs.Twos.{bitsOf, TwosComplement}
+use Rattle.matrix.specs.Tests.{within, Sent, SaidByBytes}
 use Rattle.matrix.proofs.Order.{pos-le, of-pos-le, negsuc-le, of-negsuc-le}
 
 -- the two halves of the bits, at every width
@@ -78,16 +79,16 @@ sent w h = record {
         (half w 32768),
   );
   same = λ e. ⊎-elim
-      (λ l. low 12 (field w) (omega arith) ∙ ap pos (omega arith) ∙ sym (low 15 w (omega arith)))
-      (λ l. high 12 (field w) (omega arith) (omega arith) ∙ ap negsuc (omega arith) ∙ sym (high 15 w (omega arith) h))
+      (λ l. low 12 (lowThirteen w) (omega arith) ∙ ap pos (omega arith) ∙ sym (low 15 w (omega arith)))
+      (λ l. high 12 (lowThirteen w) (omega arith) (omega arith) ∙ ap negsuc (omega arith) ∙ sym (high 15 w (omega arith) h))
       (inside w e);
 }
 
-pub carried : (c : ℕ) → c < 8192 → Said c
+pub carried : (c : ℕ) → c < 8192 → SaidByBytes c
 carried c h = let r = go (ltb c 4096) refl in record { range = r .0; same = r .1 }
   where
     go : (b : Bool) → ltb c 4096 ≡ b
-        → let w : ℕ = word (cond b (c / 256) (c / 256 + 224)) (c % 256) in (within w ≡ true) × (field w ≡ c)
+        → let w : ℕ = word (cond b (c / 256) (c / 256 + 224)) (c % 256) in (within w ≡ true) × (lowThirteen w ≡ c)
     go true e = let l = ltb-true c 4096 e in (rw (lt-ltb (c / 256 * 256 + c % 256) 4096 (omega arith)), omega arith)
     go false e =
         let l = ltb-false c 4096 e in

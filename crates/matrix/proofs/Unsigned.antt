@@ -12,7 +12,7 @@ use borrow.Author.Tests.{ltb-true, ltb-false}
 use mir.Syntax.{w64}
 use mir.Val.{Fits}
 use Rattle.matrix.specs.Coefficient.{valueOf}
-use Rattle.matrix.specs.Preview.{held, codeOf}
+use Rattle.matrix.specs.Preview.{heldWithin, codeOf}
 use Rattle.matrix.proofs.Differences.{Differs, of-sub, plus, times, scaled}
 
 abbrev pub raised : ℕ → ℕ
@@ -25,7 +25,7 @@ value {f} h = go (ltb f 4096) refl
     go true e = record { apart = omega (arith, ltb-true f 4096 e) }
     go false e = of-sub f 8192 (omega (arith, ltb-false f 4096 e))
 
-rounded : {z : ℤ} {p q : ℕ} → Differs z p q → held (shrZ z 4096) ≡ min ((p - q) / 4096) 4095
+rounded : {z : ℤ} {p q : ℕ} → Differs z p q → heldWithin (shrZ z 4096) ≡ min ((p - q) / 4096) 4095
 rounded {z = pos n} {p} {q} h = let e : p - q ≡ n = omega arith in rw e
 rounded {z = negsuc n} {p} {q} h = let e : p - q ≡ 0 = omega arith in rw e
 

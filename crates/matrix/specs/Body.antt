@@ -5,13 +5,13 @@ use mathlib.Core.List.{List, _∷_, map}
 use Prim.Native.Nat.{ℕ, _<_, _≤_}
 use lib.ListN.{getD, length}
 use Rattle.matrix.specs.declared.Matrix.{Matrix}
-use Rattle.matrix.specs.Coefficient.{field, coefficientBytes}
+use Rattle.matrix.specs.Coefficient.{lowThirteen, coefficientBytes}
 use Rattle.matrix.specs.Tests.{isAllowed}
 use Rattle.matrix.specs.Matrix.{Bytes, matrixOf}
 
 -- "CSC mode, then A1 to A4, B1 to B4, C1 to C4, each two bytes", the 13 bits of each
 abbrev pub bodyOf : Matrix → List ℕ
-bodyOf m = m .mode ∷ coefficientBytes (map field (m .coefficients))
+bodyOf m = m .mode ∷ coefficientBytes (map lowThirteen (m .coefficients))
 
 -- a matrix as a request may have it: on, a mode of 0 to 2, twelve fields of 13 bits
 pub record Whole (m : Matrix) : Type 0 where

@@ -1,8 +1,7 @@
 -- Document 01, "Matrix": "Coefficients are 13-bit two's complement"; "The request": two bytes, high byte first, from -4096 to 4095.
-use mathlib.Core.Path.{_≡_}
 use mathlib.Core.Bool.{cond}
 use mathlib.Core.List.{List, [], _∷_}
-use Prim.Native.Nat.{ℕ, suc, _+_, _-_, _*_, _/_, _%_, _^_, _<_}
+use Prim.Native.Nat.{ℕ, suc, _+_, _-_, _*_, _/_, _%_, _^_}
 use lib.Dec.{ltb}
 use lib.IntN.{ℤ, pos, negsuc, subℕ}
 use lib.Signed.{_≤ℤ_}
@@ -10,10 +9,6 @@ use lib.Signed.{_≤ℤ_}
 -- the number that k + 1 bits stand for in two's complement, and the k + 1 bits of a number
 abbrev pub signed : ℕ → ℕ → ℤ
 signed k bits = cond (ltb bits (2 ^ k)) (pos bits) (subℕ bits (2 ^ suc k))
-
-abbrev pub bitsOf : ℕ → ℤ → ℕ
-bitsOf k (pos n) = n % 2 ^ suc k
-bitsOf k (negsuc n) = 2 ^ suc k - suc (n % 2 ^ suc k)
 
 -- a field of 13 bits as a number
 abbrev pub valueOf : ℕ → ℤ
@@ -23,8 +18,8 @@ valueOf field = signed 12 field
 abbrev pub word : ℕ → ℕ → ℕ
 word high low = high * 256 + low
 
-abbrev pub field : ℕ → ℕ
-field w = w % 8192
+abbrev pub lowThirteen : ℕ → ℕ
+lowThirteen w = w % 8192
 
 -- a coefficient as the request has it: two bytes, high byte first, of its 13 bits carried to 16
 abbrev pub highByte : ℕ → ℕ
@@ -38,9 +33,3 @@ coefficientBytes (c ∷ cs) = highByte c ∷ c % 256 ∷ coefficientBytes cs
 pub record Spans (k : ℕ) (z : ℤ) : Type 0 where
   pub low : negsuc (2 ^ k - 1) ≤ℤ z
   pub high : z ≤ℤ pos (2 ^ k - 1)
-
--- there and back, at every width
-pub record TwosComplement (k : ℕ) : Type 0 where
-  pub range : (bits : ℕ) → bits < 2 ^ suc k → Spans k (signed k bits)
-  pub back : (bits : ℕ) → bits < 2 ^ suc k → bitsOf k (signed k bits) ≡ bits
-  pub again : (z : ℤ) → Spans k z → signed k (bitsOf k z) ≡ z

@@ -1,21 +1,19 @@
 -- Document 01, "The request" (Matrix) and "Matrix": CSC mode, then A1 to A4, B1 to B4, C1 to C4. The code reads a body by `isAllowed` and
 -- `fields`; `Numbers` ties both to the document's words, `Allowed` and `numberAt`.
 use mathlib.Core.Path.{_≡_}
-use mathlib.Core.Logic.{_↔_}
-use mathlib.Core.Bool.{true}
 use mathlib.Core.List.{List, [], _∷_}
 use Prim.Native.Nat.{ℕ, _+_, _*_, _<_, _≤_}
 use lib.IntN.{ℤ}
 use lib.ListN.{getD, length, drop}
 use Rattle.matrix.specs.declared.Matrix.{Matrix}
-use Rattle.matrix.specs.Coefficient.{word, field, signed, valueOf, Spans}
+use Rattle.matrix.specs.Coefficient.{word, lowThirteen, signed, Spans}
 use Rattle.matrix.specs.Tests.{isAllowed}
 
 -- the fields of 13 bits
 unfoldable pub fields : List ℕ → List ℕ
 fields [] = []
 fields (high ∷ []) = []
-fields (high ∷ low ∷ more) = field (word high low) ∷ fields more
+fields (high ∷ low ∷ more) = lowThirteen (word high low) ∷ fields more
 
 -- "With a matrix: converter on."
 abbrev pub matrixOf : List ℕ → Matrix
@@ -40,8 +38,3 @@ pub record Allowed (body : List ℕ) : Type 0 where
   pub sized : length body ≡ 25
   pub mode : getD body 0 0 ≤ 2
   pub each : (i : ℕ) → i < 12 → Spans 12 (numberAt body i)
-
--- `isAllowed` is that rule, and the fields of an allowed body stand for the numbers that its bytes stand for
-pub record Numbers (body : List ℕ) : Type 0 where
-  pub rule : (isAllowed body ≡ true) ↔ Allowed body
-  pub values : isAllowed body ≡ true → (i : ℕ) → i < 12 → valueOf (getD (matrixOf body .coefficients) i 0) ≡ numberAt body i

@@ -1,5 +1,5 @@
 -- Document 01, "Matrix": the preview. `previewOf` follows the code: `PreviewRefusals` ties its refusals to document 01's rows, and
--- `RoundedDown` and `Clamped` its codes, which are the formula (`rounded`, `held`).
+-- `RoundedDown` and `Clamped` its codes, which are the formula (`rounded`, `heldWithin`).
 use mathlib.Core.Path.{_≡_}
 use mathlib.Core.Bool.{Bool, cond, _||_, not}
 use mathlib.Core.Logic.{_⊎_, _≢_}
@@ -9,7 +9,8 @@ use lib.Dec.{ltb}
 use lib.ListN.{getD}
 use lib.IntN.{ℤ, pos, negsuc, _+ℤ_, _*ℤ_}
 use lib.Signed.{shrZ, _≤ℤ_, _<ℤ_}
-use Rattle.refusals.specs.Rows.{fieldOutOfRange, inputAbove, Condition, _when_, Given, Test, _if_, lowest, answer}
+use Rattle.refusals.specs.Rows.{fieldOutOfRange, inputAbove, Condition, _when_, Given}
+use Rattle.refusals.specs.Tests.{Test, _if_, lowest, answer}
 use Rattle.matrix.specs.declared.Matrix.{Matrix}
 use Rattle.matrix.specs.declared.Pixel.{Pixel}
 use Rattle.matrix.specs.Coefficient.{valueOf}
@@ -22,13 +23,13 @@ abbrev pub rounded : ℕ → ℕ → ℕ → ℤ → ℤ → ℤ → ℤ → ℕ
 rounded a b c k1 k2 k3 k4 mode = shrZ ((pos a *ℤ k1 +ℤ pos b *ℤ k2 +ℤ pos c *ℤ k3 +ℤ k4 *ℤ pos 4096) *ℤ pos (2 ^ mode)) 4096
 
 -- "then holds it within 0 to 4095"
-abbrev pub held : ℤ → ℕ
-held (pos n) = min n 4095
-held (negsuc n) = 0
+abbrev pub heldWithin : ℤ → ℕ
+heldWithin (pos n) = min n 4095
+heldWithin (negsuc n) = 0
 
 -- three codes through four fields
 unfoldable pub codeOf : ℕ → ℕ → ℕ → ℕ → ℕ → ℕ → ℕ → ℕ → ℕ
-codeOf a b c k1 k2 k3 k4 mode = held (rounded a b c (valueOf k1) (valueOf k2) (valueOf k3) (valueOf k4) mode)
+codeOf a b c k1 k2 k3 k4 mode = heldWithin (rounded a b c (valueOf k1) (valueOf k2) (valueOf k3) (valueOf k4) mode)
 
 -- row 0, 1 or 2 of a matrix on three codes
 abbrev pub outputOf : Matrix → ℕ → ℕ → ℕ → ℕ → ℕ

@@ -1,4 +1,4 @@
--- How the code tests the coefficients of a request: `Numbers` (Matrix) ties `isAllowed` to document 01's words; `Sent` and `Said` tie the
+-- How the code tests the coefficients of a request: `Numbers` (Matrix) ties `isAllowed` to document 01's words; `Sent` and `SaidByBytes` tie the
 -- two bytes of a coefficient to its 13 bits.
 use mathlib.Core.Path.{_≡_}
 use mathlib.Core.Logic.{_↔_}
@@ -7,7 +7,7 @@ use mathlib.Core.List.{List, [], _∷_}
 use Prim.Native.Nat.{ℕ, _%_}
 use lib.Dec.{eqb, leb, ltb}
 use lib.ListN.{getD, length, drop}
-use Rattle.matrix.specs.Coefficient.{signed, valueOf, word, field, highByte, Spans}
+use Rattle.matrix.specs.Coefficient.{signed, valueOf, word, lowThirteen, highByte, Spans}
 
 -- a word of two bytes is within -4096 to 4095
 abbrev pub within : ℕ → Bool
@@ -26,9 +26,9 @@ isAllowed body = eqb (length body) 25 && leb (getD body 0 0) 2 && inRange (drop 
 -- what two bytes of a request say: `within` is "from -4096 to 4095", and the field stands for the number that the bytes stand for
 pub record Sent (w : ℕ) : Type 0 where
   pub range : (within w ≡ true) ↔ Spans 12 (signed 15 w)
-  pub same : within w ≡ true → valueOf (field w) ≡ signed 15 w
+  pub same : within w ≡ true → valueOf (lowThirteen w) ≡ signed 15 w
 
 -- the bytes of a field are within the request's range, and say that field
-pub record Said (c : ℕ) : Type 0 where
+pub record SaidByBytes (c : ℕ) : Type 0 where
   pub range : within (word (highByte c) (c % 256)) ≡ true
-  pub same : field (word (highByte c) (c % 256)) ≡ c
+  pub same : lowThirteen (word (highByte c) (c % 256)) ≡ c

@@ -6,13 +6,15 @@ ghost use lib.ListN.{getD, length};
 ghost use lib.IntN.{ℤ};
 ghost use lib.Signed.{shrZ};
 ghost use Rattle.matrix.specs.declared.Matrix.{Matrix};
-ghost use Rattle.matrix.specs.Coefficient.{word, field, TwosComplement, highByte};
-ghost use Rattle.matrix.specs.Tests.{Sent, Said};
-ghost use Rattle.matrix.specs.Matrix.{noMatrix, wordAt, Bytes, Numbers};
+ghost use Rattle.matrix.specs.Coefficient.{word, lowThirteen, highByte};
+ghost use Rattle.matrix.specs.Twos.{TwosComplement};
+ghost use Rattle.matrix.specs.Tests.{Sent, SaidByBytes};
+ghost use Rattle.matrix.specs.Matrix.{noMatrix, wordAt, Bytes};
+ghost use Rattle.matrix.specs.Numbers.{Numbers};
 ghost use Rattle.matrix.specs.Body.{bodyOf, Whole, BodyBack};
 ghost use Rattle.matrix.specs.Tests.{isAllowed};
 ghost use Rattle.matrix.specs.Read.{twelveOf, allowedMatrix};
-ghost use Rattle.matrix.specs.Preview.{held, codeOf, outputOf, Previews, PreviewRefusals, RoundedDown, Clamped};
+ghost use Rattle.matrix.specs.Preview.{heldWithin, codeOf, outputOf, Previews, PreviewRefusals, RoundedDown, Clamped};
 use refusals::Refusal;
 
 // What the converter is set to: on or off, the CSC mode, and A1 to A4, B1 to B4, C1 to C4 as fields of 13 bits.
@@ -46,7 +48,7 @@ fn pair(body: &[u8], i: usize) -> u16
 
 // The field of two bytes, high byte first: their low 13 bits.
 pub fn field_of(high: u8, low: u8) -> u16
-    ensures { λ r. ⌜ r ≡ field (word high low) ⌝ }
+    ensures { λ r. ⌜ r ≡ lowThirteen (word high low) ⌝ }
 {
     (wide(high) * 256 + wide(low)) % 8192
 }
@@ -69,7 +71,7 @@ pub fn twelve(bytes: &[u8]) -> [u16; 12]
 
 // The high byte of a field, of its 13 bits carried to 16.
 pub fn high_byte(bits: u16) -> u8
-    ensures { λ r. ⌜ r ≡ highByte (field bits) ⌝ }
+    ensures { λ r. ⌜ r ≡ highByte (lowThirteen bits) ⌝ }
 {
     let field = bits % 8192;
     let high = (field / 256) as u8;
@@ -246,7 +248,7 @@ pub fn sent_coefficient()
 
 // The bytes of a field say that field.
 pub fn carried_coefficient()
-    ensures { λ _. ⌜ ((c : ℕ) → c < 8192 → Said c) ⌝ }
+    ensures { λ _. ⌜ ((c : ℕ) → c < 8192 → SaidByBytes c) ⌝ }
 {}
 
 // What a body says, number by number.
@@ -262,7 +264,7 @@ pub fn body_back()
 // The preview rounds down, and holds within 0 to 4095.
 pub fn rounds_and_holds()
     ensures { λ _. ⌜ ((z : ℤ) → RoundedDown z (shrZ z 4096)) ⌝ }
-    ensures { λ _. ⌜ ((z : ℤ) → Clamped z (held z)) ⌝ }
+    ensures { λ _. ⌜ ((z : ℤ) → Clamped z (heldWithin z)) ⌝ }
 {}
 
 // The preview's refusals: the earliest that applies is given, and none otherwise.

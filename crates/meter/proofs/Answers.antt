@@ -13,12 +13,12 @@ use lib.Ieee.Scale.{finite}
 use borrow.Author.Tests.{eq-eqb, ne-eqb, eqb-true, eqb-false, lt-ltb, le-ltb}
 use Rattle.lists.specs.Find.{every}
 use Rattle.lists.specs.Over.{over}
-use Rattle.refusals.specs.Rows.{lowest, answer}
+use Rattle.refusals.specs.Tests.{lowest, answer}
 use Rattle.refusals.proofs.Tests.{numbered, answer-none, answer-some}
 use Rattle.matrix.specs.declared.Matrix.{Matrix}
 use Rattle.matrix.specs.Body.{bodyOf}
 use Rattle.meter.specs.declared.Converted.{Converted}
-use Rattle.meter.specs.Found.{fieldsIn, isField, fitsIn, modeOf, inMode, numberTests, refused, converted}
+use Rattle.meter.specs.Found.{fieldsIn, isField, fitsIn, smallestMode, inMode, numberTests, notConverted, converted}
 use Rattle.meter.specs.Found.{meterTests, meterRefused, meterOf, meterBuffer, Meters}
 
 abbrev pub withFields : ℕ → List ℕ → Converted
@@ -41,7 +41,7 @@ one-more P n f p k h = go (eqb k n) refl
     go false e = f k (omega (arith, eqb-false k n e))
 
 module _ (l : List Float) where
-  pub not-finite : every finite l ≡ false → refused 18 ≡ converted l
+  pub not-finite : every finite l ≡ false → notConverted 18 ≡ converted l
   unfolding converted
   not-finite e = rw e refl
 
@@ -65,17 +65,17 @@ module _ (l : List Float) where
   in-mode (suc (suc zero)) h e f g = in-2 e (f 0 (lit< tt)) (f 1 (lit< tt)) g
   in-mode (suc (suc (suc mode))) h e f g = absurd (not-suc-le-zero (le-of-suc-le-suc (le-of-suc-le-suc (le-of-suc-le-suc h))))
 
-  pub in-none : every finite l ≡ true → ((k : ℕ) → k < 3 → fitsIn k l ≡ false) → refused 19 ≡ converted l
+  pub in-none : every finite l ≡ true → ((k : ℕ) → k < 3 → fitsIn k l ≡ false) → notConverted 19 ≡ converted l
   unfolding converted
   in-none e f = rw (e, f 0 (lit< tt), f 1 (lit< tt), f 2 (lit< tt)) refl
 
   pub number-given : converted l .refusal ≡ lowest (numberTests l)
   unfolding converted
-  number-given = numbered refused _ (λ c. c .refusal) (lowest (numberTests l)) (λ _. refl) refl
+  number-given = numbered notConverted _ (λ c. c .refusal) (lowest (numberTests l)) (λ _. refl) refl
 
-  pub matrix-taken : converted l .refusal ≡ 0 → converted l .matrix ≡ inMode (modeOf l) l
+  pub matrix-taken : converted l .refusal ≡ 0 → converted l .matrix ≡ inMode (smallestMode l) l
   unfolding converted
-  matrix-taken z = ap (λ (c : Converted). c .matrix) (answer-none refused _ (lowest (numberTests l)) (sym number-given ∙ z))
+  matrix-taken z = ap (λ (c : Converted). c .matrix) (answer-none notConverted _ (lowest (numberTests l)) (sym number-given ∙ z))
 
 -- the whole call, by its tests in turn
 module _ (l : List Float) (b : List ℕ) where
@@ -84,10 +84,10 @@ module _ (l : List Float) (b : List ℕ) where
   unfolding meterOf meterBuffer
   meters-refused n e h = (
     sym (ap (λ (k : ℕ). answer k meterRefused (record { refusal = 0; count = 25 })) e ∙ answer-some meterRefused _ n h),
-    sym (ap (λ (k : ℕ). answer k (λ _. b) (over (bodyOf (inMode (modeOf l) l)) b)) e ∙ answer-some (λ _. b) _ n h),
+    sym (ap (λ (k : ℕ). answer k (λ _. b) (over (bodyOf (inMode (smallestMode l) l)) b)) e ∙ answer-some (λ _. b) _ n h),
   )
 
-  meters-taken : lowest (meterTests l b) ≡ 0 → Meters l b (record { refusal = 0; count = 25 }) (over (bodyOf (inMode (modeOf l) l)) b)
+  meters-taken : lowest (meterTests l b) ≡ 0 → Meters l b (record { refusal = 0; count = 25 }) (over (bodyOf (inMode (smallestMode l) l)) b)
   unfolding meterOf meterBuffer
   meters-taken e = (sym (answer-none meterRefused _ _ e), sym (answer-none (λ _. b) _ _ e))
 

@@ -14,11 +14,12 @@ use lib.Ieee.Positive.{num, den, den-pos}
 use lib.Ieee.Scale.{finite}
 use borrow.Author.Tests.{le-leb, leb-true, leb-false, lt-ltb}
 use Rattle.lists.proofs.Decides.{Decides, less, restated, confirmed}
-use Rattle.matrix.specs.Coefficient.{valueOf, bitsOf, Spans}
+use Rattle.matrix.specs.Coefficient.{valueOf, Spans}
+use Rattle.matrix.specs.Twos.{bitsOf}
 use Rattle.matrix.proofs.Order.{pos-le, of-pos-le, negsuc-le, of-negsuc-le}
 use Rattle.matrix.proofs.Signs.{twos}
 use Rattle.meter.specs.Nearest.{Nearest}
-use Rattle.meter.specs.Numbers.{top, bottom, minusZero, Below}
+use Rattle.meter.specs.Numbers.{top, bottom, minusZero, BelowMode}
 use Rattle.meter.specs.Found.{negative, isBelow, signedField, fieldOf, fieldIn, isField}
 use Rattle.meter.proofs.HalfUnit.{nearest-half}
 use Rattle.meter.proofs.Whole.{signedBy, half-signed, alone}
@@ -119,7 +120,7 @@ is-nearest mode o x =
     (subst (λ (d : ℕ). Nearest (signedBy (negative x) a) (d * 2 ^ mode) (whole mode o x)) (sym (under x))
     (half-signed (negative x) a b (closest a b) (nearest-half a b h)))
 
-is-below : (mode : ℕ) (x : Float) → finite x ≡ true → Decides (isBelow x mode) (Below mode x)
+is-below : (mode : ℕ) (x : Float) → finite x ≡ true → Decides (isBelow x mode) (BelowMode mode x)
 is-below mode nan e = absurd (false≢true e)
 is-below mode (inf s) e = absurd (false≢true e)
 is-below mode (fin s m e) t =
@@ -132,7 +133,7 @@ zero-is mode false = record { within = omega arith; even = λ _. refl }
 
 -- what a number asks of a mode, as an offset or as a factor
 pub record Suits (mode : ℕ) (o : Bool) (x : Float) : Type 0 where
-  pub factor : o ≡ false → Below mode x
+  pub factor : o ≡ false → BelowMode mode x
   pub rounded : (n : ℤ) → Nearest (top x *ℤ pos (scale o)) (bottom x * 2 ^ mode) n → Spans 12 n
 
 rounded-spans : (mode : ℕ) (o : Bool) (x : Float) → Spans 12 (whole mode o x)
@@ -146,7 +147,7 @@ suits mode true x e =
     (λ u. u .rounded (whole mode true x) (is-nearest mode true x)) (fits (negative x) (closest (num x * 1) (den x * 2 ^ mode)))
 suits mode false x e = go (isBelow x mode) (is-below mode x e)
   where
-    go : (b : Bool) → Decides b (Below mode x)
+    go : (b : Bool) → Decides b (BelowMode mode x)
         → Decides (isField (cond b (signedField (negative x) (closest (num x * 4096) (den x * 2 ^ mode))) 8192)) (Suits mode false x)
     go true d =
         restated (λ s. record { factor = λ _. d .passes refl; rounded = rounded-spans mode false x s })
@@ -162,7 +163,7 @@ stands-for mode true x e t =
     subst (Nearest _ _) (sym (stands (negative x) (closest (num x * 1) (den x * 2 ^ mode)) s)) (is-nearest mode true x)
 stands-for mode false x e t = go (isBelow x mode) (is-below mode x e) t
   where
-    go : (b : Bool) → Decides b (Below mode x) → isField (cond b (signedField (negative x) (closest (num x * 4096) (den x * 2 ^ mode))) 8192) ≡ true
+    go : (b : Bool) → Decides b (BelowMode mode x) → isField (cond b (signedField (negative x) (closest (num x * 4096) (den x * 2 ^ mode))) 8192) ≡ true
         → Nearest (top x *ℤ pos 4096) (bottom x * 2 ^ mode) (valueOf (cond b (signedField (negative x) (closest (num x * 4096) (den x * 2 ^ mode))) 8192))
     go true d t =
         let s = suits mode false x e .passes (rw (confirmed (is-below mode x e) (d .passes refl)) t) .rounded (whole mode false x) (is-nearest mode false x) in

@@ -15,7 +15,7 @@ use Rattle.lists.specs.Find.{every}
 use Rattle.lists.proofs.Decides.{Decides, opposite, either, restated, confirmed}
 use Rattle.lists.proofs.Find.{every-at, at-every, one-failing}
 use Rattle.meter.specs.Numbers.{numberOf, isOffset, FitsIn}
-use Rattle.meter.specs.Found.{fieldIn, fieldsFrom, fieldsIn, isField, fitsIn, fitsNone, modeOf}
+use Rattle.meter.specs.Found.{fieldIn, fieldsFrom, fieldsIn, isField, fitsIn, fitsNone, smallestMode}
 use Rattle.meter.specs.Meter.{NotFinite}
 use Rattle.meter.proofs.Fields.{suits}
 
@@ -94,7 +94,7 @@ module _ (l : List Float) (twelve : length l ≡ 12) where
 
 -- ---- the smallest
 module _ (l : List Float) where
-  pub mode-small : modeOf l ≤ 2
+  pub mode-small : smallestMode l ≤ 2
   mode-small = go (fitsIn 0 l) (fitsIn 1 l)
     where
       go : (a b : Bool) → cond a 0 (cond b 1 2) ≤ 2
@@ -102,7 +102,7 @@ module _ (l : List Float) where
       go false true = lit≤ tt
       go false false = lit≤ tt
 
-  pub mode-fits : fitsNone l ≡ false → fitsIn (modeOf l) l ≡ true
+  pub mode-fits : fitsNone l ≡ false → fitsIn (smallestMode l) l ≡ true
   mode-fits = go (fitsIn 0 l) (fitsIn 1 l) refl refl
     where
       go : (a b : Bool) → fitsIn 0 l ≡ a → fitsIn 1 l ≡ b → not (a || b || fitsIn 2 l) ≡ false → fitsIn (cond a 0 (cond b 1 2)) l ≡ true
@@ -110,7 +110,7 @@ module _ (l : List Float) where
       go false true e f n = f
       go false false e f n = not-false (fitsIn 2 l) n
 
-  pub mode-least : (mode : ℕ) → mode < modeOf l → fitsIn mode l ≡ false
+  pub mode-least : (mode : ℕ) → mode < smallestMode l → fitsIn mode l ≡ false
   mode-least = go (fitsIn 0 l) (fitsIn 1 l) refl refl
     where
       go : (a b : Bool) → fitsIn 0 l ≡ a → fitsIn 1 l ≡ b → (mode : ℕ) → mode < cond a 0 (cond b 1 2) → fitsIn mode l ≡ false

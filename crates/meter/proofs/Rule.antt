@@ -17,10 +17,11 @@ use Rattle.lists.specs.Find.{every}
 use Rattle.lists.specs.Over.{over}
 use Rattle.lists.proofs.Decides.{equal, less, opposite}
 use Rattle.lists.proofs.Copied.{over-front}
-use Rattle.refusals.specs.Rows.{lowest}
+use Rattle.refusals.specs.Tests.{lowest}
 use Rattle.refusals.proofs.Tests.{Decided, lowest-given, none-at, numbered, answer-none, answer-some}
 use Rattle.matrix.specs.declared.Matrix.{Matrix}
-use Rattle.matrix.specs.Coefficient.{field, valueOf, bitsOf}
+use Rattle.matrix.specs.Coefficient.{lowThirteen, valueOf}
+use Rattle.matrix.specs.Twos.{bitsOf}
 use Rattle.matrix.specs.Matrix.{Bytes, matrixOf, wordAt, numberAt}
 use Rattle.matrix.specs.Body.{bodyOf, Whole}
 use Rattle.matrix.proofs.Body.{body-back}
@@ -31,7 +32,7 @@ use Rattle.meter.specs.declared.Meter.{Meter}
 use Rattle.meter.specs.declared.Converted.{Converted}
 use Rattle.meter.specs.declared.Metered.{Metered}
 use Rattle.meter.specs.Numbers.{numbersOf, numberOf, Rounded}
-use Rattle.meter.specs.Found.{fieldsIn, fitsIn, fitsNone, modeOf, inMode, numberTests, refused, converted, meterTests, meterRefused, meterOf, meterBuffer}
+use Rattle.meter.specs.Found.{fieldsIn, fitsIn, fitsNone, smallestMode, inMode, numberTests, notConverted, converted, meterTests, meterRefused, meterOf, meterBuffer}
 use Rattle.meter.specs.Meter.{numberRules, meterRules, Taken, ConvertRule, MeterRule}
 use Rattle.meter.proofs.Answers.{number-given, matrix-taken}
 use Rattle.meter.proofs.Whole.{alone}
@@ -102,7 +103,7 @@ two-taken l b c u v = ext-getD 0 b c (u .allowed .sized ∙ sym (v .allowed .siz
 -- ---- the section of numbers that fit
 module _ (l : List Float) (twelve : length l ≡ 12) (all : every finite l ≡ true) (some : fitsNone l ≡ false) where
   abbrev mode : ℕ
-  mode = modeOf l
+  mode = smallestMode l
 
   abbrev made : Matrix
   made = inMode mode l
@@ -114,7 +115,7 @@ module _ (l : List Float) (twelve : length l ≡ 12) (all : every finite l ≡ t
   whole = record { on = refl; mode = mode-small l; twelve = fields-length mode l ∙ twelve; each = each-small (fieldsIn mode l) fit }
 
   pub made-length : length (bodyOf made) ≡ 25
-  made-length = omega (arith, length-bytes (map field (fieldsIn mode l)), length-map (fieldsIn mode l) field, fields-length mode l)
+  made-length = omega (arith, length-bytes (map lowThirteen (fieldsIn mode l)), length-map (fieldsIn mode l) lowThirteen, fields-length mode l)
 
   number : (i : ℕ) → i < 12 → valueOf (getD (fieldsIn mode l) i 0) ≡ numberAt (bodyOf made) i
   number i h =
@@ -144,7 +145,7 @@ convert-rule m =
     record {
       given = rw (number-given l) (lowest-given tests (numberRules l) refl
           (refl, not-finite l twelve, λ f. (refl, none-fits l twelve (not-false (every finite l) f), λ _. tt)));
-      nothing = λ h. ap (λ (c : Converted). c .matrix) (answer-some refused _ (lowest tests) (λ z. h (number-given l ∙ z)));
+      nothing = λ h. ap (λ (c : Converted). c .matrix) (answer-some notConverted _ (lowest tests) (λ z. h (number-given l ∙ z)));
       taken = λ z.
           let none : lowest tests ≡ 0 = sym (number-given l) ∙ z in
           let all = not-false (every finite l) (none-at tests 0 none) in
@@ -199,7 +200,7 @@ module _ (l : List Float) (b : List ℕ) where
     some = none-at (meterTests l b) 3 none
 
     body : List ℕ
-    body = bodyOf (inMode (modeOf l) l)
+    body = bodyOf (inMode (smallestMode l) l)
 
     laid : meterBuffer l b ≡ body ++ drop 25 b
     unfolding meterBuffer body
@@ -208,13 +209,13 @@ module _ (l : List Float) (b : List ℕ) where
         answer-none (λ _. b) _ _ none
         ∙ over-front body b (omega (arith, n, room)) ∙ ap (λ (k : ℕ). body ++ drop k b) n
 
-    front : take 25 (meterBuffer l b) ≡ bodyOf (inMode (modeOf l) l)
+    front : take 25 (meterBuffer l b) ≡ bodyOf (inMode (smallestMode l) l)
     unfolding body
     front = ap₂ take (sym (made-length l twelve all some)) laid ∙ take-append-seam body (drop 25 b)
 
     -- where none is refused: the matrix whose bytes stand in front
     pub laid-matrix : Laid l b
-    laid-matrix = record { matrix = inMode (modeOf l) l; whole = whole l twelve all some; front = front }
+    laid-matrix = record { matrix = inMode (smallestMode l) l; whole = whole l twelve all some; front = front }
 
     counted : meterOf l b .count ≡ 25
     unfolding meterOf
@@ -230,7 +231,7 @@ module _ (l : List Float) (b : List ℕ) where
     struct-matrix : matrixOf (take 25 (meterBuffer l b)) ≡ converted l .matrix
     struct-matrix =
         let tests : lowest (numberTests l) ≡ 0 = rw (all, some) refl in
-        ap matrixOf front ∙ body-back (inMode (modeOf l) l) (whole l twelve all some) .back ∙ sym (matrix-taken l (number-given l ∙ tests))
+        ap matrixOf front ∙ body-back (inMode (smallestMode l) l) (whole l twelve all some) .back ∙ sym (matrix-taken l (number-given l ∙ tests))
 
     no-other : (other : List ℕ) → Taken l other → other ≡ take 25 (meterBuffer l b)
     no-other other u = two-taken l other _ u (made-taken l twelve all some) ∙ sym front

@@ -26,14 +26,14 @@ abbrev pub outcome : List Float → List ℕ → List ℕ
 outcome numbers buffer = meterOf numbers buffer .refusal ∷ meterOf numbers buffer .count ∷ meterBuffer numbers buffer
 
 -- of one number: the refusal, the mode, and the two bytes of number i
-abbrev pub answered : ℕ → ℕ → List ℕ
-answered i bits =
+abbrev pub meterAnswered : ℕ → ℕ → List ℕ
+meterAnswered i bits =
     let left : List ℕ = meterBuffer (alone i bits) (room 25) in
     meterOf (alone i bits) (room 25) .refusal ∷ getD left 0 0 ∷ getD left (2 * i + 1) 0 ∷ getD left (2 * i + 2) 0 ∷ []
 
 -- a row: the place of a number (0 is A1, 3 is A4, 11 is C4) and its bits; the refusal, the mode and the number's two bytes
-abbrev pub rows : List (List ℕ)
-rows =
+abbrev pub meterRows : List (List ℕ)
+meterRows =
     -- A1: 0.5/4096, a tie
     (0 ∷ 0x39000000 ∷ 0 ∷ 0 ∷ 0x00 ∷ 0x00 ∷ []) ∷
     -- A1: the next float
@@ -167,10 +167,10 @@ numbers39 =
     0xBA000000 ∷ 0x3F800000 ∷ 0x3FE85000 ∷ 0xC5684000 ∷ [])
 
 pub record MeterCases : Type 0 where
-  pub each : map (λ row. answered (getD row 0 0) (getD row 1 0)) rows ≡ map (drop 2) rows
-  pub factors : map (λ row. map (λ i. answered i (getD row 0 0)) nine) factorRows ≡ map (λ row. replicate 9 (drop 1 row)) factorRows
+  pub each : map (λ row. meterAnswered (getD row 0 0) (getD row 1 0)) meterRows ≡ map (drop 2) meterRows
+  pub factors : map (λ row. map (λ i. meterAnswered i (getD row 0 0)) nine) factorRows ≡ map (λ row. replicate 9 (drop 1 row)) factorRows
   -- at -1 an offset is not asked
-  pub offsets : map (λ i. answered i 0xBF800000) (3 ∷ 7 ∷ 11 ∷ []) ≡ replicate 3 (0 ∷ 0 ∷ 0xFF ∷ 0xFF ∷ [])
+  pub offsets : map (λ i. meterAnswered i 0xBF800000) (3 ∷ 7 ∷ 11 ∷ []) ≡ replicate 3 (0 ∷ 0 ∷ 0xFF ∷ 0xFF ∷ [])
   -- all twelve in their places: Table 39's bytes, and what lies behind them stays
   pub table39 : outcome numbers39 (room 27)
       ≡ 0 ∷ 25 ∷ 1 ∷ 0x0C ∷ 0x53 ∷ 0x08 ∷ 0x00 ∷ 0x00 ∷ 0x00 ∷ 0xF9 ∷ 0xD6 ∷

@@ -12,7 +12,8 @@ use lib.Ieee.Positive.{num, den}
 use lib.Ieee.Scale.{finite}
 use Rattle.lists.specs.Find.{every}
 use Rattle.lists.specs.Over.{over}
-use Rattle.refusals.specs.Rows.{fieldOutOfRange, bufferShort, notFinite, noModeFits, Test, _if_, lowest, answer}
+use Rattle.refusals.specs.Rows.{fieldOutOfRange, bufferShort, notFinite, noModeFits}
+use Rattle.refusals.specs.Tests.{Test, _if_, lowest, answer}
 use Rattle.matrix.specs.declared.Matrix.{Matrix}
 use Rattle.matrix.specs.Matrix.{noMatrix}
 use Rattle.matrix.specs.Body.{bodyOf}
@@ -71,8 +72,8 @@ abbrev pub fitsNone : List Float → Bool
 fitsNone numbers = not (fitsIn 0 numbers || fitsIn 1 numbers || fitsIn 2 numbers)
 
 -- the smallest mode, where one fits
-abbrev pub modeOf : List Float → ℕ
-modeOf numbers = cond (fitsIn 0 numbers) 0 (cond (fitsIn 1 numbers) 1 2)
+abbrev pub smallestMode : List Float → ℕ
+smallestMode numbers = cond (fitsIn 0 numbers) 0 (cond (fitsIn 1 numbers) 1 2)
 
 abbrev pub inMode : ℕ → List Float → Matrix
 inMode mode numbers = record { on = 1; mode = mode; coefficients = fieldsIn mode numbers }
@@ -81,11 +82,11 @@ inMode mode numbers = record { on = 1; mode = mode; coefficients = fieldsIn mode
 abbrev pub numberTests : List Float → List Test
 numberTests numbers = notFinite if not (every finite numbers) ∷ noModeFits if fitsNone numbers ∷ []
 
-abbrev pub refused : ℕ → Converted
-refused number = record { refusal = number; matrix = noMatrix }
+abbrev pub notConverted : ℕ → Converted
+notConverted number = record { refusal = number; matrix = noMatrix }
 
 unfoldable pub converted : List Float → Converted
-converted numbers = answer (lowest (numberTests numbers)) refused (record { refusal = 0; matrix = inMode (modeOf numbers) numbers })
+converted numbers = answer (lowest (numberTests numbers)) notConverted (record { refusal = 0; matrix = inMode (smallestMode numbers) numbers })
 
 -- the tests of the whole call: not twelve numbers, no room for the bytes, and those
 abbrev pub meterTests : List Float → List ℕ → List Test
@@ -99,7 +100,7 @@ meterOf numbers buffer = answer (lowest (meterTests numbers buffer)) meterRefuse
 
 -- what is left in the lent buffer
 unfoldable pub meterBuffer : List Float → List ℕ → List ℕ
-meterBuffer numbers buffer = answer (lowest (meterTests numbers buffer)) (λ _. buffer) (over (bodyOf (inMode (modeOf numbers) numbers)) buffer)
+meterBuffer numbers buffer = answer (lowest (meterTests numbers buffer)) (λ _. buffer) (over (bodyOf (inMode (smallestMode numbers) numbers)) buffer)
 
 -- what the call promises
 abbrev pub Meters : List Float → List ℕ → Metered → List ℕ → Type 0

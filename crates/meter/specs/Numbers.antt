@@ -43,8 +43,8 @@ abbrev pub isOffset : ℕ → Bool
 isOffset i = eqb (i % 4) 3
 
 -- "below 2^mode in size"
-abbrev pub Below : ℕ → Float → Type 0
-Below mode x = natAbs (top x) < 2 ^ mode * bottom x
+abbrev pub BelowMode : ℕ → Float → Type 0
+BelowMode mode x = natAbs (top x) < 2 ^ mode * bottom x
 
 -- "A factor's field is the whole number nearest to factor·4096/2^mode, an offset's the nearest to offset/2^mode": n is that of number i
 abbrev pub Rounded : ℕ → ℕ → Float → ℤ → Type 0
@@ -52,5 +52,5 @@ Rounded mode i x n = Nearest (top x *ℤ pos (cond (isOffset i) 1 4096)) (bottom
 
 -- a "mode in which each factor is below 2^mode in size and every rounded field fits", from -4096 to 4095 (`Spans 12`)
 pub record FitsIn (numbers : List Float) (mode : ℕ) : Type 0 where
-  pub factors : (i : ℕ) → i < 12 → isOffset i ≡ false → Below mode (numberOf numbers i)
+  pub factors : (i : ℕ) → i < 12 → isOffset i ≡ false → BelowMode mode (numberOf numbers i)
   pub fields : (i : ℕ) → i < 12 → (n : ℤ) → Rounded mode i (numberOf numbers i) n → Spans 12 n

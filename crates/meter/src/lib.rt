@@ -13,7 +13,7 @@ ghost use Rattle.lists.specs.Find.{every};
 ghost use Rattle.meter.specs.declared.Meter.{Meter};
 ghost use Rattle.meter.specs.Nearest.{Rounds};
 ghost use Rattle.meter.specs.Numbers.{bottom, minusZero, numbersOf, Rounded};
-ghost use Rattle.meter.specs.Found.{Normal, isBelow, signedField, fieldOf, fieldIn, fieldsIn, isField, refused, converted};
+ghost use Rattle.meter.specs.Found.{Normal, isBelow, signedField, fieldOf, fieldIn, fieldsIn, isField, notConverted, converted};
 ghost use Rattle.meter.specs.Found.{meterRefused, Meters};
 ghost use Rattle.meter.specs.Meter.{ConvertRule, MeterRule};
 ghost use Rattle.meter.specs.Cases.{MeterCases};
@@ -233,7 +233,7 @@ fn all_fit(fields: [u16; 12]) -> bool
 }
 
 fn no_matrix(refusal: u8) -> Converted
-    ensures { λ r. ⌜ r ≡ refused refusal ⌝ }
+    ensures { λ r. ⌜ r ≡ notConverted refusal ⌝ }
 {
     let none = matrix::none();
     Converted {

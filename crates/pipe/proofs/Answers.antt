@@ -14,22 +14,22 @@ use Rattle.request.specs.Sections.{longest}
 use Rattle.request.proofs.Cut.{lengths}
 use Rattle.pipe.specs.Final.{refusalOf}
 use Rattle.pipe.specs.Bytes.{countIn, soFar, refused, notYet, saidBy, withAnswer}
-use Rattle.pipe.specs.Found.{isOpen, standing, early, kept, endByte}
-use Rattle.pipe.specs.Found.{takeOf, takePipe, endOf, endPipe, Takes, Ends}
+use Rattle.pipe.specs.Found.{isOpen, answerThere, early, kept, endByte}
+use Rattle.pipe.specs.Found.{takeOf, takePipe, endPipeOf, endPipe, TakesPart, EndsPipe}
 use Rattle.pipe.proofs.Early.{TwoOrThree, long, early-is, is-early, not-early}
 
 -- not open: what stands there is said, and no byte is changed
-pub taking-nothing : (pipe part : List ℕ) → isOpen pipe ≡ false → Takes pipe part (standing pipe) pipe
+pub taking-nothing : (pipe part : List ℕ) → isOpen pipe ≡ false → TakesPart pipe part (answerThere pipe) pipe
 unfolding takeOf takePipe
 taking-nothing pipe part f = (rw f, rw f)
 
-pub ending-nothing : (pipe : List ℕ) → isOpen pipe ≡ false → Ends pipe (standing pipe) pipe
-unfolding endOf endPipe
+pub ending-nothing : (pipe : List ℕ) → isOpen pipe ≡ false → EndsPipe pipe (answerThere pipe) pipe
+unfolding endPipeOf endPipe
 ending-nothing pipe f = (rw f, rw f)
 
 -- the end of an open one
-pub ending : (pipe : List ℕ) → isOpen pipe ≡ true → Ends pipe (saidBy (endByte pipe) (countIn pipe)) (withAnswer pipe (endByte pipe))
-unfolding endOf endPipe
+pub ending : (pipe : List ℕ) → isOpen pipe ≡ true → EndsPipe pipe (saidBy (endByte pipe) (countIn pipe)) (withAnswer pipe (endByte pipe))
+unfolding endPipeOf endPipe
 ending pipe t = (rw t, rw t)
 
 -- as many bytes as decide have the number of all
@@ -38,7 +38,7 @@ decides input = ap (λ p. p .refusal) (lengths input .ncts (suc longest) (omega 
 
 -- a part that decides
 pub taking-early : (pipe part : List ℕ) (n : ℕ) → isOpen pipe ≡ true → n ≡ refusalOf (soFar pipe ++ part) → TwoOrThree n
-    → Takes pipe part (refused n) (withAnswer pipe n)
+    → TakesPart pipe part (refused n) (withAnswer pipe n)
 unfolding takeOf takePipe
 taking-early pipe part n t e h =
     let k : early (refusalOf (soFar pipe ++ part)) ≡ n = ap early (sym e) ∙ early-is n h in
@@ -51,7 +51,7 @@ taking-early pipe part n t e h =
 
 -- one that does not
 pub taking-on : (pipe part : List ℕ) → isOpen pipe ≡ true → (TwoOrThree (refusalOf (soFar pipe ++ part)) → ⊥)
-    → Takes pipe part notYet (kept pipe part)
+    → TakesPart pipe part notYet (kept pipe part)
 unfolding takeOf takePipe
 taking-on pipe part t h =
     let k : early (refusalOf (soFar pipe ++ part)) ≡ 0 = late (refusalOf (soFar pipe ++ part)) h in
@@ -66,10 +66,10 @@ module _ (pipe part front : List ℕ) (n : ℕ) (t : isOpen pipe ≡ true)
   of-all : n ≡ refusalOf (soFar pipe ++ part)
   of-all = e ∙ ap refusalOf f ∙ decides (soFar pipe ++ part)
 
-  pub judged-early : (eqb n 2 || eqb n 3) ≡ true → Takes pipe part (refused n) (withAnswer pipe n)
+  pub judged-early : (eqb n 2 || eqb n 3) ≡ true → TakesPart pipe part (refused n) (withAnswer pipe n)
   judged-early b = taking-early pipe part n t of-all (is-early n b)
 
-  pub judged-on : (r : ℕ) → r ≡ length front → (eqb n 2 || eqb n 3) ≡ false → Takes pipe part notYet (set (over front pipe) longest r)
+  pub judged-on : (r : ℕ) → r ≡ length front → (eqb n 2 || eqb n 3) ≡ false → TakesPart pipe part notYet (set (over front pipe) longest r)
   judged-on r l b =
       let none : TwoOrThree (refusalOf (soFar pipe ++ part)) → ⊥ = λ h. not-early n b (subst TwoOrThree (sym of-all) h) in
       let whole : front ≡ soFar pipe ++ part = f ∙ take-all (suc longest) (soFar pipe ++ part) (no-longer none) in

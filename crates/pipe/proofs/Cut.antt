@@ -9,15 +9,15 @@ use lib.Dec.{eqb}
 use lib.ListN.{length, take, length-set}
 use lib.Seq.{take-set-le, getD-set-same, getD-set-other}
 use borrow.Author.Tests.{eqb-true, eqb-false, eq-eqb, ne-eqb}
-use Rattle.refusals.specs.Rows.{answer}
+use Rattle.refusals.specs.Tests.{answer}
 use Rattle.request.specs.Sections.{longest, walk, walked}
 use Rattle.request.specs.Read.{readOf, nctsOf}
 use Rattle.pipe.specs.declared.Piped.{Piped}
 use Rattle.pipe.specs.Final.{refusalOf, Final}
 use Rattle.pipe.specs.Bytes.{countIn, answerIn, soFar, fresh, refused, accepted, notYet, saidBy, answerByte, withAnswer}
 use Rattle.pipe.specs.Found.{isPipe}
-use Rattle.pipe.specs.Found.{takeOf, takePipe, endOf, endPipe, Takes, Ends}
-use Rattle.pipe.specs.Pipe.{answerFor, IsPipe, Open, joined, fed, after, HoweverCut}
+use Rattle.pipe.specs.Found.{takeOf, takePipe, endPipeOf, endPipe, TakesPart, EndsPipe}
+use Rattle.pipe.specs.Pipe.{answerFor, IsPipe, OpenPipe, joined, fed, afterParts, HoweverCut}
 use Rattle.pipe.proofs.Told.{small}
 use Rattle.pipe.proofs.Early.{TwoOrThree, either, more, final, its-own, one-of-two}
 use Rattle.pipe.proofs.Joined.{length-so-far}
@@ -31,7 +31,7 @@ pub record Closed (pipe : List ℕ) (byte : ℕ) : Type 0 where
 -- before the end: open with the input so far, or closed with its number
 abbrev pub Holds : List ℕ → List ℕ → Type 0
 Holds pipe input =
-    (Open pipe × (soFar pipe ≡ input) × (TwoOrThree (refusalOf input) → ⊥)) ⊎ (Closed pipe (refusalOf input) × TwoOrThree (refusalOf input))
+    (OpenPipe pipe × (soFar pipe ≡ input) × (TwoOrThree (refusalOf input) → ⊥)) ⊎ (Closed pipe (refusalOf input) × TwoOrThree (refusalOf input))
 
 some : (n : ℕ) → TwoOrThree n → n ≢ 0
 some n (inl h) z = omega arith
@@ -110,12 +110,12 @@ not-one n e (inr h) = omega arith
 first : Holds fresh []
 first = inl (record { one = record { long = refl; counted = omega arith }; unanswered = refl }, refl, not-one (refusalOf []) nothing-yet)
 
-held : (parts : List (List ℕ)) → Holds (after parts) (joined parts)
+held : (parts : List (List ℕ)) → Holds (afterParts parts) (joined parts)
 held parts = feeds fresh [] parts first
 
 -- the end: closed with the answer's byte, which says the answer for the input
 pub record Ended (pipe input : List ℕ) : Type 0 where
-  pub answered : endOf pipe ≡ answerFor input
+  pub answered : endPipeOf pipe ≡ answerFor input
   pub left : Closed (endPipe pipe) (answerByte (refusalOf input))
   pub says : saidBy (answerByte (refusalOf input)) (countIn (endPipe pipe)) ≡ answerFor input
   pub front : refusalOf input ≡ 0 → take (length input) (endPipe pipe) ≡ input
@@ -154,9 +154,9 @@ ended pipe input (inr (c, h)) =
 
 -- an answer that is there: parts and ends leave the pipe as it is
 module _ (pipe : List ℕ) (byte : ℕ) (c : Closed pipe byte) (z : byte ≢ 0) where
-  stays : (part : List ℕ) → Takes pipe part (saidBy byte (countIn pipe)) pipe × Ends pipe (saidBy byte (countIn pipe)) pipe
+  stays : (part : List ℕ) → TakesPart pipe part (saidBy byte (countIn pipe)) pipe × EndsPipe pipe (saidBy byte (countIn pipe)) pipe
   stays part =
-      subst (λ (k : ℕ). Takes pipe part (saidBy k (countIn pipe)) pipe × Ends pipe (saidBy k (countIn pipe)) pipe) (c .told)
+      subst (λ (k : ℕ). TakesPart pipe part (saidBy k (countIn pipe)) pipe × EndsPipe pipe (saidBy k (countIn pipe)) pipe) (c .told)
       (any-pipe pipe part .stays (c .one) (λ e. z (sym (c .told) ∙ e)))
 
   ignores : (parts : List (List ℕ)) → fed pipe parts ≡ pipe
@@ -174,8 +174,8 @@ differ : (n : ℕ) → notYet ≡ refused n → ⊥
 differ n e = absurd (omega (arith, ap (λ (p : Piped). p .answered) e))
 
 module _ (parts : List (List ℕ)) where
-  e : Ended (after parts) (joined parts)
-  e = ended (after parts) (joined parts) (held parts)
+  e : Ended (afterParts parts) (joined parts)
+  e = ended (afterParts parts) (joined parts) (held parts)
 
   abbrev byte : ℕ
   byte = answerByte (refusalOf (joined parts))
@@ -184,38 +184,38 @@ module _ (parts : List (List ℕ)) where
   b = not-zero (refusalOf (joined parts)) (small (joined parts))
 
   abbrev left : List ℕ
-  left = endPipe (after parts)
+  left = endPipe (afterParts parts)
 
-  stays-ended : (part : List ℕ) → Takes left part (answerFor (joined parts)) left × Ends left (answerFor (joined parts)) left
-  stays-ended part = subst (λ (p : Piped). Takes left part p left × Ends left p left) (e .says) (stays left byte (e .left) b part)
+  stays-ended : (part : List ℕ) → TakesPart left part (answerFor (joined parts)) left × EndsPipe left (answerFor (joined parts)) left
+  stays-ended part = subst (λ (p : Piped). TakesPart left part p left × EndsPipe left p left) (e .says) (stays left byte (e .left) b part)
 
-  stepped : (part : List ℕ) → Stepped (after parts) (joined parts) part
-  stepped part = step (after parts) (joined parts) part (held parts)
+  stepped : (part : List ℕ) → Stepped (afterParts parts) (joined parts) part
+  stepped part = step (afterParts parts) (joined parts) part (held parts)
 
   abbrev numberWith : List ℕ → ℕ
   numberWith part = refusalOf (joined parts ++ part)
 
   -- a number that is given is the input's, and 2 or 3
-  its : (part : List ℕ) (n : ℕ) → takeOf (after parts) part ≡ refused n → TwoOrThree (numberWith part) × (numberWith part ≡ n)
+  its : (part : List ℕ) (n : ℕ) → takeOf (afterParts parts) part ≡ refused n → TwoOrThree (numberWith part) × (numberWith part ≡ n)
   its part n g = go (either (numberWith part))
     where
       go : TwoOrThree (numberWith part) ⊎ (TwoOrThree (numberWith part) → ⊥) → TwoOrThree (numberWith part) × (numberWith part ≡ n)
       go (inl h) = (h, ap (λ (p : Piped). p .refusal) (sym (stepped part .early h) ∙ g))
       go (inr h) = absurd (differ n (sym (stepped part .late h) ∙ g))
 
-  at-once : (part : List ℕ) (n : ℕ) → takeOf (after parts) part ≡ refused n → Final (joined parts ++ part) n
+  at-once : (part : List ℕ) (n : ℕ) → takeOf (afterParts parts) part ≡ refused n → Final (joined parts ++ part) n
   at-once part n g = subst (Final (joined parts ++ part)) (its part n g .1) (final (joined parts ++ part) (its part n g .0))
 
-  given-then : (part : List ℕ) (n : ℕ) → Final (joined parts ++ part) n → takeOf (after parts) part ≡ refused n
+  given-then : (part : List ℕ) (n : ℕ) → Final (joined parts ++ part) n → takeOf (afterParts parts) part ≡ refused n
   given-then part n f = stepped part .early (one-of-two (joined parts ++ part) n f) ∙ ap refused (its-own (joined parts ++ part) n f)
 
-  answered-there : (part : List ℕ) (n : ℕ) → takeOf (after parts) part ≡ refused n
-      → (later : List (List ℕ)) → fed (takePipe (after parts) part) later ≡ takePipe (after parts) part
+  answered-there : (part : List ℕ) (n : ℕ) → takeOf (afterParts parts) part ≡ refused n
+      → (later : List (List ℕ)) → fed (takePipe (afterParts parts) part) later ≡ takePipe (afterParts parts) part
   answered-there part n g later = go (stepped part .holds)
     where
-      go : Holds (takePipe (after parts) part) (joined parts ++ part) → fed (takePipe (after parts) part) later ≡ takePipe (after parts) part
+      go : Holds (takePipe (afterParts parts) part) (joined parts ++ part) → fed (takePipe (afterParts parts) part) later ≡ takePipe (afterParts parts) part
       go (inl h) = absurd (h .2 (its part n g .0))
-      go (inr h) = ignores (takePipe (after parts) part) (numberWith part) (h .0) (some (numberWith part) (h .1)) later
+      go (inr h) = ignores (takePipe (afterParts parts) part) (numberWith part) (h .0) (some (numberWith part) (h .1)) later
 
   number-of : (b : Bool) → eqb (refusalOf (joined parts)) 0 ≡ b
       → let p : Piped = cond b (accepted (length (joined parts))) (refused (refusalOf (joined parts))) in
@@ -223,17 +223,17 @@ module _ (parts : List (List ℕ)) where
   number-of true e = (sym (eqb-true (refusalOf (joined parts)) 0 e), refl)
   number-of false e = (refl, refl)
 
-  its-number : (endOf (after parts) .refusal ≡ refusalOf (joined parts)) × (endOf (after parts) .answered ≡ 1)
+  its-number : (endPipeOf (afterParts parts) .refusal ≡ refusalOf (joined parts)) × (endPipeOf (afterParts parts) .answered ≡ 1)
   its-number =
       let n = number-of (eqb (refusalOf (joined parts)) 0) refl in
       (ap (λ (p : Piped). p .refusal) (e .answered) ∙ n .0, ap (λ (p : Piped). p .answered) (e .answered) ∙ n .1)
 
   one-of-three : (part : List ℕ)
-      → (takeOf (after parts) part ≡ notYet) ⊎ (takeOf (after parts) part ≡ refused 2) ⊎ (takeOf (after parts) part ≡ refused 3)
+      → (takeOf (afterParts parts) part ≡ notYet) ⊎ (takeOf (afterParts parts) part ≡ refused 2) ⊎ (takeOf (afterParts parts) part ≡ refused 3)
   one-of-three part = go (either (numberWith part))
     where
       go : TwoOrThree (numberWith part) ⊎ (TwoOrThree (numberWith part) → ⊥)
-          → (takeOf (after parts) part ≡ notYet) ⊎ (takeOf (after parts) part ≡ refused 2) ⊎ (takeOf (after parts) part ≡ refused 3)
+          → (takeOf (afterParts parts) part ≡ notYet) ⊎ (takeOf (afterParts parts) part ≡ refused 2) ⊎ (takeOf (afterParts parts) part ≡ refused 3)
       go (inl (inl h)) = inr (inl (stepped part .early (inl h) ∙ ap refused h))
       go (inl (inr h)) = inr (inr (stepped part .early (inr h) ∙ ap refused h))
       go (inr h) = inl (stepped part .late h)

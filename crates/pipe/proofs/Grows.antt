@@ -11,14 +11,14 @@ use lib.Seq.{take-at, take-set-le, set-getD, getD-set-same, getD-set-other, getD
 use borrow.Author.Tests.{eqb-true, eqb-false, eq-eqb, ne-eqb, leb-true, leb-false, lt-leb}
 use Rattle.lists.specs.Over.{over}
 use Rattle.lists.proofs.Copied.{over-front}
-use Rattle.refusals.specs.Rows.{answer}
+use Rattle.refusals.specs.Tests.{answer}
 use Rattle.request.specs.Sections.{longest}
 use Rattle.pipe.specs.declared.Piped.{Piped}
 use Rattle.pipe.specs.Final.{refusalOf}
 use Rattle.pipe.specs.Bytes.{pipeLength, countIn, answerIn, soFar, refused, accepted, notYet, noPipe, saidBy, answerByte, withAnswer}
-use Rattle.pipe.specs.Found.{isPipe, isOpen, standing, givenAt, kept, endByte}
-use Rattle.pipe.specs.Found.{takeOf, takePipe, endOf, endPipe, Takes, Ends}
-use Rattle.pipe.specs.Pipe.{answerFor, NoPipe, IsPipe, Open, Grown, AnyPipe}
+use Rattle.pipe.specs.Found.{isPipe, isOpen, answerThere, givenAt, kept, endByte}
+use Rattle.pipe.specs.Found.{takeOf, takePipe, endPipeOf, endPipe, TakesPart, EndsPipe}
+use Rattle.pipe.specs.Pipe.{answerFor, NoPipe, IsPipe, OpenPipe, Grown, AnyPipe}
 use Rattle.pipe.proofs.Told.{small}
 use Rattle.pipe.proofs.Early.{TwoOrThree, either, long, final, its-own, one-of-two}
 use Rattle.pipe.proofs.Joined.{of-length, counted, a-pipe, open-is, is-open, not-open, length-so-far}
@@ -28,7 +28,7 @@ use Rattle.pipe.proofs.Answers.{taking-nothing, ending-nothing, ending,
 pub is-pipe : (pipe : List ℕ) → IsPipe pipe → isPipe pipe ≡ true
 is-pipe pipe h = a-pipe pipe (h .long) (h .counted)
 
-it-is-open : (pipe : List ℕ) → Open pipe → isOpen pipe ≡ true
+it-is-open : (pipe : List ℕ) → OpenPipe pipe → isOpen pipe ≡ true
 it-is-open pipe o = is-open pipe (is-pipe pipe (o .one)) (o .unanswered)
 
 no-pipe : (pipe : List ℕ) → NoPipe pipe → isPipe pipe ≡ false
@@ -73,7 +73,7 @@ module _ (pipe input : List ℕ) (l : length pipe ≡ pipeLength) (h : length in
       ap (λ (n : ℕ). take n grownBy) count-grown ∙ take-set-le (length input) (over input pipe) longest (length input) h
       ∙ ap (take (length input)) laid-over ∙ take-at input (drop (length input) pipe) (length input) refl
 
-  pub grown-open : answerIn pipe ≡ 0 → Open grownBy
+  pub grown-open : answerIn pipe ≡ 0 → OpenPipe grownBy
   grown-open z =
       record {
         one = record { long = length-set (over input pipe) longest (length input) ∙ as-long; counted = omega (arith, count-grown) };
@@ -108,7 +108,7 @@ its-byte pipe byte t = ap (withAnswer pipe) (sym (getD-set-same pipe (suc longes
 own-byte : (pipe : List ℕ) → pipe ≡ withAnswer pipe (answerIn pipe)
 own-byte pipe = sym (set-getD pipe (suc longest) 0)
 
-kept-standing : (pipe : List ℕ) → Kept pipe (standing pipe) pipe
+kept-standing : (pipe : List ℕ) → Kept pipe (answerThere pipe) pipe
 kept-standing pipe = go (isPipe pipe)
   where
     go : (a : Bool) → Kept pipe (cond a (saidBy (answerIn pipe) (countIn pipe)) noPipe) pipe
@@ -120,7 +120,7 @@ unfolding takeOf takePipe
 kept-taking pipe part = go (isOpen pipe) refl (givenAt pipe part)
   where
     go : (a : Bool) → isOpen pipe ≡ a → (m : ℕ)
-        → Kept pipe (cond a (answer m refused notYet) (standing pipe)) (cond a (answer m (withAnswer pipe) (kept pipe part)) pipe)
+        → Kept pipe (cond a (answer m refused notYet) (answerThere pipe)) (cond a (answer m (withAnswer pipe) (kept pipe part)) pipe)
     go false t m = kept-standing pipe
     go true t m = split (eqb m 0)
       where
@@ -128,11 +128,11 @@ kept-taking pipe part = go (isOpen pipe) refl (givenAt pipe part)
         split true h = absurd (h refl)
         split false h = (refl, its-byte pipe m t)
 
-kept-ending : (pipe : List ℕ) → Kept pipe (endOf pipe) (endPipe pipe)
-unfolding endOf endPipe
+kept-ending : (pipe : List ℕ) → Kept pipe (endPipeOf pipe) (endPipe pipe)
+unfolding endPipeOf endPipe
 kept-ending pipe = go (isOpen pipe) refl
   where
-    go : (a : Bool) → isOpen pipe ≡ a → Kept pipe (cond a (saidBy (endByte pipe) (countIn pipe)) (standing pipe)) (cond a (withAnswer pipe (endByte pipe)) pipe)
+    go : (a : Bool) → isOpen pipe ≡ a → Kept pipe (cond a (saidBy (endByte pipe) (countIn pipe)) (answerThere pipe)) (cond a (withAnswer pipe (endByte pipe)) pipe)
     go false t = kept-standing pipe
     go true t = kept-by pipe (endByte pipe) (countIn pipe) (withAnswer pipe (endByte pipe)) (its-byte pipe (endByte pipe) t)
 
@@ -161,7 +161,7 @@ said-within pipe byte t = go (eqb byte 255)
     go true = counted pipe t
     go false = omega arith
 
-standing-within : (pipe : List ℕ) → standing pipe .count ≤ longest
+standing-within : (pipe : List ℕ) → answerThere pipe .count ≤ longest
 standing-within pipe = go (isPipe pipe) refl
   where
     go : (b : Bool) → isPipe pipe ≡ b → cond b (saidBy (answerIn pipe) (countIn pipe)) noPipe .count ≤ longest
@@ -172,16 +172,16 @@ take-within : (pipe part : List ℕ) → takeOf pipe part .count ≤ longest
 unfolding takeOf
 take-within pipe part = go (isOpen pipe) (eqb (givenAt pipe part) 0)
   where
-    go : (a b : Bool) → cond a (cond b notYet (refused (givenAt pipe part))) (standing pipe) .count ≤ longest
+    go : (a b : Bool) → cond a (cond b notYet (refused (givenAt pipe part))) (answerThere pipe) .count ≤ longest
     go true true = omega arith
     go true false = omega arith
     go false b = standing-within pipe
 
-pub end-within : (pipe : List ℕ) → endOf pipe .count ≤ longest
-unfolding endOf
+pub end-within : (pipe : List ℕ) → endPipeOf pipe .count ≤ longest
+unfolding endPipeOf
 end-within pipe = go (isOpen pipe) refl
   where
-    go : (a : Bool) → isOpen pipe ≡ a → cond a (saidBy (endByte pipe) (countIn pipe)) (standing pipe) .count ≤ longest
+    go : (a : Bool) → isOpen pipe ≡ a → cond a (saidBy (endByte pipe) (countIn pipe)) (answerThere pipe) .count ≤ longest
     go true t = said-within pipe (endByte pipe) (open-is pipe t .0)
     go false t = standing-within pipe
 
@@ -202,9 +202,9 @@ any-pipe pipe part =
     }
   where
     -- where it is not open, both calls say what stands there
-    both : (p : Piped) → isOpen pipe ≡ false → standing pipe ≡ p → Takes pipe part p pipe × Ends pipe p pipe
+    both : (p : Piped) → isOpen pipe ≡ false → answerThere pipe ≡ p → TakesPart pipe part p pipe × EndsPipe pipe p pipe
     both p f e =
-        subst (λ (q : Piped). Takes pipe part q pipe × Ends pipe q pipe) e (taking-nothing pipe part f, ending-nothing pipe f)
+        subst (λ (q : Piped). TakesPart pipe part q pipe × EndsPipe pipe q pipe) e (taking-nothing pipe part f, ending-nothing pipe f)
 
     shut : NoPipe pipe → isOpen pipe ≡ false
     shut h = rw (no-pipe pipe h)
@@ -220,7 +220,7 @@ any-pipe pipe part =
           (λ k. (ap (λ (p : Piped). p .refusal) m ∙ rw (eq-eqb (answerIn pipe) 255 k), ap (λ (p : Piped). p .count) m ∙ rw (eq-eqb (answerIn pipe) 255 k))),
         )
 
-    goes-on : Open pipe → (TwoOrThree (refusalOf (soFar pipe ++ part)) → ⊥) → (takeOf pipe part ≡ notYet) × Grown pipe part (takePipe pipe part)
+    goes-on : OpenPipe pipe → (TwoOrThree (refusalOf (soFar pipe ++ part)) → ⊥) → (takeOf pipe part ≡ notYet) × Grown pipe part (takePipe pipe part)
     goes-on o none =
         let m = taking-on pipe part (it-is-open pipe o) none in
         let h : length (soFar pipe ++ part) ≤ longest = within-longest (soFar pipe ++ part) none in
@@ -234,19 +234,19 @@ any-pipe pipe part =
           }),
         )
 
-    the-end : Open pipe → Ends pipe (answerFor (soFar pipe)) (withAnswer pipe (answerByte (refusalOf (soFar pipe))))
+    the-end : OpenPipe pipe → EndsPipe pipe (answerFor (soFar pipe)) (withAnswer pipe (answerByte (refusalOf (soFar pipe))))
     the-end o =
         let t : isPipe pipe ≡ true = is-pipe pipe (o .one) in
         let m = ending pipe (it-is-open pipe o) in
         (ap (λ (n : ℕ). answer (refusalOf (soFar pipe)) refused (accepted n)) (length-so-far pipe t) ∙ sym (said (refusalOf (soFar pipe)) (countIn pipe) (small (soFar pipe))) ∙ m .0, m .1)
 
 -- a part that is not empty and is not answered leaves more bytes in the pipe
-pub takes-more : (pipe part : List ℕ) → Open pipe → takeOf pipe part .answered ≡ 0 → 0 < length part
-    → Open (takePipe pipe part) × (countIn pipe < countIn (takePipe pipe part))
+pub takes-more : (pipe part : List ℕ) → OpenPipe pipe → takeOf pipe part .answered ≡ 0 → 0 < length part
+    → OpenPipe (takePipe pipe part) × (countIn pipe < countIn (takePipe pipe part))
 takes-more pipe part o z h = go (either (refusalOf (soFar pipe ++ part)))
   where
     go : TwoOrThree (refusalOf (soFar pipe ++ part)) ⊎ (TwoOrThree (refusalOf (soFar pipe ++ part)) → ⊥)
-        → Open (takePipe pipe part) × (countIn pipe < countIn (takePipe pipe part))
+        → OpenPipe (takePipe pipe part) × (countIn pipe < countIn (takePipe pipe part))
     go (inl e) =
         let m = any-pipe pipe part .atOnce o (refusalOf (soFar pipe ++ part)) (final (soFar pipe ++ part) e) in
         absurd (omega (arith, ap (λ (p : Piped). p .answered) (m .0), z))
@@ -260,7 +260,7 @@ pub none-taken : (pipe part : List ℕ) → takeOf pipe part .refusal ≢ 0 → 
 unfolding takeOf takePipe
 none-taken pipe part = go (isOpen pipe) (givenAt pipe part)
   where
-    go : (a : Bool) (m : ℕ) → let out : Piped = cond a (answer m refused notYet) (standing pipe) in
+    go : (a : Bool) (m : ℕ) → let out : Piped = cond a (answer m refused notYet) (answerThere pipe) in
         out .refusal ≢ 0 → out .answered ≡ 0 → cond a (answer m (withAnswer pipe) (kept pipe part)) pipe ≡ pipe
     go false m h z = refl
     go true m h z = split (eqb m 0) h z
@@ -270,11 +270,11 @@ none-taken pipe part = go (isOpen pipe) (givenAt pipe part)
         split true h z = absurd (h refl)
         split false h z = absurd (omega arith)
 
-pub none-ended : (pipe : List ℕ) → endOf pipe .answered ≡ 0 → endPipe pipe ≡ pipe
-unfolding endOf endPipe
+pub none-ended : (pipe : List ℕ) → endPipeOf pipe .answered ≡ 0 → endPipe pipe ≡ pipe
+unfolding endPipeOf endPipe
 none-ended pipe = go (isOpen pipe)
   where
-    go : (a : Bool) → cond a (saidBy (endByte pipe) (countIn pipe)) (standing pipe) .answered ≡ 0 → cond a (withAnswer pipe (endByte pipe)) pipe ≡ pipe
+    go : (a : Bool) → cond a (saidBy (endByte pipe) (countIn pipe)) (answerThere pipe) .answered ≡ 0 → cond a (withAnswer pipe (endByte pipe)) pipe ≡ pipe
     go false z = refl
     go true z = split (eqb (endByte pipe) 255) z
       where

@@ -11,13 +11,15 @@ use lib.ListN.{length}
 use borrow.Author.Tests.{ltb-true, eqb-true, eqb-false}
 use Rattle.lists.specs.Find.{every}
 use Rattle.lists.proofs.Both.{both-left, both-right}
-use Rattle.refusals.specs.Rows.{number, Test, lowest, answer}
+use Rattle.refusals.specs.Rows.{number}
+use Rattle.refusals.specs.Tests.{Test, lowest, answer}
 use Rattle.video.specs.declared.Video.{Video}
 use Rattle.clock.specs.declared.Clock.{Clock}
 use Rattle.clock.specs.declared.Pair.{Pair}
 use Rattle.clock.specs.declared.NCts.{NCts}
-use Rattle.clock.specs.Pairs.{reference, recommendedOf, thePair, noPair, other}
-use Rattle.clock.specs.Clocks.{clockOf}
+use Rattle.clock.specs.Pairs.{reference, recommendedOf}
+use Rattle.clock.specs.Answers.{thePair, noPair, other}
+use Rattle.clock.specs.Answers.{clockOf}
 use Rattle.clock.specs.Found.{pairTests, nearestK, leastK, mostK, nearestIn, nearestOf, exactly, coherentOf, pairOf}
 use Rattle.request.specs.declared.Sound.{Sound}
 use Rattle.request.specs.declared.Sound.the-variants.{Off, On}

@@ -4,7 +4,8 @@ use mathlib.Core.List.{List}
 use Prim.Native.Nat.{ℕ, suc, _+_}
 use lib.Dec.{eqb}
 use lib.ListN.{getD, take, set, replicate}
-use Rattle.refusals.specs.Rows.{number, imageLength, answer}
+use Rattle.refusals.specs.Rows.{number, imageLength}
+use Rattle.refusals.specs.Tests.{answer}
 use Rattle.request.specs.Sections.{longest}
 use Rattle.pipe.specs.declared.Piped.{Piped}
 

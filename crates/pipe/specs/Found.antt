@@ -6,7 +6,8 @@ use Prim.Native.Nat.{ℕ}
 use lib.Dec.{eqb, leb}
 use lib.ListN.{length, set}
 use Rattle.lists.specs.Over.{over}
-use Rattle.refusals.specs.Rows.{number, countNotAllowed, bytesAfter, answer}
+use Rattle.refusals.specs.Rows.{number, countNotAllowed, bytesAfter}
+use Rattle.refusals.specs.Tests.{answer}
 use Rattle.request.specs.Sections.{longest}
 use Rattle.pipe.specs.declared.Piped.{Piped}
 use Rattle.pipe.specs.Final.{refusalOf}
@@ -19,8 +20,8 @@ abbrev pub isOpen : List ℕ → Bool
 isOpen pipe = isPipe pipe && eqb (answerIn pipe) 0
 
 -- what is said where it is not open: the answer that is there, or that it is no pipe
-abbrev pub standing : List ℕ → Piped
-standing pipe = cond (isPipe pipe) (saidBy (answerIn pipe) (countIn pipe)) noPipe
+abbrev pub answerThere : List ℕ → Piped
+answerThere pipe = cond (isPipe pipe) (saidBy (answerIn pipe) (countIn pipe)) noPipe
 
 -- 2 and 3, else 0
 abbrev pub early : ℕ → ℕ
@@ -34,7 +35,7 @@ abbrev pub kept : List ℕ → List ℕ → List ℕ
 kept pipe part = set (over (soFar pipe ++ part) pipe) longest (length (soFar pipe ++ part))
 
 unfoldable pub takeOf : List ℕ → List ℕ → Piped
-takeOf pipe part = cond (isOpen pipe) (answer (givenAt pipe part) refused notYet) (standing pipe)
+takeOf pipe part = cond (isOpen pipe) (answer (givenAt pipe part) refused notYet) (answerThere pipe)
 
 unfoldable pub takePipe : List ℕ → List ℕ → List ℕ
 takePipe pipe part = cond (isOpen pipe) (answer (givenAt pipe part) (withAnswer pipe) (kept pipe part)) pipe
@@ -43,15 +44,15 @@ takePipe pipe part = cond (isOpen pipe) (answer (givenAt pipe part) (withAnswer 
 abbrev pub endByte : List ℕ → ℕ
 endByte pipe = answerByte (refusalOf (soFar pipe))
 
-unfoldable pub endOf : List ℕ → Piped
-endOf pipe = cond (isOpen pipe) (saidBy (endByte pipe) (countIn pipe)) (standing pipe)
+unfoldable pub endPipeOf : List ℕ → Piped
+endPipeOf pipe = cond (isOpen pipe) (saidBy (endByte pipe) (countIn pipe)) (answerThere pipe)
 
 unfoldable pub endPipe : List ℕ → List ℕ
 endPipe pipe = cond (isOpen pipe) (withAnswer pipe (endByte pipe)) pipe
 
 -- what the two calls promise
-abbrev pub Takes : List ℕ → List ℕ → Piped → List ℕ → Type 0
-Takes pipe part out left = (out ≡ takeOf pipe part) × (left ≡ takePipe pipe part)
+abbrev pub TakesPart : List ℕ → List ℕ → Piped → List ℕ → Type 0
+TakesPart pipe part out left = (out ≡ takeOf pipe part) × (left ≡ takePipe pipe part)
 
-abbrev pub Ends : List ℕ → Piped → List ℕ → Type 0
-Ends pipe out left = (out ≡ endOf pipe) × (left ≡ endPipe pipe)
+abbrev pub EndsPipe : List ℕ → Piped → List ℕ → Type 0
+EndsPipe pipe out left = (out ≡ endPipeOf pipe) × (left ≡ endPipe pipe)

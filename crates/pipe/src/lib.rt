@@ -6,7 +6,7 @@ ghost use Prim.Native.Nat.{ℕ, suc, _≤_};
 ghost use lib.ListN.{length, take};
 ghost use Rattle.request.specs.Sections.{longest};
 ghost use Rattle.pipe.specs.Bytes.{soFar, saidBy, answerByte};
-ghost use Rattle.pipe.specs.Found.{isPipe, isOpen, Takes, Ends};
+ghost use Rattle.pipe.specs.Found.{isPipe, isOpen, TakesPart, EndsPipe};
 ghost use Rattle.pipe.specs.Found as found;
 ghost use Rattle.pipe.specs.Final.{Finals, Deciding};
 ghost use Rattle.pipe.specs.Pipe.{AnyPipe, HoweverCut};
@@ -98,7 +98,7 @@ fn said(byte: u8, count: u8) -> Piped
 
 // What is said where the pipe is not open: the answer that is there, or 7.
 fn standing(pipe: &[u8]) -> Piped
-    ensures { λ r. ⌜ r ≡ found.standing (now (pipe .entry)) ⌝ }
+    ensures { λ r. ⌜ r ≡ found.answerThere (now (pipe .entry)) ⌝ }
 {
     if !is_pipe(pipe) {
         return Piped {
@@ -122,7 +122,7 @@ fn answer_byte(number: u8) -> u8
 // A part, where there is no answer yet: 2 and 3 at once, and else it is put behind the request so far.
 fn take_open(pipe: &mut [u8], part: &[u8]) -> Piped
     requires { ⌜ isOpen (now pipe) ≡ true ⌝ }
-    ensures { λ r. ⌜ Takes (now (pipe .entry)) (now (part .entry)) r (now (pipe .exit)) ⌝ }
+    ensures { λ r. ⌜ TakesPart (now (pipe .entry)) (now (part .entry)) r (now (pipe .exit)) ⌝ }
 {
     let mut input = [0u8; ENOUGH];
     let n = join(pipe, part, &mut input);
@@ -147,7 +147,7 @@ fn take_open(pipe: &mut [u8], part: &[u8]) -> Piped
 
 // A part of a request, of any length. An answer that is there stays.
 pub fn take(pipe: &mut [u8], part: &[u8]) -> Piped
-    ensures { λ r. ⌜ Takes (now (pipe .entry)) (now (part .entry)) r (now (pipe .exit)) ⌝ }
+    ensures { λ r. ⌜ TakesPart (now (pipe .entry)) (now (part .entry)) r (now (pipe .exit)) ⌝ }
 {
     if !is_open(pipe) {
         return standing(pipe);
@@ -157,7 +157,7 @@ pub fn take(pipe: &mut [u8], part: &[u8]) -> Piped
 
 // The end of a request: what N and CTS gives it.
 pub fn end(pipe: &mut [u8]) -> Piped
-    ensures { λ r. ⌜ Ends (now (pipe .entry)) r (now (pipe .exit)) ⌝ }
+    ensures { λ r. ⌜ EndsPipe (now (pipe .entry)) r (now (pipe .exit)) ⌝ }
 {
     if !is_open(pipe) {
         return standing(pipe);

@@ -6,7 +6,7 @@ use Prim.Native.Nat.{ℕ}
 use lib.Dec.{eqb, ltb}
 use lib.ListN.{length}
 use borrow.Author.Tests.{eqb-true, eq-eqb, not-false}
-use Rattle.refusals.specs.Rows.{Test, lowest}
+use Rattle.refusals.specs.Tests.{Test, lowest}
 use Rattle.refusals.proofs.Tests.{none-in-stages, none-at}
 use Rattle.request.specs.declared.Request.{Request}
 use Rattle.request.specs.Read.{readOf, pairFor}

@@ -6,7 +6,7 @@ use lib.Dec.{leb}
 use lib.ListN.{getD}
 use borrow.Author.Tests.{leb-true}
 use Rattle.bits.proofs.Below.{at-below}
-use Rattle.frames.specs.Frames.{audioFrame}
+use Rattle.frames.specs.Audio.{audioFrame}
 use Rattle.frames.specs.Answers.{audioOf}
 use Rattle.plan.specs.Wanted.{rateCodes}
 

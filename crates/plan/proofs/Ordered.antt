@@ -7,7 +7,8 @@ use Prim.Native.Nat.{ℕ}
 use lib.Dec.{eqb}
 use lib.ListN.{length, drop}
 use Rattle.lists.proofs.Decides.{Decides, itself, equal, less, opposite, either, together}
-use Rattle.refusals.specs.Rows.{Condition, Given, Test, lowest}
+use Rattle.refusals.specs.Rows.{Condition, Given}
+use Rattle.refusals.specs.Tests.{Test, lowest}
 use Rattle.matrix.specs.Matrix.{Bytes}
 use Rattle.request.specs.Sections.{walked}
 use Rattle.request.specs.Request.{readRules}

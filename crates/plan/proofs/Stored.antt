@@ -8,16 +8,16 @@ use lib.ListN.{length, getD, set, take, drop, length-drop, drop-of-length-le}
 use lib.Seq.{sets, take-all}
 use Rattle.lists.proofs.Find.{next}
 use Rattle.chip.specs.Machine.{Write}
-use Rattle.plan.specs.Wanted.{laid, stores, halves, high, low}
+use Rattle.plan.specs.Wanted.{laidBytes, stores, halves, high, low}
 
 -- one byte is stored, and the others are left
 pub laid-more : (out bytes : List ℕ) (at i : ℕ) → i < length bytes
-    → stores (set out (at + i) (getD bytes i 0)) (laid (at + (i + 1)) (drop (i + 1) bytes)) ≡ stores out (laid (at + i) (drop i bytes))
+    → stores (set out (at + i) (getD bytes i 0)) (laidBytes (at + (i + 1)) (drop (i + 1) bytes)) ≡ stores out (laidBytes (at + i) (drop i bytes))
 laid-more out bytes at i h =
     let e : at + (i + 1) ≡ suc (at + i) = omega arith in
     rw (e, next bytes i 0 h)
 
-pub laid-end : (out bytes : List ℕ) (at i : ℕ) → length bytes ≤ i → stores out (laid (at + i) (drop i bytes)) ≡ out
+pub laid-end : (out bytes : List ℕ) (at i : ℕ) → length bytes ≤ i → stores out (laidBytes (at + i) (drop i bytes)) ≡ out
 laid-end out bytes at i h = rw (drop-of-length-le bytes h)
 
 -- two bytes are stored, and those of the other coefficients are left

@@ -6,7 +6,8 @@ use mathlib.Core.List.{List, [], _∷_, _++_}
 use Prim.Native.Nat.{ℕ}
 use lib.Dec.{eqb, ltb}
 use lib.ListN.{length}
-use Rattle.refusals.specs.Rows.{imageLength, holdsUp, noExactPair, bufferShort, Test, _if_, lowest, answer}
+use Rattle.refusals.specs.Rows.{imageLength, holdsUp, noExactPair, bufferShort}
+use Rattle.refusals.specs.Tests.{Test, _if_, lowest, answer}
 use Rattle.request.specs.declared.Request.{Request}
 use Rattle.request.specs.Read.{readOf, pairFor}
 use Rattle.writes.specs.List.{writeList, fronted, standsBelow, ready}

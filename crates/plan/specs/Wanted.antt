@@ -10,7 +10,8 @@ use Rattle.video.specs.declared.Video.{Video}
 use Rattle.video.specs.Video.{depth, repetition}
 use Rattle.clock.specs.declared.Pair.{Pair}
 use Rattle.matrix.specs.declared.Matrix.{Matrix}
-use Rattle.frames.specs.Frames.{aviFrame, audioFrame, audioOffFrame}
+use Rattle.frames.specs.Frames.{aviFrame}
+use Rattle.frames.specs.Audio.{audioFrame, audioOffFrame}
 use Rattle.chip.specs.Machine.{Write, _gets_}
 use Rattle.request.specs.declared.Sound.{Sound}
 use Rattle.request.specs.declared.Sound.the-variants.{Off, On}
@@ -18,9 +19,9 @@ use Rattle.request.specs.declared.Request.{Request}
 use Rattle.request.specs.Read.{pairFor}
 
 -- registers from an address on get these bytes
-abbrev pub laid : ℕ → List ℕ → List Write
-laid a [] = []
-laid a (b ∷ bs) = a gets b ∷ laid (suc a) bs
+abbrev pub laidBytes : ℕ → List ℕ → List Write
+laidBytes a [] = []
+laidBytes a (b ∷ bs) = a gets b ∷ laidBytes (suc a) bs
 
 -- "Coherent audio sets 0x0A[7] to 1"
 abbrev pub ctsSelect : Sound → ℕ
@@ -71,7 +72,7 @@ cscBytes m =
 
 -- N and CTS
 abbrev pub clockBytes : Pair → List Write
-clockBytes p = laid reg.n0 (twenty (p .n)) ++ laid reg.ctsManual0 (twenty (p .cts))
+clockBytes p = laidBytes reg.n0 (twenty (p .n)) ++ laidBytes reg.ctsManual0 (twenty (p .cts))
 
 -- how sound arrives, and Output Format, which is that of the encoding. A named field for which document 01 gives no value, Audio Select,
 -- Audio Mode, I2S Format and Input ID, holds the map's default, 0.
@@ -108,11 +109,11 @@ enableBytes r =
 -- the InfoFrames, whose first byte has no register
 abbrev pub frameBytes : Request → List Write
 frameBytes r =
-    laid reg.aviInfoframeVersion (drop 1 (aviFrame (r .video))) ++ laid reg.audioInfoframeVersion (drop 1 (audioBytes (r .sound)))
+    laidBytes reg.aviInfoframeVersion (drop 1 (aviFrame (r .video))) ++ laidBytes reg.audioInfoframeVersion (drop 1 (audioBytes (r .sound)))
 
 -- the registers with a named bit, but for 0x4B, whose bits are the step's
 abbrev pub wantedBytes : Request → List Write
-wantedBytes r = clockBytes (pairFor r) ++ inputBytes r ++ laid reg.csc (cscBytes (r .matrix)) ++ enableBytes r ++ frameBytes r
+wantedBytes r = clockBytes (pairFor r) ++ inputBytes r ++ laidBytes reg.csc (cscBytes (r .matrix)) ++ enableBytes r ++ frameBytes r
 
 -- the bytes of a list of writes, stored in order
 abbrev pub stores : List ℕ → List Write → List ℕ

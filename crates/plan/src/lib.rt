@@ -11,11 +11,11 @@ ghost use Rattle.video.specs.Fits.{VideoFits};
 ghost use Rattle.frames.specs.Frames.{aviFrame};
 ghost use Rattle.matrix.specs.Matrix.{Bytes};
 ghost use Rattle.request.specs.Read.{pairFor};
-ghost use Rattle.request.specs.Theorems.{Shaped};
+ghost use Rattle.request.specs.ThereAndBack.{Shaped};
 ghost use Rattle.request.specs.Fits.{SoundFits, Fits};
 ghost use Rattle.chip.specs.Machine.{up, avi, audio, gc};
 ghost use Rattle.writes.specs.List.{ready};
-ghost use Rattle.plan.specs.Wanted.{laid, stores, twenty, ctsSelect, inputs, rateCode, withAudio, audioBytes, halves, cscBytes};
+ghost use Rattle.plan.specs.Wanted.{laidBytes, stores, twenty, ctsSelect, inputs, rateCode, withAudio, audioBytes, halves, cscBytes};
 ghost use Rattle.plan.specs.Wanted.{clockBytes, inputBytes, repetitionByte, depthCode, enableBytes, frameBytes, wantedBytes};
 ghost use Rattle.plan.specs.Plan.{nothing, PlansWith, Plans, standsIn};
 ghost use Rattle.plan.specs.Rules.{PlanRefusals};
@@ -39,7 +39,7 @@ pub struct Planned {
 // Bytes stored from a place on.
 fn laid(out: &mut [u8], at: usize, bytes: &[u8])
     requires { ⌜ (length (now out) ≡ 256) × (at + length (now bytes) ≤ 256) ⌝ }
-    ensures { λ _. ⌜ now (out .exit) ≡ stores (now (out .entry)) (laid at (now (bytes .entry))) ⌝ }
+    ensures { λ _. ⌜ now (out .exit) ≡ stores (now (out .entry)) (laidBytes at (now (bytes .entry))) ⌝ }
 {
     let mut i: usize = 0;
     while i < bytes.len() {

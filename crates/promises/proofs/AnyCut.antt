@@ -16,7 +16,8 @@ use Rattle.clock.specs.declared.Pair.{Pair}
 use Rattle.request.specs.declared.Request.{Request}
 use Rattle.request.specs.declared.Checked.{Checked}
 use Rattle.request.specs.Read.{readOf, pairFor}
-use Rattle.request.specs.Bytes.{asBytes, inEdition, newVideo}
+use Rattle.request.specs.Bytes.{asBytes, newVideo}
+use Rattle.request.specs.ThereAndBack.{requestInEdition}
 use Rattle.request.proofs.Back.{there-and-back}
 use Rattle.request.proofs.Said.{new-video}
 use Rattle.request.proofs.Alone.{accepted-under-d}
@@ -30,21 +31,22 @@ use Rattle.plan.specs.Plan.{planOf}
 use Rattle.plan.proofs.Fine.{Fine, fine, accepts, leaves}
 use Rattle.plan.proofs.Ordered.{refusals}
 use Rattle.cut.specs.Run.{Event, run, cut, writesOf}
-use Rattle.cut.specs.Vsync.{waited, Finished}
+use Rattle.cut.specs.Vsync.{waited, FinishedRun}
 use Rattle.cut.specs.Demand.{toItsEnd, Cut, cuts, PlannedAgain, After, Same, Demand3}
-use Rattle.cut.proofs.Demanded.{waited-writes}
-use Rattle.cut.proofs.Fewer.{holds}
-use Rattle.cut.proofs.Within.{made-right}
+use Rattle.cut.proofs.DemandOfGoodLists.{waited-writes}
+use Rattle.cut.proofs.DemandOfWriteList.{holds}
+use Rattle.cut.proofs.ShorterWithin.{made-right}
 use Rattle.writes.specs.Fewer.{differing}
 use Rattle.writes.proofs.InOrder.{in-order}
 use Rattle.writes.proofs.Fewer.{nine-of-three, fewer, none-differ}
 use Rattle.writes.proofs.Carries.{entries}
 use Rattle.decode.specs.Ends.{Acceptable, Stands}
-use Rattle.decode.specs.Theorems.{Ran}
+use Rattle.decode.specs.ReadBack.{Ran}
 use Rattle.decode.proofs.Groups.{avi-in, audio-in, matrix-in}
 use Rattle.decode.proofs.Unasked.{same-pair}
 use Rattle.decode.proofs.Answers.{finished-again, read-back}
-use Rattle.promises.specs.Rules.{asked, Listed, Demand2, Accepted, OnSomeImage}
+use Rattle.promises.specs.Rules.{asked, Listed, Demand2}
+use Rattle.promises.specs.OnSomeImage.{AcceptedSomewhere, OnSomeImage}
 use Rattle.frames.specs.Frames.{aviFrame}
 use Rattle.frames.specs.Editions.{ByE, readByD, readByE, aviPacket}
 use Rattle.frames.proofs.Readers.{editions}
@@ -117,7 +119,7 @@ module _ (input image buffer : List ℕ) (f : Fine input image buffer) (b : Byte
   abbrev under : List ℕ
   under = newVideo (λ body. set body 6 0x00) input
 
-  read-under : readOf under ≡ record { refusal = 0; request = inEdition 0x00 (readOf input .request) }
+  read-under : readOf under ≡ record { refusal = 0; request = requestInEdition 0x00 (readOf input .request) }
   unfolding asBytes
   read-under =
       let r : Request = readOf input .request in
@@ -257,7 +259,7 @@ rules input buffer s = record {
 pub on-some-image : (r : Request) → OnSomeImage r
 on-some-image r = (there, back)
   where
-    there : Acceptable r → Accepted r
+    there : Acceptable r → AcceptedSomewhere r
     there a =
         let says : readOf (asBytes r) .request ≡ r = ap (λ (c : Checked). c .request) (a .read) in
         let z : List ℕ = replicate 256 0 in
@@ -277,7 +279,7 @@ on-some-image r = (there, back)
     the : ℕ → Request → Checked
     the n q = record { refusal = n; request = q }
 
-    back : Accepted r → Acceptable r
+    back : AcceptedSomewhere r → Acceptable r
     back b =
         let f = fine (asBytes r) (b .image) (b .buffer) (b .accepted) in
         record {

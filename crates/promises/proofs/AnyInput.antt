@@ -6,7 +6,7 @@ use mathlib.Core.List.{List}
 use Prim.Native.Nat.{ℕ}
 use lib.Dec.{eqb}
 use Rattle.clock.specs.declared.Pair.{Pair}
-use Rattle.clock.specs.Pairs.{noPair}
+use Rattle.clock.specs.Answers.{noPair}
 use Rattle.clock.proofs.Rows as clocks
 use Rattle.matrix.proofs.Codes as preview
 use Rattle.meter.proofs.Rule as meter

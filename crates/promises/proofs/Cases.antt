@@ -11,15 +11,17 @@ use Rattle.lists.specs.Find.{every}
 use Rattle.lists.proofs.Both.{both-left, both-right}
 use Rattle.bits.proofs.Below.{at-below}
 use Rattle.video.specs.declared.Video.{Video}
-use Rattle.ratio.specs.Lowest.{steps, divisorOf}
+use Rattle.ratio.specs.Terms.{euclid, divisorOf}
 use Rattle.video.specs.Modes.{modeOf}
 use Rattle.video.specs.Video.{noVideo, inEdition}
 use Rattle.video.specs.Tests.{editionOutside, askedUnderD, shownOutside, videoOutside, shownCombined, videoCombined}
-use Rattle.clock.specs.Clocks.{tmds, clockOf}
+use Rattle.clock.specs.Clocks.{tmds}
+use Rattle.clock.specs.Answers.{clockOf}
 use Rattle.clock.specs.Pairs.{reference, recommendedOf}
 use Rattle.clock.specs.Found.{nearestK, nearestIn, nearestOf, exactly, coherentOf, pairOf}
 use Rattle.ratio.proofs.Multiples.{divides}
-use Rattle.frames.specs.Frames.{total, aviFrame, audioFrame, audioOffFrame}
+use Rattle.frames.specs.Frames.{total, aviFrame}
+use Rattle.frames.specs.Audio.{audioFrame, audioOffFrame}
 use Rattle.frames.specs.Answers.{aviOf, audioOf}
 use Rattle.frames.proofs.Refused.{avi-by-edition}
 use Rattle.matrix.specs.Matrix.{fields, Bytes}
@@ -44,19 +46,19 @@ use Rattle.promises.specs.Worked.{zeros, Few, FewDeep, FewEditions}
 use Rattle.promises.specs.Cases.{rgbOverHdmi, asked16, withEdition, editionRefusal, done16, MarkedCases}
 
 multiple : (n cts : ℕ) → reference 0 * cts * clockOf (rgbOverHdmi 4 1) .den ≡ clockOf (rgbOverHdmi 4 1) .num * n → 23296 ∣ n
-unfolding reference tmds clockOf modeOf divisorOf steps
+unfolding reference tmds clockOf modeOf divisorOf euclid
 multiple n cts e = divides 6750000000 372736000 (lit< tt) n cts (omega arith)
 
 few : Few
-unfolding flatMap steps divisorOf modeOf tmds clockOf reference recommendedOf nearestK nearestIn nearestOf exactly coherentOf pairOf total aviFrame audioFrame fields inRange isAllowed walk walked videoOutside shownOutside videoCombined shownCombined outside combined judged readOf pairFor merge classAt decided byte written middle isWritten finished column flat alreadyThere wantedImage wanted laterRefusal planWith bufferWith planOf planBuffer
+unfolding flatMap euclid divisorOf modeOf tmds clockOf reference recommendedOf nearestK nearestIn nearestOf exactly coherentOf pairOf total aviFrame audioFrame fields inRange isAllowed walk walked videoOutside shownOutside videoCombined shownCombined outside combined judged readOf pairFor merge classAt decided byte written middle isWritten finished column flat alreadyThere wantedImage wanted laterRefusal planWith bufferWith planOf planBuffer
 few = (refl, refl)
 
 few-deep : FewDeep
-unfolding flatMap steps divisorOf modeOf tmds clockOf reference recommendedOf nearestK nearestIn nearestOf exactly coherentOf pairOf total aviFrame audioFrame audioOffFrame fields inRange isAllowed walk walked videoOutside shownOutside videoCombined shownCombined outside combined judged readOf pairFor merge classAt decided byte written middle isWritten finished column flat alreadyThere wantedImage wanted laterRefusal planWith bufferWith planOf planBuffer
+unfolding flatMap euclid divisorOf modeOf tmds clockOf reference recommendedOf nearestK nearestIn nearestOf exactly coherentOf pairOf total aviFrame audioFrame audioOffFrame fields inRange isAllowed walk walked videoOutside shownOutside videoCombined shownCombined outside combined judged readOf pairFor merge classAt decided byte written middle isWritten finished column flat alreadyThere wantedImage wanted laterRefusal planWith bufferWith planOf planBuffer
 few-deep = (refl, refl)
 
 few-editions : FewEditions
-unfolding flatMap steps divisorOf modeOf tmds clockOf reference recommendedOf nearestK nearestIn nearestOf exactly coherentOf pairOf total aviFrame audioFrame audioOffFrame fields inRange isAllowed walk walked videoOutside shownOutside videoCombined shownCombined outside combined judged readOf pairFor merge classAt decided byte written middle isWritten finished column flat alreadyThere wantedImage wanted laterRefusal planWith bufferWith planOf planBuffer
+unfolding flatMap euclid divisorOf modeOf tmds clockOf reference recommendedOf nearestK nearestIn nearestOf exactly coherentOf pairOf total aviFrame audioFrame audioOffFrame fields inRange isAllowed walk walked videoOutside shownOutside videoCombined shownCombined outside combined judged readOf pairFor merge classAt decided byte written middle isWritten finished column flat alreadyThere wantedImage wanted laterRefusal planWith bufferWith planOf planBuffer
 few-editions = (refl, refl, refl)
 
 -- each edition byte
@@ -86,7 +88,7 @@ reads edition t z y room h =
     (record { bytes = b; read = z; paired = y; sized = image-length (asked input) zeros; registers = image-at (asked input) zeros }) room h
 
 pub cases : MarkedCases
-unfolding flatMap steps divisorOf modeOf tmds clockOf reference recommendedOf nearestK nearestIn nearestOf exactly coherentOf pairOf total aviFrame aviOf audioFrame audioOf audioOffFrame fields inRange isAllowed codeOf previewOf walk walked videoOutside shownOutside videoCombined shownCombined outside combined judged readOf pairFor nctsOf lineOf digits acceptedText refusedText planOf
+unfolding flatMap euclid divisorOf modeOf tmds clockOf reference recommendedOf nearestK nearestIn nearestOf exactly coherentOf pairOf total aviFrame aviOf audioFrame audioOf audioOffFrame fields inRange isAllowed codeOf previewOf walk walked videoOutside shownOutside videoCombined shownCombined outside combined judged readOf pairFor nctsOf lineOf digits acceptedText refusedText planOf
 cases =
     record {
       line = refl;

@@ -14,12 +14,13 @@ use Rattle.lists.proofs.Among.{stands}
 use Rattle.lists.proofs.Find.{every-at}
 use Rattle.lists.proofs.Both.{both-left, both-right, beq-true}
 use Rattle.bits.proofs.Below.{below, at-below}
-use Rattle.ratio.specs.Lowest.{steps, divisorOf}
+use Rattle.ratio.specs.Terms.{euclid, divisorOf}
 use Rattle.video.specs.declared.Video.{Video}
 use Rattle.video.specs.Video.{videoIn}
 use Rattle.video.specs.Modes.{modeOf}
 use Rattle.video.specs.Tests.{editionOutside, videoOutside, shownOutside, videoCombined, shownCombined}
-use Rattle.clock.specs.Clocks.{tmds, aboveLimit, clockOf}
+use Rattle.clock.specs.Clocks.{tmds}
+use Rattle.clock.specs.Answers.{aboveLimit, clockOf}
 use Rattle.clock.specs.Pairs.{reference, recommendedOf}
 use Rattle.clock.specs.Found.{nearestK, nearestIn, nearestOf, exactly, coherentOf, pairOf}
 use Rattle.matrix.specs.Matrix.{Bytes}
@@ -34,7 +35,7 @@ use Rattle.request.specs.Read.{audioOutside, outside, combined, judged, checked
 use Rattle.request.proofs.Walks.{walks}
 use Rattle.request.proofs.Ordered.{limit-there, accepted}
 use Rattle.promises.specs.EachByte.{inTheirs, inNone, vics, depthBytes, editionBytes, bitsUnderD, videoBytes, soundBytes}
-use Rattle.promises.specs.EachByte.{modes, highBytes, highInside, matrixInside, together, tooFast, noPair, bytesOf, answerTo, pairTo, Answers, EachByte}
+use Rattle.promises.specs.EachByte.{modeBytes, highBytes, highInside, matrixInside, together, tooFast, withoutPair, bytesOf, answerTo, pairTo, Answers, EachByte}
 
 -- two tests that are alike at every number below 256
 alike : (f g : ℕ → Bool) → below (λ n. Bool·beq (f n) (g n)) 256 ≡ true → (n : ℕ) → n < 256 → f n ≡ g n
@@ -159,7 +160,7 @@ matrix-inside [] t h = refl
 matrix-inside (mode ∷ more) t h =
     let l : eqb (length (mode ∷ more)) 0 ≡ false = ne-eqb (length (mode ∷ more)) 0 (omega arith) in
     let k : eqb (length (mode ∷ more)) 25 ≡ true = go (eqb (length (mode ∷ more)) 25) (rw l at t) in
-    let x : leb mode 2 ≡ among mode modes = alike (λ n. leb n 2) (λ n. among n modes) refl mode (h 0) in
+    let x : leb mode 2 ≡ among mode modeBytes = alike (λ n. leb n 2) (λ n. among n modeBytes) refl mode (h 0) in
     rw (l, k, x, high-inside more (λ i. h (suc i)))
   where
     go : (b : Bool) → (b || false) ≡ true → b ≡ true
@@ -200,7 +201,7 @@ fast family two =
     Bool·beq (aboveLimit (tmds (videoIn (getD two 0 0 ∷ family ∷ 0 ∷ 0 ∷ 0 ∷ getD two 1 0 ∷ 0 ∷ [])))) (not (inNone tooFast two))
 
 all-fast : (choices (vics 0 ∷ depthBytes ∷ []) (fast 0) && choices (vics 1 ∷ depthBytes ∷ []) (fast 1)) ≡ true
-unfolding tmds modeOf divisorOf steps
+unfolding tmds modeOf divisorOf euclid
 all-fast = refl
 
 -- ---- 9
@@ -213,13 +214,13 @@ paired family four =
     let rate : ℕ = getD four 2 0 in
     not (inNone tooFast (vic ∷ pixel ∷ []))
     || eqb (pairOf (videoIn (vic ∷ family ∷ 0 ∷ 0 ∷ 0 ∷ pixel ∷ 0 ∷ [])) rate (getD four 3 0) .refusal)
-    (cond (eqb (getD four 3 0) 1 && not (inNone noPair (vic ∷ family ∷ pixel ∷ rate ∷ []))) 9 0)
+    (cond (eqb (getD four 3 0) 1 && not (inNone withoutPair (vic ∷ family ∷ pixel ∷ rate ∷ []))) 9 0)
 
 abbrev soundRows : List (List ℕ)
 soundRows = (0 ∷ 1 ∷ 2 ∷ 3 ∷ 4 ∷ 5 ∷ 6 ∷ []) ∷ (0 ∷ 1 ∷ []) ∷ []
 
 all-paired : (choices (vics 0 ∷ depthBytes ∷ soundRows) (paired 0) && choices (vics 1 ∷ depthBytes ∷ soundRows) (paired 1)) ≡ true
-unfolding tmds modeOf divisorOf steps clockOf reference recommendedOf nearestK nearestIn nearestOf exactly coherentOf pairOf
+unfolding tmds modeOf divisorOf euclid clockOf reference recommendedOf nearestK nearestIn nearestOf exactly coherentOf pairOf
 all-paired = refl
 
 -- ---- all of them
@@ -327,7 +328,7 @@ module _ (vic family encoding link range pixel edition : ℕ) (sound matrix : Li
           ∙ accepted b (ap (λ (c : Checked). c .refusal) (sym read-judged) ∙ read ∙ z) .request
 
       abbrev numberFor : ℕ → ℕ → ℕ
-      numberFor rate coherent = cond (eqb coherent 1 && not (inNone noPair (vic ∷ family ∷ pixel ∷ rate ∷ []))) 9 0
+      numberFor rate coherent = cond (eqb coherent 1 && not (inNone withoutPair (vic ∷ family ∷ pixel ∷ rate ∷ []))) 9 0
 
       second : (a b : Bool) → a ≡ false → (a || b) ≡ true → b ≡ true
       second true b e t = absurd (false≢true (sym e))

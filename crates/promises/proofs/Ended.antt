@@ -10,13 +10,14 @@ use lib.Seq.{getD-take, getD-drop}
 use Rattle.bits.specs.Merge.{bit}
 use Rattle.bits.proofs.Laws.{bit-code, two-bits-code}
 use Rattle.registers.specs.Classes.{classAt}
-use Rattle.frames.specs.Frames.{aviFrame, audioFrame, audioOffFrame}
+use Rattle.frames.specs.Frames.{aviFrame}
+use Rattle.frames.specs.Audio.{audioFrame, audioOffFrame}
 use Rattle.matrix.specs.declared.Matrix.{Matrix}
 use Rattle.matrix.specs.Matrix.{noMatrix}
 use Rattle.request.specs.declared.Sound.{Sound}
 use Rattle.request.specs.declared.Sound.the-variants.{Off, On}
 use Rattle.request.specs.declared.Request.{Request}
-use Rattle.request.specs.Theorems.{Filled}
+use Rattle.request.specs.ThereAndBack.{Filled}
 use Rattle.request.specs.Fits.{Fits}
 use Rattle.chip.specs.Machine.{Group, avi, audio, registersOf}
 use Rattle.writes.specs.List.{decided, isWritten}

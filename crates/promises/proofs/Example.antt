@@ -5,10 +5,11 @@ use mathlib.Core.List.{List}
 use Prim.Native.Nat.{ℕ}
 use lib.Dec.{eqb}
 use lib.ListN.{length}
-use Rattle.ratio.specs.Lowest.{steps, divisorOf}
+use Rattle.ratio.specs.Terms.{euclid, divisorOf}
 use Rattle.video.specs.Modes.{modeOf}
 use Rattle.video.specs.Tests.{shownOutside, videoOutside, shownCombined, videoCombined}
-use Rattle.clock.specs.Clocks.{tmds, clockOf}
+use Rattle.clock.specs.Clocks.{tmds}
+use Rattle.clock.specs.Answers.{clockOf}
 use Rattle.clock.specs.Pairs.{reference, recommendedOf}
 use Rattle.clock.specs.Found.{nearestK, nearestIn, nearestOf, exactly, coherentOf, pairOf}
 use Rattle.request.specs.Sections.{walk, walked}
@@ -19,11 +20,11 @@ use Rattle.promises.specs.Example.{IsAccepted, Example}
 use Rattle.promises.proofs.AnyCut.{accepted}
 
 read : readOf example .refusal ≡ 0
-unfolding steps divisorOf walk walked videoOutside shownOutside videoCombined shownCombined outside combined judged readOf modeOf tmds clockOf
+unfolding euclid divisorOf walk walked videoOutside shownOutside videoCombined shownCombined outside combined judged readOf modeOf tmds clockOf
 read = refl
 
 paired : eqb (pairFor (readOf example .request) .refusal) 0 ≡ true
-unfolding steps divisorOf modeOf tmds clockOf reference recommendedOf nearestK nearestIn nearestOf exactly coherentOf pairOf walk walked videoOutside shownOutside videoCombined shownCombined outside combined judged readOf pairFor
+unfolding euclid divisorOf modeOf tmds clockOf reference recommendedOf nearestK nearestIn nearestOf exactly coherentOf pairOf walk walked videoOutside shownOutside videoCombined shownCombined outside combined judged readOf pairFor
 paired = refl
 
 on : (image : List ℕ) → length image ≡ 256 → ready image ≡ true → IsAccepted image

@@ -14,9 +14,10 @@ use Rattle.video.specs.declared.Video.{Video}
 use Rattle.video.specs.Modes.{modeOf}
 use Rattle.video.proofs.Fits.{vic-small, is-listed}
 use Rattle.clock.specs.declared.Pair.{Pair}
-use Rattle.clock.specs.Clocks.{clockOf}
+use Rattle.clock.specs.Answers.{clockOf}
 use Rattle.clock.specs.Tables.{otherRow}
-use Rattle.clock.specs.Pairs.{Coherent, other}
+use Rattle.clock.specs.Pairs.{Coherent}
+use Rattle.clock.specs.Answers.{other}
 use Rattle.clock.specs.Found.{coherentOf, pairOf}
 use Rattle.clock.proofs.Rates.{reference-most}
 use Rattle.clock.proofs.Coherence.{in-mode, pair-in}
@@ -41,7 +42,7 @@ use Rattle.decode.specs.Ends.{Stands}
 use Rattle.decode.proofs.Stored.{window}
 use Rattle.decode.proofs.Groups.{avi-in, audio-in}
 use Rattle.decode.proofs.Answers.{finished-again}
-use Rattle.promises.specs.Finished.{Place, place, NeverThree, inM, inC, audioPacket, places, Shows, Each, Finished, Paired}
+use Rattle.promises.specs.Finished.{Place, place, NeverThree, inM, inC, audioPacket, places, Shows, Each, FinishedFields, Paired}
 use Rattle.bits.proofs.Fields.{field-same}
 use Rattle.writes.proofs.Named.{field, ordered}
 use Rattle.promises.proofs.Places.{audio-frame, Ranges, stand}
@@ -172,7 +173,7 @@ audio-zero s = sum-zero 0x84 0x01 0x0A _
 
 pub filled : (input image : List ℕ) → readOf input .refusal ≡ 0 → pairFor (readOf input .request) .refusal ≡ 0
     → (after : List ℕ) → length after ≡ 256 → ((a : ℕ) → a < 256 → getD after a 0 ≡ finished (wanted (readOf input .request)) image a)
-    → Finished (readOf input .request) (nctsOf input) after
+    → FinishedFields (readOf input .request) (nctsOf input) after
 filled input image z y after sized ends =
     let r : Request = readOf input .request in
     let p : Pair = pairFor r in
@@ -186,7 +187,7 @@ filled input image z y after sized ends =
     let la : bitsIn 4 0 (getD after 0x71 0) ≡ 0x0A = at 0x71 4 refl in
     let d = after-two after 0x52 14 (omega arith) ∙ avi-in r after sized g stands in
     let da = after-two after 0x70 11 (omega arith) ∙ audio-in r after sized g stands ∙ ap (drop 3) (audio-frame (r .sound)) in
-    subst (λ (q : Pair). Finished r q after) (sym (asked-pair input z)) (record {
+    subst (λ (q : Pair). FinishedFields r q after) (sym (asked-pair input z)) (record {
       fields = e;
       n = twenty _ _ _ (p .n) (at 0x01 3 refl) (at 0x02 7 refl) (at 0x03 7 refl);
       cts = twenty _ _ _ (p .cts) (at 0x07 3 refl) (at 0x08 7 refl) (at 0x09 7 refl);

@@ -7,13 +7,15 @@ use native.Mathlib.Omega.{arith}
 use lib.IntN.{ℤ}
 use lib.Signed.{shrZ}
 use lib.ListN.{getD}
-use Rattle.ratio.specs.Lowest.{steps, divisorOf}
+use Rattle.ratio.specs.Terms.{euclid, divisorOf}
 use Rattle.video.specs.Modes.{modeOf}
 use Rattle.video.specs.Tests.{videoOutside, shownOutside, videoCombined, shownCombined}
-use Rattle.clock.specs.Clocks.{tmds, clockOf}
+use Rattle.clock.specs.Clocks.{tmds}
+use Rattle.clock.specs.Answers.{clockOf}
 use Rattle.clock.specs.Pairs.{reference, recommendedOf}
 use Rattle.clock.specs.Found.{nearestK, nearestIn, nearestOf, exactly, coherentOf, pairOf}
-use Rattle.frames.specs.Frames.{total, aviFrame, audioFrame, audioOffFrame}
+use Rattle.frames.specs.Frames.{total, aviFrame}
+use Rattle.frames.specs.Audio.{audioFrame, audioOffFrame}
 use Rattle.frames.specs.Answers.{aviOf, audioOf}
 use Rattle.matrix.specs.declared.Pixel.{Pixel}
 use Rattle.matrix.specs.Coefficient.{valueOf}
@@ -40,7 +42,7 @@ use Rattle.views.specs.Converter.{matrixRefusal, matrixAnswer}
 use Rattle.decode.specs.Extract.{extract}
 use Rattle.decode.specs.Decode.{endsIn, someEnds, decodeRefusal, decodeOf}
 use Rattle.vendor.specs.Found.{vetRefusal, vetOf}
-use Rattle.promises.specs.InNumbers.{Rounds, formula, Calls, Pairs, Converts, Lengths, Lists, Landed, InNumbers}
+use Rattle.promises.specs.InNumbers.{RoundsInNumbers, formula, Calls, PairsInNumbers, Converts, LengthsInNumbers, ListsInNumbers, Landed, InNumbers}
 
 calls : Calls
 calls =
@@ -64,8 +66,8 @@ calls =
       audio = λ channels. refl;
     }
 
-pairs : Pairs
-unfolding flatMap steps divisorOf modeOf tmds clockOf reference recommendedOf nearestK nearestIn nearestOf exactly coherentOf pairOf total aviFrame aviOf audioFrame audioOf audioOffFrame fields inRange isAllowed walk walked videoOutside shownOutside videoCombined shownCombined outside combined judged readOf pairFor nctsOf lineOf digits acceptedText refusedText
+pairs : PairsInNumbers
+unfolding flatMap euclid divisorOf modeOf tmds clockOf reference recommendedOf nearestK nearestIn nearestOf exactly coherentOf pairOf total aviFrame aviOf audioFrame audioOf audioOffFrame fields inRange isAllowed walk walked videoOutside shownOutside videoCombined shownCombined outside combined judged readOf pairFor nctsOf lineOf digits acceptedText refusedText
 pairs =
     record {
       coherent = refl;
@@ -100,7 +102,7 @@ module _ (body : List ℕ) (a b c : ℕ) (h : Bytes body) (z : previewOf body a 
   number : (i : ℕ) → i < 12 → valueOf (getD (matrixOf body .coefficients) i 0) ≡ numberAt body i
   number = numbers body h .values (taken .0)
 
-  rounds : (row : ℕ) → row < 3 → Rounds (formula body row a b c) (outputOf (matrixOf body) row a b c)
+  rounds : (row : ℕ) → row < 3 → RoundsInNumbers (formula body row a b c) (outputOf (matrixOf body) row a b c)
   unfolding codeOf
   rounds row l =
       let q : ℤ = shrZ (formula body row a b c) 4096 in
@@ -113,7 +115,7 @@ module _ (body : List ℕ) (a b c : ℕ) (h : Bytes body) (z : previewOf body a 
       }
 
 converts : Converts
-unfolding fields inRange isAllowed codeOf previewOf walk walked videoOutside shownOutside videoCombined shownCombined outside combined judged readOf modeOf tmds divisorOf steps
+unfolding fields inRange isAllowed codeOf previewOf walk walked videoOutside shownOutside videoCombined shownCombined outside combined judged readOf modeOf tmds divisorOf euclid
 converts =
     record {
       a = λ body a b c h z. rw (taken body a b c h z .1) (rounds body a b c h z 0 (omega arith));
@@ -126,8 +128,8 @@ converts =
       none = refl;
     }
 
-lengths : Lengths
-unfolding flatMap steps divisorOf modeOf tmds clockOf reference recommendedOf nearestK nearestIn nearestOf exactly coherentOf pairOf fields inRange isAllowed codeOf previewOf walk walked videoOutside shownOutside videoCombined shownCombined outside combined judged readOf pairFor laterRefusal planWith planOf lentRefusal viewRefusal muteOf matrixRefusal matrixAnswer enterOf turnOf writeOf refuses vetRefusal vetOf asBytes extract endsIn someEnds decodeRefusal decodeOf
+lengths : LengthsInNumbers
+unfolding flatMap euclid divisorOf modeOf tmds clockOf reference recommendedOf nearestK nearestIn nearestOf exactly coherentOf pairOf fields inRange isAllowed codeOf previewOf walk walked videoOutside shownOutside videoCombined shownCombined outside combined judged readOf pairFor laterRefusal planWith planOf lentRefusal viewRefusal muteOf matrixRefusal matrixAnswer enterOf turnOf writeOf refuses vetRefusal vetOf asBytes extract endsIn someEnds decodeRefusal decodeOf
 lengths =
     record {
       planImage = refl;
@@ -147,12 +149,12 @@ lengths =
       preview = refl;
     }
 
-lists : Lists
-unfolding flatMap steps divisorOf modeOf tmds clockOf reference recommendedOf nearestK nearestIn nearestOf exactly coherentOf pairOf total aviFrame audioFrame audioOffFrame fields inRange isAllowed walk walked videoOutside shownOutside videoCombined shownCombined outside combined judged readOf pairFor merge classAt decided byte written middle isWritten finished column flat alreadyThere wantedImage wanted laterRefusal planWith bufferWith planOf planBuffer
+lists : ListsInNumbers
+unfolding flatMap euclid divisorOf modeOf tmds clockOf reference recommendedOf nearestK nearestIn nearestOf exactly coherentOf pairOf total aviFrame audioFrame audioOffFrame fields inRange isAllowed walk walked videoOutside shownOutside videoCombined shownCombined outside combined judged readOf pairFor merge classAt decided byte written middle isWritten finished column flat alreadyThere wantedImage wanted laterRefusal planWith bufferWith planOf planBuffer
 lists = record { onZeros = (refl, refl); onOnes = (refl, refl) }
 
 landed : Landed
-unfolding flatMap steps divisorOf modeOf tmds clockOf reference recommendedOf nearestK nearestIn nearestOf exactly coherentOf pairOf total aviFrame audioFrame audioOffFrame fields inRange isAllowed walk walked videoOutside shownOutside videoCombined shownCombined outside combined judged readOf pairFor merge classAt decided byte written middle isWritten finished column flat alreadyThere wantedImage wanted laterRefusal planWith bufferWith planOf planBuffer
+unfolding flatMap euclid divisorOf modeOf tmds clockOf reference recommendedOf nearestK nearestIn nearestOf exactly coherentOf pairOf total aviFrame audioFrame audioOffFrame fields inRange isAllowed walk walked videoOutside shownOutside videoCombined shownCombined outside combined judged readOf pairFor merge classAt decided byte written middle isWritten finished column flat alreadyThere wantedImage wanted laterRefusal planWith bufferWith planOf planBuffer
 landed = refl
 
 pub in-numbers : InNumbers

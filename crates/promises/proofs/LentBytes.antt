@@ -21,21 +21,21 @@ use Rattle.chip.specs.declared.Chip.{Chip}
 use Rattle.chip.specs.Machine.{Write, _gets_, avi, audio, matrix, packets, holdsOf, registersOf, held, inUse, coefficients, modeInUse, gcInUse, Muted, Open, mute}
 use Rattle.chip.specs.Write.{two, vsyncOf}
 use Rattle.chip.proofs.Writes.{turned}
-use Rattle.views.specs.Entry.{Lent, Entry, stateOf, slicesOf, enterOf, turnOf}
+use Rattle.views.specs.Entry.{Lent, SliceAnswer, stateOf, slicesOf, enterOf, turnOf}
 use Rattle.views.specs.Sized.{LentSized}
-use Rattle.views.specs.Theorems.{Faces}
+use Rattle.views.specs.Faces.{Faces}
 use Rattle.views.proofs.Shown as views
 use Rattle.views.proofs.Lent.{state-sized}
 use Rattle.writes.specs.List.{flat, pairsOf, writeList, finishedImage, ready}
 use Rattle.plan.specs.Plan.{planOf, planBuffer}
 use Rattle.writes.proofs.Pairs.{length-flat, pairs-flat}
 use Rattle.cut.specs.Run.{Event, write, vsync, run, cut, event, happens, writesOf, writesBy, InUse, allInUse, standing, Between, Careful}
-use Rattle.cut.specs.Vsync.{waits, turnedOver, old, waited, Finished}
+use Rattle.cut.specs.Vsync.{changeWaits, turnedOver, old, waited, FinishedRun}
 use Rattle.cut.specs.Demand.{Cut, cuts, PlannedAgain, toItsEnd, After, Same, Clauses, Demand3}
-use Rattle.cut.proofs.Taken.{neat-two}
-use Rattle.cut.proofs.Retry.{turned-again}
-use Rattle.cut.proofs.Runs.{after-same}
-use Rattle.cut.proofs.Demanded.{waited-writes}
+use Rattle.cut.proofs.NoneRefused.{neat-two}
+use Rattle.cut.proofs.Repeated.{turned-again}
+use Rattle.cut.proofs.ClausesOfRuns.{after-same}
+use Rattle.cut.proofs.DemandOfGoodLists.{waited-writes}
 use Rattle.vendor.proofs.Moved.{vsync-use}
 use Rattle.promises.specs.Finished.{audioPacket}
 use Rattle.promises.specs.Rules.{asked}
@@ -83,8 +83,8 @@ entered-run (e ∷ es) l z = entered-run es (enters e l .slices) (sized-next e l
 turned-twice : (l : Lent) → LentSized l → turnOf (turnOf l .slices) .slices ≡ turnOf l .slices
 turned-twice l z =
     let q = views.entered-vsync l z in
-    ap (λ (e : Entry). e .slices) (views.entered-vsync (turnOf l .slices) (q .sized) .taken) ∙ ap (λ (t : Chip). slicesOf (vsyncOf t)) (q .state)
-    ∙ ap slicesOf (turned-again (stateOf l)) ∙ sym (ap (λ (e : Entry). e .slices) (q .taken))
+    ap (λ (e : SliceAnswer). e .slices) (views.entered-vsync (turnOf l .slices) (q .sized) .taken) ∙ ap (λ (t : Chip). slicesOf (vsyncOf t)) (q .state)
+    ∙ ap slicesOf (turned-again (stateOf l)) ∙ sym (ap (λ (e : SliceAnswer). e .slices) (q .taken))
 
 only-turned : (es : List Event) (l : Lent) (k : ℕ) → LentSized l → writesBy es k ≡ 0
     → (entered (take k es) l ≡ l) ⊎ (entered (take k es) l ≡ turnOf l .slices)
@@ -191,15 +191,15 @@ module _ (l : Lent) (z : LentSized l) (single : Single (stateOf l)) where
       ap allInUse turned-state ∙ (λ j. record { avi = vsync-use avi s j; audio = vsync-use audio s j; matrix = fields (turned s .takes h j) })
 
   pub old-said : (fs : List Event) → Faces (stateOf (oldSlices fs l)) × (allInUse (stateOf (oldSlices fs l)) ≡ old fs s)
-  old-said fs = go (waits s && turnedOver fs) refl
+  old-said fs = go (changeWaits s && turnedOver fs) refl
     where
-      go : (b : Bool) → (waits s && turnedOver fs) ≡ b
+      go : (b : Bool) → (changeWaits s && turnedOver fs) ≡ b
           → Faces (stateOf (cond b (turnOf l .slices) l))
           × (allInUse (stateOf (cond b (turnOf l .slices) l))
           ≡ record { avi = inUse packets avi s; audio = inUse packets audio s; matrix = cond b (fields (registersOf matrix (s .image))) (coefficients s) })
       go true e = (
         views.entered-vsync l z .faces single,
-        turned-use (not-true (held s) (both-left (not (held s)) (s .waiting) (both-left (waits s) (turnedOver fs) e))),
+        turned-use (not-true (held s) (both-left (not (held s)) (s .waiting) (both-left (changeWaits s) (turnedOver fs) e))),
       )
       go false e = (faced l z single, refl)
 
@@ -267,7 +267,7 @@ module _ (input : List ℕ) (l : Lent) (z : LentSized l) (d : Demand3 (listOf in
         }
 
     -- every finished run ends as that one
-    said-after : (es : List Event) → Finished own es → SaidAfter r (entered es l)
+    said-after : (es : List Event) → FinishedRun own es → SaidAfter r (entered es l)
     said-after es f =
         said (entered es l) (run es start) (entered-run es l z) (end-faces l z es (one-hold es (f .runs)))
         (d .again [] tt (waited own) es (d .waits) f) (d .runs es (f .runs) .opened)

@@ -11,13 +11,13 @@ use Rattle.lists.specs.Find.{every}
 use Rattle.lists.specs.Those.{those}
 use Rattle.lists.proofs.Both.{both-left, both-right, beq-true}
 use Rattle.bits.proofs.Below.{at-below}
-use Rattle.refusals.specs.Rows.{answer}
+use Rattle.refusals.specs.Tests.{answer}
 use Rattle.chip.specs.declared.Chip.{Chip}
 use Rattle.chip.specs.Machine.{Write, audio, packets, up, holdsOf}
 use Rattle.request.specs.declared.Request.{Request}
 use Rattle.request.specs.Read.{readOf}
 use Rattle.request.specs.Sections.{longest}
-use Rattle.request.specs.Bytes.{asBytes, inFamily}
+use Rattle.request.specs.Bytes.{asBytes, requestInFamily}
 use Rattle.writes.specs.Steps.{Step, middle, steps}
 use Rattle.writes.specs.List.{written, alreadyThere, stays, writeList, fronted, pairsOf, isWritten}
 use Rattle.plan.specs.declared.Planned.{Planned}
@@ -142,7 +142,7 @@ module _ (exactly : (image buffer : List ℕ) → ExactlyWhen image buffer)
     family = e .family;
     answered = e .answered;
     acceptable = e .acceptable;
-    stands = stands-too image other g (inFamily (e .family) r) (e .stands);
+    stands = stands-too image other g (requestInFamily (e .family) r) (e .stands);
   }
 
   abbrev SameAnswer : List ℕ → List ℕ → List ℕ → Type 0

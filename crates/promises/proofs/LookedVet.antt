@@ -15,9 +15,10 @@ use Rattle.lists.proofs.Find.{every-at}
 use Rattle.bits.specs.Merge.{bit}
 use Rattle.bits.proofs.Below.{below, at-below}
 use Rattle.matrix.specs.Matrix.{fields}
-use Rattle.refusals.specs.Rows.{imageLength, holdsUp, twoHolds, listLength, badPair, badEnd, Test, _if_, lowest, answer}
+use Rattle.refusals.specs.Rows.{imageLength, holdsUp, twoHolds, listLength, badPair, badEnd}
+use Rattle.refusals.specs.Tests.{Test, _if_, lowest, answer}
 use Rattle.request.specs.declared.Request.{Request}
-use Rattle.request.specs.Bytes.{inFamily}
+use Rattle.request.specs.Bytes.{requestInFamily}
 use Rattle.chip.specs.declared.Chip.{Chip}
 use Rattle.chip.specs.declared.Wrote.{Wrote}
 use Rattle.chip.specs.Machine.{Write, Group, avi, audio, gc, matrix, packets, converter, up, holdsOf, registersOf, held, inUse, coefficients, gcInUse, mute}
@@ -91,7 +92,7 @@ module _ (image other : List ℕ) (g : Agree image other) where
 
   same-family : (r : Request) (f : ℕ) → endsIn r f other ≡ endsIn r f image
   unfolding endsIn
-  same-family r f = rw (same-below (wanted (inFamily f r)) 256)
+  same-family r f = rw (same-below (wanted (requestInFamily f r)) 256)
 
   same-ends : someEnds other ≡ someEnds image
   unfolding someEnds

@@ -10,7 +10,7 @@ use lib.ListN.{length, take}
 use lib.Ieee.{Float}
 use borrow.Author.Tests.{le-ltb, ne-eqb}
 use Rattle.lists.proofs.Both.{neither-left, neither-right}
-use Rattle.refusals.specs.Rows.{lowest}
+use Rattle.refusals.specs.Tests.{lowest}
 use Rattle.refusals.proofs.Tests.{numbered}
 use Rattle.video.specs.Video.{videoIn}
 use Rattle.video.specs.Tests.{videoOutside}
@@ -28,7 +28,7 @@ use Rattle.request.specs.Sections.{Bodies}
 use Rattle.request.specs.Request.{present}
 use Rattle.request.specs.Read.{audioOutside, outside, combined, judged, limited, readOf}
 use Rattle.request.specs.Bytes.{matrixBody, bodiesOf, asBytes}
-use Rattle.request.specs.Theorems.{Filled, Shaped}
+use Rattle.request.specs.ThereAndBack.{Filled, Shaped}
 use Rattle.request.proofs.Ordered.{accepted, not-refused}
 use Rattle.request.proofs.Said.{read-judged, said}
 use Rattle.promises.specs.Metered.{bytesWith, askedWith, FromMeter}

@@ -21,7 +21,7 @@ use Rattle.request.specs.Fits.{Fits}
 use Rattle.request.proofs.Fits.{fits}
 use Rattle.request.proofs.Back.{there-and-back}
 use Rattle.request.proofs.Said.{bytes-walked}
-use Rattle.decode.specs.Theorems.{Ran}
+use Rattle.decode.specs.ReadBack.{Ran}
 use Rattle.decode.proofs.Answers.{at-most-one, read-back}
 use Rattle.promises.specs.Rules.{SameBytesBut}
 

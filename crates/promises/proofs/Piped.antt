@@ -18,8 +18,8 @@ use Rattle.line.specs.Words.{lineText, refusedText, answerText}
 use Rattle.pipe.specs.declared.Piped.{Piped}
 use Rattle.pipe.specs.Final.{refusalOf, Final}
 use Rattle.pipe.specs.Bytes.{answerIn, withAnswer, refused}
-use Rattle.pipe.specs.Found.{endOf, endPipe}
-use Rattle.pipe.specs.Pipe.{joined, after}
+use Rattle.pipe.specs.Found.{endPipeOf, endPipe}
+use Rattle.pipe.specs.Pipe.{joined, afterParts}
 use Rattle.pipe.proofs.Grows.{any-pipe, none-taken, none-ended}
 use Rattle.pipe.proofs.Cut.{however-cut}
 use Rattle.station.specs.declared.PipedOut.{PipedOut}
@@ -105,24 +105,24 @@ module _ (parts : List (List ℕ)) where
   abbrev whole : List ℕ
   whole = joined parts
 
-  answered : (n : ℕ) → refusalOf whole ≡ n → endOf (after parts) ≡ cond (eqb n 0) (record { refusal = 0; answered = 1; count = length whole }) (refused n)
+  answered : (n : ℕ) → refusalOf whole ≡ n → endPipeOf (afterParts parts) ≡ cond (eqb n 0) (record { refusal = 0; answered = 1; count = length whole }) (refused n)
   answered n e = however-cut parts .atEnd ∙ rw e
 
-  at-front : refusalOf whole ≡ 0 → take (endOf (after parts) .count) (endPipe (after parts)) ≡ whole
-  at-front z = ap (λ (p : Piped). take (p .count) (endPipe (after parts))) (answered 0 z) ∙ however-cut parts .front z
+  at-front : refusalOf whole ≡ 0 → take (endPipeOf (afterParts parts) .count) (endPipe (afterParts parts)) ≡ whole
+  at-front z = ap (λ (p : Piped). take (p .count) (endPipe (afterParts parts))) (answered 0 z) ∙ however-cut parts .front z
 
-  the-line : answerText (endOf (after parts) .refusal) (take (endOf (after parts) .count) (endPipe (after parts))) ≡ lineText whole
+  the-line : answerText (endPipeOf (afterParts parts) .refusal) (take (endPipeOf (afterParts parts) .count) (endPipe (afterParts parts))) ≡ lineText whole
   the-line = go (eqb (refusalOf whole) 0) refl
     where
       go : (b : Bool) → eqb (refusalOf whole) 0 ≡ b
-          → answerText (endOf (after parts) .refusal) (take (endOf (after parts) .count) (endPipe (after parts))) ≡ lineText whole
+          → answerText (endPipeOf (afterParts parts) .refusal) (take (endPipeOf (afterParts parts) .count) (endPipe (afterParts parts))) ≡ lineText whole
       go true e =
           let z : refusalOf whole ≡ 0 = eqb-true (refusalOf whole) 0 e in
-          let n : endOf (after parts) .refusal ≡ 0 = ap (λ (p : Piped). p .refusal) (answered 0 z) in
+          let n : endPipeOf (afterParts parts) .refusal ≡ 0 = ap (λ (p : Piped). p .refusal) (answered 0 z) in
           rw (n, at-front z)
       go false e =
           let z : refusalOf whole ≢ 0 = eqb-false (refusalOf whole) 0 e in
-          let n : endOf (after parts) .refusal ≡ refusalOf whole = ap (λ (p : Piped). p .refusal) (answered (refusalOf whole) refl) ∙ rw e in
+          let n : endPipeOf (afterParts parts) .refusal ≡ refusalOf whole = ap (λ (p : Piped). p .refusal) (answered (refusalOf whole) refl) ∙ rw e in
           rw (n, e) (sym (refused-line whole (refusalOf whole) refl z))
 
   pub through-pipe : ThroughPipe parts

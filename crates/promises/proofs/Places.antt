@@ -21,7 +21,8 @@ use Rattle.video.proofs.Fits.{vic-small, encoding-fits, link-fits, range-fits, 
 use Rattle.frames.proofs.Small.{fifth, fields}
 use Rattle.clock.specs.declared.Pair.{Pair}
 use Rattle.frames.specs.Frames as F
-use Rattle.frames.specs.Frames.{checksumOf, aviFrame, audioFrame, audioOffFrame}
+use Rattle.frames.specs.Frames.{checksumOf, aviFrame}
+use Rattle.frames.specs.Audio.{audioFrame, audioOffFrame}
 use Rattle.chip.specs.Machine.{Write}
 use Rattle.request.specs.declared.Sound.{Sound}
 use Rattle.request.specs.declared.Sound.the-variants.{Off, On}
@@ -30,7 +31,7 @@ use Rattle.request.specs.Read.{pairFor}
 use Rattle.request.specs.Fits.{SoundFits, Fits}
 use Rattle.request.proofs.Fits.{on-small, coefficients-small}
 use Rattle.writes.specs.List.{decided, isWritten, leftUp, finished}
-use Rattle.plan.specs.Wanted.{laid, audioBytes, wanted, clockBytes, inputBytes, cscBytes, enableBytes}
+use Rattle.plan.specs.Wanted.{laidBytes, audioBytes, wanted, clockBytes, inputBytes, cscBytes, enableBytes}
 use Rattle.plan.specs.Wanted.{inputs, rateCode, ctsSelect, withAudio, depthCodes}
 use Rattle.decode.proofs.Stored.{look, stored}
 use Rattle.promises.specs.Finished.{Place, places, Shows, Each}
@@ -47,14 +48,14 @@ audio-frame (On rate channels coherent) = refl
 
 abbrev bytes : Request → List Write
 bytes r =
-    clockBytes (pairFor r) ++ inputBytes r ++ laid 0x18 (cscBytes (r .matrix)) ++ enableBytes r ++
-    (laid 0x52 (drop 1 (aviFrame (r .video))) ++ laid 0x70 (drop 1 (audioPacket (r .sound))))
+    clockBytes (pairFor r) ++ inputBytes r ++ laidBytes 0x18 (cscBytes (r .matrix)) ++ enableBytes r ++
+    (laidBytes 0x52 (drop 1 (aviFrame (r .video))) ++ laidBytes 0x70 (drop 1 (audioPacket (r .sound))))
 
 looked-up : (r : Request) (a : ℕ) → a < 256 → wanted r a ≡ look a (bytes r) 0
 looked-up r a h =
     stored r a h
-    ∙ ap (λ (l : List ℕ). look a (clockBytes (pairFor r) ++ inputBytes r ++ laid 0x18 (cscBytes (r .matrix)) ++ enableBytes r ++
-    (laid 0x52 (drop 1 (aviFrame (r .video))) ++ laid 0x70 (drop 1 l))) 0) (audio-frame (r .sound))
+    ∙ ap (λ (l : List ℕ). look a (clockBytes (pairFor r) ++ inputBytes r ++ laidBytes 0x18 (cscBytes (r .matrix)) ++ enableBytes r ++
+    (laidBytes 0x52 (drop 1 (aviFrame (r .video))) ++ laidBytes 0x70 (drop 1 l))) 0) (audio-frame (r .sound))
 
 -- ---- from the wanted bytes to the finished image
 

@@ -20,7 +20,7 @@ use Rattle.request.specs.declared.Request.{Request}
 use Rattle.request.specs.declared.Checked.{Checked}
 use Rattle.request.specs.Sections.{longest}
 use Rattle.request.specs.Read.{readOf, pairFor, nctsOf}
-use Rattle.request.specs.Bytes.{asBytes, inFamily}
+use Rattle.request.specs.Bytes.{asBytes, requestInFamily}
 use Rattle.request.specs.Fits.{Fits}
 use Rattle.request.proofs.Fits.{fits}
 use Rattle.plan.specs.Wanted.{wanted}
@@ -29,7 +29,7 @@ use Rattle.decode.specs.Ends.{Ends}
 use Rattle.decode.specs.Decode.{decodeOf}
 use Rattle.decode.specs.Theorems.{decodeRules}
 use Rattle.decode.proofs.Answers.{exactly, refusals}
-use Rattle.promises.specs.Finished.{place, places, Shows, inQ, inPR, depthNumbers, inCD, Finished}
+use Rattle.promises.specs.Finished.{place, places, Shows, inQ, inPR, depthNumbers, inCD, FinishedFields}
 use Rattle.promises.specs.FieldByField.{FieldByField}
 use Rattle.promises.proofs.Filled.{filled, picked}
 
@@ -71,18 +71,18 @@ exact v = answered v .edition ≡ v .edition
 module _ (image : List ℕ) (sized : length image ≡ 256) where
   module _ (r : Request) (e : Ends r image) where
     abbrev q : Request
-    q = inFamily (e .family) r
+    q = requestInFamily (e .family) r
 
     said : readOf (asBytes q) .request ≡ q
     said = ap (λ (c : Checked). c .request) (e .acceptable .read)
 
-    in-fields : Finished q (nctsOf (asBytes q)) image
+    in-fields : FinishedFields q (nctsOf (asBytes q)) image
     in-fields =
         let z : readOf (asBytes q) .refusal ≡ 0 = ap (λ (c : Checked). c .refusal) (e .acceptable .read) in
         let y : pairFor (readOf (asBytes q) .request) .refusal ≡ 0 = ap (λ (x : Request). pairFor x .refusal) said ∙ e .acceptable .paired in
         let ends : (a : ℕ) → a < 256 → getD image a 0 ≡ finished (wanted (readOf (asBytes q) .request)) image a
         = λ a h. sym (e .stands a h) ∙ ap (λ (x : Request). finished (wanted x) image a) (sym said) in
-        subst (λ (x : Request). Finished x (nctsOf (asBytes q)) image) said (filled (asBytes q) image z y image sized ends)
+        subst (λ (x : Request). FinishedFields x (nctsOf (asBytes q)) image) said (filled (asBytes q) image z y image sized ends)
 
     fitting : Fits q
     fitting = subst Fits said (fits (asBytes q) (ap (λ (c : Checked). c .refusal) (e .acceptable .read)))

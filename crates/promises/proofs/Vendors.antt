@@ -15,15 +15,16 @@ use Rattle.bits.proofs.Laws.{bit-code}
 use Rattle.matrix.specs.Matrix.{Bytes, fields}
 use Rattle.request.specs.declared.Checked.{Checked}
 use Rattle.request.specs.Read.{readOf, pairFor, nctsOf}
-use Rattle.request.specs.Bytes.{asBytes, inFamily, answeredAs}
+use Rattle.request.specs.Bytes.{asBytes, requestInFamily, answeredAs}
 use Rattle.request.specs.declared.Request.{Request}
 use Rattle.chip.specs.declared.Chip.{Chip}
 use Rattle.chip.specs.Machine.{Write, Group, Buffer, avi, audio, gc, matrix, packets, converter, up, holdsOf, registersOf, held, inUse, coefficients, Muted, Open}
 use Rattle.chip.specs.Write.{two, vsyncOf}
 use Rattle.chip.proofs.Writes.{turned}
 use Rattle.views.specs.Entry.{isSized, Lent, stateOf}
-use Rattle.views.specs.Sized.{Sized, LentSized}
-use Rattle.views.specs.Theorems.{Faces}
+use Rattle.views.specs.Sized.{LentSized}
+use Rattle.views.specs.Refusals.{Sized}
+use Rattle.views.specs.Faces.{Faces}
 use Rattle.writes.specs.List.{pairsOf, flat, writeList, finished, finishedImage, ready}
 use Rattle.writes.proofs.Pairs.{length-flat, length-pairs, pairs-flat}
 use Rattle.writes.proofs.Image.{image-length, image-at, is-image}
@@ -38,22 +39,23 @@ use Rattle.lists.proofs.Both.{both-left, both-right}
 use Rattle.lists.proofs.Decides.{refuted}
 use Rattle.decode.proofs.Answers.{read-back}
 use Rattle.cut.specs.Run.{Event, run, cut, writesOf, writesBy, InUse, allInUse, standing, Either, Between}
-use Rattle.cut.specs.Vsync.{waits, turnedOver, old, sent, waited, leavesHold, Finished}
+use Rattle.cut.specs.Vsync.{changeWaits, turnedOver, old, waited, leavesHold, FinishedRun}
+use Rattle.cut.specs.Room.{sent}
 use Rattle.cut.specs.Room.{Room}
 use Rattle.cut.specs.Demand.{toItsEnd, After, Same, Clauses, Demand3}
 use Rattle.cut.specs.Mended.{Mended}
-use Rattle.cut.proofs.Bank.{down-part}
-use Rattle.cut.proofs.FairRun.{untouched}
-use Rattle.cut.proofs.Retry.{retries}
-use Rattle.cut.proofs.Taken.{neat-two}
-use Rattle.cut.proofs.Cut.{Ready, Near, finished-near}
-use Rattle.cut.proofs.Mended.{single, near, mended}
-use Rattle.cut.proofs.CoveredRun.{address, gc-byte, covered, opens}
-use Rattle.cut.proofs.Erased.{alike-self, alike-use, alike-muted, run-alike, cut-alike}
-use Rattle.cut.proofs.Erased as packets-alike
-use Rattle.cut.proofs.Runs.{nothing-waits, after-same}
-use Rattle.cut.proofs.Demanded.{waited-writes, waited-finishes}
-use Rattle.cut.proofs.Fewer.{holds, room-left}
+use Rattle.cut.proofs.GroupStays.{down-part}
+use Rattle.cut.proofs.FairRunLeaves.{untouched}
+use Rattle.cut.proofs.Repeated.{retries}
+use Rattle.cut.proofs.NoneRefused.{neat-two}
+use Rattle.cut.proofs.AtEveryCut.{Ready, Near, finished-near}
+use Rattle.cut.proofs.MendedRun.{single, near, mended}
+use Rattle.cut.proofs.MuteCovers.{address, gc-byte, covered, opens}
+use Rattle.cut.proofs.VsyncsLeave.{alike-self, alike-use, alike-muted, run-alike, cut-alike}
+use Rattle.cut.proofs.VsyncsLeave as packets-alike
+use Rattle.cut.proofs.ClausesOfRuns.{nothing-waits, after-same}
+use Rattle.cut.proofs.DemandOfGoodLists.{waited-writes, waited-finishes}
+use Rattle.cut.proofs.DemandOfWriteList.{holds, room-left}
 use Rattle.vendor.specs.declared.Verdict.{Verdict}
 use Rattle.vendor.specs.Vendor.{pairAt, cutAt, endOf, pairsBy, Inside, Decodable, Passes, WrongLength}
 use Rattle.vendor.specs.Found.{vetOf}
@@ -138,7 +140,7 @@ module _ (want : ℕ → ℕ) (s : Chip) (d : Demand3 (writeList want) want s) w
       began : (k : ℕ) → old (take k (waited list)) s ≡ allInUse s
       began k =
           ap (λ (b : Bool). record { avi = inUse packets avi s; audio = inUse packets audio s; matrix = cond b (fields (registersOf matrix (s .image))) (coefficients s) })
-          (never (waits s) (turnedOver (take k (waited list))) (never-turned k))
+          (never (changeWaits s) (turnedOver (take k (waited list))) (never-turned k))
 
 own : (input buffer : List ℕ) (s : Chip) → Bytes input → Sized s → planOf input (s .image) buffer .refusal ≡ 0
     → vetOf s (bytesLeft input (s .image) buffer) ≡ record { refusal = 0; place = 0 }
@@ -183,7 +185,7 @@ empty s z h = (
 
 module _ (t : Chip) (whole : length (t .image) ≡ 256) (clear : ready (t .image) ≡ true) (d : Decodable (t .image)) where
   abbrev q : Request
-  q = inFamily (d .ends .family) (d .request)
+  q = requestInFamily (d .ends .family) (d .request)
 
   -- the holds and the mute, as the named fields have them
   bits : (bitsIn 6 5 (getD (t .image) 0x4A 0) ≡ 0) × (bitsIn 5 5 (getD (t .image) 0x1A 0) ≡ 0)
@@ -284,8 +286,8 @@ module _ (list : List ℕ) (s : Chip) (z : Sized s) (clear : ready (s .image) �
       let h : suc k ≡ length ws = omega (arith, two) in
       let by-last : ws ≡ take k ws ++ pairAt ws k ∷ [] = last-of ws k (sym h) in
       let a : pairAt ws k .address ≡ 0x4B = last-pair k (omega (arith, two)) h in
-      let f : Finished ws es =
-      subst (λ (l : List Write). Finished l (waited l)) (sym by-last) (waited-finishes (take k ws) (pairAt ws k) (ap (λ (n : ℕ). not (eqb n 0x1A)) a)) in
+      let f : FinishedRun ws es =
+      subst (λ (l : List Write). FinishedRun l (waited l)) (sym by-last) (waited-finishes (take k ws) (pairAt ws k) (ap (λ (n : ℕ). not (eqb n 0x1A)) a)) in
       turned end .idle (nothing-waits ws es s (z .image) f (hold-down end end-whole end-clear d)) .0
 
   -- wherever Vsyncs come
@@ -345,7 +347,7 @@ module _ (list : List ℕ) (s : Chip) (z : Sized s) (clear : ready (s .image) �
     cuts-list k = entered-run (take k es) l y ∙ ap (λ (t : Chip). cut es t k) at
 
   abbrev asking : Request
-  asking = inFamily (d .ends .family) (d .request)
+  asking = requestInFamily (d .ends .family) (d .request)
 
   said : readOf (inputOf d) .request ≡ asking
   said = ap (λ (x : Checked). x .request) (d .ends .acceptable .read)

@@ -14,15 +14,17 @@ use Rattle.video.specs.declared.Video.{Video}
 use Rattle.video.specs.Video.{videoIn}
 use Rattle.video.specs.Video as video
 use Rattle.clock.specs.declared.Clock.{Clock}
-use Rattle.clock.specs.Clocks.{aboveLimit, clockOf}
-use Rattle.clock.specs.Pairs.{reference, thePair}
+use Rattle.clock.specs.Answers.{aboveLimit, clockOf}
+use Rattle.clock.specs.Pairs.{reference}
+use Rattle.clock.specs.Answers.{thePair}
 use Rattle.clock.specs.Found.{pairOf}
-use Rattle.frames.specs.Frames.{audioOffFrame}
+use Rattle.frames.specs.Audio.{audioOffFrame}
 use Rattle.frames.specs.Answers.{aviOf, audioOf}
 use Rattle.frames.specs.Editions.{readByE, underD}
-use Rattle.matrix.specs.Coefficient.{word, field, valueOf}
+use Rattle.matrix.specs.Coefficient.{word, lowThirteen, valueOf}
 use Rattle.matrix.specs.Preview.{previewOf}
-use Rattle.request.specs.Sections.{lengths, longest}
+use Rattle.request.specs.Sections.{longest}
+use Rattle.request.specs.Lengths.{lengths}
 use Rattle.request.specs.Read.{readOf}
 use Rattle.writes.specs.List.{finishedImage}
 use Rattle.plan.specs.Plan.{planOf}
@@ -105,7 +107,7 @@ pub record MarkedCases : Type 0 where
   -- 11. Audio InfoFrame, 8 channels: 0x57; off: 0x71
   pub case11 : (getD (audioOf 8 .bytes) 3 0 ≡ 0x57) × (getD audioOffFrame 3 0 ≡ 0x71)
   -- 12. Table 39's A4 bytes 0x19, 0xD6: -1578; C1 0x1F, 0xFF: -1
-  pub case12 : (valueOf (field (word 0x19 0xD6)) ≡ negsuc 1577) × (valueOf (field (word 0x1F 0xFF)) ≡ negsuc 0)
+  pub case12 : (valueOf (lowThirteen (word 0x19 0xD6)) ≡ negsuc 1577) × (valueOf (lowThirteen (word 0x1F 0xFF)) ≡ negsuc 0)
   -- 13. Table 39 on 2048, 3760, 2048: 3759, 3760, 3760
   pub case13 : previewOf table39 2048 3760 2048 ≡ record { refusal = 0; a = 3759; b = 3760; c = 3760 }
   -- request 01, in the AVI call: "range above 1 is refusal 5; range 1 with YCbCr is refusal 6" (of a request: `EachByte`)

@@ -47,8 +47,8 @@ abbrev pub soundBytes : List (List ℕ)
 soundBytes = (0 ∷ 1 ∷ 2 ∷ 3 ∷ 4 ∷ 5 ∷ 6 ∷ []) ∷ (2 ∷ 8 ∷ []) ∷ (0 ∷ 1 ∷ []) ∷ []
 
 -- the matrix' mode; the high byte of each coefficient, whatever its low byte is
-abbrev pub modes : List ℕ
-modes = 0 ∷ 1 ∷ 2 ∷ []
+abbrev pub modeBytes : List ℕ
+modeBytes = 0 ∷ 1 ∷ 2 ∷ []
 
 abbrev pub highBytes : List ℕ
 highBytes =
@@ -62,7 +62,7 @@ highInside (high ∷ low ∷ more) = among high highBytes && highInside more
 
 abbrev pub matrixInside : List ℕ → Bool
 matrixInside [] = true
-matrixInside (mode ∷ coefficients) = among mode modes && highInside coefficients
+matrixInside (mode ∷ coefficients) = among mode modeBytes && highInside coefficients
 
 -- ---- 6: what goes together, in rows: encoding, link, range, depth byte, edition byte, and the counts of the sound and of the matrix
 abbrev pub together : List (List (List ℕ))
@@ -79,8 +79,8 @@ tooFast =
     ((4 ∷ 5 ∷ 19 ∷ 20 ∷ 32 ∷ 34 ∷ 60 ∷ 62 ∷ []) ∷ (0x20 ∷ 0x21 ∷ 0x22 ∷ []) ∷ []) ∷ []
 
 -- ---- 9: VIC, family, depth byte, rate, of sound that is coherent
-abbrev pub noPair : List (List (List ℕ))
-noPair =
+abbrev pub withoutPair : List (List (List ℕ))
+withoutPair =
     ((4 ∷ 5 ∷ 32 ∷ 34 ∷ 62 ∷ []) ∷ (1 ∷ []) ∷ (0x00 ∷ 0x12 ∷ []) ∷ (0 ∷ []) ∷ []) ∷
     ((4 ∷ 5 ∷ 32 ∷ 34 ∷ 62 ∷ []) ∷ (1 ∷ []) ∷ (0x01 ∷ 0x02 ∷ 0x11 ∷ []) ∷ (0 ∷ 1 ∷ 2 ∷ 3 ∷ 4 ∷ 5 ∷ 6 ∷ []) ∷ []) ∷
     ((16 ∷ []) ∷ (1 ∷ []) ∷ (0x01 ∷ []) ∷ (0 ∷ 1 ∷ 2 ∷ 3 ∷ 4 ∷ 5 ∷ 6 ∷ []) ∷ []) ∷
@@ -101,7 +101,7 @@ module _ (vic family encoding link range pixel edition : ℕ) (sound matrix : Li
       (cond (not (inNone tooFast (vic ∷ pixel ∷ []))) 17 0)))
 
   abbrev pub pairTo : ℕ
-  pairTo = cond (eqb (getD sound 2 0) 1 && not (inNone noPair (vic ∷ family ∷ pixel ∷ getD sound 0 0 ∷ []))) 9 0
+  pairTo = cond (eqb (getD sound 2 0) 1 && not (inNone withoutPair (vic ∷ family ∷ pixel ∷ getD sound 0 0 ∷ []))) 9 0
 
   pub record Answers : Type 0 where
     pub read : readOf bytesOf .refusal ≡ answerTo

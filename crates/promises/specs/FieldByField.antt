@@ -12,15 +12,15 @@ use Rattle.video.specs.Video.{editionNumber}
 use Rattle.request.specs.declared.Request.{Request}
 use Rattle.request.specs.Sections.{longest}
 use Rattle.request.specs.Read.{nctsOf}
-use Rattle.request.specs.Bytes.{asBytes, inFamily}
+use Rattle.request.specs.Bytes.{asBytes, requestInFamily}
 use Rattle.decode.specs.Ends.{Ends}
 use Rattle.decode.specs.Decode.{decodeOf}
-use Rattle.promises.specs.Finished.{depthNumbers, Finished}
+use Rattle.promises.specs.Finished.{depthNumbers, FinishedFields}
 
 -- an image in which a request ends has that request's numbers in its named fields, in the family in which it ends
 pub record FieldByField (image : List ℕ) : Type 0 where
   pub stands : length image ≡ 256 → (r : Request) (e : Ends r image)
-      → let q : Request = inFamily (e .family) r in Finished q (nctsOf (asBytes q)) image
+      → let q : Request = requestInFamily (e .family) r in FinishedFields q (nctsOf (asBytes q)) image
   -- so RGB with a Q of neither 1 nor 2, as a list made before request 01 left it, decodes to nothing, and YCbCr with a Q that is not 0
   pub noRange : length image ≡ 256
       → among (bitsIn 3 2 (getD image 0x57 0)) (cond (eqb (bitsIn 6 5 (getD image 0x55 0)) 0) (1 ∷ 2 ∷ []) (0 ∷ [])) ≡ false

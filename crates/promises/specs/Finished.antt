@@ -15,7 +15,8 @@ use Rattle.registers.specs.Classes.{mandated, named, bits}
 use Rattle.video.specs.declared.Video.{Video}
 use Rattle.video.specs.Video.{depth, repetition, yccQuantisation, contentType}
 use Rattle.clock.specs.declared.Pair.{Pair}
-use Rattle.clock.specs.Clocks.{times, clockOf}
+use Rattle.clock.specs.Clocks.{times}
+use Rattle.clock.specs.Answers.{clockOf}
 use Rattle.clock.specs.Tables.{otherRow}
 use Rattle.clock.specs.Pairs.{Coherent}
 use Rattle.frames.specs.Frames.{total, frame, aviFrame}
@@ -161,7 +162,7 @@ sumAt type a count image =
     type + bitsIn 2 0 (getD image a 0) + bitsIn 4 0 (getD image (a + 1) 0) + total (take count (drop (a + 2) image))
 
 -- the finished image of a request whose N and CTS are those of p
-pub record Finished (r : Request) (p : Pair) (image : List ℕ) : Type 0 where
+pub record FinishedFields (r : Request) (p : Pair) (image : List ℕ) : Type 0 where
   pub fields : Each (Shows image) (places r p)
   pub n : twentyAt 0x01 image ≡ p .n
   pub cts : twentyAt 0x07 image ≡ p .cts

@@ -14,7 +14,8 @@ use Rattle.refusals.specs.Rows.{number, order, Condition}
 use Rattle.video.specs.declared.Video.{Video}
 use Rattle.clock.specs.declared.Clock.{Clock}
 use Rattle.clock.specs.Tables as tables
-use Rattle.clock.specs.Pairs.{reference, thePair, noPair}
+use Rattle.clock.specs.Pairs.{reference}
+use Rattle.clock.specs.Answers.{thePair, noPair}
 use Rattle.clock.specs.Found.{coherentOf}
 use Rattle.clock.specs.Theorems.{clockRules, pairRules}
 use Rattle.frames.specs.Theorems.{aviRules, audioRules}
@@ -44,31 +45,31 @@ use Rattle.promises.specs.EachByte.{vics, depthBytes, editionBytes}
 use Rattle.promises.specs.Cases.{table39}
 
 -- the numbers of a call's conditions, in their order
-abbrev pub numbersOf : List Condition → List ℕ
-numbersOf [] = []
-numbersOf (c ∷ cs) = number (c .row) ∷ numbersOf cs
+abbrev pub numbersIn : List Condition → List ℕ
+numbersIn [] = []
+numbersIn (c ∷ cs) = number (c .row) ∷ numbersIn cs
 
 pub record Calls : Type 0 where
   -- the list of refusals
   pub all : map number order ≡ 1 ∷ 2 ∷ 3 ∷ 4 ∷ 5 ∷ 6 ∷ 17 ∷ 7 ∷ 8 ∷ 9 ∷ 10 ∷ 11 ∷ 12 ∷ 13 ∷ 14 ∷ 15 ∷ 16 ∷ 18 ∷ 19 ∷ []
   -- "Planning checks 1 to 10; decoding 7, 10 and 11; a machine write 7 and 13; a view 5, 7 and 13; the preview 5 and 12."
-  pub plan : (input image buffer : List ℕ) → numbersOf (planRules input image buffer) ≡ 1 ∷ 2 ∷ 3 ∷ 4 ∷ 5 ∷ 6 ∷ 17 ∷ 7 ∷ 8 ∷ 9 ∷ 10 ∷ []
-  pub decode : (image buffer : List ℕ) → numbersOf (decodeRules image buffer) ≡ 7 ∷ 10 ∷ 11 ∷ []
-  pub write : (l : Lent) (address value : ℕ) → numbersOf (enterRules l address value) ≡ 7 ∷ 13 ∷ []
-  pub vsync : (l : Lent) → numbersOf (turnRules l) ≡ 7 ∷ []
-  pub view : (image packet : List ℕ) (which : ℕ) → numbersOf (viewRules image packet which) ≡ 5 ∷ 7 ∷ 13 ∷ []
-  pub mute : (image packet : List ℕ) → numbersOf (lentRules image packet) ≡ 7 ∷ 13 ∷ []
-  pub matrix : (image buffer out : List ℕ) → numbersOf (matrixRules image buffer out) ≡ 7 ∷ 10 ∷ []
-  pub preview : (body : List ℕ) (a b c : ℕ) → numbersOf (previewRules body a b c) ≡ 5 ∷ 12 ∷ []
-  pub meter : (numbers : List Float) (buffer : List ℕ) → numbersOf (meterRules numbers buffer) ≡ 5 ∷ 10 ∷ 18 ∷ 19 ∷ []
-  pub vet : (s : Chip) (list : List ℕ) → numbersOf (vetRules s list) ≡ 7 ∷ 8 ∷ 14 ∷ 15 ∷ 16 ∷ []
+  pub plan : (input image buffer : List ℕ) → numbersIn (planRules input image buffer) ≡ 1 ∷ 2 ∷ 3 ∷ 4 ∷ 5 ∷ 6 ∷ 17 ∷ 7 ∷ 8 ∷ 9 ∷ 10 ∷ []
+  pub decode : (image buffer : List ℕ) → numbersIn (decodeRules image buffer) ≡ 7 ∷ 10 ∷ 11 ∷ []
+  pub write : (l : Lent) (address value : ℕ) → numbersIn (enterRules l address value) ≡ 7 ∷ 13 ∷ []
+  pub vsync : (l : Lent) → numbersIn (turnRules l) ≡ 7 ∷ []
+  pub view : (image packet : List ℕ) (which : ℕ) → numbersIn (viewRules image packet which) ≡ 5 ∷ 7 ∷ 13 ∷ []
+  pub mute : (image packet : List ℕ) → numbersIn (lentRules image packet) ≡ 7 ∷ 13 ∷ []
+  pub matrix : (image buffer out : List ℕ) → numbersIn (matrixRules image buffer out) ≡ 7 ∷ 10 ∷ []
+  pub preview : (body : List ℕ) (a b c : ℕ) → numbersIn (previewRules body a b c) ≡ 5 ∷ 12 ∷ []
+  pub meter : (numbers : List Float) (buffer : List ℕ) → numbersIn (meterRules numbers buffer) ≡ 5 ∷ 10 ∷ 18 ∷ 19 ∷ []
+  pub vet : (s : Chip) (list : List ℕ) → numbersIn (vetRules s list) ≡ 7 ∷ 8 ∷ 14 ∷ 15 ∷ 16 ∷ []
   -- reading, N and CTS; "A call on single fields checks those .. whose fields it takes"
-  pub read : (input : List ℕ) → numbersOf (readRules (walked input)) ≡ 1 ∷ 2 ∷ 3 ∷ 4 ∷ 5 ∷ 6 ∷ 17 ∷ []
-  pub ncts : (input : List ℕ) → numbersOf (nctsRules (walked input)) ≡ 1 ∷ 2 ∷ 3 ∷ 4 ∷ 5 ∷ 6 ∷ 17 ∷ 9 ∷ []
-  pub clock : (v : Video) → numbersOf (clockRules v) ≡ 4 ∷ 5 ∷ 17 ∷ []
-  pub pair : (v : Video) (rate coherent : ℕ) → numbersOf (pairRules v rate coherent) ≡ 4 ∷ 5 ∷ 17 ∷ 9 ∷ []
-  pub avi : (v : Video) → numbersOf (aviRules v) ≡ 4 ∷ 5 ∷ 6 ∷ []
-  pub audio : (channels : ℕ) → numbersOf (audioRules channels) ≡ 5 ∷ []
+  pub read : (input : List ℕ) → numbersIn (readRules (walked input)) ≡ 1 ∷ 2 ∷ 3 ∷ 4 ∷ 5 ∷ 6 ∷ 17 ∷ []
+  pub ncts : (input : List ℕ) → numbersIn (nctsRules (walked input)) ≡ 1 ∷ 2 ∷ 3 ∷ 4 ∷ 5 ∷ 6 ∷ 17 ∷ 9 ∷ []
+  pub clock : (v : Video) → numbersIn (clockRules v) ≡ 4 ∷ 5 ∷ 17 ∷ []
+  pub pair : (v : Video) (rate coherent : ℕ) → numbersIn (pairRules v rate coherent) ≡ 4 ∷ 5 ∷ 17 ∷ 9 ∷ []
+  pub avi : (v : Video) → numbersIn (aviRules v) ≡ 4 ∷ 5 ∷ 6 ∷ []
+  pub audio : (channels : ℕ) → numbersIn (audioRules channels) ≡ 5 ∷ []
 
 -- ---- N and CTS
 
@@ -85,48 +86,48 @@ pub record ModePairs : Type 0 where
   pub n : List ℕ
   pub cts : List ℕ
 
-abbrev pub mode : List ℕ → ℕ → ℕ → List ℕ → List ℕ → ModePairs
-mode vics family pixel n cts = record { vics = vics; family = family; pixel = pixel; n = n; cts = cts }
+abbrev pub modeRow : List ℕ → ℕ → ℕ → List ℕ → List ℕ → ModePairs
+modeRow vics family pixel n cts = record { vics = vics; family = family; pixel = pixel; n = n; cts = cts }
 
 abbrev pub modePairs : List ModePairs
 modePairs =
-    mode (1 ∷ []) 0 0x00
+    modeRow (1 ∷ []) 0 0x00
     (4096 ∷ 6272 ∷ 6144 ∷ 12544 ∷ 12288 ∷ 25088 ∷ 24576 ∷ [])
     (25200 ∷ 28000 ∷ 25200 ∷ 28000 ∷ 25200 ∷ 28000 ∷ 25200 ∷ []) ∷
-    mode (1 ∷ []) 1 0x00
+    modeRow (1 ∷ []) 1 0x00
     (4576 ∷ 7007 ∷ 6864 ∷ 14014 ∷ 13728 ∷ 28028 ∷ 27456 ∷ [])
     (28125 ∷ 31250 ∷ 28125 ∷ 31250 ∷ 28125 ∷ 31250 ∷ 28125 ∷ []) ∷
-    mode (2 ∷ 3 ∷ []) 0 0x00
+    modeRow (2 ∷ 3 ∷ []) 0 0x00
     (4096 ∷ 6272 ∷ 6144 ∷ 12544 ∷ 12288 ∷ 25088 ∷ 24576 ∷ [])
     (27027 ∷ 30030 ∷ 27027 ∷ 30030 ∷ 27027 ∷ 30030 ∷ 27027 ∷ []) ∷
-    mode (2 ∷ 3 ∷ []) 1 0x00
+    modeRow (2 ∷ 3 ∷ []) 1 0x00
     (4096 ∷ 6272 ∷ 6144 ∷ 12544 ∷ 12288 ∷ 25088 ∷ 24576 ∷ [])
     (27000 ∷ 30000 ∷ 27000 ∷ 30000 ∷ 27000 ∷ 30000 ∷ 27000 ∷ []) ∷
-    mode (17 ∷ 18 ∷ []) 0 0x00
+    modeRow (17 ∷ 18 ∷ []) 0 0x00
     (4096 ∷ 6272 ∷ 6144 ∷ 12544 ∷ 12288 ∷ 25088 ∷ 24576 ∷ [])
     (27000 ∷ 30000 ∷ 27000 ∷ 30000 ∷ 27000 ∷ 30000 ∷ 27000 ∷ []) ∷
-    mode (4 ∷ 5 ∷ 19 ∷ 20 ∷ 32 ∷ 34 ∷ 62 ∷ []) 0 0x00
+    modeRow (4 ∷ 5 ∷ 19 ∷ 20 ∷ 32 ∷ 34 ∷ 62 ∷ []) 0 0x00
     (4096 ∷ 6272 ∷ 6144 ∷ 12544 ∷ 12288 ∷ 25088 ∷ 24576 ∷ [])
     (74250 ∷ 82500 ∷ 74250 ∷ 82500 ∷ 74250 ∷ 82500 ∷ 74250 ∷ []) ∷
-    mode (4 ∷ 5 ∷ 32 ∷ 34 ∷ 62 ∷ []) 1 0x00
+    modeRow (4 ∷ 5 ∷ 32 ∷ 34 ∷ 62 ∷ []) 1 0x00
     (0 ∷ 17836 ∷ 11648 ∷ 35672 ∷ 23296 ∷ 71344 ∷ 46592 ∷ [])
     (0 ∷ 234375 ∷ 140625 ∷ 234375 ∷ 140625 ∷ 234375 ∷ 140625 ∷ []) ∷
-    mode (16 ∷ 31 ∷ []) 0 0x00
+    modeRow (16 ∷ 31 ∷ []) 0 0x00
     (4096 ∷ 6272 ∷ 6144 ∷ 12544 ∷ 12288 ∷ 25088 ∷ 24576 ∷ [])
     (148500 ∷ 165000 ∷ 148500 ∷ 165000 ∷ 148500 ∷ 165000 ∷ 148500 ∷ []) ∷
-    mode (16 ∷ []) 1 0x00
+    modeRow (16 ∷ []) 1 0x00
     (11648 ∷ 8918 ∷ 5824 ∷ 17836 ∷ 11648 ∷ 35672 ∷ 23296 ∷ [])
     (421875 ∷ 234375 ∷ 140625 ∷ 234375 ∷ 140625 ∷ 234375 ∷ 140625 ∷ []) ∷
-    mode (60 ∷ []) 0 0x00
+    modeRow (60 ∷ []) 0 0x00
     (4096 ∷ 5488 ∷ 6144 ∷ 10976 ∷ 12288 ∷ 21952 ∷ 24576 ∷ [])
     (59400 ∷ 57750 ∷ 59400 ∷ 57750 ∷ 59400 ∷ 57750 ∷ 59400 ∷ []) ∷
-    mode (60 ∷ []) 1 0x00
+    modeRow (60 ∷ []) 1 0x00
     (5824 ∷ 4459 ∷ 5824 ∷ 8918 ∷ 11648 ∷ 17836 ∷ 23296 ∷ [])
     (84375 ∷ 46875 ∷ 56250 ∷ 46875 ∷ 56250 ∷ 46875 ∷ 56250 ∷ []) ∷
-    mode (2 ∷ 3 ∷ []) 0 0x10
+    modeRow (2 ∷ 3 ∷ []) 0 0x10
     (4096 ∷ 6272 ∷ 6144 ∷ 12544 ∷ 12288 ∷ 25088 ∷ 24576 ∷ [])
     (54054 ∷ 60060 ∷ 54054 ∷ 60060 ∷ 54054 ∷ 60060 ∷ 54054 ∷ []) ∷
-    mode (17 ∷ 18 ∷ []) 0 0x10
+    modeRow (17 ∷ 18 ∷ []) 0 0x10
     (4096 ∷ 6272 ∷ 6144 ∷ 12544 ∷ 12288 ∷ 25088 ∷ 24576 ∷ [])
     (54000 ∷ 60000 ∷ 54000 ∷ 60000 ∷ 54000 ∷ 60000 ∷ 54000 ∷ []) ∷ []
 
@@ -145,7 +146,7 @@ exactIn r = map (λ rate. eqb (reference rate * getD (r .cts) rate 0 * r .den) (
 abbrev pub clockOf48 : ℕ → ℕ → Clock
 clockOf48 u v = record { refusal = 0; num = 6144000 * u; den = v }
 
-pub record Pairs : Type 0 where
+pub record PairsInNumbers : Type 0 where
   -- coherent; and not, where N is the "Other" row's
   pub coherent : every answersPairs modePairs ≡ true
   pub others : map (λ rate. nctsOf (sounding 60 1 0x00 rate 8 0)) (0 ∷ 1 ∷ 2 ∷ 3 ∷ 4 ∷ 5 ∷ 6 ∷ [])
@@ -169,7 +170,7 @@ pub record Pairs : Type 0 where
 -- ---- the matrix and the preview
 
 -- a code as it is answered, by 4096 times the formula: "rounds down to a whole code, then holds it within 0 to 4095"
-pub record Rounds (z : ℤ) (code : ℕ) : Type 0 where
+pub record RoundsInNumbers (z : ℤ) (code : ℕ) : Type 0 where
   pub whole : ℤ
   pub down : RoundedDown z whole
   pub held : Clamped whole code
@@ -182,11 +183,11 @@ formula body row a b c =
 
 pub record Converts : Type 0 where
   -- what is answered for any matrix and input that is not refused
-  pub a : (body : List ℕ) (a b c : ℕ) → Bytes body → previewOf body a b c .refusal ≡ 0 → Rounds (formula body 0 a b c) (previewOf body a b c .a)
-  pub b : (body : List ℕ) (a b c : ℕ) → Bytes body → previewOf body a b c .refusal ≡ 0 → Rounds (formula body 1 a b c) (previewOf body a b c .b)
-  pub c : (body : List ℕ) (a b c : ℕ) → Bytes body → previewOf body a b c .refusal ≡ 0 → Rounds (formula body 2 a b c) (previewOf body a b c .c)
+  pub a : (body : List ℕ) (a b c : ℕ) → Bytes body → previewOf body a b c .refusal ≡ 0 → RoundsInNumbers (formula body 0 a b c) (previewOf body a b c .a)
+  pub b : (body : List ℕ) (a b c : ℕ) → Bytes body → previewOf body a b c .refusal ≡ 0 → RoundsInNumbers (formula body 1 a b c) (previewOf body a b c .b)
+  pub c : (body : List ℕ) (a b c : ℕ) → Bytes body → previewOf body a b c .refusal ≡ 0 → RoundsInNumbers (formula body 2 a b c) (previewOf body a b c .c)
   -- Table 39 in modes 0 to 3, on unequal inputs; each input alone at 4095; and above it
-  pub modes : map (λ mode. previewOf (set table39 0 mode) 1000 2001 3001) (0 ∷ 1 ∷ 2 ∷ 3 ∷ [])
+  pub modes : map (λ modeRow. previewOf (set table39 0 modeRow) 1000 2001 3001) (0 ∷ 1 ∷ 2 ∷ 3 ∷ [])
       ≡ record { refusal = 0; a = 192; b = 1153; c = 1865 } ∷ record { refusal = 0; a = 385; b = 2306; c = 3731 }
       ∷ record { refusal = 0; a = 771; b = 4095; c = 4095 } ∷ record { refusal = 5; a = 0; b = 0; c = 0 } ∷ []
   pub alone : previewOf table39 4095 0 0 ∷ previewOf table39 0 4095 0 ∷ previewOf table39 0 0 4095 ∷ []
@@ -202,49 +203,49 @@ pub record Converts : Type 0 where
 
 -- ---- the lengths of what is lent: one byte short, right, one byte too many
 
-abbrev pub bytes : ℕ → List ℕ
-bytes n = replicate n 0
+abbrev pub lentBytes : ℕ → List ℕ
+lentBytes n = replicate n 0
 
-abbrev pub slices : ℕ → ℕ → ℕ → ℕ → Lent
-slices image packet coefficients mark = lent (bytes image) (bytes packet) (bytes coefficients) (bytes mark)
+abbrev pub lentSlices : ℕ → ℕ → ℕ → ℕ → Lent
+lentSlices image packet coefficients mark = lent (lentBytes image) (lentBytes packet) (lentBytes coefficients) (lentBytes mark)
 
 -- right; the image, the packet buffer, the coefficient buffer and the mark, each short and long
 abbrev pub lents : List Lent
 lents =
-    slices 256 32 24 1 ∷
-    slices 255 32 24 1 ∷ slices 257 32 24 1 ∷
-    slices 256 31 24 1 ∷ slices 256 33 24 1 ∷
-    slices 256 32 23 1 ∷ slices 256 32 25 1 ∷
-    slices 256 32 24 0 ∷ slices 256 32 24 2 ∷ []
+    lentSlices 256 32 24 1 ∷
+    lentSlices 255 32 24 1 ∷ lentSlices 257 32 24 1 ∷
+    lentSlices 256 31 24 1 ∷ lentSlices 256 33 24 1 ∷
+    lentSlices 256 32 23 1 ∷ lentSlices 256 32 25 1 ∷
+    lentSlices 256 32 24 0 ∷ lentSlices 256 32 24 2 ∷ []
 
 -- 32 kHz, coherent, in a mode that has no pair there
 abbrev pub pairless : List ℕ
 pairless = sounding 4 1 0x00 0 2 1
 
-pub record Lengths : Type 0 where
+pub record LengthsInNumbers : Type 0 where
   -- planning: an image of 256, a write buffer of 256 and more; 7 before 8, 9 before 10 and after 8
-  pub planImage : map (λ n. planOf example (bytes n) zeros .refusal) (0 ∷ 255 ∷ 256 ∷ 257 ∷ []) ≡ 7 ∷ 7 ∷ 0 ∷ 7 ∷ []
-  pub planBuffer : map (λ n. planOf example zeros (bytes n) .refusal) (0 ∷ 255 ∷ 256 ∷ 257 ∷ []) ≡ 10 ∷ 10 ∷ 0 ∷ 0 ∷ []
+  pub planImage : map (λ n. planOf example (lentBytes n) zeros .refusal) (0 ∷ 255 ∷ 256 ∷ 257 ∷ []) ≡ 7 ∷ 7 ∷ 0 ∷ 7 ∷ []
+  pub planBuffer : map (λ n. planOf example zeros (lentBytes n) .refusal) (0 ∷ 255 ∷ 256 ∷ 257 ∷ []) ≡ 10 ∷ 10 ∷ 0 ∷ 0 ∷ []
   pub nine : planOf pairless zeros [] .refusal ∷ planOf pairless zeros zeros .refusal ∷ planOf pairless (set zeros 0x4A 0x10) [] .refusal ∷ []
       ≡ 9 ∷ 9 ∷ 8 ∷ []
   -- decoding, on zeros, in which no request ends: an image of 256, a request buffer of 38 and more; 10 before 11
-  pub decodeImage : map (λ n. decodeOf (bytes n) (bytes 38) .refusal) (0 ∷ 255 ∷ 256 ∷ 257 ∷ []) ≡ 7 ∷ 7 ∷ 11 ∷ 7 ∷ []
-  pub decodeBuffer : map (λ n. decodeOf zeros (bytes n) .refusal) (0 ∷ 37 ∷ 38 ∷ 39 ∷ []) ≡ 10 ∷ 10 ∷ 11 ∷ 11 ∷ []
+  pub decodeImage : map (λ n. decodeOf (lentBytes n) (lentBytes 38) .refusal) (0 ∷ 255 ∷ 256 ∷ 257 ∷ []) ≡ 7 ∷ 7 ∷ 11 ∷ 7 ∷ []
+  pub decodeBuffer : map (λ n. decodeOf zeros (lentBytes n) .refusal) (0 ∷ 37 ∷ 38 ∷ 39 ∷ []) ≡ 10 ∷ 10 ∷ 11 ∷ 11 ∷ []
   -- the machine: an image of 256, a packet buffer of 32, a coefficient buffer of 24, a mark of 1
   pub write : map (λ l. enterOf l 0x4B 0x40 .refusal) lents ≡ 0 ∷ replicate 8 7
   pub vsync : map (λ l. turnOf l .refusal) lents ≡ 0 ∷ replicate 8 7
   -- a vendor's list, the empty one; the mark is a number there
   pub vet : map (λ l. vetOf (lentAs (l .image) (l .packet) (l .coefficients) false) [] .refusal) (take 7 lents) ≡ 16 ∷ replicate 6 7
   -- views, AVI and audio, and no other; the mute
-  pub views : map (viewRefusal zeros (bytes 32)) (0 ∷ 1 ∷ 2 ∷ 3 ∷ 255 ∷ []) ≡ 0 ∷ 0 ∷ 5 ∷ 5 ∷ 5 ∷ []
+  pub views : map (viewRefusal zeros (lentBytes 32)) (0 ∷ 1 ∷ 2 ∷ 3 ∷ 255 ∷ []) ≡ 0 ∷ 0 ∷ 5 ∷ 5 ∷ 5 ∷ []
   pub view : map (λ l. viewRefusal (l .image) (l .packet) 0) (take 5 lents) ≡ 0 ∷ replicate 4 7
   pub mute : map (λ l. muteOf (l .image) (l .packet) .refusal) (take 5 lents) ≡ 0 ∷ replicate 4 7
   -- the matrix in use: 25 bytes and more
-  pub matrixImage : map (λ n. matrixAnswer (bytes n) (bytes 24) (bytes 25) .refusal) (255 ∷ 256 ∷ 257 ∷ []) ≡ 7 ∷ 0 ∷ 7 ∷ []
-  pub matrixCoefficients : map (λ n. matrixAnswer zeros (bytes n) (bytes 25) .refusal) (23 ∷ 24 ∷ 25 ∷ []) ≡ 7 ∷ 0 ∷ 7 ∷ []
-  pub matrixOut : map (λ n. matrixAnswer zeros (bytes 24) (bytes n) .refusal) (0 ∷ 24 ∷ 25 ∷ 26 ∷ []) ≡ 10 ∷ 10 ∷ 0 ∷ 0 ∷ []
+  pub matrixImage : map (λ n. matrixAnswer (lentBytes n) (lentBytes 24) (lentBytes 25) .refusal) (255 ∷ 256 ∷ 257 ∷ []) ≡ 7 ∷ 0 ∷ 7 ∷ []
+  pub matrixCoefficients : map (λ n. matrixAnswer zeros (lentBytes n) (lentBytes 25) .refusal) (23 ∷ 24 ∷ 25 ∷ []) ≡ 7 ∷ 0 ∷ 7 ∷ []
+  pub matrixOut : map (λ n. matrixAnswer zeros (lentBytes 24) (lentBytes n) .refusal) (0 ∷ 24 ∷ 25 ∷ 26 ∷ []) ≡ 10 ∷ 10 ∷ 0 ∷ 0 ∷ []
   -- the preview's matrix
-  pub preview : map (λ n. previewOf (bytes n) 0 0 0 .refusal) (0 ∷ 24 ∷ 25 ∷ 26 ∷ []) ≡ 5 ∷ 5 ∷ 0 ∷ 5 ∷ []
+  pub preview : map (λ n. previewOf (lentBytes n) 0 0 0 .refusal) (0 ∷ 24 ∷ 25 ∷ 26 ∷ []) ≡ 5 ∷ 5 ∷ 0 ∷ 5 ∷ []
 
 -- ---- two whole lists
 
@@ -283,7 +284,7 @@ listOnOnes =
     0x0A ∷ 0x83 ∷ 0x0C ∷ 0xFC ∷ 0x15 ∷ 0xE0 ∷ 0x16 ∷ 0x3F ∷ 0x3B ∷ 0xD4 ∷ 0x3C ∷ 0xC2 ∷ 0x44 ∷ 0x79 ∷ 0x4C ∷ 0xF5 ∷
     0xAF ∷ 0x96 ∷ 0x4B ∷ 0xBF ∷ []
 
-pub record Lists : Type 0 where
+pub record ListsInNumbers : Type 0 where
   pub onZeros : (planOf busy zeros zeros .count ≡ 59) × (take 118 (planBuffer busy zeros zeros) ≡ listOnZeros)
   pub onOnes : (planOf busy ones zeros .count ≡ 82) × (take 164 (planBuffer busy ones zeros) ≡ listOnOnes)
 
@@ -365,8 +366,8 @@ Landed = map leftBy landings ≡ map (λ l. l .left) landings
 
 pub record InNumbers : Type 0 where
   pub calls : Calls
-  pub pairs : Pairs
+  pub pairs : PairsInNumbers
   pub converts : Converts
-  pub lengths : Lengths
-  pub lists : Lists
+  pub lengths : LengthsInNumbers
+  pub lists : ListsInNumbers
   pub landed : Landed

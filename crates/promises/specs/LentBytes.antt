@@ -6,9 +6,9 @@ use Prim.Native.Nat.{ℕ, _*_, _<_}
 use lib.ListN.{length, take}
 use Rattle.chip.specs.declared.Chip.{Chip}
 use Rattle.chip.specs.Machine.{Write}
-use Rattle.views.specs.Entry.{Lent, Entry, stateOf, enterOf, turnOf}
+use Rattle.views.specs.Entry.{Lent, SliceAnswer, stateOf, enterOf, turnOf}
 use Rattle.views.specs.Sized.{LentSized}
-use Rattle.views.specs.Theorems.{Faces}
+use Rattle.views.specs.Faces.{Faces}
 use Rattle.writes.specs.List.{pairsOf}
 use Rattle.plan.specs.Plan.{planOf, planBuffer}
 use Rattle.cut.specs.Run.{Event, write, vsync, cut, event}
@@ -22,7 +22,7 @@ abbrev pub pairsLeft : List ℕ → List ℕ → List ℕ → List Write
 pairsLeft input image buffer = pairsOf (bytesLeft input image buffer)
 
 -- an event over the four slices that the host lends: the number that the call answers, and what it leaves
-abbrev pub enters : Event → Lent → Entry
+abbrev pub enters : Event → Lent → SliceAnswer
 enters (write w) l = enterOf l (w .address) (w .value)
 enters vsync l = turnOf l
 

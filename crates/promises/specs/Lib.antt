@@ -6,6 +6,7 @@ pub mod AnyInput
 pub mod OtherCalls
 pub mod Settled
 pub mod Rules
+pub mod OnSomeImage
 pub mod FieldByField
 pub mod LentBytes
 pub mod AnyCut

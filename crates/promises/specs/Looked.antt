@@ -18,8 +18,8 @@ use Rattle.promises.specs.LentBytes.{pairsLeft}
 use Rattle.promises.specs.AnyCut.{listOf, AnyCut}
 
 -- these registers in rows, as the header has them: the first of each row, and how many
-abbrev pub rows : List (ℕ × ℕ)
-rows =
+abbrev pub rowsLooked : List (ℕ × ℕ)
+rowsLooked =
     (0x01, 3) ∷ (0x07, 4) ∷ (0x0C, 1) ∷ (0x15, 2) ∷ (0x18, 24) ∷ (0x3B, 2) ∷ (0x40, 1) ∷ (0x44, 1) ∷ (0x4A, 3) ∷ (0x52, 16) ∷ (0x70, 13) ∷
     (0x98, 1) ∷ (0x9A, 1) ∷ (0x9C, 2) ∷ (0xA2, 2) ∷ (0xAF, 1) ∷ (0xE0, 1) ∷ (0xF9, 1) ∷ []
 
@@ -28,7 +28,7 @@ inRows [] = []
 inRows (r ∷ rs) = from (r .0) (r .1) ++ inRows rs
 
 abbrev pub looked : List ℕ
-looked = inRows rows
+looked = inRows rowsLooked
 
 -- two images of the same length that agree at these registers, whatever the others hold
 pub record Agree (image other : List ℕ) : Type 0 where

@@ -11,7 +11,7 @@ use Rattle.request.specs.declared.Request.{Request}
 use Rattle.request.specs.Sections.{inTurn}
 use Rattle.request.specs.Bytes.{laid, bodiesOf, asBytes}
 use Rattle.request.specs.Read.{readOf}
-use Rattle.request.specs.Theorems.{Shaped}
+use Rattle.request.specs.ThereAndBack.{Shaped}
 
 -- a request with a matrix section of these bytes, in place of its own or where it had none: its bytes, and what they say
 abbrev pub bytesWith : List ℕ → Request → List ℕ

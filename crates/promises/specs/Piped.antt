@@ -9,8 +9,8 @@ use Rattle.lists.specs.Among.{among}
 use Rattle.matrix.specs.Matrix.{Bytes}
 use Rattle.pipe.specs.Final.{refusalOf}
 use Rattle.pipe.specs.Bytes.{answerIn, withAnswer, refused}
-use Rattle.pipe.specs.Found.{takeOf, endOf, endPipe}
-use Rattle.pipe.specs.Pipe.{AnyPipe, joined, after}
+use Rattle.pipe.specs.Found.{takeOf, endPipeOf, endPipe}
+use Rattle.pipe.specs.Pipe.{AnyPipe, joined, afterParts}
 use Rattle.line.specs.Words.{lineText, answerText}
 use Rattle.plan.specs.Plan.{planOf}
 use Rattle.station.specs.declared.PipedOut.{PipedOut}
@@ -28,12 +28,12 @@ pub record PipeRefusals (pipe part : List ℕ) : Type 0 where
 pub record ThroughPipe (parts : List (List ℕ)) : Type 0 where
   -- a request that is accepted, taken from the pipe's front, is planned as the joined bytes are; no row but 7, 8 and 10 can refuse it then,
   -- those of the image and of the buffer
-  pub front : refusalOf (joined parts) ≡ 0 → take (endOf (after parts) .count) (endPipe (after parts)) ≡ joined parts
+  pub front : refusalOf (joined parts) ≡ 0 → take (endPipeOf (afterParts parts) .count) (endPipe (afterParts parts)) ≡ joined parts
   pub planned : refusalOf (joined parts) ≡ 0
       → (image buffer : List ℕ) → among (planOf (joined parts) image buffer .refusal) (0 ∷ 7 ∷ 8 ∷ 10 ∷ []) ≡ true
   -- and what the pipe refuses is never planned, whatever image and buffer are lent
   pub unplanned : refusalOf (joined parts) ≢ 0 → (image buffer : List ℕ) → planOf (joined parts) image buffer .refusal ≢ 0
   -- the small program: the line of the joined bytes; and where a part is answered, at once the line that they have whatever follows
-  pub line : answerText (endOf (after parts) .refusal) (take (endOf (after parts) .count) (endPipe (after parts))) ≡ lineText (joined parts)
-  pub lineAtOnce : (part : List ℕ) (n : ℕ) → takeOf (after parts) part ≡ refused n
+  pub line : answerText (endPipeOf (afterParts parts) .refusal) (take (endPipeOf (afterParts parts) .count) (endPipe (afterParts parts))) ≡ lineText (joined parts)
+  pub lineAtOnce : (part : List ℕ) (n : ℕ) → takeOf (afterParts parts) part ≡ refused n
       → (later : List ℕ) → Bytes later → answerText n [] ≡ lineText ((joined parts ++ part) ++ later)

@@ -7,21 +7,19 @@ use lib.ListN.{length, getD, drop}
 use Rattle.refusals.specs.Rows.{Condition, at}
 use Rattle.matrix.specs.Matrix.{Bytes}
 use Rattle.chip.specs.declared.Chip.{Chip}
-use Rattle.request.specs.declared.Request.{Request}
 use Rattle.request.specs.Sections.{walked, bodiesIn, longest}
 use Rattle.request.specs.Read.{readOf, nctsOf}
-use Rattle.request.specs.Bytes.{asBytes, withVideo, asReadBack}
+use Rattle.request.specs.Bytes.{withVideo, asReadBack}
 use Rattle.plan.specs.Wanted.{wanted}
 use Rattle.writes.specs.List.{writeList, flat, finishedImage}
 use Rattle.writes.specs.Fewer.{differing, Fewer}
 use Rattle.plan.specs.Plan.{planOf, planBuffer}
 use Rattle.plan.specs.Rules.{planRules}
-use Rattle.decode.specs.Ends.{Acceptable}
 use Rattle.decode.specs.Theorems.{Answered}
 use Rattle.cut.specs.Run.{Event, run, writesOf}
 use Rattle.writes.specs.Order.{Order}
 use Rattle.writes.specs.Carried.{Entries}
-use Rattle.promises.specs.Finished.{Finished, Paired, NeverThree}
+use Rattle.promises.specs.Finished.{FinishedFields, Paired, NeverThree}
 use Rattle.promises.specs.LentBytes.{pairsLeft}
 
 -- what the request wants in each register
@@ -68,7 +66,7 @@ pub record Demand2 (input buffer : List ℕ) (s : Chip) : Type 0 where
       → (es : List Event) → writesOf es ≡ writeList (asked input) (s .image) → run es s .image ≡ finishedImage (asked input) (s .image)
   -- it has these numbers in its named fields, with the N and CTS that are answered for the request
   pub fields : planOf input (s .image) buffer .refusal ≡ 0
-      → Finished (readOf input .request) (nctsOf input) (finishedImage (asked input) (s .image))
+      → FinishedFields (readOf input .request) (nctsOf input) (finishedImage (asked input) (s .image))
   pub pair : readOf input .refusal ≡ 0 → Paired (readOf input .request .video) (readOf input .request .sound) (nctsOf input)
   -- "Mode 3 is never written"
   pub neverThree : planOf input (s .image) buffer .refusal ≡ 0 → NeverThree (writeList (asked input) (s .image))
@@ -81,14 +79,3 @@ pub record Demand2 (input buffer : List ℕ) (s : Chip) : Type 0 where
   pub only : Bytes input → planOf input (s .image) buffer .refusal ≡ 0 → (other : List ℕ) → Bytes other
       → planOf other (s .image) buffer .refusal ≡ 0 → finishedImage (asked other) (s .image) ≡ finishedImage (asked input) (s .image)
       → SameBytesBut input other
-
--- "accepted on some image", of a request and its bytes
-pub record Accepted (r : Request) : Type 0 where
-  pub image : List ℕ
-  pub buffer : List ℕ
-  pub says : readOf (asBytes r) .request ≡ r
-  pub accepted : planOf (asBytes r) image buffer .refusal ≡ 0
-
--- decoding's `Acceptable`, which speaks of the request alone, is that
-abbrev pub OnSomeImage : Request → Type 0
-OnSomeImage r = Acceptable r ↔ Accepted r

@@ -18,7 +18,7 @@ use Rattle.views.specs.Converter.{matrixOut}
 use Rattle.views.specs.Sized.{LentSized}
 use Rattle.plan.specs.Plan.{planOf}
 use Rattle.cut.specs.Run.{Event, event, writesOf, writesBy, Either}
-use Rattle.cut.specs.Vsync.{waits, turnedOver, waited, Finished}
+use Rattle.cut.specs.Vsync.{changeWaits, turnedOver, waited, FinishedRun}
 use Rattle.promises.specs.Finished.{audioPacket}
 use Rattle.promises.specs.LentBytes.{pairsLeft, enters, entered}
 use Rattle.promises.specs.AnyCut.{Headed}
@@ -26,7 +26,7 @@ use Rattle.promises.specs.AnyCut.{Headed}
 -- request 04, what is old after some events: the slices as they were lent; but where a change waited there and its Vsync has come before
 -- the hold is raised, as that Vsync left them
 abbrev pub oldSlices : List Event → Lent → Lent
-oldSlices es l = cond (waits (stateOf l) && turnedOver es) (turnOf l .slices) l
+oldSlices es l = cond (changeWaits (stateOf l) && turnedOver es) (turnOf l .slices) l
 
 -- what the calls answer of the slices: the packets, the mute, and the matrix in any lent bytes that have room for mode and coefficients
 abbrev pub aviSent : Lent → List ℕ
@@ -75,7 +75,7 @@ pub record Entering (was : List Event → Lent) (es : List Event) (l : Lent) : T
 pub record Followed (r : Request) (ws : List Write) (l : Lent) : Type 0 where
   pub entering : (es : List Event) → writesOf es ≡ ws → Entering (λ fs. oldSlices fs l) es l
   -- "After the last, all are new and the picture is open.", of a finished run
-  pub ended : (es : List Event) → Finished ws es → SaidAfter r (entered es l)
+  pub ended : (es : List Event) → FinishedRun ws es → SaidAfter r (entered es l)
   -- a run that is not finished has opened the picture all the same, and all are new after one Vsync more
   pub opened : (es : List Event) → writesOf es ≡ ws → muteSaid (entered es l) ≡ record { refusal = 0; mute = 2 }
   pub late : (es : List Event) → writesOf es ≡ ws → SaidAfter r (turnOf (entered es l) .slices)

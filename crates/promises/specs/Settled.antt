@@ -7,11 +7,12 @@ use lib.Dec.{eqb}
 use lib.ListN.{length, drop, replicate}
 use lib.Ieee.{Float}
 use Rattle.registers.specs.declared.Class.{Class}
-use Rattle.registers.specs.Classes.{classAt, Classifies}
+use Rattle.registers.specs.Classes.{classAt}
+use Rattle.registers.specs.ByColumns.{Classifies}
 use Rattle.video.specs.declared.Video.{Video}
 use Rattle.clock.specs.declared.Clock.{Clock}
 use Rattle.clock.specs.declared.Pair.{Pair}
-use Rattle.clock.specs.Clocks.{clockOf, GivesClock}
+use Rattle.clock.specs.Answers.{clockOf, GivesClock}
 use Rattle.clock.specs.Found.{pairOf, GivesPair}
 use Rattle.frames.specs.declared.Avi.{Avi}
 use Rattle.frames.specs.declared.Audio.{Audio}
@@ -22,7 +23,7 @@ use Rattle.meter.specs.declared.Metered.{Metered}
 use Rattle.meter.specs.Found.{meterOf, meterBuffer, Meters}
 use Rattle.request.specs.declared.Checked.{Checked}
 use Rattle.pipe.specs.declared.Piped.{Piped}
-use Rattle.pipe.specs.Found.{takeOf, takePipe, endOf, endPipe, Takes, Ends}
+use Rattle.pipe.specs.Found.{takeOf, takePipe, endPipeOf, endPipe, TakesPart, EndsPipe}
 use Rattle.line.specs.Words.{lineText, Prints, answerText, PrintsAnswer}
 use Rattle.line.specs.Verdict.{verdictText, PrintsVerdict}
 use Rattle.request.specs.declared.Request.{Request}
@@ -30,12 +31,12 @@ use Rattle.request.specs.Read.{readOf, pairFor, nctsOf, Reads, Pairs, PairsInpu
 use Rattle.chip.specs.declared.Chip.{Chip}
 use Rattle.chip.specs.declared.Wrote.{Wrote}
 use Rattle.chip.specs.Write.{lentAs, writeOf, vsyncOf}
-use Rattle.chip.specs.Step.{Hands}
+use Rattle.chip.specs.Write.{Hands}
 use Rattle.chip.specs.Turn.{Turned}
 use Rattle.views.specs.declared.view.Part.{Part}
 use Rattle.views.specs.declared.view.Mute.{Mute}
 use Rattle.views.specs.declared.converter.Count.{Count}
-use Rattle.views.specs.Entry.{marked, Lent, Entry, enterOf, turnOf, Writes, Turns}
+use Rattle.views.specs.Entry.{marked, Lent, SliceAnswer, enterOf, turnOf, Writes, Turns}
 use Rattle.views.specs.View.{viewRefusal, sentOf, sentPart, muteOf, Sends, Places, Refuses, Mutes}
 use Rattle.views.specs.Converter.{matrixAnswer, matrixOut, ShowsMatrix}
 use Rattle.plan.specs.declared.Planned.{Planned}
@@ -93,8 +94,8 @@ pub record Settled : Type 0 where
   pub meter : (numbers : List Float) (buffer : List ℕ)
       → Only {A = Metered × List ℕ} (λ o. Meters numbers buffer (o .0) (o .1)) (meterOf numbers buffer, meterBuffer numbers buffer)
   -- a part of a request, and its end
-  pub take : (pipe part : List ℕ) → Only {A = Piped × List ℕ} (λ o. Takes pipe part (o .0) (o .1)) (takeOf pipe part, takePipe pipe part)
-  pub end : (pipe : List ℕ) → Only {A = Piped × List ℕ} (λ o. Ends pipe (o .0) (o .1)) (endOf pipe, endPipe pipe)
+  pub take : (pipe part : List ℕ) → Only {A = Piped × List ℕ} (λ o. TakesPart pipe part (o .0) (o .1)) (takeOf pipe part, takePipe pipe part)
+  pub end : (pipe : List ℕ) → Only {A = Piped × List ℕ} (λ o. EndsPipe pipe (o .0) (o .1)) (endPipeOf pipe, endPipe pipe)
   pub clock : (video : Video) → Only {A = Clock} (GivesClock video) (clockOf video)
   pub pair : (video : Video) (rate coherent : ℕ) → Only {A = Pair} (GivesPair video rate coherent) (pairOf video rate coherent)
   pub avi : (video : Video) → Only {A = Avi} (GivesAvi video) (aviOf video)
@@ -103,8 +104,8 @@ pub record Settled : Type 0 where
   pub turn : (s : Chip) → Only {A = Chip} (Turned s) (vsyncOf s)
   -- over slices: the number, and the four slices
   pub enter : (l : Lent) (address value : ℕ)
-      → let e : Entry = enterOf l address value in Only {A = ℕ × Lent} (λ o. Writes l address value (o .0) (o .1)) (e .refusal, e .slices)
-  pub vsync : (l : Lent) → let e : Entry = turnOf l in Only {A = ℕ × Lent} (λ o. Turns l (o .0) (o .1)) (e .refusal, e .slices)
+      → let e : SliceAnswer = enterOf l address value in Only {A = ℕ × Lent} (λ o. Writes l address value (o .0) (o .1)) (e .refusal, e .slices)
+  pub vsync : (l : Lent) → let e : SliceAnswer = turnOf l in Only {A = ℕ × Lent} (λ o. Turns l (o .0) (o .1)) (e .refusal, e .slices)
   -- the part: its bytes, and where it starts, by where the two slices start, "whichever the chip reads"; and the same in numbers
   pub sent : (image packet : List ℕ) (which : ℕ) (i p : ℕ × ℕ)
       → let part : Part = sentPart image packet which in
@@ -144,14 +145,14 @@ pub record Settled : Type 0 where
       Only {A = PipedOut × List ℕ} (λ o. StationPipeTake pipe part (o .0) (o .1))
       (record { refusal = p .refusal; answered = p .answered; count = p .count }, takePipe pipe part)
   pub stationPipeEnd : (pipe : List ℕ)
-      → let p : Piped = endOf pipe in
+      → let p : Piped = endPipeOf pipe in
       Only {A = PipedOut × List ℕ} (λ o. StationPipeEnd pipe (o .0) (o .1))
       (record { refusal = p .refusal; answered = p .answered; count = p .count }, endPipe pipe)
   pub stationWrite : (l : Lent) (address value : ℕ)
-      → let e : Entry = enterOf l address value in
+      → let e : SliceAnswer = enterOf l address value in
       Only {A = ℕ × Lent} (λ o. StationWrite l address value (o .0) (o .1)) (e .refusal, e .slices)
   pub stationVsync : (l : Lent)
-      → let e : Entry = turnOf l in Only {A = ℕ × Lent} (λ o. StationVsync l (o .0) (o .1)) (e .refusal, e .slices)
+      → let e : SliceAnswer = turnOf l in Only {A = ℕ × Lent} (λ o. StationVsync l (o .0) (o .1)) (e .refusal, e .slices)
   pub stationSent : (image packet : List ℕ) (which : ℕ)
       → let p : Part = sentPart image packet which in
       Only {A = PartOut} (StationSent image packet which)

@@ -20,13 +20,13 @@ pub record Case : Type 0 where
   pub refusal : ℕ
   pub place : ℕ
 
-abbrev pub zeros : List ℕ
-zeros = replicate 256 0
+abbrev pub vendorZeros : List ℕ
+vendorZeros = replicate 256 0
 
 -- on registers and buffers of zeros, in which no request ends and the picture is neither muted nor open; no change waits
 abbrev pub answers : List ℕ → ℕ → ℕ → Case
 answers list refusal place = record {
-  image = zeros;
+  image = vendorZeros;
   packet = replicate 32 0;
   coefficients = replicate 24 0;
   waiting = false;
@@ -78,8 +78,8 @@ cases =
     answers (0x4B ∷ 0x40 ∷ 0x78 ∷ 0x00 ∷ 0x4B ∷ 0x80 ∷ []) 16 0 ∷
     -- "7 and 8", "14 an odd length or too many pairs", "15", "in that order"
     onImage (replicate 255 0) (answers (0x4B ∷ []) 7 0) ∷
-    onImage (set zeros 0x4A 0x60) (answers (0x4B ∷ []) 8 0) ∷
-    onImage (set zeros 0x4A 0x10) (answers (0x4B ∷ []) 8 0) ∷
+    onImage (set vendorZeros 0x4A 0x60) (answers (0x4B ∷ []) 8 0) ∷
+    onImage (set vendorZeros 0x4A 0x10) (answers (0x4B ∷ []) 8 0) ∷
     answers (0x30 ∷ []) 14 0 ∷
     answers (replicate 1026 0) 14 0 ∷
     answers (replicate 1024 0) 15 0 ∷
@@ -89,7 +89,7 @@ cases =
     answers (0x4B ∷ 0x40 ∷ 0x4B ∷ 0x41 ∷ 0x4B ∷ 0x80 ∷ []) 15 1 ∷
     answers (0x4B ∷ 0x40 ∷ 0x4A ∷ 0x10 ∷ 0x4B ∷ 0x80 ∷ []) 15 1 ∷
     -- read-only bits of a value are not looked at
-    onImage (set zeros 0x4C 0xF0) (answers (0x4B ∷ 0x40 ∷ 0x4C ∷ 0x05 ∷ 0x4B ∷ 0x80 ∷ []) 16 0) ∷
+    onImage (set vendorZeros 0x4C 0xF0) (answers (0x4B ∷ 0x40 ∷ 0x4C ∷ 0x05 ∷ 0x4B ∷ 0x80 ∷ []) 16 0) ∷
     -- not muted at the cut after pair 0, neither or open: the pair before the cut is bad
     answers (0x01 ∷ 0x00 ∷ 0x4B ∷ 0x80 ∷ []) 15 0 ∷
     answers (0x4B ∷ 0x80 ∷ 0x4B ∷ 0x80 ∷ []) 15 0 ∷
@@ -109,7 +109,7 @@ cases =
     answers (0x4B ∷ 0x40 ∷ 0x1A ∷ 0x20 ∷ 0x19 ∷ 0x01 ∷ 0x1B ∷ 0x02 ∷ 0x1A ∷ 0x00 ∷ 0x4B ∷ 0x80 ∷ []) 16 0 ∷
     answers (0x4B ∷ 0x40 ∷ 0x18 ∷ 0x20 ∷ 0x18 ∷ 0x40 ∷ 0x98 ∷ 0x00 ∷ 0x4B ∷ 0x80 ∷ []) 15 3 ∷
     -- "as it began": what is in use, from the buffer where the AVI hold is up; so lowering it before the registers are written tears AVI
-    withPacket (0x07 ∷ replicate 31 0) (onImage (set zeros 0x4A 0x40)
+    withPacket (0x07 ∷ replicate 31 0) (onImage (set vendorZeros 0x4A 0x40)
     (answers (0x4B ∷ 0x40 ∷ 0x4A ∷ 0x00 ∷ 0x55 ∷ 0x01 ∷ 0x4B ∷ 0x80 ∷ []) 15 1)) ∷
     -- request 04: the hold dropped at the third byte only waits, and the event comes later, just before the last pair
     answers (0x4B ∷ 0x40 ∷ 0x1A ∷ 0x20 ∷ 0x19 ∷ 0x01 ∷ 0x1A ∷ 0x00 ∷ 0x1B ∷ 0x02 ∷ 0x4B ∷ 0x80 ∷ []) 16 0 ∷
@@ -125,7 +125,7 @@ cases =
     -- the Vsync before the last pair takes the registers as they then stand, which is neither as the list began nor as it ends
     waitingSeven (answers (0x4B ∷ 0x40 ∷ 0x19 ∷ 0x01 ∷ []) 15 0) ∷
     -- a mark beside a raised hold counts for nothing: the event leaves it
-    onImage (set zeros 0x1A 0x20) (waitingSeven (answers (0x4B ∷ 0x40 ∷ 0x19 ∷ 0x01 ∷ 0x1B ∷ 0x02 ∷ 0x4B ∷ 0x80 ∷ []) 16 0)) ∷ []
+    onImage (set vendorZeros 0x1A 0x20) (waitingSeven (answers (0x4B ∷ 0x40 ∷ 0x19 ∷ 0x01 ∷ 0x1B ∷ 0x02 ∷ 0x4B ∷ 0x80 ∷ []) 16 0)) ∷ []
 
 abbrev pub right : Case → Bool
 right c =

@@ -7,17 +7,18 @@ use Prim.Native.Nat.{ℕ, suc, _<_, _≤_}
 use lib.ListN.{length, getD, take}
 use Rattle.bits.specs.Merge.{bitsIn}
 use Rattle.matrix.specs.Matrix.{Bytes}
-use Rattle.request.specs.Bytes.{asBytes, inFamily}
+use Rattle.request.specs.Bytes.{asBytes, requestInFamily}
 use Rattle.chip.specs.declared.Chip.{Chip}
 use Rattle.chip.specs.Machine.{avi, audio, gc, matrix, packets, converter, held, inUse, Muted, Open}
 use Rattle.chip.specs.Write.{vsyncOf}
 use Rattle.views.specs.Entry.{Lent, stateOf}
-use Rattle.views.specs.Sized.{Sized, LentSized}
+use Rattle.views.specs.Sized.{LentSized}
+use Rattle.views.specs.Refusals.{Sized}
 use Rattle.writes.specs.List.{pairsOf}
 use Rattle.plan.specs.Plan.{planOf}
 use Rattle.plan.specs.Rules.{HoldsUp}
 use Rattle.cut.specs.Run.{Event, run, cut, writesOf, writesBy, allInUse, Either, Careful, Covered, Untouched}
-use Rattle.cut.specs.Vsync.{waited, Finished}
+use Rattle.cut.specs.Vsync.{waited, FinishedRun}
 use Rattle.cut.specs.Retried.{Retried}
 use Rattle.cut.specs.Demand.{toItsEnd, After, Same}
 use Rattle.vendor.specs.Vendor.{pairAt, cutAt, endOf, Decodable}
@@ -28,7 +29,7 @@ use Rattle.promises.specs.AnyCut.{listOf, AnyCut}
 
 -- "ends in an image that decodes": what decoding answers, and the request, in the family in which it ends, as bytes
 abbrev pub inputOf : {image : List ℕ} → Decodable image → List ℕ
-inputOf d = asBytes (inFamily (d .ends .family) (d .request))
+inputOf d = asBytes (requestInFamily (d .ends .family) (d .request))
 
 -- a list that passes, run from the state that it was read for, with its Vsync just before its last pair
 pub record Passing (list : List ℕ) (s : Chip) : Type 0 where
@@ -69,7 +70,7 @@ pub record Passing (list : List ℕ) (s : Chip) : Type 0 where
   pub mended : (input buffer : List ℕ) → planOf input (s .image) buffer .refusal ≡ 0 → (k : ℕ) (room : List ℕ) → 256 ≤ length room
       → let t : Chip = cutAt (pairsOf list) s k in
       (planOf input (t .image) room .refusal ≡ 0) × AnyCut input room t
-      × ((es fs : List Event) → Finished (listOf input (s .image)) es → Finished (listOf input (t .image)) fs → Same (run es s) (run fs t))
+      × ((es fs : List Event) → FinishedRun (listOf input (s .image)) es → FinishedRun (listOf input (t .image)) fs → Same (run es s) (run fs t))
 
 pub record Vendors : Type 0 where
   -- "The library's own lists always pass."

@@ -21,8 +21,8 @@ exampleDone = finishedImage (wanted (readOf example .request)) zeros
 
 -- a list in which only some registers of the AVI group and some others differ, in bare bytes: mute, the coefficient hold up, kept up and down,
 -- the AVI hold up and down, the audio hold up and down, open
-abbrev pub listWith : List ℕ → List ℕ → List ℕ
-listWith avi others =
+abbrev pub exampleList : List ℕ → List ℕ → List ℕ
+exampleList avi others =
     0x4B ∷ 0x40 ∷ 0x1A ∷ 0x20 ∷ 0x1A ∷ 0x20 ∷ 0x1A ∷ 0x00 ∷ 0x4A ∷ 0xC0 ∷ [] ++ avi ++
     0x4A ∷ 0x80 ∷ 0x4A ∷ 0xA0 ∷ 0x4A ∷ 0x80 ∷ [] ++ others ++ 0x4B ∷ 0x80 ∷ []
 
@@ -30,8 +30,8 @@ listWith avi others =
 -- coherent four more stand before the last, for CTS, 148500, and 0x0A[7] become 0
 abbrev pub Few : Type 0
 Few =
-    (bytesLeft example exampleDone zeros ≡ listWith [] [])
-    × (bytesLeft (set example 11 0) exampleDone zeros ≡ listWith [] (0x07 ∷ 0x00 ∷ 0x08 ∷ 0x00 ∷ 0x09 ∷ 0x00 ∷ 0x0A ∷ 0x00 ∷ []))
+    (bytesLeft example exampleDone zeros ≡ exampleList [] [])
+    × (bytesLeft (set example 11 0) exampleDone zeros ≡ exampleList [] (0x07 ∷ 0x00 ∷ 0x08 ∷ 0x00 ∷ 0x09 ∷ 0x00 ∷ 0x0A ∷ 0x00 ∷ []))
 
 -- request 06, of VIC 2, silent, at 24 bits and no repetition, on the image that it ends in, where the read-only bits of 0x4C are 1: 30 bits
 -- twice, and 36 bits four times. The checksum and PR change, 0x3B and 0x4C
@@ -43,13 +43,13 @@ vic2Done = set (finishedImage (wanted (readOf (vic2 0x00 0x00) .request)) zeros)
 
 abbrev pub FewDeep : Type 0
 FewDeep =
-    (bytesLeft (vic2 0x11 0x00) vic2Done zeros ≡ listWith (0x54 ∷ 0x40 ∷ 0x59 ∷ 0x01 ∷ []) (0x3B ∷ 0xCA ∷ 0x4C ∷ 0xF5 ∷ []))
-    × (bytesLeft (vic2 0x22 0x00) vic2Done zeros ≡ listWith (0x54 ∷ 0x3E ∷ 0x59 ∷ 0x03 ∷ []) (0x3B ∷ 0xD4 ∷ 0x4C ∷ 0xF6 ∷ []))
+    (bytesLeft (vic2 0x11 0x00) vic2Done zeros ≡ exampleList (0x54 ∷ 0x40 ∷ 0x59 ∷ 0x01 ∷ []) (0x3B ∷ 0xCA ∷ 0x4C ∷ 0xF5 ∷ []))
+    × (bytesLeft (vic2 0x22 0x00) vic2Done zeros ≡ exampleList (0x54 ∷ 0x3E ∷ 0x59 ∷ 0x03 ∷ []) (0x3B ∷ 0xD4 ∷ 0x4C ∷ 0xF6 ∷ []))
 
 -- request 11, on that image: E that asks for nothing changes nothing; with quantisation and type 1, the checksum and data byte 5 change; and
 -- so with type 3 beside a PR of 3
 abbrev pub FewEditions : Type 0
 FewEditions =
-    (bytesLeft (vic2 0x00 0x01) vic2Done zeros ≡ listWith [] [])
-    × (bytesLeft (vic2 0x00 0x15) vic2Done zeros ≡ listWith (0x54 ∷ 0xF1 ∷ 0x59 ∷ 0x50 ∷ []) [])
-    × (bytesLeft (vic2 0x22 0x31) vic2Done zeros ≡ listWith (0x54 ∷ 0x0E ∷ 0x59 ∷ 0x33 ∷ []) (0x3B ∷ 0xD4 ∷ 0x4C ∷ 0xF6 ∷ []))
+    (bytesLeft (vic2 0x00 0x01) vic2Done zeros ≡ exampleList [] [])
+    × (bytesLeft (vic2 0x00 0x15) vic2Done zeros ≡ exampleList (0x54 ∷ 0xF1 ∷ 0x59 ∷ 0x50 ∷ []) [])
+    × (bytesLeft (vic2 0x22 0x31) vic2Done zeros ≡ exampleList (0x54 ∷ 0x0E ∷ 0x59 ∷ 0x33 ∷ []) (0x3B ∷ 0xD4 ∷ 0x4C ∷ 0xF6 ∷ []))

@@ -5,10 +5,11 @@ use native.Mathlib.Nat.{dvd-refl, dvd-zero, dvd-mod-iff, dvd-add-iff-right, dvd-
 use native.Mathlib.Nat.{eq-one-of-dvd-one, mul-dvd-mul-left, pos-of-dvd-of-pos}
 use native.Mathlib.Nat.{mod-lt, div-add-mod, mul-div-cancel', mul-add, mul-assoc, mul-left-comm, mul-one, zero-lt-suc, not-suc-le-zero, le-refl}
 use native.Mathlib.Omega.{arith}
-use Rattle.ratio.specs.Lowest.{steps, divisorOf, Lowest}
+use Rattle.ratio.specs.Lowest.{Lowest}
+use Rattle.ratio.specs.Terms.{euclid, divisorOf}
 
 pub gcd-zero : (a : ℕ) → divisorOf a 0 ≡ a
-unfolding divisorOf steps
+unfolding divisorOf euclid
 gcd-zero a = refl
 
 -- it divides both, and every common divisor divides it
@@ -17,8 +18,8 @@ pub record Greatest (g a b : ℕ) : Type 0 where
   pub right : g ∣ b
   pub most : (d : ℕ) → d ∣ a → d ∣ b → d ∣ g
 
-great : (n a b : ℕ) → b ≤ n → Greatest (steps n a b) a b
-unfolding steps
+great : (n a b : ℕ) → b ≤ n → Greatest (euclid n a b) a b
+unfolding euclid
 great zero a zero h = record { left = dvd-refl a; right = dvd-zero a; most = λ d p q. p }
 great zero a (suc b) h = absurd (not-suc-le-zero h)
 great (suc n) a zero h = record { left = dvd-refl a; right = dvd-zero a; most = λ d p q. p }
@@ -39,8 +40,8 @@ pub some : (a b : ℕ) → 0 < b → 0 < divisorOf a b
 some a b h = pos-of-dvd-of-pos (greatest a b .right) h
 
 -- what divides m times both divides m times the divisor
-scaled : (n d m a b : ℕ) → b ≤ n → d ∣ m * a → d ∣ m * b → d ∣ m * steps n a b
-unfolding steps
+scaled : (n d m a b : ℕ) → b ≤ n → d ∣ m * a → d ∣ m * b → d ∣ m * euclid n a b
+unfolding euclid
 scaled zero d m a zero h p q = p
 scaled zero d m a (suc b) h p q = absurd (not-suc-le-zero h)
 scaled (suc n) d m a zero h p q = p

@@ -6,7 +6,8 @@ use native.Mathlib.Nat.{dvd-antisymm, dvd-trans, dvd-mul-left-of-dvd, dvd-mul-ri
 use native.Mathlib.Nat.{mod-eq-zero-of-dvd, dvd-of-mod-eq-zero, eq-of-mul-eq-mul-left}
 use native.Mathlib.Nat.{mul-assoc, mul-comm, mul-left-comm, mul-right-comm, add-mul, one-mul}
 use native.Mathlib.Omega.{arith}
-use Rattle.ratio.specs.Lowest.{divisorOf, Lowest}
+use Rattle.ratio.specs.Lowest.{Lowest}
+use Rattle.ratio.specs.Terms.{divisorOf}
 use Rattle.ratio.proofs.Divisor.{Greatest, greatest, gcd-zero}
 
 -- there is one greatest common divisor, and the order of the two does not matter

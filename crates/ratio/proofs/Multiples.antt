@@ -3,7 +3,7 @@ use mathlib.Core.Path.{_≡_, sym, ap, _∙_, subst}
 use Prim.Native.Nat.{ℕ, _*_, _/_, _<_, _∣_}
 use native.Mathlib.Nat.{dvd-mul-left, dvd-mul-right, dvd-of-mul-dvd-mul-left, mul-div-cancel', div-mul-cancel, eq-of-mul-eq-mul-left}
 use native.Mathlib.Nat.{mul-assoc, mul-comm, mul-left-comm, one-mul, le-of-dvd, le-div-iff-mul-le}
-use Rattle.ratio.specs.Lowest.{divisorOf, topOf, bottomOf}
+use Rattle.ratio.specs.Terms.{divisorOf, topOf, bottomOf}
 use Rattle.ratio.proofs.Divisor.{greatest, some, divides-scaled}
 
 -- (g·u)·(k·v) is (g·v)·(k·u)

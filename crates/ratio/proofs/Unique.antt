@@ -2,7 +2,8 @@
 use mathlib.Core.Path.{_≡_, sym, _∙_, subst}
 use Prim.Native.Nat.{ℕ, _*_, _<_, _∣_}
 use native.Mathlib.Nat.{mul-comm, one-mul, dvd-mul-right}
-use Rattle.ratio.specs.Lowest.{Lowest, topOf, bottomOf, LowestTerms}
+use Rattle.ratio.specs.Lowest.{Lowest, LowestTerms}
+use Rattle.ratio.specs.Terms.{topOf, bottomOf}
 use Rattle.ratio.proofs.Divisor.{in-lowest}
 use Rattle.ratio.proofs.Multiples.{multiple}
 

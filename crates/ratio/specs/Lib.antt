@@ -1,1 +1,2 @@
+pub mod Terms
 pub mod Lowest

@@ -2,8 +2,9 @@
 -- where document 01 has Euclid's rule. `Lowest` is to be believed, and is what the code promises (`Reduces`). `steps` is how the definitions
 -- find it, by Euclid's rule; the code goes another way, and `LowestTerms` says that there is nothing else to find.
 use mathlib.Core.Path.{_≡_}
-use Prim.Native.Nat.{ℕ, zero, suc, _*_, _/_, _%_, _<_, _∣_}
+use Prim.Native.Nat.{ℕ, _*_, _/_, _<_, _∣_}
 use Rattle.ratio.specs.declared.Ratio.{Ratio}
+use Rattle.ratio.specs.Terms.{topOf, bottomOf}
 
 -- the fraction num / den in lowest terms is u / v
 pub record Lowest (num den u v : ℕ) : Type 0 where
@@ -14,22 +15,6 @@ pub record Lowest (num den u v : ℕ) : Type 0 where
 pub record Reduces (num den : ℕ) (r : Ratio) : Type 0 where
   pub some : 0 < den → Lowest num den (r .u) (r .v)
   pub none : den ≡ 0 → (r .u ≡ 0) × (r .v ≡ 0)
-
--- Euclid's rule, by which definitions compute: the divisor of (a, 0) is a, and that of (a, b) is that of (b, a % b). At most b steps are
--- taken.
-unfoldable pub steps : ℕ → ℕ → ℕ → ℕ
-steps zero a b = a
-steps (suc n) a zero = a
-steps (suc n) a (suc b) = steps n (suc b) (a % suc b)
-
-unfoldable pub divisorOf : ℕ → ℕ → ℕ
-divisorOf a b = steps b a b
-
-abbrev pub topOf : ℕ → ℕ → ℕ
-topOf num den = num / divisorOf num den
-
-abbrev pub bottomOf : ℕ → ℕ → ℕ
-bottomOf num den = den / divisorOf num den
 
 -- a fraction has lowest terms, and only these
 pub record LowestTerms : Type 0 where

@@ -3,7 +3,8 @@
 ghost use mathlib.Core.Path.{_≡_};
 ghost use mathlib.Core.Logic.{_≢_};
 ghost use Prim.Native.Nat.{_+_, _/_, _%_};
-ghost use Rattle.ratio.specs.Lowest.{Reduces, divisorOf, LowestTerms};
+ghost use Rattle.ratio.specs.Lowest.{Reduces, LowestTerms};
+ghost use Rattle.ratio.specs.Terms.{divisorOf};
 
 // The fraction u / v.
 pub struct Ratio {

@@ -16,7 +16,8 @@ use lib.Dec.{eqb}
 use lib.ListN.{getD}
 use borrow.Author.Tests.{eqb-true, eqb-false, eq-eqb, ne-eqb, not-true, not-false}
 use Rattle.lists.proofs.Decides.{Decides}
-use Rattle.refusals.specs.Rows.{Row, inputEnds, number, order, inOrder, Condition, _when_, Given, Test, _if_, lowest, answer}
+use Rattle.refusals.specs.Rows.{Row, inputEnds, number, order, inOrder, Condition, _when_, Given}
+use Rattle.refusals.specs.Tests.{Test, _if_, lowest, answer}
 use Rattle.refusals.proofs.First.{Tried, tried, again, number-some}
 
 abbrev pub Decided : List Test → List Condition → Type 0

@@ -4,7 +4,7 @@ use mathlib.Core.Path.{_≡_}
 use mathlib.Core.Logic.{_↔_, _≢_}
 use mathlib.Core.Bool.{Bool, true, false, cond}
 use mathlib.Core.List.{List, [], _∷_}
-use Prim.Native.Nat.{ℕ, _<_, _≤_}
+use Prim.Native.Nat.{ℕ, _<_}
 use lib.Dec.{eqb}
 use lib.ListN.{length, getD}
 
@@ -75,22 +75,3 @@ pub record Given (rules : List Condition) (given : ℕ) : Type 0 where
   pub some : given ≢ 0 → First rules given
   -- none is given exactly when none applies
   pub none : (given ≡ 0) ↔ ((i : ℕ) → i < length rules → at rules i .When → ⊥)
-
--- a test that a call makes for a row, and what it found
-pub record Test : Type 0 where
-  pub row : Row
-  pub found : Bool
-
-infix 80 _if_
-abbrev pub _if_ : Row → Bool → Test
-row if b = record { row = row; found = b }
-
--- how a call finds what it gives: the number of its first test that is true, 0 for none. Where its tests decide its conditions one by one,
--- that is what `Given` asks for (`lowest-given`).
-abbrev pub lowest : List Test → ℕ
-lowest [] = 0
-lowest (t ∷ ts) = cond (t .found) (number (t .row)) (lowest ts)
-
--- what a call answers: x where none is given, and else what stands beside the number
-abbrev pub answer : {X : Type 0} → ℕ → (ℕ → X) → X → X
-answer given refused x = cond (eqb given 0) x (refused given)

@@ -5,7 +5,7 @@ use mathlib.Core.List.{List, map}
 use Prim.Native.Nat.{ℕ}
 use Rattle.registers.specs.declared.Class.{Class}
 use Rattle.registers.specs.declared.ByColumn.{ByColumn}
-use Rattle.registers.specs.Classes.{classes}
+use Rattle.registers.specs.Classes.{classes, classAt}
 
 -- one field of each row
 abbrev pub columnOf : (Class → ℕ) → List ℕ
@@ -17,3 +17,7 @@ pub record HasColumns (c : ByColumn) : Type 0 where
   pub mandated : c .mandated ≡ columnOf (λ r. r .mandated)
   pub free : c .free ≡ columnOf (λ r. r .free)
   pub bits : c .bits ≡ columnOf (λ r. r .bits)
+
+-- what `class_at` promises
+abbrev pub Classifies : ℕ → Class → Type 0
+Classifies a c = c ≡ classAt a

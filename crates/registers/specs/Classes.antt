@@ -13,20 +13,16 @@ abbrev pub class : ℕ → ℕ → ℕ → ℕ → ℕ → Class
 class r m n f b = record { «read_only» = r; mandated = m; named = n; free = f; bits = b }
 
 -- f at each of count addresses from a on
-abbrev pub each : (ℕ → Class) → ℕ → ℕ → List Class
-each f a zero = []
-each f a (suc count) = f a ∷ each f (a + 1) count
+abbrev pub eachAddress : (ℕ → Class) → ℕ → ℕ → List Class
+eachAddress f a zero = []
+eachAddress f a (suc count) = f a ∷ eachAddress f (a + 1) count
 
 abbrev pub classes : List Class
-classes = each byPrecedence 0 256
+classes = eachAddress byPrecedence 0 256
 
 -- the class of an address. The table behind it is unfolded only in a proof that asks for it by name.
 unfoldable pub classAt : ℕ → Class
 classAt a = getD classes a (class 0 0 0 0 0)
-
--- what `class_at` promises
-abbrev pub Classifies : ℕ → Class → Type 0
-Classifies a c = c ≡ classAt a
 
 abbrev pub readOnly : ℕ → ℕ
 readOnly a = classAt a .«read_only»

@@ -20,9 +20,9 @@ use Rattle.map.specs.Map.{audioInfoframeChecksum, audioInfoframeByte1, gcDepth,
 use Rattle.registers.specs.Field.{Field, field, whole, bytes, fieldsAt, masks}
 
 -- count coefficients from register `first` on: the high five bits of each in one register, the low eight in the next
-abbrev pub coefficients : ℕ → ℕ → List Field
-coefficients first zero = []
-coefficients first (suc count) = field first cscHighMask ∷ field (first + 1) whole ∷ coefficients (first + 2) count
+abbrev pub coefficientFields : ℕ → ℕ → List Field
+coefficientFields first zero = []
+coefficientFields first (suc count) = field first cscHighMask ∷ field (first + 1) whole ∷ coefficientFields (first + 2) count
 
 -- request 06: "The general control fields for depth become named"
 abbrev pub becomeNamed : List Field
@@ -42,7 +42,7 @@ namedFields =
     field i2sFreqIdCfg i2sSamplingFrequencyMask ∷ field i2sFreqIdCfg inputIdMask ∷ field videoInputCfg1 outputFormatMask ∷
     -- "CSC with its hold"
     field csc cscEnableMask ∷ field csc cscScalingFactorMask ∷ field coefficientUpdate coefficientUpdateMask ∷ [] ++
-    coefficients csc 12 ++
+    coefficientFields csc 12 ++
     -- "0x3B[6:5] = 2 with [4:1] = 0"; since request 06 [4:1] follows the repetition
     field pixelRepetition prModeMask ∷ field pixelRepetition prPllManualMask ∷ field pixelRepetition prValueManualMask ∷
     -- "VIC in 0x3C[5:0], the GC enable 0x40[7]"

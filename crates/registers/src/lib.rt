@@ -1,7 +1,8 @@
 // The class of each bit of the main map: document 01, "Register classes".
 ghost use mathlib.Core.Path.{_≡_};
 ghost use Prim.Native.Nat.{ℕ, _<_};
-ghost use Rattle.registers.specs.Classes.{classAt, Classifies, readOnly, named, Rule};
+ghost use Rattle.registers.specs.Classes.{classAt, readOnly, named, Rule};
+ghost use Rattle.registers.specs.ByColumns.{Classifies};
 ghost use Rattle.registers.specs.ByColumns.{HasColumns};
 ghost use Rattle.registers.specs.Fields.{namedFields, maskIn};
 ghost use Rattle.registers.specs.Table14.{Table14};

@@ -5,7 +5,7 @@ use mathlib.Core.Bool.{Bool, true, false, cond, not, _&&_, _||_}
 use Prim.Native.Nat.{ℕ}
 use lib.Dec.{eqb}
 use lib.ListN.{length}
-use Rattle.refusals.specs.Rows.{lowest, answer}
+use Rattle.refusals.specs.Tests.{lowest, answer}
 use Rattle.lists.proofs.Decides.{refuted, confirmed}
 use Rattle.video.specs.declared.Video.{Video}
 use Rattle.video.specs.Tests.{editionOutside, shownOutside, videoOutside, askedUnderD, shownCombined, videoCombined}
@@ -17,9 +17,9 @@ use Rattle.request.specs.declared.Checked.{Checked}
 use Rattle.request.specs.Sections.{Bodies}
 use Rattle.request.specs.Request.{present, requestIn}
 use Rattle.request.specs.Read.{emptied, outside, combined, fieldsTests, judged, limitOf, limited, readOf}
+use Rattle.request.specs.ThereAndBack.{requestInEdition}
 use Rattle.request.specs.Bytes.{bodiesOf, asBytes}
-use Rattle.request.specs.Bytes as request
-use Rattle.request.specs.Theorems.{Shaped}
+use Rattle.request.specs.ThereAndBack.{Shaped}
 use Rattle.request.proofs.Ordered.{Judged, accepted, not-refused}
 use Rattle.request.proofs.Said.{read-judged, said}
 
@@ -31,7 +31,7 @@ module _ (r : Request) where
   b = bodiesOf r
 
   abbrev d : Bodies
-  d = bodiesOf (request.inEdition 0x00 r)
+  d = bodiesOf (requestInEdition 0x00 r)
 
   -- where the byte's own rows let it pass the others are those of D
   same-outside : editionOutside v ≡ false → outside b ≡ outside d
@@ -84,21 +84,21 @@ module _ (r : Request) where
       go false e false h = not-refused b (j .mode) (same-outside e ∙ j .inside) (same-combined h ∙ j .apart) (j .within)
 
 -- of a request, by its bytes
-pub answered-by-edition : (r : Request) → Shaped (r .matrix) → readOf (asBytes (request.inEdition 0x00 r)) .refusal ≡ 0
+pub answered-by-edition : (r : Request) → Shaped (r .matrix) → readOf (asBytes (requestInEdition 0x00 r)) .refusal ≡ 0
     → readOf (asBytes r) .refusal ≡ cond (editionOutside (r .video)) 5 (cond (askedUnderD (r .video)) 6 0)
 answered-by-edition r s z =
     let n : Checked → ℕ = λ c. c .refusal in
-    ap n (read-judged r s) ∙ by-edition r (sym (ap n (read-judged (request.inEdition 0x00 r) s)) ∙ z)
+    ap n (read-judged r s) ∙ by-edition r (sym (ap n (read-judged (requestInEdition 0x00 r) s)) ∙ z)
 
 -- what is accepted is accepted under D
 pub accepted-under-d : (r : Request) → Shaped (r .matrix) → VideoFits (r .video) → readOf (asBytes r) .refusal ≡ 0
-    → readOf (asBytes (request.inEdition 0x00 r)) ≡ record { refusal = 0; request = request.inEdition 0x00 r }
+    → readOf (asBytes (requestInEdition 0x00 r)) ≡ record { refusal = 0; request = requestInEdition 0x00 r }
 unfolding tmds
 accepted-under-d r s f z =
     let n : Checked → ℕ = λ c. c .refusal in
     let j = accepted (bodiesOf r) (sym (ap n (read-judged r s)) ∙ z) in
     let inside = refuted (video.is-edition-outside (r .video)) (video.edition-inside (r .video) f) in
     let apart = refuted (video.is-under-d (r .video)) (λ u. video.asked-under-e (r .video) f (u .1) (u .0)) in
-    said (request.inEdition 0x00 r) s
-    (ap n (read-judged (request.inEdition 0x00 r) s)
-    ∙ not-refused (bodiesOf (request.inEdition 0x00 r)) (j .mode) (sym (same-outside r inside) ∙ j .inside) (sym (same-combined r apart) ∙ j .apart) (j .within))
+    said (requestInEdition 0x00 r) s
+    (ap n (read-judged (requestInEdition 0x00 r) s)
+    ∙ not-refused (bodiesOf (requestInEdition 0x00 r)) (j .mode) (sym (same-outside r inside) ∙ j .inside) (sym (same-combined r apart) ∙ j .apart) (j .within))

@@ -10,12 +10,12 @@ use lib.ListN.{length, drop, length-drop}
 use lib.Seq.{getD-append-add, getD-drop, drop-cons}
 use borrow.Author.Tests.{eqb-true, leb-true, ltb-true, lt-ltb, le-ltb, not-false}
 use Rattle.lists.proofs.Both.{both-left, both-right, neither-right}
-use Rattle.matrix.specs.Coefficient.{word, field, highByte, coefficientBytes}
+use Rattle.matrix.specs.Coefficient.{word, lowThirteen, highByte, coefficientBytes}
 use Rattle.matrix.specs.Tests.{within}
 use Rattle.matrix.specs.Matrix.{fields, matrixOf, noMatrix, Bytes}
 use Rattle.matrix.specs.Tests.{inRange, isAllowed}
 use Rattle.matrix.proofs.Pairs.{ranged}
-use Rattle.refusals.specs.Rows.{answer}
+use Rattle.refusals.specs.Tests.{answer}
 use Rattle.video.specs.Video.{videoIn, videoBody, answered}
 use Rattle.video.specs.Tests.{videoOutside}
 use Rattle.video.proofs.Bodies as video
@@ -26,7 +26,7 @@ use Rattle.request.specs.Bytes.{laid, audioBody, matrixBody, asBytes, an
 use Rattle.request.specs.Walks.{Sectioned}
 use Rattle.request.specs.Request.{present, soundOf, requestIn}
 use Rattle.request.specs.Read.{audioOutside, outside, emptied, judged, checked, readOf}
-use Rattle.request.specs.Theorems.{Shaped, ThereAndBack}
+use Rattle.request.specs.ThereAndBack.{Shaped, ThereAndBack}
 use Rattle.request.proofs.Opened.{sectioned, request-walks}
 use Rattle.request.proofs.Ordered.{both, passed}
 use Rattle.request.proofs.Said.{new-video, said}
@@ -48,16 +48,16 @@ audio-back (x ∷ y ∷ z ∷ []) h = refl
 audio-back (x ∷ y ∷ z ∷ w ∷ l) (inl e) = absurd (omega arith)
 audio-back (x ∷ y ∷ z ∷ w ∷ l) (inr e) = absurd (omega arith)
 
-pair-back : (x y : ℕ) → x < 256 → y < 256 → within (word x y) ≡ true → (highByte (field (word x y)) ≡ x) × (field (word x y) % 256 ≡ y)
+pair-back : (x y : ℕ) → x < 256 → y < 256 → within (word x y) ≡ true → (highByte (lowThirteen (word x y)) ≡ x) × (lowThirteen (word x y) % 256 ≡ y)
 pair-back x y h k t = go (ltb (word x y) 4096) refl t
   where
-    go : (b : Bool) → ltb (word x y) 4096 ≡ b → (b || leb 61440 (word x y)) ≡ true → (highByte (field (word x y)) ≡ x) × (field (word x y) % 256 ≡ y)
+    go : (b : Bool) → ltb (word x y) 4096 ≡ b → (b || leb 61440 (word x y)) ≡ true → (highByte (lowThirteen (word x y)) ≡ x) × (lowThirteen (word x y) % 256 ≡ y)
     go true e f =
         let l : word x y < 4096 = ltb-true _ _ e in
-        (rw (lt-ltb (field (word x y)) 4096 (omega arith)) (omega arith), omega arith)
+        (rw (lt-ltb (lowThirteen (word x y)) 4096 (omega arith)) (omega arith), omega arith)
     go false e f =
         let l : 61440 ≤ word x y = leb-true 61440 (word x y) f in
-        (rw (le-ltb (field (word x y)) 4096 (omega arith)) (omega arith), omega arith)
+        (rw (le-ltb (lowThirteen (word x y)) 4096 (omega arith)) (omega arith), omega arith)
 
 abbrev double : ℕ → ℕ
 double zero = zero

@@ -8,12 +8,13 @@ use lib.Dec.{eqb, leb, lit<}
 use lib.ListN.{length, take, drop, getD}
 use lib.Seq.{getD-drop}
 use Rattle.lists.specs.Among.{among}
-use Rattle.refusals.specs.Rows.{noExactPair, _when_, Given, _if_, lowest}
+use Rattle.refusals.specs.Rows.{noExactPair, _when_, Given}
+use Rattle.refusals.specs.Tests.{_if_, lowest}
 use Rattle.refusals.proofs.Tests.{lowest-given, answer-beside, in-stages, later}
 use Rattle.clock.specs.declared.Pair.{Pair}
 use Rattle.video.specs.Video.{noVideo, videoIn, PixelOutside}
 use Rattle.video.proofs.Fits.{outside-too}
-use Rattle.clock.specs.Pairs.{noPair}
+use Rattle.clock.specs.Answers.{noPair}
 use Rattle.clock.proofs.Rows.{refusals, is-above}
 use Rattle.request.specs.declared.Sound.{Sound}
 use Rattle.request.specs.declared.Sound.the-variants.{Off, On}

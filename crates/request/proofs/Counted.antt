@@ -9,7 +9,8 @@ use lib.ListN.{length, length-append}
 use borrow.Author.Tests.{eqb-true, eq-eqb}
 use Rattle.lists.specs.Among.{among}
 use Rattle.lists.proofs.Both.{both-left, both-right}
-use Rattle.request.specs.Sections.{Walk, ends, notAllowed, whole, walk, largest, longestOf, lengthsOf}
+use Rattle.request.specs.Sections.{Walk, ends, notAllowed, whole, walk, largest, longestOf}
+use Rattle.request.specs.Lengths.{lengthsOf}
 use Rattle.request.specs.Bytes.{laid}
 use Rattle.request.specs.Walks.{fits}
 use Rattle.request.proofs.Walks.{Found, found}

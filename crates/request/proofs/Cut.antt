@@ -11,10 +11,11 @@ use lib.ListN.{length, take, drop, length-take}
 use lib.Seq.{length-take-le, take-take, take-nil}
 use borrow.Author.Tests.{leb-true, leb-false, le-leb, lt-leb, eqb-true}
 use Rattle.lists.specs.Among.{among}
-use Rattle.refusals.specs.Rows.{answer}
-use Rattle.request.specs.Sections.{byName, Walk, ends, notAllowed, whole, after, walk, walked, sections, longestOf, lengthsOf}
+use Rattle.refusals.specs.Tests.{answer}
+use Rattle.request.specs.Sections.{byName, Walk, ends, notAllowed, whole, after, walk, walked, sections, longestOf}
+use Rattle.request.specs.Lengths.{lengthsOf}
 use Rattle.request.specs.Read.{emptied, judged, checked, limited, readOf, nctsOf}
-use Rattle.request.specs.Theorems.{Lengths}
+use Rattle.request.specs.Lengths.{Lengths}
 use Rattle.request.proofs.Ordered.{both}
 use Rattle.request.proofs.Counted.{span, Counted, counted, spanned, at-most, within}
 

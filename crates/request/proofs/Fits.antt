@@ -23,7 +23,7 @@ use Rattle.request.specs.declared.Checked.{Checked}
 use Rattle.request.specs.Sections.{Bodies, walked, bodiesIn}
 use Rattle.request.specs.Request.{present, rate, channels, coherent, requestIn}
 use Rattle.request.specs.Read.{audioOutside, outside, combined, readOf}
-use Rattle.request.specs.Theorems.{Filled, Shaped}
+use Rattle.request.specs.ThereAndBack.{Filled, Shaped}
 use Rattle.request.specs.Fits.{SoundFits, Fits}
 use Rattle.request.proofs.Ordered.{Judged, passed}
 

@@ -9,7 +9,8 @@ use Prim.Native.Nat.{ℕ}
 use borrow.Author.Tests.{not-false}
 use lib.Dec.{eqb}
 use lib.ListN.{length}
-use Rattle.refusals.specs.Rows.{Given, lowest}
+use Rattle.refusals.specs.Rows.{Given}
+use Rattle.refusals.specs.Tests.{lowest}
 use Rattle.lists.proofs.Both.{neither-left}
 use Rattle.lists.proofs.Decides.{Decides, failing, itself, equal, less, opposite, either, together, restated}
 use Rattle.matrix.specs.Matrix.{Allowed, Bytes}
@@ -21,14 +22,15 @@ use Rattle.video.specs.Video.{videoIn}
 use Rattle.video.specs.Tests.{pixelOutside, videoOutside}
 use Rattle.video.specs.Modes.{offered}
 use Rattle.video.proofs.Fits as video
-use Rattle.clock.specs.Clocks.{tmds, AboveLimit, aboveLimit, clockOf}
+use Rattle.clock.specs.Clocks.{tmds, AboveLimit, limitsRows}
+use Rattle.clock.specs.Answers.{aboveLimit, clockOf}
 use Rattle.clock.proofs.Offered.{number-is}
 use Rattle.clock.proofs.Rows.{is-above}
 use Rattle.request.specs.declared.Request.{Request}
 use Rattle.request.specs.declared.Checked.{Checked}
 use Rattle.request.specs.Sections.{Bodies, Walk, ends, notAllowed, whole, bodiesIn, restOf}
 use Rattle.request.specs.Request.{Present, present, rate, channels, coherent, AudioOutside, Outside, Combined, requestIn, requestOf}
-use Rattle.request.specs.Request.{bytesRows, fieldsRows, limitsRows, askRules, readRules}
+use Rattle.request.specs.Request.{bytesRows, fieldsRows, askRules, readRules}
 use Rattle.request.specs.Read.{audioOutside, outside, combined, emptied, isEnds, isNotAllowed, bytesTests, fieldsTests, limitsTests}
 use Rattle.request.specs.Read.{judged, checked, limitOf, limited}
 
@@ -112,10 +114,10 @@ limit-there b z =
     let v : Video = videoIn (b .video) in
     limit-is v (j .mode) (video.pixel-inside v (neither-left (videoOutside v) _ (j .inside)))
 
-pub limits-given : (b : Bodies) → judged b .refusal ≡ 0 → Given (limitsRows (requestIn b)) (limitOf (videoIn (b .video)))
+pub limits-given : (b : Bodies) → judged b .refusal ≡ 0 → Given (limitsRows (requestIn b .video)) (limitOf (videoIn (b .video)))
 limits-given b z =
     let v : Video = videoIn (b .video) in
-    lowest-given (limitsTests v) (limitsRows (requestIn b)) refl
+    lowest-given (limitsTests v) (limitsRows (requestIn b .video)) refl
     (refl, subst (λ (t : Bool). Decides t (AboveLimit (tmds v))) (sym (limit-there b z)) (is-above v), λ _. tt)
 
 -- ---- the calls: stages, one after the other
@@ -137,7 +139,7 @@ asked-there w z =
 
 pub read-given : (w : Walk) → Bytes (bodiesIn w .matrix) → Given (readRules w) (limited (checked w) .refusal)
 read-given w bytes =
-    in-stages (λ (n : ℕ). n) (limitOf (checked w .request .video)) (λ (n : ℕ). n) (askRules w) (limitsRows (requestOf w)) (checked w .refusal) refl refl
+    in-stages (λ (n : ℕ). n) (limitOf (checked w .request .video)) (λ (n : ℕ). n) (askRules w) (limitsRows (requestOf w .video)) (checked w .refusal) refl refl
     (asks-given w bytes)
     (λ z. rw (asked-there w z .request) (limits-given (bodiesIn w) (alone w z .1)))
 

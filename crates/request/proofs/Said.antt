@@ -22,7 +22,7 @@ use Rattle.request.specs.Walks.{fits}
 use Rattle.request.specs.Request.{present, soundOf, requestIn}
 use Rattle.request.specs.Read.{judged, checked, limited, readOf}
 use Rattle.request.specs.Bytes.{audioBody, matrixBody, bodiesOf, laid, asBytes, withVideo, newVideo}
-use Rattle.request.specs.Theorems.{Shaped}
+use Rattle.request.specs.ThereAndBack.{Shaped}
 use Rattle.request.proofs.Walks.{walks}
 use Rattle.request.proofs.Ordered.{accepted}
 

@@ -45,11 +45,8 @@ asBytes r = laid (inTurn (bodiesOf r)) []
 abbrev pub onVideo : (Video → Video) → Request → Request
 onVideo f r = record { video = f (r .video); sound = r .sound; matrix = r .matrix }
 
-abbrev pub inFamily : ℕ → Request → Request
-inFamily family r = onVideo (video.inFamily family) r
-
-abbrev pub inEdition : ℕ → Request → Request
-inEdition edition r = onVideo (video.inEdition edition) r
+abbrev pub requestInFamily : ℕ → Request → Request
+requestInFamily family r = onVideo (video.inFamily family) r
 
 abbrev pub answeredAs : Request → Request
 answeredAs r = onVideo answered r

@@ -3,11 +3,11 @@ use mathlib.Core.Path.{_≡_}
 use mathlib.Core.Logic.{_⊎_}
 use Prim.Native.Nat.{_≤_}
 use Rattle.video.specs.Fits.{VideoFits}
-use Rattle.clock.specs.Clocks.{clockOf}
+use Rattle.clock.specs.Answers.{clockOf}
 use Rattle.request.specs.declared.Sound.{Sound}
 use Rattle.request.specs.declared.Sound.the-variants.{Off, On}
 use Rattle.request.specs.declared.Request.{Request}
-use Rattle.request.specs.Theorems.{Shaped}
+use Rattle.request.specs.ThereAndBack.{Shaped}
 
 -- "rate (0 to 6 ..); channels (2 or 8); coherent (0 or 1)"
 abbrev pub SoundFits : Sound → Type 0

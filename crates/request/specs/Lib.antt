@@ -5,5 +5,7 @@ pub mod Request
 pub mod Read
 pub mod Bytes
 pub mod Theorems
+pub mod Lengths
+pub mod ThereAndBack
 pub mod Stages
 pub mod Fits

@@ -10,8 +10,8 @@ use Rattle.video.specs.declared.Video.{Video}
 use Rattle.video.specs.Video.{noVideo, videoIn}
 use Rattle.video.specs.Tests.{videoOutside, videoCombined}
 use Rattle.video.specs.Modes.{offered}
-use Rattle.clock.specs.Clocks.{clockOf}
-use Rattle.clock.specs.Pairs.{noPair, audioOff}
+use Rattle.clock.specs.Answers.{clockOf}
+use Rattle.clock.specs.Answers.{noPair, audioOff}
 use Rattle.clock.specs.Found.{pairOf}
 use Rattle.matrix.specs.Matrix.{noMatrix}
 use Rattle.matrix.specs.Tests.{isAllowed}
@@ -21,7 +21,8 @@ use Rattle.request.specs.declared.Request.{Request}
 use Rattle.request.specs.declared.Checked.{Checked}
 use Rattle.request.specs.Sections.{Bodies, Walk, ends, notAllowed, whole, walked, bodiesIn, restOf}
 use Rattle.request.specs.Request.{present, rate, channels, coherent, requestIn}
-use Rattle.refusals.specs.Rows.{number, Test, _if_, lowest, answer}
+use Rattle.refusals.specs.Rows.{number}
+use Rattle.refusals.specs.Tests.{Test, _if_, lowest, answer}
 use Rattle.refusals.specs.Rows.{inputEnds, countNotAllowed, bytesAfter, modeNotOffered, fieldOutOfRange, combination, clockAbove}
 
 -- a refusal of rows 1 to 6 stands beside an empty request: fields 0, audio off, no matrix

@@ -12,8 +12,8 @@ use Rattle.refusals.specs.Rows.{inputEnds, countNotAllowed, bytesAfter, modeNot
 use Rattle.video.specs.declared.Video.{Video}
 use Rattle.video.specs.Video.{videoIn, VideoOutside, VideoCombined}
 use Rattle.video.specs.Modes.{offered}
-use Rattle.clock.specs.Clocks.{clockOf}
-use Rattle.clock.specs.Clocks as clock
+use Rattle.clock.specs.Answers.{clockOf}
+use Rattle.clock.specs.Clocks.{limitsRows}
 use Rattle.clock.specs.Pairs.{NoExact}
 use Rattle.matrix.specs.Matrix.{Allowed, matrixOf, noMatrix}
 use Rattle.request.specs.declared.Sound.{Sound}
@@ -70,7 +70,8 @@ abbrev pub NoPair : Video → Sound → Type 0
 NoPair video Off = ⊥
 NoPair video (On rate channels coherent) = NoExact (clockOf video) rate coherent
 
--- the stages: the bytes, by what the walk finds in the input; the fields, by the bodies; the limits and the pair, of the request
+-- the stages: the bytes, by what the walk finds in the input; the fields, by the bodies; the pair, of the request. The limits are the
+-- clock's (`limitsRows`)
 abbrev pub bytesRows : Walk → List Condition
 bytesRows w =
     inputEnds when (w ≡ ends) ∷
@@ -83,9 +84,6 @@ fieldsRows b =
     fieldOutOfRange when Outside b ∷
     combination when Combined b ∷ []
 
-abbrev pub limitsRows : Request → List Condition
-limitsRows r = clock.limitsRows (r .video)
-
 abbrev pub pairRows : Request → List Condition
 pairRows r = noExactPair when NoPair (r .video) (r .sound) ∷ []
 
@@ -97,7 +95,7 @@ abbrev pub askRules : Walk → List Condition
 askRules w = bytesRows w ++ fieldsRows (bodiesIn w)
 
 abbrev pub readRules : Walk → List Condition
-readRules w = askRules w ++ limitsRows (requestOf w)
+readRules w = askRules w ++ limitsRows (requestOf w .video)
 
 abbrev pub nctsRules : Walk → List Condition
 nctsRules w = readRules w ++ pairRows (requestOf w)

@@ -1,7 +1,7 @@
 -- Document 01, "The request": three sections in this order, each after a one-byte count; and "Refusal numbers": how they are walked. `Walks`
 -- (Walks) says of each thing that a walk finds what then stands in the input.
 use mathlib.Core.Bool.{cond}
-use mathlib.Core.List.{List, [], _∷_, map, flatMap}
+use mathlib.Core.List.{List, [], _∷_}
 use Prim.Native.Nat.{ℕ, suc, _+_, max}
 use lib.Dec.{leb}
 use lib.ListN.{getD, length, take, drop}
@@ -73,15 +73,6 @@ largest (n ∷ counts) = max n (largest counts)
 abbrev pub longestOf : List (List ℕ) → ℕ
 longestOf [] = 0
 longestOf (counts ∷ more) = suc (largest counts) + longestOf more
-
--- the lengths that sections can have: of each its count, and a body of one of the counts that it allows
-abbrev pub lengthsOf : List (List ℕ) → List ℕ
-lengthsOf [] = 0 ∷ []
-lengthsOf (counts ∷ more) = flatMap (λ total. map (λ n. suc n + total) counts) (lengthsOf more)
-
--- "Lengths are therefore .." (`MarkedCases`, promises, has the numbers)
-abbrev pub lengths : List ℕ
-lengths = lengthsOf sections
 
 -- "the longest request"
 abbrev pub longest : ℕ

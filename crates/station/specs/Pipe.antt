@@ -3,7 +3,7 @@ use mathlib.Core.Path.{_≡_}
 use mathlib.Core.List.{List}
 use Prim.Native.Nat.{ℕ}
 use Rattle.pipe.specs.declared.Piped.{Piped}
-use Rattle.pipe.specs.Found.{takeOf, takePipe, endOf, endPipe}
+use Rattle.pipe.specs.Found.{takeOf, takePipe, endPipeOf, endPipe}
 use Rattle.station.specs.declared.PipedOut.{PipedOut}
 
 abbrev pub pipedOut : Piped → PipedOut
@@ -13,4 +13,4 @@ abbrev pub StationPipeTake : List ℕ → List ℕ → PipedOut → List ℕ →
 StationPipeTake pipe part out left = (out ≡ pipedOut (takeOf pipe part)) × (left ≡ takePipe pipe part)
 
 abbrev pub StationPipeEnd : List ℕ → PipedOut → List ℕ → Type 0
-StationPipeEnd pipe out left = (out ≡ pipedOut (endOf pipe)) × (left ≡ endPipe pipe)
+StationPipeEnd pipe out left = (out ≡ pipedOut (endPipeOf pipe)) × (left ≡ endPipe pipe)

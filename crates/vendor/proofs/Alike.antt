@@ -8,7 +8,8 @@ use lib.Dec.{eqb, ltb}
 use lib.ListN.{length, getD}
 use Rattle.bits.specs.Merge.{bit}
 use Rattle.matrix.specs.Matrix.{fields}
-use Rattle.refusals.specs.Rows.{imageLength, holdsUp, listLength, badPair, badEnd, Test, _if_, lowest}
+use Rattle.refusals.specs.Rows.{imageLength, holdsUp, listLength, badPair, badEnd}
+use Rattle.refusals.specs.Tests.{Test, _if_, lowest}
 use Rattle.chip.specs.declared.Chip.{Chip}
 use Rattle.chip.specs.declared.Wrote.{Wrote}
 use Rattle.chip.specs.Machine.{Write, Group, avi, audio, gc, matrix, packets, converter, up, holdsOf, registersOf, held, inUse, coefficients, gcInUse, mute}
@@ -22,7 +23,7 @@ use Rattle.vendor.specs.declared.Verdict.{Verdict}
 use Rattle.vendor.specs.Vendor.{endOf, shortened, mostPairs}
 use Rattle.vendor.specs.Found.{mayMove, fairTest, isIdle, isTurned, isLast, isEvent, isBetween, isNext, firstFault, placeOf, vetRefusal, vetOf}
 use Rattle.vendor.proofs.Moved.{avi-stays, avi-moves, audio-stays, audio-moves, gc-stays, gc-moves, matrix-stays, matrix-moves, vsync-use}
-use Rattle.cut.proofs.Erased.{alike-self, alike-vsync, alike-write}
+use Rattle.cut.proofs.VsyncsLeave.{alike-self, alike-vsync, alike-write}
 use Rattle.vendor.proofs.Faults.{Takes, shortened-takes, not-taken-first, is-taken-first, is-taken}
 
 pub record Alike (s t : Chip) : Type 0 where

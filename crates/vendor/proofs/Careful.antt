@@ -11,12 +11,13 @@ use Rattle.chip.specs.declared.Chip.{Chip}
 use Rattle.chip.specs.Machine.{Write, _gets_}
 use Rattle.chip.specs.Write.{imageAfter, writeOf}
 use Rattle.chip.proofs.Writes.{two-up}
-use Rattle.views.specs.Sized.{Sized}
+use Rattle.views.specs.Refusals.{Sized}
 use Rattle.writes.specs.List.{pairsOf, ready}
 use Rattle.cut.specs.Run.{Event, write, vsync, event, happens, cut, writesOf, writesBy, allInUse, Between, Careful, Fair, IsFair}
-use Rattle.cut.specs.Vsync.{sent, waited}
-use Rattle.cut.proofs.Erased.{Alike, alike-write, cut-alike, which}
-use Rattle.cut.proofs.Demanded.{waited-writes}
+use Rattle.cut.specs.Vsync.{waited}
+use Rattle.cut.specs.Room.{sent}
+use Rattle.cut.proofs.VsyncsLeave.{Alike, alike-write, cut-alike, which}
+use Rattle.cut.proofs.DemandOfGoodLists.{waited-writes}
 use Rattle.vendor.specs.Vendor.{pairAt, cutAt, endOf, pairsBy, Inside, Decodable, Passes}
 use Rattle.vendor.proofs.Faults.{Takes, shortened-takes}
 use Rattle.vendor.proofs.Judged.{not-two, is-fair, hears}

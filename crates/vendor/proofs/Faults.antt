@@ -23,7 +23,7 @@ use Rattle.writes.specs.List.{isWritten}
 use Rattle.cut.specs.Run.{InUse, Either, Between, Fair}
 use Rattle.vendor.specs.Vendor.{pairAt, cutAt, pairsBy, LeavesTwo, shortened, Torn}
 use Rattle.vendor.specs.Found.{takenBy, fairTest, isLast, isEvent, isBetween, isTurned, isNext, firstFault}
-use Rattle.cut.proofs.Mended.{lone}
+use Rattle.cut.proofs.MendedRun.{lone}
 use Rattle.vendor.proofs.Moved.{between-decides, turned-decides}
 
 -- a pair's own test

@@ -11,14 +11,15 @@ use lib.ListN.{length}
 use borrow.Author.Tests.{ne-eqb, lt-ltb, ltb-true, ltb-false, not-false}
 use Rattle.lists.proofs.Both.{neither-right}
 use Rattle.lists.proofs.Decides.{Decides, equal, less, either, restated, refuted}
-use Rattle.refusals.specs.Rows.{lowest}
+use Rattle.refusals.specs.Tests.{lowest}
 use Rattle.refusals.proofs.Tests.{Decided, lowest-given, none-at}
 use Rattle.chip.specs.declared.Chip.{Chip}
 use Rattle.chip.specs.Machine.{Write, packets, holdsOf}
 use Rattle.chip.specs.Write.{imageAfter, two, refuses, writeOf}
 use Rattle.chip.proofs.Writes.{two-up, allowed}
 use Rattle.views.specs.Entry.{isSized}
-use Rattle.views.specs.Sized.{Sized, WrongLengths}
+use Rattle.views.specs.Refusals.{Sized}
+use Rattle.views.specs.Refusals.{WrongLengths}
 use Rattle.views.proofs.Lent.{sized, wrong-lengths}
 use Rattle.writes.specs.List.{pairsOf, ready}
 use Rattle.plan.specs.Rules.{HoldsUp}
@@ -27,7 +28,7 @@ use Rattle.decode.specs.Decode.{someEnds}
 use Rattle.decode.specs.Extract.{extract}
 use Rattle.decode.proofs.Answers.{none-ends, found-ends}
 use Rattle.cut.specs.Run.{allInUse, Between, Fair}
-use Rattle.cut.proofs.Taken.{neat-two}
+use Rattle.cut.proofs.NoneRefused.{neat-two}
 use Rattle.vendor.specs.declared.Verdict.{Verdict}
 use Rattle.vendor.specs.Vendor.{pairAt, cutAt, endOf, pairsBy, Inside, LeavesTwo, Decodable, Passes, shortened, Fails, Bad, FirstBad, SomeBad, mostPairs, WrongLength, vetRules}
 use Rattle.vendor.specs.Found.{placeOf, vetTests, vetRefusal, vetOf}

@@ -33,7 +33,7 @@ use Rattle.writes.specs.Columns.{keptBits}
 use Rattle.writes.proofs.Image.{column-at}
 use Rattle.writes.proofs.Pairs.{pair-at}
 use Rattle.cut.specs.Run.{InUse}
-use Rattle.cut.proofs.Erased.{alike-self, alike-vsync, alike-write}
+use Rattle.cut.proofs.VsyncsLeave.{alike-self, alike-vsync, alike-write}
 use Rattle.vendor.specs.Vendor.{pairAt, endOf, shortened}
 use Rattle.vendor.specs.Found.{takenBy, fairTest, isLast, isEvent, isNext, firstFault}
 

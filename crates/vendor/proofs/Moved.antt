@@ -21,9 +21,9 @@ use Rattle.chip.specs.Write.{lentAs, stored, two, writeOf, vsyncOf}
 use Rattle.chip.proofs.Writes.{written-as, allowed, turned}
 use Rattle.writes.specs.List.{covers}
 use Rattle.cut.specs.Run.{InUse, Either, Between}
-use Rattle.cut.proofs.Mended.{lone}
-use Rattle.cut.proofs.Bank.{store, only, status, quiet, Shown, avi-shown, audio-shown, gc-shown, avi-same, audio-same, gc-same, down-part}
-use Rattle.cut.proofs.Turning.{away, mark, phase, write-keeps}
+use Rattle.cut.proofs.MendedRun.{lone}
+use Rattle.cut.proofs.GroupStays.{store, only, status, quiet, Shown, avi-shown, audio-shown, gc-shown, avi-same, audio-same, gc-same, down-part}
+use Rattle.cut.proofs.CoefficientsInUse.{away, mark, phase, write-keeps}
 use Rattle.vendor.specs.Found.{mayMove, oneOf, isIdle, isBetween, isTurned}
 
 -- no two packet holds are up, and one is: the byte of the holds alone has this one

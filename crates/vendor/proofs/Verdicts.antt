@@ -15,7 +15,7 @@ use Rattle.decode.specs.Decode.{someEnds, decodeOf}
 use Rattle.decode.proofs.Answers.{number-given, accepted, none}
 use Rattle.cut.specs.Run.{InUse, allInUse}
 use Rattle.cut.specs.Vsync.{waited}
-use Rattle.cut.proofs.Runs.{sized-run}
+use Rattle.cut.proofs.ClausesOfRuns.{sized-run}
 use Rattle.vendor.specs.Vendor.{shortened, endOf, mostPairs}
 use Rattle.vendor.specs.Found.{firstFault, placeOf, vetRefusal, vetOf}
 

@@ -8,7 +8,8 @@ use lib.ListN.{length, getD}
 use Rattle.lists.specs.Same.{sameList}
 use Rattle.bits.specs.Merge.{merge, under}
 use Rattle.registers.specs.Classes.{readOnly, mandated, free, bits}
-use Rattle.refusals.specs.Rows.{imageLength, holdsUp, listLength, badPair, badEnd, Test, _if_, lowest}
+use Rattle.refusals.specs.Rows.{imageLength, holdsUp, listLength, badPair, badEnd}
+use Rattle.refusals.specs.Tests.{Test, _if_, lowest}
 use Rattle.matrix.specs.Matrix.{fields}
 use Rattle.chip.specs.declared.Chip.{Chip}
 use Rattle.chip.specs.Machine.{Write, Group, avi, audio, matrix, packets, converter, up, holdsOf, registersOf, mute}

@@ -5,7 +5,7 @@ use mathlib.Core.List.{List}
 use Prim.Native.Nat.{ℕ}
 use Rattle.refusals.specs.Rows.{Given}
 use Rattle.chip.specs.declared.Chip.{Chip}
-use Rattle.views.specs.Sized.{Sized}
+use Rattle.views.specs.Refusals.{Sized}
 use Rattle.writes.specs.List.{pairsOf}
 use Rattle.plan.specs.Rules.{HoldsUp}
 use Rattle.vendor.specs.Vendor.{Passes, FirstBad, WrongLength, vetRules}

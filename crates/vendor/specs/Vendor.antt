@@ -15,7 +15,7 @@ use Rattle.chip.specs.declared.Chip.{Chip}
 use Rattle.chip.specs.Machine.{Write, _gets_, avi, audio, packets, inUse, coefficients, Muted}
 use Rattle.chip.specs.Write.{imageAfter, writeOf}
 use Rattle.chip.specs.Step.{TwoUp}
-use Rattle.views.specs.Sized.{WrongLengths}
+use Rattle.views.specs.Refusals.{WrongLengths}
 use Rattle.writes.specs.Rows.{isWritten}
 use Rattle.writes.specs.List.{pairsOf}
 use Rattle.plan.specs.Rules.{HoldsUp}

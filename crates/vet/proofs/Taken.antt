@@ -16,7 +16,7 @@ use Rattle.writes.proofs.Pairs.{length-pairs}
 use Rattle.vendor.specs.declared.Verdict.{Verdict}
 use Rattle.vendor.specs.Vendor.{mostPairs}
 use Rattle.vendor.specs.Found.{placeOf, vetRefusal, vetOf}
-use Rattle.vet.specs.Input.{stateIn, verdictOf, longest, Inputs}
+use Rattle.vet.specs.Input.{stateIn, verdictOf, longestInput, Inputs}
 
 -- an input in two: the bytes before the list, and the list
 in-two : (p l : List ℕ) → length p ≡ 313 → verdictOf (p ++ l) ≡ vetOf (stateIn p) l
@@ -63,7 +63,7 @@ unfolding vetOf vetRefusal
 both-too-long s l m h k =
     rw (too-long l h, too-long m k) (no-place (not (isSized s)) (not (ready (s .image))) (placeOf (pairsOf l) s) (placeOf (pairsOf m) s))
 
-cut : (l : List ℕ) (n : ℕ) → longest < n → verdictOf (take n l) ≡ verdictOf l
+cut : (l : List ℕ) (n : ℕ) → longestInput < n → verdictOf (take n l) ≡ verdictOf l
 cut l n h = go (leb (length l) n) refl
   where
     go : (b : Bool) → leb (length l) n ≡ b → verdictOf (take n l) ≡ verdictOf l

@@ -25,8 +25,8 @@ abbrev pub verdictOf : List ℕ → Verdict
 verdictOf input = cond (ltb (length input) ahead) (record { refusal = 7; place = 0 }) (vetOf (stateIn input) (drop ahead input))
 
 -- the longest input: "At most 512 pairs."
-abbrev pub longest : ℕ
-longest = ahead + 2 * mostPairs
+abbrev pub longestInput : ℕ
+longestInput = ahead + 2 * mostPairs
 
 -- what is printed: the line of the bytes that were read, which stand at the front of the room
 pub record PrintsInput (room : List ℕ) (count : ℕ) (line : List ℕ) : Type 0 where
@@ -42,4 +42,4 @@ pub record Inputs (input : List ℕ) : Type 0 where
   -- "image not of 256 bytes; in the machine also packet buffer not of 32, coefficient buffer not of 24", and a mark that is not there
   pub short : length input < 313 → verdictOf input ≡ record { refusal = 7; place = 0 }
   -- one byte more than the longest decides
-  pub enough : (n : ℕ) → longest < n → verdictOf (take n input) ≡ verdictOf input
+  pub enough : (n : ℕ) → longestInput < n → verdictOf (take n input) ≡ verdictOf input

@@ -4,7 +4,7 @@ ghost use mathlib.Core.Path.{_≡_};
 ghost use mathlib.Core.List.{List};
 ghost use Prim.Native.Nat.{ℕ, _<_, _≤_};
 ghost use lib.ListN.{length};
-ghost use Rattle.vet.specs.Input.{verdictOf, longest, PrintsInput, Inputs};
+ghost use Rattle.vet.specs.Input.{verdictOf, longestInput, PrintsInput, Inputs};
 use libc::STDIN_FILENO;
 use libc::STDOUT_FILENO;
 use refusals::Refusal;
@@ -37,7 +37,7 @@ fn judged(input: &[u8]) -> Verdict
 
 // The line of what is read, in a room for more than the longest input: what follows one byte more changes nothing (`Inputs.enough`).
 fn print(room: &mut [u8], line: &mut [u8; 80]) -> usize
-    requires { ⌜ longest < length (now room) ⌝ }
+    requires { ⌜ longestInput < length (now room) ⌝ }
     ensures { λ r. ⌜ PrintsInput (now (room .exit)) r (now (line .exit)) ⌝ }
     ensures { λ r. ⌜ r ≤ length (now (line .exit)) ⌝ }
 {

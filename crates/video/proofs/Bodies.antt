@@ -3,7 +3,8 @@ use mathlib.Core.Path.{_≡_, refl, sym, ap, _∙_}
 use mathlib.Core.List.{List, [], _∷_}
 use Prim.Native.Nat.{ℕ, zero, suc}
 use lib.ListN.{length, getD}
-use Rattle.video.specs.Video.{videoCount, videoIn, videoBody, Body}
+use Rattle.video.specs.Video.{videoCount, videoIn, videoBody}
+use Rattle.video.specs.Body.{Body}
 
 -- so many bytes from the i-th on, each by its place
 abbrev byPlace : ℕ → ℕ → List ℕ → List ℕ

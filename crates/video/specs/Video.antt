@@ -6,7 +6,7 @@ use mathlib.Core.Bool.{cond}
 use mathlib.Core.List.{List, [], _∷_}
 use Prim.Native.Nat.{ℕ, _/_, _%_, _<_}
 use lib.Dec.{eqb}
-use lib.ListN.{getD, length}
+use lib.ListN.{getD}
 use Rattle.video.specs.declared.Video.{Video}
 
 -- "Video, count ..: VIC; family ..; encoding ..; link .."; request 01: "The video section gains a range byte (0 limited, 1 full; count 5)";
@@ -87,12 +87,6 @@ answeredEdition byte = cond (eqb byte 0x01) 0x00 byte
 
 abbrev pub answered : Video → Video
 answered v = recast 0 (answeredEdition (v .edition)) v
-
--- a body of that count and what it asks for say the same
-pub record Body : Type 0 where
-  pub counted : (v : Video) → length (videoBody v) ≡ videoCount
-  pub back : (v : Video) → videoIn (videoBody v) ≡ v
-  pub whole : (body : List ℕ) → length body ≡ videoCount → videoBody (videoIn body) ≡ body
 
 -- row 5, of this section: "any other field outside its range"; request 01: "range above 1 is refusal 5"; request 06: "a value outside its
 -- range is 5"; request 11: "edition or quantisation above 1, or bits 7:6, is 5". First of the edition byte and of the fields that the AVI

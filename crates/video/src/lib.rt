@@ -3,7 +3,8 @@
 ghost use mathlib.Core.Path.{_≡_};
 ghost use Rattle.video.specs.Modes.{mode, modeOf, ModeTable};
 ghost use Rattle.video.specs.Video.{videoIn, videoBody, depth, repetition, yccQuantisation, contentType, noVideo, inFamily};
-ghost use Rattle.video.specs.Video.{answeredEdition, Body};
+ghost use Rattle.video.specs.Video.{answeredEdition};
+ghost use Rattle.video.specs.Body.{Body};
 ghost use Rattle.video.specs.Tests.{editionOutside, shownOutside, videoOutside, pixelOutside};
 ghost use Rattle.video.specs.Tests.{fullYCbCr, deepApart, askedUnderD, shownCombined, videoCombined};
 ghost use Rattle.video.specs.Exception.{Exception};

@@ -11,14 +11,17 @@ use Rattle.lists.proofs.Copied.{over-whole}
 use borrow.Author.Tests.{eqb-true, eq-eqb, ne-eqb, not-false}
 use Rattle.lists.proofs.Both.{both-left, both-right}
 use Rattle.lists.proofs.Decides.{Decides, opposite, equal, one-fails}
-use Rattle.refusals.specs.Rows.{imageLength, Given, _if_, lowest, answer}
+use Rattle.refusals.specs.Rows.{imageLength, Given}
+use Rattle.refusals.specs.Tests.{_if_, lowest, answer}
 use Rattle.refusals.proofs.Tests.{Decided, lowest-given, in-stages, none-at, numbered}
 use Rattle.chip.specs.declared.Chip.{Chip}
 use Rattle.chip.specs.declared.Wrote.{Wrote}
 use Rattle.chip.specs.Write.{writeOf, vsyncOf}
 use Rattle.chip.specs.Step.{writeRules}
-use Rattle.views.specs.Entry.{isSized, Lent, stateOf, Entry, refusedEntry, takenEntry, wroteIn, isLent, Gathers, enterTests, enterOf, turnOf}
-use Rattle.views.specs.Sized.{WrongLengths, Sized, LentSized}
+use Rattle.views.specs.Entry.{isSized, Lent, stateOf, SliceAnswer, refusedEntry, takenEntry, wroteIn, isLent, Gathers, enterTests, enterOf, turnOf}
+use Rattle.views.specs.Sized.{LentSized}
+use Rattle.views.specs.Refusals.{Sized}
+use Rattle.views.specs.Refusals.{WrongLengths}
 use Rattle.views.specs.Refusals.{WrongLent, turnRules, WriteRefusals, VsyncRefusals}
 use Rattle.chip.proofs.Writes.{stepped}
 use Rattle.views.proofs.Seen.{unlike}
@@ -84,19 +87,19 @@ module _ (l : Lent) where
   lengths-given = lowest-given (enterTests l) (turnRules l) refl decided
 
   -- what a call of these tests answers, by what it answers past them
-  abbrev past : Entry → Entry
+  abbrev past : SliceAnswer → SliceAnswer
   past e = answer (lowest (enterTests l)) (refusedEntry l) e
 
-  stopped : (e : Entry) → isLent l ≡ false → past e ≡ record { refusal = 7; slices = l }
+  stopped : (e : SliceAnswer) → isLent l ≡ false → past e ≡ record { refusal = 7; slices = l }
   stopped e f = rw f
 
-  passed : (e : Entry) → isLent l ≡ true → past e ≡ e
+  passed : (e : SliceAnswer) → isLent l ≡ true → past e ≡ e
   passed e t = rw t
 
-  kept : (e : Entry) → (e .refusal ≢ 0 → e .slices ≡ l) → past e .refusal ≢ 0 → past e .slices ≡ l
+  kept : (e : SliceAnswer) → (e .refusal ≢ 0 → e .slices ≡ l) → past e .refusal ≢ 0 → past e .slices ≡ l
   kept e k = go (isLent l)
     where
-      go : (b : Bool) → let e : Entry = answer (lowest (imageLength if not b ∷ [])) (refusedEntry l) e in e .refusal ≢ 0 → e .slices ≡ l
+      go : (b : Bool) → let e : SliceAnswer = answer (lowest (imageLength if not b ∷ [])) (refusedEntry l) e in e .refusal ≢ 0 → e .slices ≡ l
       go true h = k h
       go false h = refl
 
@@ -108,7 +111,7 @@ module _ (l : Lent) where
   wrote-taken w h = rw (eq-eqb _ _ h)
 
   pub wrote-number : (w : Wrote) → wroteIn l w .refusal ≡ w .refusal
-  wrote-number w = numbered (refusedEntry l) (takenEntry (w .chip)) (λ (e : Entry). e .refusal) (w .refusal) (λ _. refl) refl
+  wrote-number w = numbered (refusedEntry l) (takenEntry (w .chip)) (λ (e : SliceAnswer). e .refusal) (w .refusal) (λ _. refl) refl
 
   wrote-kept : (w : Wrote) → wroteIn l w .refusal ≢ 0 → wroteIn l w .slices ≡ l
   wrote-kept w h = rw (wrote-refused w (λ e. h (wrote-number w ∙ e)))
@@ -125,9 +128,9 @@ module _ (l : Lent) where
   pub turn-refusals : VsyncRefusals l
   unfolding turnOf
   turn-refusals =
-      let e : Entry = takenEntry (vsyncOf (stateOf l)) in
+      let e : SliceAnswer = takenEntry (vsyncOf (stateOf l)) in
       record {
-        given = rw (numbered (refusedEntry l) e (λ (e : Entry). e .refusal) (lowest (enterTests l)) (λ _. refl) refl) lengths-given;
+        given = rw (numbered (refusedEntry l) e (λ (e : SliceAnswer). e .refusal) (lowest (enterTests l)) (λ _. refl) refl) lengths-given;
         kept = kept e (λ h. absurd (h refl));
       }
 
@@ -148,7 +151,7 @@ module _ (l : Lent) where
     unfolding enterOf
     refusals = record {
       given =
-          in-stages (refusedEntry l) (wroteIn l wrote) (λ (e : Entry). e .refusal) (turnRules l) (writeRules (stateOf l) address value) (lowest (enterTests l)) refl refl
+          in-stages (refusedEntry l) (wroteIn l wrote) (λ (e : SliceAnswer). e .refusal) (turnRules l) (writeRules (stateOf l) address value) (lowest (enterTests l)) refl refl
           lengths-given (λ z. rw (wrote-number wrote) (stepped (stateOf l) address value (lent-sized (not-false (isLent l) (none-at (enterTests l) 0 z)) .image) .refusals));
       kept = kept (wroteIn l wrote) (wrote-kept wrote);
     }

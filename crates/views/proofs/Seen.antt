@@ -11,7 +11,8 @@ use lib.Seq.{getD-take, getD-drop}
 use borrow.Author.Tests.{lt-ltb, le-ltb, ltb-false, eq-eqb, ne-eqb, eqb-true, not-false}
 use Rattle.lists.proofs.Both.{both-left, both-right}
 use Rattle.lists.proofs.Decides.{Decides, opposite, equal, less, one-fails}
-use Rattle.refusals.specs.Rows.{fieldOutOfRange, Given, _if_}
+use Rattle.refusals.specs.Rows.{fieldOutOfRange, Given}
+use Rattle.refusals.specs.Tests.{_if_}
 use Rattle.refusals.proofs.Tests.{Decided, lowest-given, none-at, numbered}
 use Rattle.views.specs.declared.view.Part.{Part}
 use Rattle.views.specs.declared.view.Mute.{Mute}

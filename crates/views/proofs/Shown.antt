@@ -14,10 +14,12 @@ use Rattle.chip.specs.declared.Wrote.{Wrote}
 use Rattle.chip.specs.Write.{lentAs, two, imageAfter, refuses, writeOf, vsyncOf}
 use Rattle.chip.proofs.Writes.{allowed, stepped}
 use Rattle.views.specs.declared.view.Mute.{Mute}
-use Rattle.views.specs.Entry.{marked, markByte, Lent, stateOf, slicesOf, Entry, refusedEntry, takenEntry, wroteIn, enterOf, turnOf}
+use Rattle.views.specs.Entry.{marked, markByte, Lent, stateOf, slicesOf, SliceAnswer, refusedEntry, takenEntry, wroteIn, enterOf, turnOf}
 use Rattle.views.specs.View.{lentRefusal, viewRefusal, sentOf, muteOf}
-use Rattle.views.specs.Sized.{Sized, LentSized}
-use Rattle.views.specs.Theorems.{Slices, Faces, Entered, EnteredVsync}
+use Rattle.views.specs.Sized.{LentSized}
+use Rattle.views.specs.Refusals.{Sized}
+use Rattle.views.specs.Theorems.{Slices, Entered, EnteredVsync}
+use Rattle.views.specs.Faces.{Faces}
 use Rattle.views.proofs.Seen.{cleared, later}
 use Rattle.views.proofs.Used as used
 use Rattle.views.proofs.Lent.{is-lent, turn-in, let-in, wrote-number, wrote-refused, wrote-taken}
@@ -84,7 +86,7 @@ module _ (l : Lent) (z : LentSized l) where
   turned-sized = record { image = z .image; packet = z .packet; coefficients = z .coefficients }
 
   turned-state : stateOf (turnOf l .slices) ≡ vsyncOf s
-  turned-state = ap (λ (e : Entry). stateOf (e .slices)) turned ∙ state-slices (vsyncOf s)
+  turned-state = ap (λ (e : SliceAnswer). stateOf (e .slices)) turned ∙ state-slices (vsyncOf s)
 
   lone-still : two (holdsOf packets (l .image)) ≡ false → two (holdsOf packets (vsyncOf s .image)) ≡ false
   unfolding vsyncOf
@@ -108,7 +110,7 @@ module _ (l : Lent) (z : LentSized l) where
     same = let-in l address value (is-lent l z)
 
     number : enterOf l address value .refusal ≡ wrote .refusal
-    number = ap (λ (e : Entry). e .refusal) same ∙ wrote-number l wrote
+    number = ap (λ (e : SliceAnswer). e .refusal) same ∙ wrote-number l wrote
 
     taken : wrote .refusal ≡ 0 → enterOf l address value ≡ takenEntry (wrote .chip)
     taken h = same ∙ wrote-taken l wrote h
@@ -132,10 +134,10 @@ module _ (l : Lent) (z : LentSized l) where
     state = go (eqb (wrote .refusal) 0) refl
       where
         go : (b : Bool) → eqb (wrote .refusal) 0 ≡ b → stateOf (enterOf l address value .slices) ≡ wrote .chip
-        go true e = ap (λ (e : Entry). stateOf (e .slices)) (taken (eqb-true _ _ e)) ∙ state-slices (wrote .chip)
+        go true e = ap (λ (e : SliceAnswer). stateOf (e .slices)) (taken (eqb-true _ _ e)) ∙ state-slices (wrote .chip)
         go false e =
             let n = eqb-false _ _ e in
-            ap (λ (e : Entry). stateOf (e .slices)) (refused n) ∙ sym (stepped s address value (z .image) .refused n)
+            ap (λ (e : SliceAnswer). stateOf (e .slices)) (refused n) ∙ sym (stepped s address value (z .image) .refused n)
 
     sized : LentSized (enterOf l address value .slices)
     sized = go (eqb (wrote .refusal) 0) refl

@@ -13,7 +13,7 @@ use Rattle.lists.proofs.Decides.{less}
 use Rattle.lists.proofs.Emit.{sets-front}
 use Rattle.refusals.specs.Rows.{Given}
 use Rattle.refusals.proofs.Tests.{lowest-given, numbered}
-use Rattle.matrix.specs.Coefficient.{word, field, highByte, coefficientBytes}
+use Rattle.matrix.specs.Coefficient.{word, lowThirteen, highByte, coefficientBytes}
 use Rattle.matrix.specs.Matrix.{fields}
 use Rattle.matrix.proofs.Pairs.{two-left, fields-small, length-fields, length-bytes, fields-said}
 use Rattle.chip.specs.declared.Chip.{Chip}
@@ -26,8 +26,8 @@ use Rattle.bits.proofs.Laws.{two-bits-code}
 use Rattle.views.proofs.Seen.{unlike}
 
 -- a turn stores one coefficient more: what is stored, and what is left to store, is the whole
-pub turn : (bytes out : List ℕ) (i h l f : ℕ) → 2 * i + 1 < length bytes → f ≡ field (word (getD bytes (2 * i) 0) (getD bytes (2 * i + 1) 0))
-    → h ≡ highByte (field f) → l ≡ f % 256
+pub turn : (bytes out : List ℕ) (i h l f : ℕ) → 2 * i + 1 < length bytes → f ≡ lowThirteen (word (getD bytes (2 * i) 0) (getD bytes (2 * i + 1) 0))
+    → h ≡ highByte (lowThirteen f) → l ≡ f % 256
     → sets (set (set out (2 * i + 1) h) (2 * i + 1 + 1) l) (2 * (i + 1) + 1) (coefficientBytes (fields (drop (2 * (i + 1)) bytes)))
     ≡ sets out (2 * i + 1) (coefficientBytes (fields (drop (2 * i) bytes)))
 unfolding fields
@@ -36,7 +36,7 @@ turn bytes out i h l f b e p q =
     let m : 2 * i + 1 + 1 ≡ suc (2 * i + 1) = omega arith in
     let d : 2 * (i + 1) ≡ suc (suc (2 * i)) = omega arith in
     let j : 2 * i + 1 ≡ suc (2 * i) = omega arith in
-    let s : field f ≡ f = omega arith in
+    let s : lowThirteen f ≡ f = omega arith in
     rw (n, m, d, p, q, s, e, j) (sym (ap (λ (s : List ℕ). sets out (suc (2 * i)) (coefficientBytes (fields s))) (two-left bytes (2 * i) (omega arith))))
 
 -- after the last turn nothing is left

@@ -6,7 +6,8 @@ use mathlib.Core.List.{List, [], _∷_, _++_}
 use Prim.Native.Nat.{ℕ}
 use lib.Dec.{eqb, ltb}
 use lib.ListN.{length, drop}
-use Rattle.refusals.specs.Rows.{imageLength, bufferShort, Test, _if_, lowest, answer}
+use Rattle.refusals.specs.Rows.{imageLength, bufferShort}
+use Rattle.refusals.specs.Tests.{Test, _if_, lowest, answer}
 use Rattle.matrix.specs.Coefficient.{coefficientBytes}
 use Rattle.chip.specs.Machine.{coefficients, modeInUse}
 use Rattle.chip.specs.declared.Chip.{Chip}

@@ -7,7 +7,8 @@ use Prim.Native.Nat.{ℕ}
 use lib.Dec.{eqb}
 use lib.ListN.{length, getD, replicate}
 use Rattle.lists.specs.Over.{over}
-use Rattle.refusals.specs.Rows.{imageLength, Test, _if_, lowest, answer}
+use Rattle.refusals.specs.Rows.{imageLength}
+use Rattle.refusals.specs.Tests.{Test, _if_, lowest, answer}
 use Rattle.chip.specs.declared.Chip.{Chip}
 use Rattle.chip.specs.declared.Wrote.{Wrote}
 use Rattle.chip.specs.Write.{lentAs, writeOf, vsyncOf}
@@ -42,15 +43,15 @@ abbrev pub slicesOf : Chip → Lent
 slicesOf s = lent (s .image) (s .packet) (s .coefficients) (markByte (s .waiting) ∷ [])
 
 -- what a call over the slices answers, and what it leaves in them
-pub record Entry : Type 0 where
+pub record SliceAnswer : Type 0 where
   pub refusal : ℕ
   pub slices : Lent
 
 -- a refused call has its number and leaves every byte as it was; one that is taken leaves the state that it made
-abbrev pub refusedEntry : Lent → ℕ → Entry
+abbrev pub refusedEntry : Lent → ℕ → SliceAnswer
 refusedEntry l number = record { refusal = number; slices = l }
 
-abbrev pub takenEntry : Chip → Entry
+abbrev pub takenEntry : Chip → SliceAnswer
 takenEntry s = record { refusal = 0; slices = slicesOf s }
 
 -- the test of row 7: "image not of 256 bytes; in the machine also packet buffer not of 32, coefficient buffer not of 24", and a mark not of 1
@@ -62,15 +63,15 @@ abbrev pub enterTests : Lent → List Test
 enterTests l = imageLength if not (isLent l) ∷ []
 
 -- a write of the machine, in slices
-abbrev pub wroteIn : Lent → Wrote → Entry
+abbrev pub wroteIn : Lent → Wrote → SliceAnswer
 wroteIn l wrote = answer (wrote .refusal) (refusedEntry l) (takenEntry (wrote .chip))
 
 -- else the machine's own write, with its own rows
-unfoldable pub enterOf : Lent → ℕ → ℕ → Entry
+unfoldable pub enterOf : Lent → ℕ → ℕ → SliceAnswer
 enterOf l address value = answer (lowest (enterTests l)) (refusedEntry l) (wroteIn l (writeOf (stateOf l) address value))
 
 -- or its own Vsync, which has none
-unfoldable pub turnOf : Lent → Entry
+unfoldable pub turnOf : Lent → SliceAnswer
 turnOf l = answer (lowest (enterTests l)) (refusedEntry l) (takenEntry (vsyncOf (stateOf l)))
 
 -- what `gathered` promises: slices of the machine's lengths, and a mark, are the state

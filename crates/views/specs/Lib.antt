@@ -1,5 +1,6 @@
 pub mod Entry
 pub mod Sized
+pub mod Faces
 pub mod View
 pub mod Converter
 pub mod Refusals

@@ -8,6 +8,7 @@ use lib.Dec.{eqb}
 use lib.ListN.{length, getD, take, drop}
 use Rattle.bits.specs.Merge.{bit}
 use Rattle.refusals.specs.Rows.{fieldOutOfRange, imageLength, bufferShort, twoHolds, Condition, _when_, Given}
+use Rattle.chip.specs.declared.Chip.{Chip}
 use Rattle.chip.specs.Step.{TwoUp, writeRules}
 use Rattle.views.specs.declared.view.Part.{Part}
 use Rattle.views.specs.Entry.{Lent, stateOf, enterOf, turnOf}
@@ -77,3 +78,12 @@ pub record MatrixRefusals (image buffer : List ℕ) (mark : ℕ) (out : List ℕ
   pub given : Given (matrixRules image buffer out) (matrixAnswer image buffer out .refusal)
   pub kept : matrixAnswer image buffer out .refusal ≢ 0
       → (matrixAnswer image buffer out .count ≡ 0) × (matrixOut image buffer mark out ≡ out)
+
+-- "image not of 256 bytes; in the machine also packet buffer not of 32, coefficient buffer not of 24"
+abbrev pub WrongLengths : Chip → Type 0
+WrongLengths s = (length (s .image) ≢ 256) ⊎ (length (s .packet) ≢ 32) ⊎ (length (s .coefficients) ≢ 24)
+
+pub record Sized (s : Chip) : Type 0 where
+  pub image : length (s .image) ≡ 256
+  pub packet : length (s .packet) ≡ 32
+  pub coefficients : length (s .coefficients) ≡ 24

@@ -6,7 +6,8 @@ use mathlib.Core.List.{List, [], _∷_}
 use Prim.Native.Nat.{ℕ, _+_}
 use lib.Dec.{eqb, ltb}
 use lib.ListN.{length}
-use Rattle.refusals.specs.Rows.{fieldOutOfRange, imageLength, twoHolds, Test, _if_, lowest, answer}
+use Rattle.refusals.specs.Rows.{fieldOutOfRange, imageLength, twoHolds}
+use Rattle.refusals.specs.Tests.{Test, _if_, lowest, answer}
 use Rattle.chip.specs.Machine.{Group, avi, audio, packets, up, holdsOf, inUse, mute}
 use Rattle.chip.specs.declared.Chip.{Chip}
 use Rattle.chip.specs.Write.{lentAs, two}

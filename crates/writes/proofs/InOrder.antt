@@ -15,7 +15,7 @@ use Rattle.chip.specs.Machine.{Write, audio, packets, up, holdsOf}
 use Rattle.writes.specs.Rows.{from, listRows, Touched}
 use Rattle.writes.specs.Steps.{Step, middle, steps}
 use Rattle.writes.specs.List.{written, isWritten, fullList}
-use Rattle.writes.specs.Order.{addresses, rowOf, Order}
+use Rattle.writes.specs.Order.{addresses, rowOfWrite, Order}
 use Rattle.writes.proofs.Last.{last, some, last-step, final-some}
 use Rattle.writes.proofs.Carries.{fits, every-step, held}
 
@@ -58,7 +58,7 @@ module _ (want : ℕ → ℕ) (image : List ℕ) where
   in-place [] = refl
   in-place (i ∷ is) = ap (λ (l : List ℕ). i .register ∷ l) (in-place is)
 
-  all-rows : (is : List Step) → every fits is ≡ true → map rowOf (map (written want image) is) ≡ map (λ (i : Step). (i .register, i .raised)) is
+  all-rows : (is : List Step) → every fits is ≡ true → map rowOfWrite (map (written want image) is) ≡ map (λ (i : Step). (i .register, i .raised)) is
   unfolding written
   all-rows [] t = refl
   all-rows (i ∷ is) t =

@@ -11,9 +11,9 @@ abbrev pub addresses : List Write → List ℕ
 addresses = map (λ w. w .address)
 
 -- a write's row
-abbrev pub rowOf : Write → ℕ × ℕ
-rowOf w = (w .address, under (holdMask (w .address)) (w .value))
+abbrev pub rowOfWrite : Write → ℕ × ℕ
+rowOfWrite w = (w .address, under (holdMask (w .address)) (w .value))
 
 pub record Order (want : ℕ → ℕ) (image : List ℕ) : Type 0 where
   -- whatever is wanted and whatever the image has
-  pub rows : map rowOf (fullList want image) ≡ listRows (up audio (holdsOf packets image))
+  pub rows : map rowOfWrite (fullList want image) ≡ listRows (up audio (holdsOf packets image))

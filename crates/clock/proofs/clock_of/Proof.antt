@@ -8,7 +8,8 @@ use borrow.Author.Needs.{needs}
 use borrow.Author.Tests.{lt-ltb, le-ltb}
 use Rattle.video.specs.Modes.{offered}
 use Rattle.video.specs.Tests.{pixelOutside}
-use Rattle.clock.specs.Clocks.{tmds, clockOf}
+use Rattle.clock.specs.Clocks.{tmds}
+use Rattle.clock.specs.Answers.{clockOf}
 use Rattle.clock.proofs.Offered.{halves, found-clock}
 use Rattle.clock.proofs.clock_of.Statement.{statement}
 use Rattle.clock.proofs.clock_of.Tie as tie

@@ -5,7 +5,8 @@ use native.Mathlib.Nat.{mul-le-mul, mul-pos, div-le-self, le-trans}
 use native.Mathlib.Omega.{arith}
 use borrow.Author.Needs.{needs}
 use Rattle.ratio.specs.declared.Ratio.{Ratio}
-use Rattle.ratio.specs.Lowest.{Reduces, topOf, bottomOf}
+use Rattle.ratio.specs.Lowest.{Reduces}
+use Rattle.ratio.specs.Terms.{topOf, bottomOf}
 use Rattle.ratio.proofs.Unique.{only}
 use Rattle.ratio.proofs.Multiples.{u-some, v-some}
 use Rattle.clock.specs.declared.Clock.{Clock}

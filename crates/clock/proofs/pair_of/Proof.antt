@@ -5,14 +5,15 @@ use Prim.Native.Nat.{ℕ}
 use lib.Dec.{eqb}
 use borrow.Author.Needs.{needs}
 use borrow.Author.Tests.{lt-ltb, le-ltb, eq-eqb, ne-eqb}
-use Rattle.refusals.specs.Rows.{lowest, answer}
+use Rattle.refusals.specs.Tests.{lowest, answer}
 use Rattle.video.specs.Modes.{offered}
 use Rattle.video.specs.Tests.{pixelOutside}
 use Rattle.clock.specs.declared.Clock.{Clock}
 use Rattle.clock.specs.declared.Pair.{Pair}
-use Rattle.clock.specs.Clocks.{tmds, aboveLimit, clockTests, clockOf}
+use Rattle.clock.specs.Clocks.{tmds}
+use Rattle.clock.specs.Answers.{aboveLimit, clockTests, clockOf}
 use Rattle.clock.specs.Bounds.{WithinBounds}
-use Rattle.clock.specs.Pairs.{noPair}
+use Rattle.clock.specs.Answers.{noPair}
 use Rattle.clock.specs.Found.{pairOf}
 use Rattle.clock.proofs.Offered.{numberOf, number-is, sized, later, above}
 use Rattle.clock.proofs.Coherence.{pair-in}

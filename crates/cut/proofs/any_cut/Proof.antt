@@ -1,5 +1,5 @@
 -- `cut::any_cut` meets its contract, which is the theorem. Assumes nothing.
-use Rattle.cut.proofs.Fewer.{holds}
+use Rattle.cut.proofs.DemandOfWriteList.{holds}
 use Rattle.cut.proofs.any_cut.Statement.{statement}
 use Rattle.cut.proofs.any_cut.Tie as tie
 

@@ -9,10 +9,10 @@ use Rattle.chip.specs.declared.Chip.{Chip}
 use Rattle.chip.specs.Machine.{Write, held}
 use Rattle.chip.specs.Write.{vsyncOf}
 use Rattle.cut.specs.Run.{Event, write, vsync, happens, run, writesOf, Fair, IsFair}
-use Rattle.cut.specs.Vsync.{waits, Finished}
+use Rattle.cut.specs.Vsync.{changeWaits, FinishedRun}
 use Rattle.cut.specs.AnyRun.{Good}
-use Rattle.cut.proofs.Erased.{Alike, alike-self, alike-write, alike-vsync, before-first}
-use Rattle.cut.proofs.Runs.{nothing-waits}
+use Rattle.cut.proofs.VsyncsLeave.{Alike, alike-self, alike-write, alike-vsync, before-first}
+use Rattle.cut.proofs.ClausesOfRuns.{nothing-waits}
 use Rattle.cut.proofs.any_run.Statement.{statement}
 use Rattle.cut.proofs.any_run.Tie as tie
 
@@ -40,7 +40,7 @@ anywhere (write w ∷ es) (write v ∷ fs) s t a e g =
     (anywhere es fs (happens (write w) s .chip) (happens (write w) t .chip) (x .after) (ap (λ (l : List Write). drop 1 l) e)
     (later (write w) es s g)))
 
-idle : (es : List Event) (s : Chip) → length (s .image) ≡ 256 → (ws : List Write) → Finished ws es → waits (run es s) ≡ false
+idle : (es : List Event) (s : Chip) → length (s .image) ≡ 256 → (ws : List Write) → FinishedRun ws es → changeWaits (run es s) ≡ false
 idle es s z ws f = go (held (run es s)) refl
   where
     go : (h : Bool) → held (run es s) ≡ h → (not h && run es s .waiting) ≡ false

@@ -1,5 +1,5 @@
 -- `cut::fair_run` meets its contract, which is the theorem. Assumes nothing.
-use Rattle.cut.proofs.FairRun.{untouched}
+use Rattle.cut.proofs.FairRunLeaves.{untouched}
 use Rattle.cut.proofs.fair_run.Statement.{statement}
 use Rattle.cut.proofs.fair_run.Tie as tie
 

@@ -1,5 +1,5 @@
 -- `cut::full_list` meets its contract, which is the theorem. Assumes nothing.
-use Rattle.cut.proofs.WriteList.{full-holds}
+use Rattle.cut.proofs.DemandOfFullList.{full-holds}
 use Rattle.cut.proofs.full_list.Statement.{statement}
 use Rattle.cut.proofs.full_list.Tie as tie
 

@@ -1,5 +1,5 @@
 -- `cut::made_right` meets its contract, which is the theorem. Assumes nothing.
-use Rattle.cut.proofs.Within.{made-right}
+use Rattle.cut.proofs.ShorterWithin.{made-right}
 use Rattle.cut.proofs.made_right.Statement.{statement}
 use Rattle.cut.proofs.made_right.Tie as tie
 

@@ -1,5 +1,5 @@
 -- `cut::mended_run` meets its contract, which is the theorem. Assumes nothing.
-use Rattle.cut.proofs.Mended.{mended}
+use Rattle.cut.proofs.MendedRun.{mended}
 use Rattle.cut.proofs.mended_run.Statement.{statement}
 use Rattle.cut.proofs.mended_run.Tie as tie
 

@@ -1,5 +1,5 @@
 -- `cut::retried_run` meets its contract, which is the theorem. Assumes nothing.
-use Rattle.cut.proofs.Retry.{retries}
+use Rattle.cut.proofs.Repeated.{retries}
 use Rattle.cut.proofs.retried_run.Statement.{statement}
 use Rattle.cut.proofs.retried_run.Tie as tie
 

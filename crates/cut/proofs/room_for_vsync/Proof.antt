@@ -1,5 +1,5 @@
 -- `cut::room_for_vsync` meets its contract, which is the theorem. Assumes nothing.
-use Rattle.cut.proofs.Fewer.{room-left}
+use Rattle.cut.proofs.DemandOfWriteList.{room-left}
 use Rattle.cut.proofs.room_for_vsync.Statement.{statement}
 use Rattle.cut.proofs.room_for_vsync.Tie as tie
 

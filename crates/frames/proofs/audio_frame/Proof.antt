@@ -1,5 +1,5 @@
 -- `frames::audio_frame` meets its contract: the place of the checksum is 0 while the sum is taken. Assumes nothing.
-use Rattle.frames.specs.Frames.{audioHeader, audioPayload}
+use Rattle.frames.specs.Audio.{audioHeader, audioPayload}
 use Rattle.frames.proofs.Total.{kept}
 use borrow.Author.Needs.{needs}
 use Rattle.frames.proofs.audio_frame.Statement.{statement}

@@ -1,5 +1,5 @@
 -- `frames::audio_off` meets its contract. Assumes nothing.
-use Rattle.frames.specs.Frames.{audioOffFrame}
+use Rattle.frames.specs.Audio.{audioOffFrame}
 use borrow.Author.Needs.{needs}
 use Rattle.frames.proofs.audio_off.Statement.{statement}
 use Rattle.frames.proofs.audio_off.Tie as tie

@@ -2,7 +2,7 @@
 use mathlib.Core.Path.{_≡_}
 use mathlib.Core.Bool.{cond}
 use borrow.Author.Tests.{eq-eqb, ne-eqb}
-use Rattle.refusals.specs.Rows.{lowest}
+use Rattle.refusals.specs.Tests.{lowest}
 use Rattle.frames.specs.Answers.{aviTests, aviOf}
 use borrow.Author.Needs.{needs}
 use Rattle.frames.proofs.avi_of.Statement.{statement}

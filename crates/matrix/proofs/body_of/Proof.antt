@@ -7,13 +7,13 @@ use lib.ListN.{length, take, length-map}
 use lib.Seq.{sets}
 use borrow.Author.Needs.{needs}
 use Rattle.lists.proofs.Emit.{map-at}
-use Rattle.matrix.specs.Coefficient.{field, highByte, coefficientBytes}
+use Rattle.matrix.specs.Coefficient.{lowThirteen, highByte, coefficientBytes}
 use Rattle.matrix.proofs.Body.{turn-bytes, whole-matrix}
 use Rattle.matrix.proofs.body_of.Statement.{statement}
 use Rattle.matrix.proofs.body_of.Tie as tie
 
 abbrev Inv-loop : tie.InvT-loop
-Inv-loop fields out₀ i₀ out i = (i ≤ 12) × (length fields ≡ 12) × (out ≡ sets out₀ 1 (coefficientBytes (take i (map field fields))))
+Inv-loop fields out₀ i₀ out i = (i ≤ 12) × (length fields ≡ 12) × (out ≡ sets out₀ 1 (coefficientBytes (take i (map lowThirteen fields))))
 
 abbrev μ-loop : tie.MeasureT-loop
 μ-loop fields out₀ i₀ out i = 12 - i
@@ -70,11 +70,11 @@ loop-again : tie.Need-loop-again Inv-loop μ-loop
 loop-again c =
     let l = c .before .before .loop in
     let cs = c .before .before .before .before .args .m .coefficients in
-    let at = map-at field cs (l .i) 0 0 (omega arith) in (
+    let at = map-at lowThirteen cs (l .i) 0 0 (omega arith) in (
       search needs,
       search needs,
       rw (l .inv .2)
-          (turn-bytes (map field cs) _ 1 (l .i) _ _ _ _ (rw (length-map cs field) (omega arith)) (omega arith) (omega arith)
+          (turn-bytes (map lowThirteen cs) _ 1 (l .i) _ _ _ _ (rw (length-map cs lowThirteen) (omega arith)) (omega arith) (omega arith)
           (c .high-byte .ensures ∙ ap highByte (sym at)) (low _ ∙ ap (λ (n : ℕ). n % 256) (sym at))),
     )
   where
@@ -84,7 +84,7 @@ loop-again c =
 returns : tie.Need-returns Inv-loop μ-loop
 returns c =
     let l = c .before .loop in
-    l .inv .2 ∙ whole-matrix _ _ (l .i) (rw (length-map _ field) (l .inv .1)) (omega arith)
+    l .inv .2 ∙ whole-matrix _ _ (l .i) (rw (length-map _ lowThirteen) (l .inv .1)) (omega arith)
 
 pub body-of-spec : {M : Type 1} → statement M
 body-of-spec =

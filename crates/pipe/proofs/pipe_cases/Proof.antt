@@ -1,22 +1,23 @@
 -- `pipe::pipe_cases`: computed. Assumes nothing.
 use mathlib.Core.Path.{refl}
-use Rattle.ratio.specs.Lowest.{steps, divisorOf}
+use Rattle.ratio.specs.Terms.{euclid, divisorOf}
 use Rattle.video.specs.Modes.{modeOf}
 use Rattle.video.specs.Tests.{videoOutside, shownOutside, videoCombined, shownCombined}
-use Rattle.clock.specs.Clocks.{tmds, clockOf}
+use Rattle.clock.specs.Clocks.{tmds}
+use Rattle.clock.specs.Answers.{clockOf}
 use Rattle.clock.specs.Pairs.{reference, recommendedOf}
 use Rattle.clock.specs.Found.{nearestK, nearestIn, nearestOf, exactly, coherentOf, pairOf}
 use Rattle.matrix.specs.Matrix.{fields}
 use Rattle.matrix.specs.Tests.{inRange, isAllowed}
 use Rattle.request.specs.Sections.{walk, walked}
 use Rattle.request.specs.Read.{outside, combined, judged, readOf, pairFor, nctsOf}
-use Rattle.pipe.specs.Found.{takeOf, takePipe, endOf, endPipe}
+use Rattle.pipe.specs.Found.{takeOf, takePipe, endPipeOf, endPipe}
 use Rattle.pipe.specs.Cases.{PipeCases}
 use Rattle.pipe.proofs.pipe_cases.Statement.{statement}
 use Rattle.pipe.proofs.pipe_cases.Tie as tie
 
 cases : PipeCases
-unfolding steps divisorOf modeOf videoOutside shownOutside videoCombined shownCombined tmds clockOf reference recommendedOf nearestK nearestIn nearestOf exactly coherentOf pairOf fields inRange isAllowed walk walked outside combined judged readOf pairFor nctsOf takeOf takePipe endOf endPipe
+unfolding euclid divisorOf modeOf videoOutside shownOutside videoCombined shownCombined tmds clockOf reference recommendedOf nearestK nearestIn nearestOf exactly coherentOf pairOf fields inRange isAllowed walk walked outside combined judged readOf pairFor nctsOf takeOf takePipe endPipeOf endPipe
 cases = record {
   length = refl;
   zeros = refl;

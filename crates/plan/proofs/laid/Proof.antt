@@ -4,13 +4,13 @@ use Prim.Native.Nat.{_+_, _-_, _≤_}
 use native.Mathlib.Nat.{add-zero}
 use lib.ListN.{length, drop}
 use borrow.Author.Needs.{needs}
-use Rattle.plan.specs.Wanted.{laid, stores}
+use Rattle.plan.specs.Wanted.{laidBytes, stores}
 use Rattle.plan.proofs.Stored.{laid-more, laid-end}
 use Rattle.plan.proofs.laid.Statement.{statement}
 use Rattle.plan.proofs.laid.Tie as tie
 
 abbrev Inv-loop : tie.InvT-loop
-Inv-loop out₀ at bytes i₀ out i = (i ≤ length bytes) × (length out ≡ 256) × (stores out (laid (at + i) (drop i bytes)) ≡ stores out₀ (laid at bytes))
+Inv-loop out₀ at bytes i₀ out i = (i ≤ length bytes) × (length out ≡ 256) × (stores out (laidBytes (at + i) (drop i bytes)) ≡ stores out₀ (laidBytes at bytes))
 
 abbrev μ-loop : tie.MeasureT-loop
 μ-loop out₀ at bytes i₀ out i = length bytes - i

@@ -5,7 +5,7 @@ use Rattle.map.specs.Map as reg
 use Rattle.chip.specs.Machine.{Write}
 use Rattle.video.proofs.Fits.{link-fits, repetition-fits}
 use Rattle.request.specs.Read.{pairFor}
-use Rattle.plan.specs.Wanted.{laid, cscBytes, clockBytes, inputBytes, enableBytes, frameBytes}
+use Rattle.plan.specs.Wanted.{laidBytes, cscBytes, clockBytes, inputBytes, enableBytes, frameBytes}
 use Rattle.plan.proofs.Stored.{more}
 use borrow.Author.Needs.{needs}
 use Rattle.plan.proofs.wanted_image.Statement.{statement}
@@ -52,11 +52,11 @@ returns c =
     let z : List ℕ = p .args .out .now in
     let one : List Write = clockBytes (pairFor r) in
     let two : List Write = one ++ inputBytes r in
-    let three : List Write = two ++ laid reg.csc (cscBytes (r .matrix)) in
+    let three : List Write = two ++ laidBytes reg.csc (cscBytes (r .matrix)) in
     let four : List Write = three ++ enableBytes r in
     more z four (frameBytes r)
     (more z three (enableBytes r)
-    (more z two (laid reg.csc (cscBytes (r .matrix)))
+    (more z two (laidBytes reg.csc (cscBytes (r .matrix)))
     (more z one (inputBytes r) (rw (p .pre .1 .0) at (k .with-clock .ensures)) (i .with-inputs .ensures))
     (rw (m .csc-bytes .ensures) at (l .laid .ensures)))
     (e .with-enables .ensures))

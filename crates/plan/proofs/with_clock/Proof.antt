@@ -1,6 +1,6 @@
 -- `plan::with_clock` meets its contract. Assumes nothing.
 use Rattle.map.specs.Map as reg
-use Rattle.plan.specs.Wanted.{laid, twenty}
+use Rattle.plan.specs.Wanted.{laidBytes, twenty}
 use Rattle.plan.proofs.Stored.{more}
 use borrow.Author.Needs.{needs}
 use Rattle.plan.proofs.with_clock.Statement.{statement}
@@ -38,7 +38,7 @@ returns c =
     let l = c .before .before .before .before .before .before .before in
     let t = l .before .before .before in
     let a = t .before .before .before .args in
-    more (a .out .now) (laid reg.n0 (twenty (a .pair .n))) (laid reg.ctsManual0 (twenty (a .pair .cts)))
+    more (a .out .now) (laidBytes reg.n0 (twenty (a .pair .n))) (laidBytes reg.ctsManual0 (twenty (a .pair .cts)))
     (rw (t .before .twenty .ensures) at (l .laid .ensures)) (rw (t .twenty2 .ensures) at (c .before .before .laid2 .ensures))
 
 pub with-clock-spec : {M : Type 1} → statement M

@@ -2,7 +2,7 @@
 use mathlib.Core.Path.{_≡_}
 use lib.ListN.{take, drop}
 use Rattle.frames.specs.Frames.{aviFrame}
-use Rattle.plan.specs.Wanted.{laid, audioBytes}
+use Rattle.plan.specs.Wanted.{laidBytes, audioBytes}
 use Rattle.plan.proofs.Stored.{more, rest}
 use borrow.Author.Needs.{needs}
 use Rattle.plan.proofs.with_frames.Statement.{statement}
@@ -54,7 +54,7 @@ returns c =
     let a = b .before .before .before .args in
     let audio : take 13 (drop 1 (b .audio-bytes .result)) ≡ drop 1 (b .audio-bytes .result) = rest 13 (b .audio-bytes .result) (search needs) in
     let video : take 16 (drop 1 (b .before .avi-bytes .result)) ≡ drop 1 (b .before .avi-bytes .result) = rest 16 (b .before .avi-bytes .result) (search needs) in
-    more (a .out .now) (laid 0x52 (drop 1 (aviFrame (a .r .video)))) (laid 0x70 (drop 1 (audioBytes (a .r .sound))))
+    more (a .out .now) (laidBytes 0x52 (drop 1 (aviFrame (a .r .video)))) (laidBytes 0x70 (drop 1 (audioBytes (a .r .sound))))
     (rw (video, b .before .avi-bytes .ensures) at (l .laid .ensures)) (rw (audio, b .audio-bytes .ensures) at (c .before .before .laid2 .ensures))
 
 pub with-frames-spec : {M : Type 1} → statement M

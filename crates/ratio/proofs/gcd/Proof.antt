@@ -4,7 +4,7 @@ use mathlib.Core.Logic.{⊎-elim}
 use Prim.Native.Nat.{_+_, _%_}
 use native.Mathlib.Omega.{arith}
 use borrow.Author.Needs.{needs}
-use Rattle.ratio.specs.Lowest.{divisorOf}
+use Rattle.ratio.specs.Terms.{divisorOf}
 use Rattle.ratio.proofs.Halving.{turned, of-zero, halved, half-less}
 use Rattle.ratio.proofs.gcd.Statement.{statement}
 use Rattle.ratio.proofs.gcd.Tie as tie

@@ -12,7 +12,7 @@ use Rattle.chip.specs.declared.Chip.{Chip}
 use Rattle.chip.specs.Write.{lentAs}
 use Rattle.chip.specs.Machine.{packets, holdsOf}
 use Rattle.views.specs.Entry.{marked}
-use Rattle.views.specs.Sized.{Sized}
+use Rattle.views.specs.Refusals.{Sized}
 use Rattle.views.proofs.Lent.{sized, gathered-whole}
 use Rattle.writes.specs.List.{pairsOf, ready}
 use Rattle.writes.proofs.Pairs.{length-pairs}
@@ -20,7 +20,7 @@ use Rattle.decode.specs.declared.Decoded.{Decoded}
 use Rattle.decode.specs.Decode.{someEnds}
 use Rattle.vendor.specs.Vendor.{shortened, endOf}
 use Rattle.vendor.specs.Found.{placeOf}
-use Rattle.cut.proofs.Taken.{neat-two}
+use Rattle.cut.proofs.NoneRefused.{neat-two}
 use Rattle.vendor.proofs.Faults.{taken-by}
 use Rattle.vendor.proofs.Verdicts.{wrong-size, holds-up, wrong-length, bad-pair, bad-end, passed, placed, ends-whole, decoded, not-decoded}
 use Rattle.vendor.proofs.vet.Statement.{statement}

@@ -6,7 +6,7 @@ use Prim.Native.Nat.{ℕ}
 use native.Mathlib.Omega.{arith}
 use lib.ListN.{set}
 use Rattle.chip.specs.Write.{vsyncOf}
-use Rattle.views.specs.Entry.{markByte, Lent, lent, stateOf, slicesOf, Entry, isLent}
+use Rattle.views.specs.Entry.{markByte, Lent, lent, stateOf, slicesOf, SliceAnswer, isLent}
 use Rattle.views.specs.Sized.{LentSized}
 use Rattle.views.proofs.Lent.{stored-alone, lent-sized, turn-away, turn-in}
 use borrow.Author.Needs.{needs}
@@ -48,7 +48,7 @@ same-length-4 c = search needs
 returns : tie.Need-returns
 returns c =
     let e = turn-away (at (start (c .before))) (unfit c) in
-    (ap (λ (e : Entry). e .refusal) (sym e), ap (λ (e : Entry). e .slices) (sym e))
+    (ap (λ (e : SliceAnswer). e .refusal) (sym e), ap (λ (e : SliceAnswer). e .slices) (sym e))
 
 cast-still-waits : tie.Need-cast-still-waits
 cast-still-waits c = search needs
@@ -90,7 +90,7 @@ returns-2 c =
     let m : set (z .args .mark .now) 0 (c .mark-byte .result) ≡ slicesOf (vsyncOf (stateOf (at z))) .mark =
     stored-alone (z .args .mark .now) (c .mark-byte .result) (fine i .mark) ∙ ap (λ (n : ℕ). n ∷ []) (c .mark-byte .ensures ∙ ap markByte (w .still-waits .ensures))
     in
-    (ap (λ (e : Entry). e .refusal) (sym e), ap (lent (z .args .image .now) (z .args .packet .now) (z .args .coefficients .now)) m ∙ ap (λ (e : Entry). e .slices) (sym e))
+    (ap (λ (e : SliceAnswer). e .refusal) (sym e), ap (lent (z .args .image .now) (z .args .packet .now) (z .args .coefficients .now)) m ∙ ap (λ (e : SliceAnswer). e .slices) (sym e))
 
 pub vsync-into-spec : {M : Type 1} → statement M
 vsync-into-spec =

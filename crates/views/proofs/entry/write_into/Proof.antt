@@ -4,7 +4,7 @@ use mathlib.Core.Bool.{true, false}
 use native.Mathlib.Omega.{arith}
 use Rattle.chip.specs.declared.Chip.{Chip}
 use Rattle.chip.specs.Write.{writeOf}
-use Rattle.views.specs.Entry.{Lent, lent, stateOf, Entry, wroteIn, isLent, enterOf}
+use Rattle.views.specs.Entry.{Lent, lent, stateOf, SliceAnswer, wroteIn, isLent, enterOf}
 use Rattle.views.specs.Sized.{LentSized}
 use Rattle.views.proofs.Lent.{gathered-whole, lent-sized, state-sized, turned-away, let-in, wrote-refused, wrote-taken}
 use borrow.Author.Needs.{needs}
@@ -66,7 +66,7 @@ returns : tie.Need-returns
 returns c =
     let z = start (c .before) in
     let e = turned-away (at z) (z .args .address) (z .args .value) (unfit c) in
-    (ap (λ (e : Entry). e .refusal) (sym e), ap (λ (e : Entry). e .slices) (sym e))
+    (ap (λ (e : SliceAnswer). e .refusal) (sym e), ap (λ (e : SliceAnswer). e .slices) (sym e))
 
 slice-read-gathered : tie.Need-slice-read-gathered
 slice-read-gathered c = let z = fine (c .before .before .before .before) in omega arith
@@ -94,7 +94,7 @@ returns-2 c =
     let w = c .before .before in
     let z = start (past w .before) in
     let e = entered w ∙ wrote-refused (at z) (w .write .result) (c .if2 .taken) in
-    (ap (λ (e : Entry). e .refusal) (sym e), ap (λ (e : Entry). e .slices) (sym e))
+    (ap (λ (e : SliceAnswer). e .refusal) (sym e), ap (λ (e : SliceAnswer). e .slices) (sym e))
 
 spread-requires : tie.Need-spread-requires
 spread-requires c κs = fine (past (c .before .before .before .before .before .before .before))
@@ -118,7 +118,7 @@ returns-3 c =
     let w = i .before .before in
     let z = start (past w .before) in
     let e = entered w ∙ wrote-taken (at z) (w .write .result) (i .if2 .left) in
-    (ap (λ (e : Entry). e .refusal) (sym e), s .spread .ensures ∙ ap (λ (e : Entry). e .slices) (sym e))
+    (ap (λ (e : SliceAnswer). e .refusal) (sym e), s .spread .ensures ∙ ap (λ (e : SliceAnswer). e .slices) (sym e))
 
 pub write-into-spec : {M : Type 1} → statement M
 write-into-spec =

@@ -17,10 +17,10 @@ use Rattle.chip.specs.Write.{markAs, put, vsyncOf}
 use Rattle.writes.specs.Steps.{Step}
 use Rattle.writes.specs.List.{written}
 use Rattle.cut.specs.Run.{Event, write, vsync, writesOf}
-use Rattle.cut.specs.Vsync.{waits, turnedOver}
-use Rattle.cut.proofs.Latch.{View, walk, nexts, acts, Faithful, once}
-use Rattle.cut.proofs.Bank.{store, only, matrix-same, Whole, image-store, size-store, outside-part, part-fills}
-use Rattle.cut.proofs.Bytes.{clean, Seen, converter-seen}
+use Rattle.cut.specs.Vsync.{changeWaits, turnedOver}
+use Rattle.cut.proofs.MovesOnlyAt.{View, walk, nexts, acts, Faithful, once}
+use Rattle.cut.proofs.GroupStays.{store, only, matrix-same, Whole, image-store, size-store, outside-part, part-fills}
+use Rattle.cut.proofs.BytesKept.{clean, Seen, converter-seen}
 
 -- what an event makes of a state, where its byte is stored as it is
 abbrev pub act : Event → Chip → Chip
@@ -195,7 +195,7 @@ lead (w ∷ ws) = elim (eqb (w .address) (converter .register)) [ true ↦ up ma
 
 -- the bytes that are old after some events
 abbrev pub oldBytes : List Event → Chip → List ℕ
-oldBytes es s = cond (waits s && turnedOver es) (registersOf matrix (s .image)) (shown s)
+oldBytes es s = cond (changeWaits s && turnedOver es) (registersOf matrix (s .image)) (shown s)
 
 idle-shown : (s : Chip) → phase s ≡ 0 → shown s ≡ registersOf matrix (s .image)
 unfolding inUse

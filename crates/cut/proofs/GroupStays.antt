@@ -15,7 +15,7 @@ use Rattle.chip.specs.Machine.{Write, Group, Buffer, packets, converter, avi, a
 use Rattle.chip.specs.Write.{filled}
 use Rattle.chip.specs.Machine.{inUse}
 use Rattle.chip.specs.Write.{put}
-use Rattle.cut.proofs.Latch.{View, Faithful}
+use Rattle.cut.proofs.MovesOnlyAt.{View, Faithful}
 
 -- a write whose byte is stored as it is
 abbrev pub store : Write → Chip → Chip

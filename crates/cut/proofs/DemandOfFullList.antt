@@ -16,11 +16,11 @@ use Rattle.writes.specs.Rows.{table14, others}
 use Rattle.writes.specs.Steps.{_raising_, each, span, aviSteps, audioSteps, middle}
 use Rattle.writes.specs.List.{middleOf, fullList, written, ready}
 use Rattle.cut.specs.Demand.{Demand3}
-use Rattle.cut.proofs.Fairness.{full-fair}
-use Rattle.cut.proofs.Bank.{only, status, audio-same}
-use Rattle.cut.proofs.Taken.{neat, neat-only}
-use Rattle.cut.proofs.Cut.{Ready, neat-elim, Walked, Lowers, not-hold, Good}
-use Rattle.cut.proofs.Demanded.{demand3}
+use Rattle.cut.proofs.EntriesFair.{full-fair}
+use Rattle.cut.proofs.GroupStays.{only, status, audio-same}
+use Rattle.cut.proofs.NoneRefused.{neat, neat-only}
+use Rattle.cut.proofs.AtEveryCut.{Ready, neat-elim, Walked, Lowers, not-hold, Good}
+use Rattle.cut.proofs.DemandOfGoodLists.{demand3}
 use Rattle.writes.proofs.Last.{read, last-step, read-final, final-none}
 
 two-elim : (P : ℕ → Type 0) → P 0 → P 32 → (q : ℕ) → P (only (converter .groups) q)

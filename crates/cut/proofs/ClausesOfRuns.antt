@@ -26,20 +26,21 @@ use Rattle.writes.specs.List.{written, listWith, finishedImage}
 use Rattle.writes.proofs.Image.{is-image}
 use Rattle.cut.specs.Run.{Event, write, vsync, happens, run, cut, event, writesOf, writesBy, standing, Either, Fair, IsFair, Careful}
 use Rattle.cut.specs.Run.{Covered}
-use Rattle.cut.specs.Vsync.{waits, turnedOver, old, sent, leavesHold, Finished}
+use Rattle.cut.specs.Vsync.{changeWaits, turnedOver, old, leavesHold, FinishedRun}
+use Rattle.cut.specs.Room.{sent}
 use Rattle.cut.specs.Demand.{After, Same, Clauses}
-use Rattle.cut.proofs.Planned.{Planner, cutOf, endOf}
-use Rattle.cut.proofs.Latch.{acts}
-use Rattle.cut.proofs.Bank.{store, down-part}
-use Rattle.cut.proofs.Bytes.{agree-free}
-use Rattle.cut.proofs.Retry.{sized-happens}
-use Rattle.cut.proofs.FairRun.{untouched}
-use Rattle.cut.proofs.Turning.{act, shown, oldBytes, old-or-new}
-use Rattle.cut.proofs.Taken.{Fit, head-taken, tail-fit}
-use Rattle.cut.proofs.Erased.{Alike, alike-self, alike-use, alike-muted, alike-open, alike-write, alike-vsync, run-alike, cut-alike, which, counted}
-use Rattle.cut.proofs.Erased.{within, before-first, writes-take, writes-append, run-append}
-use Rattle.cut.proofs.Cut as cut
-use Rattle.cut.proofs.Cut.{Ready, near-self, Good}
+use Rattle.cut.proofs.PlannedStates.{Planner, cutOf, endOf}
+use Rattle.cut.proofs.MovesOnlyAt.{acts}
+use Rattle.cut.proofs.GroupStays.{store, down-part}
+use Rattle.cut.proofs.BytesKept.{agree-free}
+use Rattle.cut.proofs.Repeated.{sized-happens}
+use Rattle.cut.proofs.FairRunLeaves.{untouched}
+use Rattle.cut.proofs.CoefficientsInUse.{act, shown, oldBytes, old-or-new}
+use Rattle.cut.proofs.NoneRefused.{Fit, head-taken, tail-fit}
+use Rattle.cut.proofs.VsyncsLeave.{Alike, alike-self, alike-use, alike-muted, alike-open, alike-write, alike-vsync, run-alike, cut-alike, which, counted}
+use Rattle.cut.proofs.VsyncsLeave.{within, before-first, writes-take, writes-append, run-append}
+use Rattle.cut.proofs.AtEveryCut as cut
+use Rattle.cut.proofs.AtEveryCut.{Ready, near-self, Good}
 
 -- ---- runs whose writes are stored as they are
 
@@ -99,7 +100,7 @@ left-idle (write v ∷ es) s z t h w =
 left-idle (vsync ∷ es) s z t h w = left-idle es (vsyncOf s) (sized-happens vsync s z) t (held-vsync s ∙ h) (turned s .ends h)
 
 -- a finished run ends with nothing waiting
-pub nothing-waits : (ws : List Write) (es : List Event) (s : Chip) → length (s .image) ≡ 256 → Finished ws es → held (run es s) ≡ false
+pub nothing-waits : (ws : List Write) (es : List Event) (s : Chip) → length (s .image) ≡ 256 → FinishedRun ws es → held (run es s) ≡ false
     → run es s .waiting ≡ false
 nothing-waits ws es s z f h =
     let t : Chip = run (f .before) s in
@@ -131,7 +132,7 @@ front (vsync ∷ b) a (suc k) u h =
     let p = front b a k u h in
     record { rest = p .rest; is = ap (λ (l : List Event). vsync ∷ l) (p .is); same = p .same }
 
-finished-by : (ws : List Write) (es : List Event) (k : ℕ) → Finished ws es → writesBy es k ≡ length ws → Finished ws (take k es)
+finished-by : (ws : List Write) (es : List Event) (k : ℕ) → FinishedRun ws es → writesBy es k ≡ length ws → FinishedRun ws (take k es)
 finished-by ws es k f c =
     let h : length (writesOf es) ≤ writesBy es k = omega (arith, c, ap length (f .runs)) in
     let p = front (f .before) (f .after) k (f .unopened) (subst (λ (l : List Event). length (writesOf l) ≤ writesBy l k) (f .waits) h) in
@@ -206,12 +207,12 @@ module _ (mid : (ℕ → ℕ) → List ℕ → List Step)
       late = packets-after (vsyncOf (run es s)) (alike-vsync (run es s) (endOf P want s) alike-end)
           (ap fields (last-shown ∙ ap (registersOf matrix) (sym last-image)))
 
-      ended : Finished ws es → After (run es s)
+      ended : FinishedRun ws es → After (run es s)
       unfolding coefficients
       ended f = packets-after (run es s) alike-end
           (ap fields (down-part converter matrix (run es s) (nothing-waits ws es s (r .whole) f held-run) held-run))
 
-      since : Finished ws es → (k : ℕ) → writesBy es k ≡ length ws → After (cut es s k)
+      since : FinishedRun ws es → (k : ℕ) → writesBy es k ≡ length ws → After (cut es s k)
       unfolding coefficients
       since f k c =
           let a : Alike (cut es s k) (endOf P want s) =
@@ -245,7 +246,7 @@ module _ (mid : (ℕ → ℕ) → List ℕ → List Step)
           ap shown (acts-append es (vsync ∷ []) s ∙ ap vsyncOf (sym run-all)) ∙ last-shown ∙ ap (registersOf matrix) image-run in
           let o = old-or-new longer s k (r .whole) (rw writes-longer (cut.safe-list mid good want s r)) (rw writes-longer (cut.lead-list mid good want s r)) in
           let now : shown (acts act (take k longer) s) ≡ shown (cut es s k) = ap (λ (l : List Event). shown (acts act l s)) t ∙ ap shown (sym (run-acts k)) in
-          ⊎-map (λ x. ap fields (sym now ∙ x ∙ ap (λ (l : List Event). oldBytes l s) t) ∙ lifted (waits s && turnedOver (take k es)))
+          ⊎-map (λ x. ap fields (sym now ∙ x ∙ ap (λ (l : List Event). oldBytes l s) t) ∙ lifted (changeWaits s && turnedOver (take k es)))
           (λ x. ap fields (sym now ∙ x ∙ final)) o
         where
           lifted : (b : Bool) → fields (cond b (registersOf matrix (s .image)) (shown s)) ≡ cond b (fields (registersOf matrix (s .image))) (fields (shown s))

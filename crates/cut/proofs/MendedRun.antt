@@ -21,12 +21,12 @@ use Rattle.chip.proofs.Writes.{written-as, allowed}
 use Rattle.writes.specs.List.{writeList, ready}
 use Rattle.cut.specs.Run.{Event, write, vsync, happens, cut, Fair}
 use Rattle.cut.specs.Mended.{Mended}
-use Rattle.cut.proofs.Bytes.{Kept, Agree, agree-self, agree-trans, at-set}
-use Rattle.cut.proofs.FairRun.{after-write, Fairly, later, keeps, leaves}
-use Rattle.cut.proofs.Retry.{Taken, sized-happens, vsync-image}
-use Rattle.cut.proofs.Taken.{neat-two}
-use Rattle.cut.proofs.Cut.{Ready, Near}
-use Rattle.cut.proofs.Fewer.{ends-same}
+use Rattle.cut.proofs.BytesKept.{Kept, Agree, agree-self, agree-trans, at-set}
+use Rattle.cut.proofs.FairRunLeaves.{after-write, Fairly, later, keeps, leaves}
+use Rattle.cut.proofs.Repeated.{Taken, sized-happens, vsync-image}
+use Rattle.cut.proofs.NoneRefused.{neat-two}
+use Rattle.cut.proofs.AtEveryCut.{Ready, Near}
+use Rattle.cut.proofs.DemandOfWriteList.{ends-same}
 
 -- a fair byte keeps the read-only and the free bits that stood there
 mixed : (f r x y : ℕ) → merge 8 f (merge 8 r x y) 0 ≡ merge 8 r (merge 8 f x 0) (merge 8 f y 0)

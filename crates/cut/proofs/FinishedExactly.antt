@@ -12,9 +12,9 @@ use lib.Seq.{take-append-le, take-length}
 use Rattle.lists.proofs.Both.{both-left, both-right}
 use Rattle.chip.specs.Machine.{Write}
 use Rattle.cut.specs.Run.{Event, vsync, event, writesOf, writesBy}
-use Rattle.cut.specs.Vsync.{leavesHold, Finished}
-use Rattle.cut.specs.Room.{Turns}
-use Rattle.cut.proofs.Erased.{writes-append}
+use Rattle.cut.specs.Vsync.{leavesHold, FinishedRun}
+use Rattle.cut.specs.Room.{VsyncBetween}
+use Rattle.cut.proofs.VsyncsLeave.{writes-append}
 
 split-at : (es : List Event) (k : ℕ) → k < length es → es ≡ take k es ++ event es k ∷ drop (suc k) es
 split-at [] k h = absurd (not-suc-le-zero h)
@@ -61,7 +61,7 @@ module _ (front : List Write) (low : Write) (back ws : List Write) (s : ws ≡ f
   counts : (before after : List Event) → es ≡ before ++ vsync ∷ after → length ws ≡ length (writesOf before) + length (writesOf after)
   counts before after w = ap length (s ∙ parts before after w) ∙ length-append (writesOf before) (writesOf after)
 
-  there : Finished ws es → Turns (length front) (length ws) es
+  there : FinishedRun ws es → VsyncBetween (length front) (length ws) es
   there f =
       let at : take (length (f .before)) es ≡ f .before =
       ap (λ (l : List Event). take (length (f .before)) l) (f .waits)
@@ -78,7 +78,7 @@ module _ (front : List Write) (low : Write) (back ws : List Write) (s : ws ≡ f
         before = omega (arith, n, m, u);
       }
 
-  back-again : Turns (length front) (length ws) es → Finished ws es
+  back-again : VsyncBetween (length front) (length ws) es → FinishedRun ws es
   back-again p =
       let before : List Event = take (p .place) es in
       let after : List Event = drop (suc (p .place)) es in
@@ -95,5 +95,5 @@ module _ (front : List Write) (low : Write) (back ws : List Write) (s : ws ≡ f
         unopened = omega (arith, m, b);
       }
 
-  pub between : Finished ws es ↔ Turns (length front) (length ws) es
+  pub between : FinishedRun ws es ↔ VsyncBetween (length front) (length ws) es
   between = (there, back-again)

@@ -28,13 +28,13 @@ use Rattle.writes.specs.Steps.{Step, _raising_, steps}
 use Rattle.writes.specs.List.{written, middleOf, fullList, alreadyThere, theThree, stays, writeList, ready}
 use Rattle.writes.proofs.Fewer.{plain, raises-none, every-plain, there-bytes}
 use Rattle.cut.specs.Run.{Event, write, vsync, happens, run, cut, event, writesOf, writesBy}
-use Rattle.cut.specs.Vsync.{sent}
+use Rattle.cut.specs.Room.{sent}
 use Rattle.cut.specs.Within.{Within, MadeRight}
-use Rattle.cut.proofs.Erased.{alike-write, which}
-use Rattle.cut.proofs.Runs.{alike}
-use Rattle.cut.proofs.Cut.{Ready, take-map, cut-acts, stand, taken}
-use Rattle.cut.proofs.WriteList.{planned-good}
-use Rattle.cut.proofs.Fewer.{last-there}
+use Rattle.cut.proofs.VsyncsLeave.{alike-write, which}
+use Rattle.cut.proofs.ClausesOfRuns.{alike}
+use Rattle.cut.proofs.AtEveryCut.{Ready, take-map, cut-acts, stand, taken}
+use Rattle.cut.proofs.DemandOfFullList.{planned-good}
+use Rattle.cut.proofs.DemandOfWriteList.{last-there}
 
 -- ---- any list of events, some of them left out
 

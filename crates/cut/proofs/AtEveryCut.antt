@@ -22,16 +22,16 @@ use Rattle.chip.specs.Machine.{held, gcInUse, Muted, Open, mute}
 use Rattle.chip.specs.Write.{writeOf}
 use Rattle.writes.specs.Steps.{Step, _raising_, steps}
 use Rattle.writes.specs.List.{decided, written, listWith, isWritten, leftUp, finished, ready}
-use Rattle.cut.proofs.Planned.{Planner, cutOf, endOf, OldOrNew}
-use Rattle.cut.proofs.Latch.{nexts, walk, acts, Faithful, status-acts, calm, once}
-use Rattle.cut.proofs.Bank.{store, only, status, avi-same, audio-same, gc-same, matrix-same, view, Whole, Shown, image-store}
-use Rattle.cut.proofs.Bank.{size-store, down-part, status-store, avi-shown, audio-shown, gc-shown}
-use Rattle.cut.proofs.Bytes.{clean, place, mute-byte, Seen, packets-seen, converter-seen, walk-seen, nexts-seen}
-use Rattle.cut.proofs.Bytes.{Agree, agree-self, agree-trans, written-agree, agree-acts}
-use Rattle.cut.proofs.Turning.{mark, safe, lead, safe-seen, lead-seen}
-use Rattle.cut.proofs.Taken.{neat, neat-only, tidy, neat-at, tidy-seen, Fit, run-acts, run-all, taken-at}
+use Rattle.cut.proofs.PlannedStates.{Planner, cutOf, endOf, OldOrNew}
+use Rattle.cut.proofs.MovesOnlyAt.{nexts, walk, acts, Faithful, status-acts, calm, once}
+use Rattle.cut.proofs.GroupStays.{store, only, status, avi-same, audio-same, gc-same, matrix-same, view, Whole, Shown, image-store}
+use Rattle.cut.proofs.GroupStays.{size-store, down-part, status-store, avi-shown, audio-shown, gc-shown}
+use Rattle.cut.proofs.BytesKept.{clean, place, mute-byte, Seen, packets-seen, converter-seen, walk-seen, nexts-seen}
+use Rattle.cut.proofs.BytesKept.{Agree, agree-self, agree-trans, written-agree, agree-acts}
+use Rattle.cut.proofs.CoefficientsInUse.{mark, safe, lead, safe-seen, lead-seen}
+use Rattle.cut.proofs.NoneRefused.{neat, neat-only, tidy, neat-at, tidy-seen, Fit, run-acts, run-all, taken-at}
 use Rattle.writes.proofs.Last.{last, read, last-none}
-use Rattle.cut.proofs.Last.{stored-last}
+use Rattle.cut.proofs.LastWritten.{stored-last}
 
 -- an image on which planning is not refused by 7 or 8
 pub record Ready (image : List ℕ) : Type 0 where

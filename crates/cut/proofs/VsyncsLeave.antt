@@ -13,8 +13,8 @@ use Rattle.chip.specs.Machine.{Write, _gets_, Group, packets, inUse, gcInUse, M
 use Rattle.chip.specs.Write.{lentAs, put, refuses, writeOf, vsyncOf}
 use Rattle.chip.proofs.Writes.{wrote, written-as}
 use Rattle.cut.specs.Run.{Event, write, vsync, happens, run, cut, event, writesOf, writesBy}
-use Rattle.cut.specs.Vsync.{sent}
-use Rattle.cut.proofs.Retry.{turned-again}
+use Rattle.cut.specs.Room.{sent}
+use Rattle.cut.proofs.Repeated.{turned-again}
 
 -- the same registers and the same packet buffer
 pub record Alike (s t : Chip) : Type 0 where

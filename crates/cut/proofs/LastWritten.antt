@@ -11,8 +11,8 @@ use Rattle.chip.specs.declared.Chip.{Chip}
 use Rattle.chip.specs.Machine.{Write}
 use Rattle.writes.specs.Steps.{Step, _raising_}
 use Rattle.writes.proofs.Last.{last, read}
-use Rattle.cut.proofs.Latch.{acts}
-use Rattle.cut.proofs.Bank.{store, Whole, image-store, size-store}
+use Rattle.cut.proofs.MovesOnlyAt.{acts}
+use Rattle.cut.proofs.GroupStays.{store, Whole, image-store, size-store}
 
 pub stored-last : (f : Step → Write) → ((i : Step) → f i .address ≡ i .register) → (a d : ℕ) → a < 256
     → (is : List Step) (s : Chip) (o : ℕ) → Whole s → getD (s .image) a 0 ≡ read f a o d

@@ -20,8 +20,8 @@ use Rattle.chip.specs.Write.{put, stored}
 use Rattle.writes.specs.Steps.{Step, _raising_}
 use Rattle.writes.proofs.Carries.{masked}
 use Rattle.writes.specs.List.{decided, byte, written}
-use Rattle.cut.proofs.Latch.{nexts, walk, nexts-map, walk-map, acts}
-use Rattle.cut.proofs.Bank.{store, only, next, quiet, view}
+use Rattle.cut.proofs.MovesOnlyAt.{nexts, walk, nexts-map, walk-map, acts}
+use Rattle.cut.proofs.GroupStays.{store, only, next, quiet, view}
 
 -- two bytes of register a with the same read-only and free bits
 pub record Kept (a x y : ℕ) : Type 0 where

@@ -20,19 +20,19 @@ use Rattle.writes.specs.List.{written, theThree, stays, listWith, middleOf, wri
 use Rattle.writes.proofs.Last.{last, last-zero, read}
 use Rattle.writes.proofs.Fewer.{plain, raises-none, every-plain, there-bytes, leftSteps, steps-left, by-steps}
 use Rattle.cut.specs.Run.{Event, run, Fair}
-use Rattle.cut.specs.Vsync.{Finished}
+use Rattle.cut.specs.Vsync.{FinishedRun}
 use Rattle.cut.specs.Room.{Room}
 use Rattle.cut.specs.Demand.{Same, Demand3}
-use Rattle.cut.proofs.Latch.{View, nexts, walk}
-use Rattle.cut.proofs.Skipped.{nexts-those, walk-those}
-use Rattle.cut.proofs.Bank.{next, view}
-use Rattle.cut.proofs.Bytes.{clean}
-use Rattle.cut.proofs.Taken.{tidy}
-use Rattle.cut.proofs.Turning.{mark, safe, lead, safe-those, lead-those}
-use Rattle.cut.proofs.Cut.{Ready, Near, Walked, Lowers, elsewhere-or-up, not-hold, Good}
-use Rattle.cut.proofs.Demanded.{demand3, room, same-end}
-use Rattle.cut.proofs.Fairness.{each-fair}
-use Rattle.cut.proofs.WriteList.{planned-good}
+use Rattle.cut.proofs.MovesOnlyAt.{View, nexts, walk}
+use Rattle.cut.proofs.LeftOutWalks.{nexts-those, walk-those}
+use Rattle.cut.proofs.GroupStays.{next, view}
+use Rattle.cut.proofs.BytesKept.{clean}
+use Rattle.cut.proofs.NoneRefused.{tidy}
+use Rattle.cut.proofs.CoefficientsInUse.{mark, safe, lead, safe-those, lead-those}
+use Rattle.cut.proofs.AtEveryCut.{Ready, Near, Walked, Lowers, elsewhere-or-up, not-hold, Good}
+use Rattle.cut.proofs.DemandOfGoodLists.{demand3, room, same-end}
+use Rattle.cut.proofs.EntriesFair.{each-fair}
+use Rattle.cut.proofs.DemandOfFullList.{planned-good}
 
 -- ---- the last step at a register
 
@@ -231,9 +231,9 @@ module _ (want : ℕ → ℕ) (s : Chip) (whole : length (s .image) ≡ 256) (cl
   room-left = subst Room (sym (by-steps want (s .image))) (room leftSteps fewer-good left-fair want (s .image) fit)
 
   -- a finished run from a near state ends as one from this
-  pub ends-same : (u : Chip) → Near s u → (es fs : List Event) → Finished (writeList want (s .image)) es
-      → Finished (writeList want (u .image)) fs → Same (run es s) (run fs u)
+  pub ends-same : (u : Chip) → Near s u → (es fs : List Event) → FinishedRun (writeList want (s .image)) es
+      → FinishedRun (writeList want (u .image)) fs → Same (run es s) (run fs u)
   ends-same u near es fs e f =
       same-end leftSteps fewer-good left-fair want s u fit near es fs
-      (subst (λ (ws : List Write). Finished ws es) (by-steps want (s .image)) e)
-      (subst (λ (ws : List Write). Finished ws fs) (by-steps want (u .image)) f)
+      (subst (λ (ws : List Write). FinishedRun ws es) (by-steps want (s .image)) e)
+      (subst (λ (ws : List Write). FinishedRun ws fs) (by-steps want (u .image)) f)

@@ -7,7 +7,7 @@ use lib.ListN.{take}
 use Rattle.chip.specs.declared.Chip.{Chip}
 use Rattle.chip.specs.Machine.{Write}
 use Rattle.cut.specs.Run.{run}
-use Rattle.cut.specs.Vsync.{sent}
+use Rattle.cut.specs.Room.{sent}
 
 -- how wanted bytes and an image give a list
 abbrev pub Planner : Type 0

@@ -5,7 +5,7 @@ use mathlib.Core.Bool.{false≢true, Bool, true, false, _&&_, cond}
 use mathlib.Core.List.{List, [], _∷_, _++_, map}
 use Prim.Native.Nat.{ℕ}
 use Rattle.lists.specs.Those.{those}
-use Rattle.cut.proofs.Latch.{View, nexts, walk}
+use Rattle.cut.proofs.MovesOnlyAt.{View, nexts, walk}
 
 module _ {E : Type 0} (L : View E) where
   -- what passes with no exception passes with one

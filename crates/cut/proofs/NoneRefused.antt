@@ -15,10 +15,10 @@ use Rattle.chip.proofs.Writes.{written-as}
 use Rattle.writes.specs.Steps.{Step}
 use Rattle.writes.specs.List.{written}
 use Rattle.cut.specs.Run.{run}
-use Rattle.cut.specs.Vsync.{sent}
-use Rattle.cut.proofs.Latch.{View, first, nexts, walk, walk-map, acts}
-use Rattle.cut.proofs.Bank.{store, only, status, next, avi-same, audio-same, gc-same, Whole, size-store, gc-shown}
-use Rattle.cut.proofs.Bytes.{clean, Seen, Agree, written-stored, agree-store}
+use Rattle.cut.specs.Room.{sent}
+use Rattle.cut.proofs.MovesOnlyAt.{View, first, nexts, walk, walk-map, acts}
+use Rattle.cut.proofs.GroupStays.{store, only, status, next, avi-same, audio-same, gc-same, Whole, size-store, gc-shown}
+use Rattle.cut.proofs.BytesKept.{clean, Seen, Agree, written-stored, agree-store}
 
 -- holds on which planning is not refused, as `ready` has them
 abbrev pub neat : ℕ → Bool

@@ -18,11 +18,11 @@ use Rattle.chip.specs.Machine.{Write, gc, packets, up, holdsOf, gcInUse, Muted,
 use Rattle.chip.proofs.Writes.{stepped}
 use Rattle.cut.specs.Run.{Event, write, vsync, happens, run, cut, event, writesOf, writesBy, InUse, Careful, Covered}
 use Rattle.chip.specs.Write.{vsyncOf}
-use Rattle.cut.proofs.Bank.{down-part}
-use Rattle.cut.proofs.Retry.{vsync-image}
-use Rattle.cut.proofs.Erased.{which, before-first}
-use Rattle.cut.proofs.Cut.{Ready}
-use Rattle.cut.proofs.Mended.{sized, gc-down}
+use Rattle.cut.proofs.GroupStays.{down-part}
+use Rattle.cut.proofs.Repeated.{vsync-image}
+use Rattle.cut.proofs.VsyncsLeave.{which, before-first}
+use Rattle.cut.proofs.AtEveryCut.{Ready}
+use Rattle.cut.proofs.MendedRun.{sized, gc-down}
 
 -- the register that an event writes; a Vsync writes none
 abbrev pub address : Event → ℕ

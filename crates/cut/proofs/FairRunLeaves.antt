@@ -18,8 +18,8 @@ use Rattle.chip.proofs.Writes.{wrote, written-as}
 use Rattle.writes.specs.List.{isWritten}
 use Rattle.writes.proofs.Carries.{masked}
 use Rattle.cut.specs.Run.{Event, write, vsync, happens, run, cut, event, Fair, IsFair, Stays, Untouched}
-use Rattle.cut.proofs.Bytes.{at-set}
-use Rattle.cut.proofs.Retry.{vsync-image}
+use Rattle.cut.proofs.BytesKept.{at-set}
+use Rattle.cut.proofs.Repeated.{vsync-image}
 
 -- what holds of the image as it is, and of the image that a write would leave, holds after the write, taken or refused
 pub after-write : (P : List ℕ → Type 0) (s : Chip) (a v : ℕ) → P (s .image) → P (imageAfter s a v) → P (writeOf s a v .chip .image)

@@ -17,15 +17,16 @@ use Rattle.chip.specs.Machine.{Write, _gets_, matrix, up}
 use Rattle.writes.specs.Steps.{Step, _raising_, steps}
 use Rattle.writes.specs.List.{decided, written, listWith, finishedImage, ready}
 use Rattle.cut.specs.Run.{Event, write, vsync, run, cut, writesOf, writesBy, Fair}
-use Rattle.cut.specs.Vsync.{sent, waited, leavesHold, Finished}
+use Rattle.cut.specs.Vsync.{waited, leavesHold, FinishedRun}
+use Rattle.cut.specs.Room.{sent}
 use Rattle.cut.specs.Room.{Room}
 use Rattle.cut.specs.Demand.{Cut, cuts, PlannedAgain, Same, Clauses, Demand3}
-use Rattle.cut.proofs.Bytes.{clean, mute-byte}
-use Rattle.cut.proofs.Turning.{hold-seen}
-use Rattle.cut.proofs.Place.{between}
-use Rattle.cut.proofs.Cut as cut
-use Rattle.cut.proofs.Cut.{Ready, Near, near-self, near-image, Good, Lowers, elsewhere-or-up, not-hold}
-use Rattle.cut.proofs.Runs.{alike, image-end, clauses, after-same}
+use Rattle.cut.proofs.BytesKept.{clean, mute-byte}
+use Rattle.cut.proofs.CoefficientsInUse.{hold-seen}
+use Rattle.cut.proofs.FinishedExactly.{between}
+use Rattle.cut.proofs.AtEveryCut as cut
+use Rattle.cut.proofs.AtEveryCut.{Ready, Near, near-self, near-image, Good, Lowers, elsewhere-or-up, not-hold}
+use Rattle.cut.proofs.ClausesOfRuns.{alike, image-end, clauses, after-same}
 
 -- ---- the list with its Vsync before the last write
 
@@ -39,7 +40,7 @@ waited-last [] w = refl
 waited-last (v ∷ []) w = refl
 waited-last (v ∷ x ∷ ws) w = ap (λ (l : List Event). write v ∷ l) (waited-last (x ∷ ws) w)
 
-pub waited-finishes : (ws : List Write) (w : Write) → not (eqb (w .address) 0x1A) ≡ true → Finished (ws ++ w ∷ []) (waited (ws ++ w ∷ []))
+pub waited-finishes : (ws : List Write) (w : Write) → not (eqb (w .address) 0x1A) ≡ true → FinishedRun (ws ++ w ∷ []) (waited (ws ++ w ∷ []))
 waited-finishes ws w n = record {
   runs = waited-writes (ws ++ w ∷ []);
   before = sent ws;
@@ -129,12 +130,12 @@ module _ (want : ℕ → ℕ) (image : List ℕ) where
       }
 
   -- with one Vsync before the last write a run is finished
-  pub waits-for : (ms : List Step) → Finished (map f (steps ms)) (waited (map f (steps ms)))
+  pub waits-for : (ms : List Step) → FinishedRun (map f (steps ms)) (waited (map f (steps ms)))
   unfolding written
   waits-for ms =
       let first : Step = reg.avMute raising reg.setAvMuteMask in
       let last : Step = reg.avMute raising reg.clearAvMuteMask in
-      subst (λ (ws : List Write). Finished ws (waited ws)) (ap (λ (x : List Write). f first ∷ x) (sym (map-append f ms (last ∷ []))))
+      subst (λ (ws : List Write). FinishedRun ws (waited ws)) (ap (λ (x : List Write). f first ∷ x) (sym (map-append f ms (last ∷ []))))
       (waited-finishes (f first ∷ map f ms) (f last) refl)
 
 -- ---- `PlannedAgain` leaves no cuts out
@@ -168,7 +169,7 @@ module _ (mid : (ℕ → ℕ) → List ℕ → List Step)
   all-runs s r es e = clauses mid good want s r es e (fair want (s .image))
 
   -- finished runs from near states end alike
-  pub same-end : (s u : Chip) → Ready (s .image) → Near s u → (es fs : List Event) → Finished (P (s .image)) es → Finished (P (u .image)) fs
+  pub same-end : (s u : Chip) → Ready (s .image) → Near s u → (es fs : List Event) → FinishedRun (P (s .image)) es → FinishedRun (P (u .image)) fs
       → Same (run es s) (run fs u)
   same-end s u r n es fs e f =
       let a = all-runs s r es (e .runs) in
