@@ -317,7 +317,7 @@ fn plan_with(r: Request, image: &[u8], writes: &mut [u8]) -> Planned
     }
     let mut wanted = [0u8; 256];
     wanted_image(r, pair, &mut wanted);
-    let count = writes::write_list(image, &mut wanted, writes);
+    let count = writes::write_list(image, &wanted, writes);
     Planned {
         refusal: Refusal::NONE,
         count: count,
@@ -353,7 +353,7 @@ pub fn stands(input: &[u8], image: &[u8]) -> bool
     }
     let mut wanted = [0u8; 256];
     wanted_image(r, pair, &mut wanted);
-    writes::stands(image, &mut wanted)
+    writes::stands(image, &wanted)
 }
 
 // The refusals of planning, in document 01's order.

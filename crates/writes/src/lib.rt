@@ -49,22 +49,23 @@ fn others() -> [u8; 16]
     steps::OTHERS
 }
 
-// Wanted bytes made right in place: every register with the bits that steps decide down, as a list of these bytes leaves it.
-fn close(image: &[u8], bytes: &mut [u8])
-    requires { ⌜ (length (now image) ≡ 256) × (length (now bytes) ≡ 256) ⌝ }
-    ensures { λ _. ⌜ length (now (bytes .exit)) ≡ 256 ⌝ }
-    ensures { λ _. ⌜ ((a : ℕ) → a < 256 → getD (now (bytes .exit)) a 0 ≡ closed (λ b. getD (now (bytes .entry)) b 0) (now (image .entry)) a) ⌝ }
+// Every register with the bits that steps decide down, as a list of these wanted bytes leaves it.
+fn closed(image: &[u8], wanted: &[u8; 256]) -> [u8; 256]
+    requires { ⌜ length (now image) ≡ 256 ⌝ }
+    ensures { λ r. ⌜ ((a : ℕ) → a < 256 → getD r a 0 ≡ closed (λ b. getD (now (wanted .entry)) b 0) (now (image .entry)) a) ⌝ }
 {
     let open_bits = open_bits();
     let held_bits = held_bits();
+    let mut out = [0u8; 256];
     let mut a: usize = 0;
     while a < 256 {
         let place = a as u8;
         let open = open_bits[a] ^ place;
         let held = held_bits[a] ^ place;
-        bytes[a] = bits::merge(open, bits::merge(held, image[a], bytes[a]), held);
+        out[a] = bits::merge(open, bits::merge(held, image[a], wanted[a]), held);
         a = a + 1;
     }
+    out
 }
 
 // These bits of a byte raised.
@@ -243,8 +244,8 @@ fn packets(image: &[u8], bytes: &[u8; 256], writes: &mut [u8], at: usize) -> usi
     audio(image, bytes, writes, next)
 }
 
-// The list, at the front of the buffer, and the count of its pairs; the wanted bytes are used up.
-pub fn write_list(image: &[u8], wanted: &mut [u8; 256], writes: &mut [u8]) -> u32
+// The list, at the front of the buffer, and the count of its pairs.
+pub fn write_list(image: &[u8], wanted: &[u8; 256], writes: &mut [u8]) -> u32
     ensures { λ r. ⌜ Lists (λ a. getD (now (wanted .entry)) a 0) (now (image .entry)) (now (writes .entry)) r (now (writes .exit)) ⌝ }
 {
     if image.len() != 256 {
@@ -253,16 +254,16 @@ pub fn write_list(image: &[u8], wanted: &mut [u8; 256], writes: &mut [u8]) -> u3
     if writes.len() < 256 {
         return 0;
     }
-    close(image, wanted);
+    let bytes = closed(image, wanted);
     let fixed = table14();
     let named = others();
-    let muted = put(wanted, Map::AV_MUTE, Map::SET_AV_MUTE_MASK, writes, 0);
-    let after_fixed = each(image, wanted, &fixed, writes, muted);
-    let after_matrix = coefficients(image, wanted, writes, after_fixed);
-    let after_packets = packets(image, wanted, writes, after_matrix);
-    let after_named = each(image, wanted, &named, writes, after_packets);
+    let muted = put(&bytes, Map::AV_MUTE, Map::SET_AV_MUTE_MASK, writes, 0);
+    let after_fixed = each(image, &bytes, &fixed, writes, muted);
+    let after_matrix = coefficients(image, &bytes, writes, after_fixed);
+    let after_packets = packets(image, &bytes, writes, after_matrix);
+    let after_named = each(image, &bytes, &named, writes, after_packets);
     let count = put(
-        wanted,
+        &bytes,
         Map::AV_MUTE,
         Map::CLEAR_AV_MUTE_MASK,
         writes,
@@ -271,16 +272,16 @@ pub fn write_list(image: &[u8], wanted: &mut [u8; 256], writes: &mut [u8]) -> u3
     count as u32
 }
 
-// Whether an image stands as the list of these wanted bytes would leave it; they are used up.
-pub fn stands(image: &[u8], wanted: &mut [u8; 256]) -> bool
+// Whether an image stands as the list of these wanted bytes would leave it.
+pub fn stands(image: &[u8], wanted: &[u8; 256]) -> bool
     ensures { λ r. ⌜ r ≡ standsWhole (λ a. getD (now (wanted .entry)) a 0) (now (image .entry)) ⌝ }
 {
     if image.len() != 256 {
         return false;
     }
-    close(image, wanted);
-    wanted[Map::AV_MUTE as usize] = raise(Map::CLEAR_AV_MUTE_MASK, wanted[Map::AV_MUTE as usize]);
-    lists::same(wanted, image)
+    let mut bytes = closed(image, wanted);
+    bytes[Map::AV_MUTE as usize] = raise(Map::CLEAR_AV_MUTE_MASK, bytes[Map::AV_MUTE as usize]);
+    lists::same(&bytes, image)
 }
 
 // Which registers the list writes, and in what order.

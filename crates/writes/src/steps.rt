@@ -54,7 +54,7 @@ pub const KEEP: [u8; 256] = [
     0xFF, 0xFF, 0xFF, 0xFF, 0xFF, 0xFF, 0xFF, 0xFF, 0xFF, 0x00, 0xFF, 0xFF, 0xFF, 0xFF, 0xFF, 0xFF, // F0
 ];
 
-// And for `close`: the bits that are the image's or as wanted; and those that are the image's or set. Each byte is as its place turns it over
+// And for `closed`: the bits that are the image's or as wanted; and those that are the image's or set. Each byte is as its place turns it over
 // (`^`): equal bytes in a row the compiler builds in the stack at every call, these it keeps as constants.
 #[rattlefmt::skip]
 pub const OPEN: [u8; 256] = [

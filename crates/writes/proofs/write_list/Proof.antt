@@ -14,8 +14,8 @@ returns c = simp (ne-eqb _ _ (c .if1 .taken)) (refl, refl)
 returns-2 : tie.Need-returns-2
 returns-2 c = simp (eq-eqb _ _ (c .before .if1 .left), lt-ltb _ _ (c .if2 .taken)) (refl, refl)
 
-close-requires : tie.Need-close-requires
-close-requires c κs = search needs
+closed-requires : tie.Need-closed-requires
+closed-requires c κs = search needs
 
 table14-requires : tie.Need-table14-requires
 table14-requires c κs = search needs
@@ -48,7 +48,7 @@ each-requires-2 c κs =
     let fixed = matrix .before .before .before .before .before in
     let first = fixed .before .before .before .before .before .before in
     let o = first .before .before .before in
-    let e = o .before .before .before .before in
+    let e = o .before .before .before in
     let n = ap length (o .before .table14 .ensures) in
     let m = ap length (o .others .ensures) in (
       e .before .if1 .left,
@@ -76,7 +76,7 @@ put-requires-2 c κs =
     let fixed = matrix .before .before .before .before .before in
     let first = fixed .before .before .before .before .before .before in
     let o = first .before .before .before in
-    let e = o .before .before .before .before in
+    let e = o .before .before .before in
     let n = ap length (o .before .table14 .ensures) in
     let m = ap length (o .others .ensures) in
     omega (
@@ -147,10 +147,10 @@ returns-3 c =
     let first = fixed .before .before .before .before .before .before in
     let o = first .before .before .before in
     let d = o .before .before in
-    let e = d .before .before in
+    let e = d .before in
     let a = e .before .before .before .before .args in
     simp (eq-eqb _ _ (e .before .if1 .left), le-ltb _ _ (e .if2 .left))
-    (list-stored (λ b. getD (a .wanted .now) b 0) (a .image .now) (d .close .last .1 .0) (d .close .ensures .1) (a .writes .now) (o .before .table14 .result) (o .others .result)
+    (list-stored (λ b. getD (a .wanted .now) b 0) (a .image .now) (d .closed .result) (d .closed .ensures) (a .writes .now) (o .before .table14 .result) (o .others .result)
     (search needs) (o .before .table14 .ensures) (o .others .ensures) (first .put .ensures) (fixed .each .ensures .0) (matrix .coefficients .ensures .0)
     (both .packets .ensures .0) (named .each2 .ensures .0) (last .put2 .ensures))
 
@@ -160,7 +160,7 @@ write-list-spec =
     (tie.spec
     returns
     returns-2
-    close-requires
+    closed-requires
     table14-requires
     others-requires
     put-requires
