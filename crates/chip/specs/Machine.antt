@@ -1,5 +1,5 @@
 -- Document 01, "The chip machine", with the waiting mark of document 02, request 04: its groups and their holds, and what is in use. What a
--- write and a Vsync do is `Step` and `Turn`.
+-- write and a Vsync do is `OneWrite` (Step) and `Turn`.
 use mathlib.Core.Path.{_≡_}
 use mathlib.Core.Bool.{Bool, false, cond, _||_}
 use mathlib.Core.List.{List, [], _∷_}

@@ -1,4 +1,4 @@
--- How the code makes a write, and takes a Vsync: `Step` and `Turn` say of it, bit by bit, what documents 01 ("The chip machine") and 02
+-- How the code makes a write, and takes a Vsync: `OneWrite` (Step) and `Turn` say of it, bit by bit, what documents 01 ("The chip machine") and 02
 -- (request 04) do.
 use mathlib.Core.Path.{_≡_}
 use mathlib.Core.Bool.{Bool, true, false, cond, not, _&&_, _||_}
@@ -93,6 +93,6 @@ writeOf s address value =
 unfoldable pub vsyncOf : Chip → Chip
 vsyncOf s = lentAs (s .image) (s .packet) (s .coefficients) (held s && s .waiting)
 
--- what a write promises: the state that it hands back, and the number of its refusal; `Step` ties it to document 01
+-- what a write promises: the state that it hands back, and the number of its refusal; `OneWrite` ties it to document 01
 abbrev pub Hands : Chip → ℕ → ℕ → Wrote → Type 0
 Hands s address value wrote = wrote ≡ writeOf s address value

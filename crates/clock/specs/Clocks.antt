@@ -5,7 +5,6 @@ use Prim.Native.Nat.{ℕ, _*_, _<_}
 use lib.Dec.{eqb}
 use lib.ListN.{getD}
 use Rattle.refusals.specs.Rows.{clockAbove, Condition, _when_}
-use Rattle.refusals.specs.Tests.{lowest}
 use Rattle.ratio.specs.Terms.{topOf, bottomOf}
 use Rattle.video.specs.declared.Video.{Video}
 use Rattle.video.specs.Modes.{modeOf}

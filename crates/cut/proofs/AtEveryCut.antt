@@ -1,5 +1,5 @@
 -- Any list that is `Good`, one that mutes first and opens last, whose walks pass, and that leaves each register as the finished image has
--- it: what its writes do to the registers and the packets in use, at every cut. What the walks show of the groups in use is `Latch`'s; the
+-- it: what its writes do to the registers and the packets in use, at every cut. What the walks show of the groups in use is `MovesOnlyAt`'s; the
 -- coefficients, and Vsyncs, come in `Runs`. Assumes nothing.
 use mathlib.Core.Path.{_≡_, refl, sym, ap, subst, _∙_}
 use mathlib.Core.Logic.{_⊎_, inl, inr, _≢_}

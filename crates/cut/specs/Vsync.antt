@@ -9,7 +9,7 @@ use Rattle.lists.specs.Find.{every}
 use Rattle.matrix.specs.Matrix.{fields}
 use Rattle.chip.specs.declared.Chip.{Chip}
 use Rattle.chip.specs.Machine.{Write, avi, audio, matrix, packets, up, registersOf, held, inUse, coefficients}
-use Rattle.cut.specs.Run.{Event, write, vsync, event, writesOf, InUse}
+use Rattle.cut.specs.Run.{Event, write, vsync, writesOf, InUse}
 
 -- ---- what is old
 
@@ -35,7 +35,7 @@ old es s = record {
 
 -- ---- a finished run
 
--- the same with one Vsync just before the last write, as a host sends it
+-- a list's writes with one Vsync just before the last, as a host sends it
 abbrev pub waited : List Write → List Event
 waited [] = []
 waited (w ∷ []) = vsync ∷ write w ∷ []

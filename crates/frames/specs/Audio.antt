@@ -1,4 +1,4 @@
--- Document 01, "InfoFrames": the audio frame, as the call on single fields answers it. Of the packet that is sent demand 3 speaks by
+-- Document 01, "InfoFrames": the audio frame, as the call on single fields answers it. Of the packet that is sent `AnyCut.newAudio` speaks, by
 -- `audioPacket` (promises).
 use mathlib.Core.Bool.{cond}
 use mathlib.Core.List.{List, [], _∷_}

@@ -62,7 +62,7 @@ underD = inEdition 0x00
 -- of a video that fits
 pub record Editions (v : Video) : Type 0 where
   -- "Shown to a reader that knows only D, an E packet yields the same colour, aspect and VIC": what the D packet of the same video yields,
-  -- which fits too. Of the packets that the chip sends for two requests, `AnyCut.shownToD` (promises) says it in bytes.
+  -- which fits too. Of the packets that the chip sends for two requests, `TwoReaders.shownToD` (promises) says it in bytes.
   pub same : readByD (aviPacket v) ≡ readByD (aviPacket (underD v))
   pub fits : VideoFits (underD v)
   -- and that is what was asked; a reader that knows E finds the quantisation and the content type too

@@ -1,5 +1,6 @@
 -- The main register map of source document 000 (section 5): addresses, masks, shifts and defaults. Each is the twin of a constant of `Map`.
--- That they are those of the printed addresses and bits [high:low] is said in `Printed`. A field that fills its register has no mask.
+-- That they are those of the printed addresses and bits [high:low] is the contract of
+-- `map::constants`, over the rows of `Printed`. A field that fills its register has no mask.
 use Prim.Native.Nat.{ℕ}
 
 -- 0x01: N[19:16]

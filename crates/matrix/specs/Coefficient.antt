@@ -6,7 +6,7 @@ use lib.Dec.{ltb}
 use lib.IntN.{ℤ, pos, negsuc, subℕ}
 use lib.Signed.{_≤ℤ_}
 
--- the number that k + 1 bits stand for in two's complement, and the k + 1 bits of a number
+-- the number that k + 1 bits stand for in two's complement
 abbrev pub signed : ℕ → ℕ → ℤ
 signed k bits = cond (ltb bits (2 ^ k)) (pos bits) (subℕ bits (2 ^ suc k))
 

@@ -7,7 +7,6 @@ use lib.IntN.{ℤ}
 use lib.ListN.{getD, length, drop}
 use Rattle.matrix.specs.declared.Matrix.{Matrix}
 use Rattle.matrix.specs.Coefficient.{word, lowThirteen, signed, Spans}
-use Rattle.matrix.specs.Tests.{isAllowed}
 
 -- the fields of 13 bits
 unfoldable pub fields : List ℕ → List ℕ

@@ -1,4 +1,4 @@
--- What the code makes of bytes of any length: `Numbers` (Matrix) ties what it reads of an allowed body to document 01's words.
+-- What the code makes of bytes of any length: `Numbers` ties what it reads of an allowed body to document 01's words.
 use mathlib.Core.Bool.{cond}
 use mathlib.Core.List.{List}
 use Prim.Native.Nat.{ℕ}

@@ -1,4 +1,4 @@
--- How the code tests the coefficients of a request: `Numbers` (Matrix) ties `isAllowed` to document 01's words; `Sent` and `SaidByBytes` tie the
+-- How the code tests the coefficients of a request: `Numbers` ties `isAllowed` to document 01's words; `Sent` and `SaidByBytes` tie the
 -- two bytes of a coefficient to its 13 bits.
 use mathlib.Core.Path.{_≡_}
 use mathlib.Core.Logic.{_↔_}

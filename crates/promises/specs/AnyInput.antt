@@ -1,4 +1,4 @@
--- Demand 1, of each entry point: "Any input". That an entry takes anything is that its contract has no `requires`; that it ends and touches
+-- Demand 1, any input, of each entry point. That an entry takes anything is that its contract has no `requires`; that it ends and touches
 -- nothing outside what it was lent is what the prover checks of every function. What is left to say is the refusals.
 use mathlib.Core.Path.{_≡_}
 use mathlib.Core.Logic.{_≢_}
@@ -15,9 +15,10 @@ use Rattle.station.specs.declared.machine.StateOut.{StateOut}
 use Rattle.station.specs.Face.{StationPlan, StationDecode, StationNcts}
 use Rattle.station.specs.Machine.{StationWrite, StationVsync, StationSent, StationMute, StationMatrix}
 
--- "A bad request gets a numbered refusal from the list in document 01, a count of zero, and every lent buffer unchanged." Each of these
--- says that the number given is that of the first row that applies (`Given`), and what is left beside it. `Bytes` is true of every slice. The
--- rows of the machine's calls: `views`; the calls on a matrix, a pipe and a vendor's list: `OtherCalls`.
+-- "A bad request gets a numbered refusal from the list in document 01, a count of zero, and every lent buffer unchanged." The first two say
+-- that the number given is that of the first row that applies (`Given`); the others, of the exported calls, what stands beside a number. That this
+-- is the library's own: `Settled`; the rows of N and CTS: `Rows.ncts`; of the machine's calls: `Refusals` of views. The calls on a matrix, a pipe and
+-- a vendor's list: `OtherCalls`. `Bytes` is true of every slice.
 pub record Demand1 : Type 0 where
   -- planning, 1 to 10 and 17; decoding, 7, 10 and 11: a count of zero, and the lent buffer as it was
   pub planning : (request image buffer : List ℕ) → Bytes request → PlanRefusals request image buffer

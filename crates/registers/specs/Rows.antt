@@ -1,7 +1,7 @@
 -- What source document 000 prints: the rows of the register map (section 5) that are typed read-only, Table 14, and the map's rows that
 -- are marked fixed or must-be-set. Each stands as it is printed and in that order, whatever else is said of its bits: see `Precedence`.
 -- A row decides nothing of a bit that an earlier list has. So no statement depends on the number of a fixed row in a read-only register
--- (0x42[4], 0xAE[7:5]), in one of Table 14 (0x98, 0x9D[1:0]) or in a named field (0x55[7], 0x70[2:0], 0x73 to 0x77).
+-- (such as 0x42[4], 0xAE[7:5]), in one of Table 14 (such as 0x98, 0x9D[1:0]) or in a named field (such as 0x55[7], 0x70[2:0], 0x73 to 0x77).
 use mathlib.Core.List.{List, [], _∷_, _++_}
 use Prim.Native.Nat.{ℕ, zero, suc, _+_, _-_, _*_, _^_}
 use Rattle.map.specs.Map.{fixed98, fixed9a, fixed9c, fixed9d, fixedA2, fixedA3, fixedE0, fixedI2cAddress}

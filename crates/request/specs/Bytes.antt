@@ -1,5 +1,5 @@
 -- Document 01, "The request": the bytes of a request, section by section; and the request as decoding answers it. `ThereAndBack`
--- (Theorems) ties them to what is read.
+-- ties them to what is read.
 use mathlib.Core.Bool.{cond}
 use mathlib.Core.List.{List, [], _∷_, _++_}
 use Prim.Native.Nat.{ℕ}
@@ -40,7 +40,7 @@ laid (body ∷ bodies) rest = length body ∷ (body ++ laid bodies rest)
 unfoldable pub asBytes : Request → List ℕ
 asBytes r = laid (inTurn (bodiesOf r)) []
 
--- "that request in one of its families"; with another edition byte; and, "the same request, but for the frame-rate family", and for an E that
+-- "that request in one of its families"; and, "the same request, but for the frame-rate family", and for an E that
 -- asks for nothing, as decoding answers it: another video alone
 abbrev pub onVideo : (Video → Video) → Request → Request
 onVideo f r = record { video = f (r .video); sound = r .sound; matrix = r .matrix }

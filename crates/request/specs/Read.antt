@@ -1,4 +1,5 @@
--- What the calls on a request answer, as the code finds it. `Rows` and `ThereAndBack` (Theorems) tie it to document 01's rows and bytes.
+-- What the calls on a request answer, as the code finds it. `Rows` (Theorems) and `ThereAndBack` tie it to document 01's rows
+-- and bytes, `OnSomeImage` (promises) `pairFor` to what is accepted.
 use mathlib.Core.Path.{_≡_}
 use mathlib.Core.Bool.{Bool, true, false, not, _&&_, _||_}
 use mathlib.Core.List.{List, [], _∷_}

@@ -29,5 +29,6 @@ pub record ThereAndBack : Type 0 where
   -- the bytes that are answered for an input are the input's, but for its family and its edition byte
   pub answered : (input : List ℕ) → Bytes input → readOf input .refusal ≡ 0 → asBytes (answeredAs (readOf input .request)) ≡ asReadBack input
 
+-- a request with another edition byte
 abbrev pub requestInEdition : ℕ → Request → Request
 requestInEdition edition r = onVideo (video.inEdition edition) r

@@ -1,4 +1,4 @@
--- What the converter goes by, asked for over slices, as the code finds it. `MatrixRefusals` (Refusals) and `Faces` (Theorems) tie it to
+-- What the converter goes by, asked for over slices, as the code finds it. `MatrixRefusals` (Refusals) and `Faces` tie it to
 -- documents 01, "The chip machine", and 02, request 04.
 use mathlib.Core.Path.{_≡_}
 use mathlib.Core.Bool.{not, _&&_}

@@ -1,4 +1,4 @@
--- What is sent and the mute, asked for over slices, as the code finds them. `ViewRefusals` (Refusals) and `Faces` (Theorems) tie them to
+-- What is sent and the mute, asked for over slices, as the code finds them. `ViewRefusals` (Refusals) and `Faces` tie them to
 -- document 01, "The chip machine"; `ViewCases` (Cases) has them in bare numbers.
 use mathlib.Core.Path.{_≡_}
 use mathlib.Core.Bool.{Bool, false, cond, not, _&&_}

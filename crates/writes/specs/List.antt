@@ -1,6 +1,7 @@
 -- Document 01, "The write list", and request 09 of document 02: the list and the finished image, as the code makes them; `want a` is the
 -- byte whose named bits are wanted in register a. `Order` and `Entries` tie the full list to the document's words, `Fewer` what is left out
--- of it, `Clauses.registers` (cut) and `BitByBit` (decode) the image.
+-- of it, which three always stay included (`Fewer.nine`), `Clauses.registers` (cut) and `BitByBit` (decode) the image. `flat` and `pairsOf`, pairs as
+-- bytes and back, are to be read here; `ready` is row 8's (`AnyCut.again`).
 use mathlib.Core.Path.{_≡_}
 use mathlib.Core.Bool.{Bool, true, cond, not, _&&_, _||_}
 use mathlib.Core.List.{List, [], _∷_, _++_, map}
@@ -87,7 +88,7 @@ abbrev pub leftUp : ℕ → ℕ
 leftUp a = cond (eqb a reg.avMute) reg.clearAvMuteMask 0
 
 -- the finished image, register by register: each of these with its mandated and wanted bits, holds down and the picture open;
--- every other as it was. (In the document's notation, field by field: `Finished` of promises. That the list ends so: `Demand3`.)
+-- every other as it was. (In the document's notation, field by field: `FinishedFields` of promises. That the list ends so: `Demand3`.)
 unfoldable pub finished : (ℕ → ℕ) → List ℕ → ℕ → ℕ
 finished want image a = cond (isWritten a) (written want image (a raising leftUp a) .value) (getD image a 0)
 
