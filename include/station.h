@@ -29,7 +29,7 @@
 /* The version of this header, one for each landing; CHANGELOG.md says what came with it. */
 #define STATION_VERSION "5.3.0"
 #define STATION_MAJOR 5
-#define STATION_MINOR 2
+#define STATION_MINOR 3
 #define STATION_PATCH 0
 
 /* Lengths in bytes. */
