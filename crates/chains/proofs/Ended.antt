@@ -99,7 +99,7 @@ list-ended b ls s c list ending es a e =
     let d = list-after b list ending t (a .0) (a .1) (record { events = es; place = 0 }) e in
     let n : Near s t = near-left b ls s c (link-ready b (vendor list ending) t a) in
     record {
-      registers = subst (Ends ending) (sym (b .vendors .passing list t (a .0) .anyEnd es e .0)) (a .1);
+      registers = subst (Ends ending) (sym (b .vendors .passing list t (a .0) .1 .anyEnd es e .0)) (a .1);
       groups = d .1 ∙ whole-kept ending s t (n .kept);
       kept = last-kept b ls s c (vendor list ending) es a e;
       opened = d .0;

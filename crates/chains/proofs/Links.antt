@@ -167,18 +167,18 @@ module _ (b : Below) (input room : List ℕ) (u : Chip) (z : planOf input (u .im
     here = by-place es k (λ _. Three u (standing end) t) 0 (λ q. unmoved u (standing end) t (clauses .before k q)) (λ q.
         let b = clauses .careful .between k (q .begun) (q .unended) in
         record { avi = ⊎-elim inl (λ x. inr (inr x)) (b .avi); audio = ⊎-elim inl (λ x. inr (inr x)) (b .audio) })
-        (λ lo q. record { avi = inr (inr (late avi q (short q .late .avi))); audio = inr (inr (late audio q (short q .late .audio))) })
+        (λ lo q. record { avi = inr (inr (late avi q (short q .unfinished .late .avi))); audio = inr (inr (late audio q (short q .unfinished .late .audio))) })
 
     matrix-here : OfThree coefficients u (standing end .matrix) (coefficients t)
     matrix-here = by-place es k (λ _. OfThree coefficients u (standing end .matrix) (coefficients t)) 0
         (λ q. ⊎-elim (λ x. inl (ap coefficients x)) (λ x. inr (inl (ap coefficients x))) (clauses .before k q))
         (λ q. ⊎-elim (old-three (b .turn) u (take k es) (standing end .matrix) _) (λ x. inr (inr x)) (clauses .careful .between k (q .begun) (q .unended) .matrix))
-        (λ lo q. ⊎-elim (old-three (b .turn) u (take k es) (standing end .matrix) _) (λ x. inr (inr x)) (short q .whole))
+        (λ lo q. ⊎-elim (old-three (b .turn) u (take k es) (standing end .matrix) _) (λ x. inr (inr x)) (short q .unfinished .either))
 
     mute-here : mute t ≡ muteAfter (record { events = es; place = k }) (mute u)
     mute-here = by-place es k (λ m. mute t ≡ m) (mute u)
         (λ q. ⊎-elim (λ x. ap mute x) (λ x. ap mute x ∙ mute-of (vsyncOf u) u (vsync-gc (b .turn) u)) (clauses .before k q))
-        (λ q. muted-one t (clauses .careful .between k (q .begun) (q .unended) .muted)) (λ lo q. open-two t (short q .opened))
+        (λ q. muted-one t (clauses .careful .between k (q .begun) (q .unended) .muted)) (λ lo q. open-two t (short q .unfinished .opened))
 
   module _ (c : Cut) (e : writesOf (c .events) ≡ pairsLeft input (u .image) room) where
     abbrev es : List Event

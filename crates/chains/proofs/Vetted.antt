@@ -22,7 +22,7 @@ use Rattle.cut.specs.Demand.{Cut}
 use Rattle.vendor.specs.Vendor.{endOf}
 use Rattle.vendor.specs.Found.{vetOf}
 use Rattle.promises.specs.Rules.{asked}
-use Rattle.promises.specs.Vendors.{inputOf, Passing}
+use Rattle.promises.specs.Vendors.{inputOf, Passing, PassingToo}
 use Rattle.chains.specs.Chain.{Hand, plugin, vendor, asks, Accepted, pairsFor, Link, afterLink, wholeAs}
 use Rattle.chains.specs.Below.{Below}
 use Rattle.chains.proofs.Runs.{waited-writes, Ready, Near, near-cut}
@@ -37,7 +37,10 @@ any-family image r family = refl
 
 module _ (b : Below) (list : List ℕ) (ending : Request) (u : Chip) (z : vetOf u list .refusal ≡ 0) (ends : Ends ending (endOf (pairsOf list) u .image)) where
   p : Passing list u
-  p = b .vendors .passing list u z
+  p = b .vendors .passing list u z .0
+
+  too : PassingToo list u
+  too = b .vendors .passing list u z .1
 
   abbrev ws : List Write
   ws = pairsOf list
@@ -92,12 +95,12 @@ module _ (b : Below) (list : List ℕ) (ending : Request) (u : Chip) (z : vetOf 
 
     here-list : Three u (standing (last .image)) t
     here-list = by-place fs k (λ _. Three u (standing (last .image)) t) 0 (λ q. unmoved u (standing (last .image)) t (b .runs fs u .before k q)) (λ q.
-        let a = p .anywhere fs e k (q .begun) (hi q) in
+        let a = too .anywhere fs e k (q .begun) (hi q) in
         record {
           avi = ⊎-elim inl (λ x. inr (inr (x ∙ stood avi last refl (p .ended .avi)))) (a .1);
           audio = ⊎-elim inl (λ x. inr (inr (x ∙ stood audio last refl (p .ended .audio)))) (a .2);
         }) (λ lo q.
-        let a = p .anyEnd (take k fs) (q ∙ e) in
+        let a = too .anyEnd (take k fs) (q ∙ e) in
         record { avi = inr (inr (stood avi t (a .0) (a .1 .avi))); audio = inr (inr (stood audio t (a .0) (a .1 .audio))) })
 
     pub vendor-moved : Moved u c (wholeAs (u .image) ending)
@@ -106,14 +109,14 @@ module _ (b : Below) (list : List ℕ) (ending : Request) (u : Chip) (z : vetOf 
       three = subst (λ (new : InUse). Three u new t) ending-new here-list;
       mutes = by-place fs k (λ m. mute t ≡ m) (mute u)
           (λ q. ⊎-elim (λ x. ap mute x) (λ x. ap mute x ∙ mute-of (vsyncOf u) u (vsync-gc (b .turn) u)) (b .runs fs u .before k q))
-          (λ q. muted-one t (p .anywhere fs e k (q .begun) (hi q) .0))
-          (λ lo q. mute-of t (vsyncOf t) (sym (vsync-gc (b .turn) t)) ∙ open-two (vsyncOf t) (p .anyEnd (take k fs) (q ∙ e) .1 .opened));
+          (λ q. muted-one t (too .anywhere fs e k (q .begun) (hi q) .0))
+          (λ lo q. mute-of t (vsyncOf t) (sym (vsync-gc (b .turn) t)) ∙ open-two (vsyncOf t) (too .anyEnd (take k fs) (q ∙ e) .1 .opened));
     }
 
     -- sent whole, and one Vsync later
     pub list-after : Open (run fs u) × (allInUse (vsyncOf (run fs u)) ≡ wholeAs (u .image) ending)
     list-after =
-        let a = p .anyEnd fs e in
+        let a = too .anyEnd fs e in
         let x : Chip = run fs u in (
           open-of x (vsyncOf x) (sym (vsync-gc (b .turn) x)) (a .1 .opened),
           (λ j. record { avi = a .1 .avi j; audio = a .1 .audio j; matrix = a .1 .matrix j }) ∙ ap standing (b .turn x .image ∙ a .0) ∙ ending-new,

@@ -105,7 +105,7 @@ module _ (every : EveryCut) (input room : List ℕ) (s : Chip) (z : planOf input
   any = every input room s z
 
   pub planned-ready : Ready (s .image)
-  planned-ready = let d = any .demand in record { whole = d .whole [] (d .none); holds = d .ready [] (d .none) }
+  planned-ready = let d = any .demand in record { whole = d .sized [] (d .none); holds = d .ready [] (d .none) }
 
   pub pairs : pairsLeft input (s .image) room ≡ listOf input (s .image)
   pairs = any .listed .pairs

@@ -11,7 +11,6 @@ use lib.ListN.{length, getD, take, drop, length-map, length-append}
 use lib.Seq.{take-append-le, take-length, take-all}
 use borrow.Author.Tests.{eqb-false, not-true}
 use Rattle.lists.proofs.Both.{both-left, both-right}
-use Rattle.bits.proofs.Laws.{bit-code, two-bits-code}
 use Rattle.map.specs.Map as reg
 use Rattle.bits.specs.Merge.{under}
 use Rattle.registers.specs.Classes.{free}
@@ -20,7 +19,7 @@ use Rattle.chip.specs.declared.Chip.{Chip}
 use Rattle.chip.specs.declared.Wrote.{Wrote}
 use Rattle.chip.specs.Machine.{Write, _gets_, Group, avi, audio, matrix, packets, converter, up, registersOf, holdsOf, held, inUse, coefficients, Muted}
 use Rattle.chip.specs.Write.{writeOf, vsyncOf}
-use Rattle.chip.proofs.Writes.{stepped, turned}
+use Rattle.chip.proofs.Writes.{stepped, turned, at-once}
 use Rattle.writes.specs.Steps.{Step, steps}
 use Rattle.writes.specs.List.{written, listWith, finishedImage}
 use Rattle.writes.proofs.Image.{is-image}
@@ -340,9 +339,11 @@ module _ (mid : (ℕ → ℕ) → List ℕ → List Step)
           registers = image-run;
           ended = ended;
           since = since;
-          opened = alike-open (run es s) (endOf P want s) alike-end (cut.ended mid good want s r .opened);
-          whole = subst (λ (l : List Event). Either (old l s .matrix) (standing end .matrix) (coefficients (run l s))) (take-length es)
-              (matrix-cut (length es) (le-refl (length es)));
-          late = late;
-          atOnce = λ k. let byte : ℕ = getD (cut es s k .image) reg.csc 0 in (bit-code 7 byte, two-bits-code 5 byte);
+          atOnce = λ k. at-once (cut es s k);
+          unfinished = record {
+            opened = alike-open (run es s) (endOf P want s) alike-end (cut.ended mid good want s r .opened);
+            either = subst (λ (l : List Event). Either (old l s .matrix) (standing end .matrix) (coefficients (run l s))) (take-length es)
+                (matrix-cut (length es) (le-refl (length es)));
+            late = late;
+          };
         }

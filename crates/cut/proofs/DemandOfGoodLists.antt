@@ -187,7 +187,7 @@ module _ (mid : (ℕ → ℕ) → List ℕ → List Step)
     waits = waits-for want (s .image) (mid want (s .image));
     none = tt;
     more = λ cs p c e. one-more P cs s p c e;
-    whole = λ cs p. near-cuts s s cs p (near-self s r) .ready .whole;
+    sized = λ cs p. near-cuts s s cs p (near-self s r) .ready .whole;
     ready = λ cs p. near-cuts s s cs p (near-self s r) .ready .holds;
     again = λ cs p es fs e f. same-end s (cuts cs s) r (near-cuts s s cs p (near-self s r)) es fs e f;
   }

@@ -5,12 +5,12 @@ use mathlib.Core.Logic.{_⊎_}
 use mathlib.Core.Bool.{true}
 use mathlib.Core.List.{List, [], _∷_, _++_}
 use Prim.Native.Nat.{ℕ}
-use lib.ListN.{length, getD}
-use Rattle.bits.specs.Merge.{bitsIn}
+use lib.ListN.{length}
 use Rattle.matrix.specs.Matrix.{fields}
 use Rattle.chip.specs.declared.Chip.{Chip}
-use Rattle.chip.specs.Machine.{Write, avi, audio, matrix, packets, registersOf, inUse, coefficients, enableInUse, modeInUse, Open}
+use Rattle.chip.specs.Machine.{Write, avi, audio, matrix, packets, registersOf, inUse, coefficients, Open}
 use Rattle.chip.specs.Write.{vsyncOf}
+use Rattle.chip.specs.Turn.{AtOnce}
 use Rattle.writes.specs.List.{finishedImage, ready}
 use Rattle.cut.specs.Run.{Event, run, cut, writesOf, writesBy, standing, Either, Careful, Covered, Untouched}
 use Rattle.cut.specs.Vsync.{old, waited, FinishedRun}
@@ -53,6 +53,13 @@ pub record Same (s t : Chip) : Type 0 where
   pub audio : inUse packets audio t ≡ inUse packets audio s
   pub matrix : coefficients t ≡ coefficients s
 
+-- what no sentence asks for, of a run that need not be finished: it has opened the picture all the same, its coefficients old or new; and all
+-- are new after one Vsync more
+pub record Unfinished (end : List ℕ) (es : List Event) (s : Chip) : Type 0 where
+  pub opened : Open (run es s)
+  pub either : Either (old es s .matrix) (standing end .matrix) (coefficients (run es s))
+  pub late : After (vsyncOf (run es s))
+
 -- of one run of the list ws, with Vsync events anywhere, that ends in the image `end`
 pub record Clauses (end : List ℕ) (ws : List Write) (es : List Event) (s : Chip) : Type 0 where
   -- "Before the first write nothing has moved", but by Vsync
@@ -67,13 +74,10 @@ pub record Clauses (end : List ℕ) (ws : List Write) (es : List Event) (s : Chi
   pub ended : FinishedRun ws es → After (run es s)
   -- and so from the last write on: the picture does not open on what is old
   pub since : FinishedRun ws es → (k : ℕ) → writesBy es k ≡ length ws → After (cut es s k)
-  -- a run that is not finished has opened the picture all the same, its coefficients old or new; and all are new after one Vsync more
-  pub opened : Open (run es s)
-  pub whole : Either (old es s .matrix) (standing end .matrix) (coefficients (run es s))
-  pub late : After (vsyncOf (run es s))
-  -- "Enable and mode in 0x18[7:5] act at once": at every cut they are what that register has
-  pub atOnce : (k : ℕ) → let t : Chip = cut es s k in
-      (enableInUse t ≡ bitsIn 7 7 (getD (t .image) 0x18 0)) × (modeInUse t ≡ bitsIn 6 5 (getD (t .image) 0x18 0))
+  -- "Enable and mode in 0x18[7:5] act at once", at every cut
+  pub atOnce : (k : ℕ) → AtOnce (cut es s k)
+  -- beside the demand
+  pub unfinished : Unfinished end es s
 
 pub record Demand3 (planned : List ℕ → List Write) (want : ℕ → ℕ) (s : Chip) : Type 0 where
   -- every run of the list: "Vsync events anywhere between the writes"
@@ -85,7 +89,7 @@ pub record Demand3 (planned : List ℕ → List Write) (want : ℕ → ℕ) (s :
   pub more : (cs : List Cut) → PlannedAgain planned cs s → (c : Cut) → writesOf (c .events) ≡ planned (cuts cs s .image)
       → PlannedAgain planned (cs ++ c ∷ []) s × (cuts (cs ++ c ∷ []) s ≡ cut (c .events) (cuts cs s) (c .place))
   -- after one cut, two, or any number of them the registers can be planned on: not refused by (7) or (8)
-  pub whole : (cs : List Cut) → PlannedAgain planned cs s → length (cuts cs s .image) ≡ 256
+  pub sized : (cs : List Cut) → PlannedAgain planned cs s → length (cuts cs s .image) ≡ 256
   pub ready : (cs : List Cut) → PlannedAgain planned cs s → ready (cuts cs s .image) ≡ true
   -- "If the same request is planned again on the registers as the cut left them, and run to its end, the registers and all three groups in
   -- use are those of the run without a cut": of finished runs

@@ -153,8 +153,8 @@ any-cut input buffer s z =
       demand = d;
       again = λ cs room p long.
           let image : List ℕ = cuts cs s .image in
-          let y : Fine input image room = again-fine input (s .image) buffer f image room (d .whole cs p) (d .ready cs p) long in
-          record { accepted = accepted input image room y; listed = listed input image room y };
+          let y : Fine input image room = again-fine input (s .image) buffer f image room (d .sized cs p) (d .ready cs p) long in
+          (accepted input image room y, listed input image room y);
       headAvi = rw (end .ended .avi) (avi-head q (e .image) g (end .stands));
       headAudio = rw (end .ended .audio) (audio-head q (e .image) g (end .stands));
       newAvi = new-avi input buffer s f;

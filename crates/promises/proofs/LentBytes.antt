@@ -270,7 +270,7 @@ module _ (input : List ℕ) (l : Lent) (z : LentSized l) (d : Demand3 (listOf in
     said-after : (es : List Event) → FinishedRun own es → SaidAfter r (entered es l)
     said-after es f =
         said (entered es l) (run es start) (entered-run es l z) (end-faces l z es (one-hold es (f .runs)))
-        (d .again [] tt (waited own) es (d .waits) f) (d .runs es (f .runs) .opened)
+        (d .again [] tt (waited own) es (d .waits) f) (d .runs es (f .runs) .unfinished .opened)
 
     -- and so does every run with one Vsync more
     said-late : (es : List Event) → writesOf es ≡ own → SaidAfter r (turnOf (entered es l) .slices)
@@ -278,13 +278,13 @@ module _ (input : List ℕ) (l : Lent) (z : LentSized l) (d : Demand3 (listOf in
         let q = views.entered-vsync (entered es l) (sized-entered es l z) in
         let s : stateOf (entered es l) ≡ run es start = entered-run es l z in
         let o : Single (run es start) = subst (λ (fs : List Event). Single (run fs start)) (take-length es) (one-hold es e (length es)) in
-        let a : After (vsyncOf (run es start)) = d .runs es e .late in
+        let a : After (vsyncOf (run es start)) = d .runs es e .unfinished .late in
         said (turnOf (entered es l) .slices) (vsyncOf (run es start)) (q .state ∙ ap vsyncOf s) (q .faces (subst Single (sym s) o))
         (after-same ending (vsyncOf (run es start)) ended a (turned (run es start) .image ∙ d .runs es e .registers ∙ sym (with-vsync .registers)))
         (a .opened)
 
     said-opened : (es : List Event) → writesOf es ≡ own → muteSaid (entered es l) ≡ record { refusal = 0; mute = 2 }
-    said-opened es e = says-open l z es (one-hold es e) (d .runs es e .opened)
+    said-opened es e = says-open l z es (one-hold es e) (d .runs es e .unfinished .opened)
 
     pub followed : Followed r own l
     followed = record { entering = enters-own; ended = said-after; opened = said-opened; late = said-late }
@@ -299,7 +299,7 @@ slices-run input l z d cs p always es e =
     let u : Chip = cuts cs (stateOf l) in
     let t : Lent = enteredCuts cs l in
     let q : stateOf t ≡ u = entered-cuts cs l z in
-    let here : Demand3 (listOf input) (asked input) u = always u (d .whole cs p) (d .ready cs p) in
+    let here : Demand3 (listOf input) (asked input) u = always u (d .sized cs p) (d .ready cs p) in
     let single : (k : ℕ) → Single (cut es u k) =
     λ k. neat-two (holdsOf packets (cut es u k .image)) (here .ready (record { events = es; place = k } ∷ []) (e, tt)) in
     let taken : (k : ℕ) → k < length es → happens (event es k) (cut es u k) .refusal ≡ 0 = here .runs es e .careful .taken in

@@ -70,7 +70,7 @@ use Rattle.promises.specs.Rules.{asked, Listed}
 use Rattle.promises.specs.LentBytes.{bytesLeft, entered}
 use Rattle.promises.specs.Said.{muteSaid, Entering}
 use Rattle.promises.specs.AnyCut.{listOf}
-use Rattle.promises.specs.Vendors.{inputOf, Passing, Vendors}
+use Rattle.promises.specs.Vendors.{inputOf, Passing, PassingToo, Vendors}
 use Rattle.promises.proofs.AnyCut.{any-cut, accepted, listed, again-fine}
 use Rattle.promises.proofs.Filled.{picked}
 use Rattle.promises.proofs.LentBytes.{entered-run, faced, end-faces, says-open, enters-so}
@@ -110,7 +110,7 @@ module _ (want : ℕ → ℕ) (s : Chip) (d : Demand3 (writeList want) want s) w
 
   never-turned : (k : ℕ) → turnedOver (take k (waited list)) ≡ false
   never-turned k =
-      let r : Room list = room-left want s (d .whole [] tt) (d .ready [] tt) in
+      let r : Room list = room-left want s (d .sized [] tt) (d .ready [] tt) in
       subst (λ (l : List Write). turnedOver (take k (waited l)) ≡ false)
       (sym (r .split ∙ append-assoc (r .front) (r .lowering ∷ r .back) (r .opening ∷ [])))
       (not-turned (r .front) (r .back ++ r .opening ∷ []) (r .lowering) k (r .risen) (r .raised))
@@ -380,19 +380,10 @@ module _ (list : List ℕ) (s : Chip) (z : Sized s) (clear : ready (s .image) �
     careful = c;
     opens = is-open;
     ended = later;
-    atOnce = nothing;
-    anywhere = any-where;
-    anyEnd = any-end;
-    entering = enters-list;
-    opened = opens-list;
-    slices = cuts-list;
-    covered = λ h. covered (λ fs. allInUse s) (allInUse end) es s fit c (rw as-many h);
-    closes = last-pair;
     untouched = untouched es s (c .fair);
     ends = d;
     accepted = λ room long. accepted (inputOf d) (s .image) room (suits room long);
     ours = as-ours;
-    retries = retries es s (z .image) (c .taken);
     mended = λ input buffer a k room long.
         let t : Chip = cutAt ws s k in
         let f = fine input (s .image) buffer a in
@@ -401,10 +392,24 @@ module _ (list : List ℕ) (s : Chip) (z : Sized s) (clear : ready (s .image) �
         (e, any-cut input room t e, m (asked input) .again k);
   }
 
-passing : (list : List ℕ) (s : Chip) → vetOf s list .refusal ≡ 0 → Passing list s
+  passes-too : PassingToo list s
+  passes-too = record {
+    atOnce = nothing;
+    anywhere = any-where;
+    anyEnd = any-end;
+    entering = enters-list;
+    opened = opens-list;
+    slices = cuts-list;
+    covered = λ h. covered (λ fs. allInUse s) (allInUse end) es s fit c (rw as-many h);
+    closes = last-pair;
+    retries = retries es s (z .image) (c .taken);
+  }
+
+passing : (list : List ℕ) (s : Chip) → vetOf s list .refusal ≡ 0 → Passing list s × PassingToo list s
 passing list s e =
     let v = vetted s list .accepted .0 e in
-    passes list s (v .0 .sized) (not-false _ (refuted (holds-up (s .image)) (v .0 .holds))) (v .1)
+    let clear = not-false _ (refuted (holds-up (s .image)) (v .0 .holds)) in
+    (passes list s (v .0 .sized) clear (v .1), passes-too list s (v .0 .sized) clear (v .1))
 
 -- ---- "At most 512 pairs"
 

@@ -25,18 +25,15 @@ listOf input = writeList (asked input)
 abbrev pub Headed : ℕ → ℕ → List ℕ → Type 0
 Headed version count registers = (getD registers 0 0 % 8 ≡ version) × (getD registers 1 0 % 32 ≡ count)
 
--- "planned again on the registers as the cut left them", with any buffer: the request is accepted, and its list on that image is planned
-pub record Again (input image buffer : List ℕ) : Type 0 where
-  pub accepted : planOf input image buffer .refusal ≡ 0
-  pub listed : Listed input image buffer
-
 pub record AnyCut (input buffer : List ℕ) (s : Chip) : Type 0 where
   -- the list that planning leaves in the lent buffer, with its count, is the one that the demand is about
   pub listed : Listed input (s .image) buffer
   -- every clause of the demand, at every cut of every run
   pub demand : Demand3 (listOf input) (asked input) s
-  -- after one cut, two, or any number of them
-  pub again : (cs : List Cut) (room : List ℕ) → PlannedAgain (listOf input) cs s → 256 ≤ length room → Again input (cuts cs s .image) room
+  -- "planned again on the registers as the cut left them", after one cut, two, or any number of them, with any buffer: the request is accepted,
+  -- and its list on that image is planned
+  pub again : (cs : List Cut) (room : List ℕ) → PlannedAgain (listOf input) cs s → 256 ≤ length room → let image : List ℕ = cuts cs s .image in
+      (planOf input image room .refusal ≡ 0) × Listed input image room
   -- "After the last, all are new": what is in use is the request's own. "AVI header 0x82, 0x02, 0x0D; audio header 0x84, 0x01, 0x0A"
   pub headAvi : Headed 0x02 0x0D (inUse packets avi (toItsEnd (listOf input) s))
   pub headAudio : Headed 0x01 0x0A (inUse packets audio (toItsEnd (listOf input) s))

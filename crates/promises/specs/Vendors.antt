@@ -31,15 +31,31 @@ use Rattle.promises.specs.AnyCut.{listOf, AnyCut}
 abbrev pub inputOf : {image : List ℕ} → Decodable image → List ℕ
 inputOf d = asBytes (requestInFamily (d .ends .family) (d .request))
 
--- a list that passes, run from the state that it was read for, with its Vsync just before its last pair
+-- what the owner asks of a list that passes, run from the state that it was read for, with its Vsync just before its last pair
 pub record Passing (list : List ℕ) (s : Chip) : Type 0 where
   -- demand 3's clauses: every write is taken by the machine; at every cut between the first write and the last the picture is muted, and
   -- the AVI InfoFrame, the audio InfoFrame and the twelve coefficients in use are each as they began or as the list ends
   pub careful : Careful (λ fs. allInUse s) (allInUse (endOf (pairsOf list) s)) (waited (pairsOf list)) s
-  -- after the last the picture is open, and what is in use is what stands in the registers, one Vsync later at the latest; with two pairs or
-  -- more at once, for then that Vsync changes nothing
+  -- after the last the picture is open, and what is in use is what stands in the registers, one Vsync later at the latest
   pub opens : Open (endOf (pairsOf list) s)
   pub ended : After (vsyncOf (endOf (pairsOf list) s))
+  -- HDCP, CEC, every free and read-only bit and every register that no list of ours writes stay
+  pub untouched : Untouched (waited (pairsOf list)) s
+  -- it ends where some request ends: that request is accepted at the start, and our own list for it ends with the same registers and the
+  -- same three groups in use
+  pub ends : Decodable (endOf (pairsOf list) s .image)
+  pub accepted : (room : List ℕ) → 256 ≤ length room → planOf (inputOf ends) (s .image) room .refusal ≡ 0
+  pub ours : Same (toItsEnd (listOf (inputOf ends)) s) (vsyncOf (endOf (pairsOf list) s))
+  -- a crash in it can be mended: a request that was accepted at its start is accepted where any cut left off, with all that demand 3 says,
+  -- and a finished run of it ends as ever, with the registers and all three groups in use as from the start
+  pub mended : (input buffer : List ℕ) → planOf input (s .image) buffer .refusal ≡ 0 → (k : ℕ) (room : List ℕ) → 256 ≤ length room
+      → let t : Chip = cutAt (pairsOf list) s k in
+      (planOf input (t .image) room .refusal ≡ 0) × AnyCut input room t
+      × ((es fs : List Event) → FinishedRun (listOf input (s .image)) es → FinishedRun (listOf input (t .image)) fs → Same (run es s) (run fs t))
+
+-- and what comes beside it
+pub record PassingToo (list : List ℕ) (s : Chip) : Type 0 where
+  -- with two pairs or more at once, for then that Vsync changes nothing
   pub atOnce : 2 ≤ length (pairsOf list) → vsyncOf (endOf (pairsOf list) s) ≡ endOf (pairsOf list) s
   -- wherever Vsyncs come: the mute and the two InfoFrames as above, the same registers at the end, and all in use after one Vsync more. Of
   -- the coefficients between nothing is said: a list may lower their hold half way, and a Vsync then takes what stands there, behind the mute
@@ -56,21 +72,8 @@ pub record Passing (list : List ℕ) (s : Chip) : Type 0 where
   -- with two pairs or more the mute covers what moves, and the last pair writes 0x4B
   pub covered : 2 ≤ length (pairsOf list) → Covered (waited (pairsOf list)) s
   pub closes : (k : ℕ) → 0 < k → suc k ≡ length (pairsOf list) → pairAt (pairsOf list) k .address ≡ 0x4B
-  -- HDCP, CEC, every free and read-only bit and every register that no list of ours writes stay
-  pub untouched : Untouched (waited (pairsOf list)) s
-  -- it ends where some request ends: that request is accepted at the start, and our own list for it ends with the same registers and the
-  -- same three groups in use
-  pub ends : Decodable (endOf (pairsOf list) s .image)
-  pub accepted : (room : List ℕ) → 256 ≤ length room → planOf (inputOf ends) (s .image) room .refusal ≡ 0
-  pub ours : Same (toItsEnd (listOf (inputOf ends)) s) (vsyncOf (endOf (pairsOf list) s))
   -- each write, and the Vsync, may be sent again any number of times
   pub retries : (n : ℕ → ℕ) → Retried n (waited (pairsOf list)) s
-  -- a crash in it can be mended: a request that was accepted at its start is accepted where any cut left off, with all that demand 3 says,
-  -- and a finished run of it ends as ever, with the registers and all three groups in use as from the start
-  pub mended : (input buffer : List ℕ) → planOf input (s .image) buffer .refusal ≡ 0 → (k : ℕ) (room : List ℕ) → 256 ≤ length room
-      → let t : Chip = cutAt (pairsOf list) s k in
-      (planOf input (t .image) room .refusal ≡ 0) × AnyCut input room t
-      × ((es fs : List Event) → FinishedRun (listOf input (s .image)) es → FinishedRun (listOf input (t .image)) fs → Same (run es s) (run fs t))
 
 pub record Vendors : Type 0 where
   -- "The library's own lists always pass."
@@ -91,4 +94,4 @@ pub record Vendors : Type 0 where
       → inUse packets avi t ≡ inUse packets avi s → inUse packets audio t ≡ inUse packets audio s → inUse packets gc t ≡ inUse packets gc s
       → inUse converter matrix t ≡ inUse converter matrix s
       → (held s ≡ false → t .waiting ≡ s .waiting) → vetOf t list ≡ vetOf s list
-  pub passing : (list : List ℕ) (s : Chip) → vetOf s list .refusal ≡ 0 → Passing list s
+  pub passing : (list : List ℕ) (s : Chip) → vetOf s list .refusal ≡ 0 → Passing list s × PassingToo list s
