@@ -25,9 +25,9 @@ use Rattle.clock.specs.Pairs.{reference, recommendedOf}
 use Rattle.clock.specs.Found.{nearestK, nearestIn, nearestOf, exactly, coherentOf, pairOf}
 use Rattle.matrix.specs.Matrix.{Bytes}
 use Rattle.matrix.specs.Tests.{within, inRange, isAllowed}
+use Rattle.sound.specs.declared.Sound.the-variants.{Off, On}
 use Rattle.sound.specs.Sound.{soundOf}
-use Rattle.sound.specs.Tests.{soundOutside}
-use Rattle.sound.proofs.Fits.{on-where}
+use Rattle.sound.specs.Tests.{isOn, soundOutside}
 use Rattle.request.specs.declared.Checked.{Checked}
 use Rattle.request.specs.declared.Request.{Request}
 use Rattle.request.specs.Sections.{sections, Bodies, Walk, whole, walked}
@@ -132,6 +132,13 @@ sound-inside (r ∷ c ∷ k ∷ []) t h =
 sound-inside (r ∷ c ∷ k ∷ x ∷ more) t h =
     let n : ℕ = length (r ∷ c ∷ k ∷ x ∷ more) in
     absurd (false≢true (rw (ne-eqb n 0 (omega arith), ne-eqb n 3 (omega arith)) at t))
+
+on-where : (sound : List ℕ) → isOn (soundOf sound) ≡ not (eqb (length sound) 0)
+on-where sound = go (eqb (length sound) 0)
+  where
+    go : (b : Bool) → isOn (cond b Off (On (getD sound 0 0) (getD sound 1 0) (getD sound 2 0))) ≡ not b
+    go true = refl
+    go false = refl
 
 -- the high byte decides
 by-high : (high low : ℕ) → high < 256 → low < 256 → within (high * 256 + low) ≡ among high highBytes
