@@ -6,14 +6,15 @@ use mathlib.Core.List.{List, [], _∷_}
 use Prim.Native.Nat.{ℕ, _+_, _-_, _*_, _≤_}
 use lib.Dec.{eqb}
 use lib.ListN.{getD}
+use Rattle.sound.specs.Rates.{hertzOf}
 use Rattle.clock.specs.declared.Clock.{Clock}
 use Rattle.clock.specs.declared.NCts.{NCts}
 use Rattle.clock.specs.declared.Pair.{Pair}
-use Rattle.clock.specs.Tables.{rates, pair, Recommended, recommended}
+use Rattle.clock.specs.Tables.{pair, Recommended, recommended}
 
 -- 128·fs
 unfoldable pub reference : ℕ → ℕ
-reference rate = 128 * getD rates rate 0
+reference rate = 128 * hertzOf rate
 
 -- an exact pair within the range: "128·fs = clock·N/CTS, and N lies between 128·fs/1500 and 128·fs/300, ends included. CTS is at most
 -- 1,048,575. A pair is exact when CTS is whole and the equation holds." The equation is multiplied out; a CTS of ℕ is whole.

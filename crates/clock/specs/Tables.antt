@@ -3,10 +3,6 @@ use mathlib.Core.List.{List, [], _∷_}
 use Prim.Native.Nat.{ℕ}
 use Rattle.clock.specs.declared.NCts.{NCts}
 
--- document 01, "The request": the rates 0 to 6 in Hz
-abbrev pub rates : List ℕ
-rates = 32000 ∷ 44100 ∷ 48000 ∷ 88200 ∷ 96000 ∷ 176400 ∷ 192000 ∷ []
-
 -- N and CTS, side by side
 abbrev pub pair : ℕ → ℕ → NCts
 pair n cts = record { n = n; cts = cts }

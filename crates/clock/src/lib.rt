@@ -76,9 +76,6 @@ const CTSS: [u32; 70] = [
     148500, 165000, 148500, 165000, 148500, 165000, 148500, // 148.5
 ];
 
-// The rates 0 to 6 in Hz.
-const RATES: [u32; 7] = [32000, 44100, 48000, 88200, 96000, 176400, 192000];
-
 // N of the "Other" row.
 const OTHERS: [u32; 7] = [4096, 6272, 6144, 12544, 12288, 25088, 24576];
 
@@ -174,7 +171,7 @@ fn reference(rate: u8) -> u64
     ensures { λ r. ⌜ r ≡ reference rate ⌝ }
     ensures { λ r. ⌜ (0 < r) × (r ≤ referenceMost) ⌝ }
 {
-    128 * RATES[rate as usize] as u64
+    128 * sound::hertz(rate) as u64
 }
 
 // The recommended pair for a clock and rate; N 0 where there is none. The clocks are named before the loop, since a constant is built anew

@@ -15,11 +15,12 @@ use Rattle.video.specs.Video.{videoBody}
 use Rattle.matrix.specs.declared.Matrix.{Matrix}
 use Rattle.matrix.specs.Coefficient.{coefficientBytes}
 use Rattle.matrix.proofs.Pairs.{length-bytes}
-use Rattle.request.specs.declared.Sound.{Sound}
-use Rattle.request.specs.declared.Sound.the-variants.{Off, On}
+use Rattle.sound.specs.Sound.{audioCount, audioBody}
+use Rattle.sound.specs.declared.Sound.{Sound}
+use Rattle.sound.specs.declared.Sound.the-variants.{Off, On}
 use Rattle.request.specs.declared.Request.{Request}
-use Rattle.request.specs.Sections.{audioCount, matrixCount, longest}
-use Rattle.request.specs.Bytes.{laid, audioBody, matrixBody, bodiesOf, asBytes}
+use Rattle.request.specs.Sections.{matrixCount, longest}
+use Rattle.request.specs.Bytes.{laid, matrixBody, bodiesOf, asBytes}
 use Rattle.request.specs.Sections as sections
 use Rattle.decode.specs.Decode.{inFront}
 

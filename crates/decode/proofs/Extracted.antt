@@ -16,21 +16,25 @@ use Rattle.video.specs.Video.{depth, answered}
 use Rattle.video.proofs.Fits.{link-fits, depth-fits}
 use Rattle.frames.specs.Named.{videoNamed}
 use Rattle.frames.proofs.Named.{named}
-use Rattle.request.specs.declared.Sound.{Sound}
-use Rattle.request.specs.declared.Sound.the-variants.{Off, On}
+use Rattle.sound.specs.Rates.{codeFor}
+use Rattle.sound.specs.Coded.{rateOf}
+use Rattle.sound.proofs.Rates as rates
+use Rattle.sound.specs.declared.Sound.{Sound}
+use Rattle.sound.specs.declared.Sound.the-variants.{Off, On}
 use Rattle.request.specs.declared.Request.{Request}
-use Rattle.plan.specs.Wanted.{wanted, rateCodes, withAudio, rateCode, ctsSelect, depthCodes}
+use Rattle.plan.specs.Wanted.{wanted, withAudio, rateCode, ctsSelect, depthCodes}
 use Rattle.writes.specs.List.{isWritten, decided}
 use Rattle.decode.specs.Ends.{Stands}
-use Rattle.decode.specs.Extract.{byteIn, rateOf, soundIn, matrixIn, linkIn, depthOf, depthIn, dataIn, extract}
+use Rattle.decode.specs.Extract.{byteIn, soundIn, matrixIn, linkIn, depthOf, depthIn, dataIn, extract}
 use Rattle.decode.proofs.Stored.{cc, Wants, wants}
 use Rattle.decode.proofs.Standing.{reads}
 use Rattle.decode.proofs.Groups.{avi-data, matrix-in}
 use Rattle.request.specs.Bytes.{answeredAs}
 use Rattle.request.specs.ThereAndBack.{Shaped}
-use Rattle.request.specs.Fits.{SoundFits, Fits}
+use Rattle.sound.specs.Fits.{SoundFits}
+use Rattle.request.specs.Fits.{Fits}
 
--- ---- codes of four bits: rates and depths
+-- ---- codes of four bits: depths
 
 abbrev isBack : (ℕ → ℕ) → List ℕ → ℕ → Bool
 isBack of codes n = eqb (of (getD codes n 0)) n && ltb (getD codes n 0) 16
@@ -88,9 +92,8 @@ module _ (r : Request) (image : List ℕ) (long : length image ≡ 256) (g : Fit
       → byteIn image reg.audioInfoframeByte1 % 8 ≡ cc s % 8 → byteIn image reg.audioSource / 128 % 2 ≡ ctsSelect s * 128 / 128 % 2 → soundIn image ≡ s
   heard Off k p q c h = rw (eq-eqb (byteIn image reg.packetEnable1 / 32 % 2) 0 p)
   heard (On x y z) k p q c h =
-      let b = code-back rateOf rateCodes 7 x refl (omega (arith, k .0)) in
-      let code : getD rateCodes x 0 * 16 / 16 % 16 ≡ getD rateCodes x 0 = omega (arith, b .1) in
-      let e : rateOf (byteIn image reg.i2sFreqIdCfg / 16 % 16) ≡ x = rw (q, code) (b .0) in
+      let code : codeFor x * 16 / 16 % 16 ≡ codeFor x = omega (arith, rates.table .bits x) in
+      let e : rateOf (byteIn image reg.i2sFreqIdCfg / 16 % 16) ≡ x = rw (q, code) (rates.table .back x (omega (arith, k .0))) in
       let f : byteIn image reg.audioInfoframeByte1 % 8 + 1 ≡ y = count (k .1) in
       let d : byteIn image reg.audioSource / 128 % 2 ≡ z = omega (arith, k .2) in
       rw (ne-eqb (byteIn image reg.packetEnable1 / 32 % 2) 0 (omega arith), e, f, d)

@@ -22,14 +22,15 @@ use Rattle.clock.proofs.Offered.{families}
 use Rattle.clock.proofs.Rows.{is-above}
 use Rattle.clock.proofs.Coherence.{pair-in}
 use Rattle.frames.specs.Frames.{aviFrame}
-use Rattle.request.specs.declared.Sound.{Sound}
-use Rattle.request.specs.declared.Sound.the-variants.{Off, On}
+use Rattle.sound.specs.declared.Sound.{Sound}
+use Rattle.sound.specs.declared.Sound.the-variants.{Off, On}
 use Rattle.request.specs.declared.Request.{Request}
 use Rattle.request.specs.declared.Checked.{Checked}
 use Rattle.request.specs.Read.{outside, combined, judged, limited, readOf, pairIn, pairFor}
 use Rattle.request.specs.Bytes.{bodiesOf, asBytes, requestInFamily}
 use Rattle.request.specs.ThereAndBack.{Shaped}
-use Rattle.request.specs.Fits.{SoundFits, Fits}
+use Rattle.sound.specs.Fits.{SoundFits}
+use Rattle.request.specs.Fits.{Fits}
 use Rattle.request.proofs.Fits.{fits}
 use Rattle.request.proofs.Ordered.{accepted, not-refused}
 use Rattle.request.proofs.Said.{read-judged, said}

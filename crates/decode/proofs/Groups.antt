@@ -18,11 +18,12 @@ use Rattle.frames.specs.Audio.{audioFrame, audioOffFrame}
 use Rattle.frames.proofs.Bytes.{Bytes, frame-bytes, audio-bytes, off-bytes}
 use Rattle.matrix.specs.declared.Matrix.{Matrix}
 use Rattle.matrix.specs.Matrix.{fields}
-use Rattle.request.specs.declared.Sound.{Sound}
-use Rattle.request.specs.declared.Sound.the-variants.{Off, On}
+use Rattle.sound.specs.declared.Sound.{Sound}
+use Rattle.sound.specs.declared.Sound.the-variants.{Off, On}
 use Rattle.request.specs.declared.Request.{Request}
 use Rattle.request.specs.ThereAndBack.{Shaped}
-use Rattle.request.specs.Fits.{SoundFits, Fits}
+use Rattle.sound.specs.Fits.{SoundFits}
+use Rattle.request.specs.Fits.{Fits}
 use Rattle.request.proofs.Fits.{coefficients-small}
 use Rattle.chip.specs.Machine.{avi, audio, matrix, registersOf}
 use Rattle.plan.specs.Wanted.{wanted, cscBytes, audioBytes}

@@ -12,8 +12,8 @@ use Rattle.map.specs.Map as reg
 use Rattle.frames.specs.Frames.{aviCount, aviFrame}
 use Rattle.frames.specs.Audio.{audioFrame, audioOffFrame}
 use Rattle.chip.specs.Machine.{Write}
-use Rattle.request.specs.declared.Sound.{Sound}
-use Rattle.request.specs.declared.Sound.the-variants.{Off, On}
+use Rattle.sound.specs.declared.Sound.{Sound}
+use Rattle.sound.specs.declared.Sound.the-variants.{Off, On}
 use Rattle.request.specs.declared.Request.{Request}
 use Rattle.plan.specs.Wanted.{stores, wantedBytes, wantedImage, wanted, cscBytes, withAudio, rateCode, ctsSelect, audioBytes, depthCode}
 

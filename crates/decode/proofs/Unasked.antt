@@ -15,8 +15,8 @@ use Rattle.clock.specs.Clocks.{tmds}
 use Rattle.clock.specs.Answers.{clockOf}
 use Rattle.clock.specs.Found.{pairOf}
 use Rattle.frames.specs.Frames.{aviFrame}
-use Rattle.request.specs.declared.Sound.{Sound}
-use Rattle.request.specs.declared.Sound.the-variants.{Off, On}
+use Rattle.sound.specs.declared.Sound.{Sound}
+use Rattle.sound.specs.declared.Sound.the-variants.{Off, On}
 use Rattle.request.specs.declared.Request.{Request}
 use Rattle.request.specs.declared.Checked.{Checked}
 use Rattle.request.specs.Read.{pairIn, pairFor}

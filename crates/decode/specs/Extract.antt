@@ -10,16 +10,13 @@ use Rattle.matrix.specs.declared.Matrix.{Matrix}
 use Rattle.matrix.specs.Matrix.{fields, noMatrix}
 use Rattle.frames.specs.Frames.{aviCount}
 use Rattle.frames.specs.Named.{videoNamed}
-use Rattle.request.specs.declared.Sound.{Sound}
-use Rattle.request.specs.declared.Sound.the-variants.{Off, On}
+use Rattle.sound.specs.Coded.{rateOf}
+use Rattle.sound.specs.declared.Sound.{Sound}
+use Rattle.sound.specs.declared.Sound.the-variants.{Off, On}
 use Rattle.request.specs.declared.Request.{Request}
 
 abbrev pub byteIn : List ℕ → ℕ → ℕ
 byteIn image a = getD image a 0
-
--- the rate of a code, 0 to 6; 7 for a code that is none
-abbrev pub rateOf : ℕ → ℕ
-rateOf code = getD (1 ∷ 7 ∷ 2 ∷ 0 ∷ 7 ∷ 7 ∷ 7 ∷ 7 ∷ 3 ∷ 7 ∷ 4 ∷ 7 ∷ 5 ∷ 7 ∷ 6 ∷ 7 ∷ []) code 7
 
 -- sound is on where its sample packets are; the channels are one more than CC
 abbrev pub soundIn : List ℕ → Sound

@@ -6,11 +6,12 @@ ghost use Prim.Native.Nat.{ℕ, suc, _+_, _<_, _≤_};
 ghost use lib.ListN.{getD, length};
 ghost use lib.Seq.{sets};
 ghost use Rattle.request.specs.declared.Request.{Request};
-ghost use Rattle.request.specs.Sections.{audioCount, matrixCount, longest};
-ghost use Rattle.request.specs.Bytes.{audioBody, matrixBody, asBytes, requestInFamily};
+ghost use Rattle.sound.specs.Sound.{audioCount, audioBody};
+ghost use Rattle.request.specs.Sections.{matrixCount, longest};
+ghost use Rattle.request.specs.Bytes.{matrixBody, asBytes, requestInFamily};
 ghost use Rattle.request.specs.ThereAndBack.{Shaped};
 ghost use Rattle.plan.specs.Plan.{standsIn};
-ghost use Rattle.decode.specs.Extract.{rateOf, soundIn, matrixIn, depthOf, extract};
+ghost use Rattle.decode.specs.Extract.{soundIn, matrixIn, depthOf, extract};
 ghost use Rattle.decode.specs.Decode.{inFront, isCoherent, notDecoded, Decodes};
 ghost use Rattle.decode.specs.Theorems.{ExactlyWhen, BitByBit, AtMostOne, Refusals};
 ghost use Rattle.decode.specs.ReadBack.{ReadBack};
@@ -19,24 +20,14 @@ use map::Map;
 use matrix::Matrix;
 use refusals::Refusal;
 use request::Request;
-use request::Sound;
-use request::sections::AUDIO_COUNT;
 use request::sections::LONGEST;
+use sound::AUDIO_COUNT;
+use sound::Sound;
 
 // The number of a refusal, 0 for none, and the count of bytes of the request.
 pub struct Decoded {
     pub refusal: u8,
     pub count: u32,
-}
-
-const RATES: [u8; 16] = [1, 7, 2, 0, 7, 7, 7, 7, 3, 7, 4, 7, 5, 7, 6, 7];
-
-// The rate of a code.
-fn rate_of(code: u8) -> u8
-    requires { ⌜ code < 16 ⌝ }
-    ensures { λ r. ⌜ r ≡ rateOf code ⌝ }
-{
-    RATES[code as usize]
 }
 
 const DEPTHS: [u8; 16] = [0, 3, 3, 3, 3, 1, 2, 3, 3, 3, 3, 3, 3, 3, 3, 3];
@@ -57,7 +48,7 @@ fn sound_in(image: &[u8]) -> Sound
         return Sound::Off;
     }
     let code = (image[Map::I2S_FREQ_ID_CFG as usize] >> Map::I2S_SAMPLING_FREQUENCY_SHIFT) % 16;
-    let rate = rate_of(code);
+    let rate = sound::rate_of(code);
     Sound::On {
         rate: rate,
         channels: image[Map::AUDIO_INFOFRAME_BYTE1 as usize] % 8 + 1,

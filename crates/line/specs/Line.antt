@@ -10,8 +10,8 @@ use Rattle.clock.specs.declared.Pair.{Pair}
 use Rattle.frames.specs.Audio.{audioOffFrame}
 use Rattle.frames.specs.Answers.{aviOf, audioOf}
 use Rattle.matrix.specs.Matrix.{Bytes}
-use Rattle.request.specs.declared.Sound.{Sound}
-use Rattle.request.specs.declared.Sound.the-variants.{Off, On}
+use Rattle.sound.specs.declared.Sound.{Sound}
+use Rattle.sound.specs.declared.Sound.the-variants.{Off, On}
 use Rattle.request.specs.declared.Request.{Request}
 use Rattle.request.specs.Sections.{longest, walked}
 use Rattle.request.specs.Request.{nctsRules}

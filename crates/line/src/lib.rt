@@ -7,7 +7,7 @@ ghost use Rattle.line.specs.Line.{audioChecksum, lineOf, Lines};
 ghost use Rattle.line.specs.Verdict.{placedText, PrintsVerdict, Verdicts};
 ghost use Rattle.line.specs.Words.{digit, decimal, hex, acceptedText, refusedText, StoresText, textOf, lineBytes, Prints, PrintsAnswer, Numeral};
 use refusals::Refusal;
-use request::Sound;
+use sound::Sound;
 
 // What is printed: "accepted" with five numbers, or "refused" with the first.
 pub struct Line {

@@ -21,8 +21,8 @@ use Rattle.clock.specs.Pairs.{reference, recommendedOf}
 use Rattle.clock.specs.Answers.{thePair, noPair, other}
 use Rattle.clock.specs.Answers.{clockOf}
 use Rattle.clock.specs.Found.{pairTests, nearestK, leastK, mostK, nearestIn, nearestOf, exactly, coherentOf, pairOf}
-use Rattle.request.specs.declared.Sound.{Sound}
-use Rattle.request.specs.declared.Sound.the-variants.{Off, On}
+use Rattle.sound.specs.declared.Sound.{Sound}
+use Rattle.sound.specs.declared.Sound.the-variants.{Off, On}
 use Rattle.request.specs.declared.Request.{Request}
 use Rattle.request.specs.declared.Checked.{Checked}
 use Rattle.request.specs.Sections.{Bodies, byName, Walk, ends, notAllowed, whole, walk, walked, sections}

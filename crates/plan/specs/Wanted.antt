@@ -8,13 +8,14 @@ use lib.ListN.{getD, set, drop, replicate}
 use Rattle.map.specs.Map as reg
 use Rattle.video.specs.declared.Video.{Video}
 use Rattle.video.specs.Video.{depth, repetition}
+use Rattle.sound.specs.Rates.{codeFor}
 use Rattle.clock.specs.declared.Pair.{Pair}
 use Rattle.matrix.specs.declared.Matrix.{Matrix}
 use Rattle.frames.specs.Frames.{aviFrame}
 use Rattle.frames.specs.Audio.{audioFrame, audioOffFrame}
 use Rattle.chip.specs.Machine.{Write, _gets_}
-use Rattle.request.specs.declared.Sound.{Sound}
-use Rattle.request.specs.declared.Sound.the-variants.{Off, On}
+use Rattle.sound.specs.declared.Sound.{Sound}
+use Rattle.sound.specs.declared.Sound.the-variants.{Off, On}
 use Rattle.request.specs.declared.Request.{Request}
 use Rattle.request.specs.Read.{pairFor}
 
@@ -28,13 +29,10 @@ abbrev pub ctsSelect : Sound → ℕ
 ctsSelect Off = 0
 ctsSelect (On rate channels coherent) = coherent
 
--- the code of the rate in 0x15[7:4]: 0011, 0000, 0010, 1000, 1010, 1100, 1110 for 32 to 192 kHz; "Audio off: .. the 48 kHz rate code"
-abbrev pub rateCodes : List ℕ
-rateCodes = 3 ∷ 0 ∷ 2 ∷ 8 ∷ 10 ∷ 12 ∷ 14 ∷ []
-
+-- the code of the rate in 0x15[7:4]; "Audio off: .. the 48 kHz rate code", which is rate 2's
 abbrev pub rateCode : Sound → ℕ
-rateCode Off = 2
-rateCode (On rate channels coherent) = getD rateCodes rate 0
+rateCode Off = codeFor 2
+rateCode (On rate channels coherent) = codeFor rate
 
 -- "one I2S input is enabled for 2 channels, all four for 8, none when off": a bit for each of I2S0 to I2S3
 abbrev pub inputs : Sound → ℕ

@@ -12,7 +12,8 @@ ghost use Rattle.frames.specs.Frames.{aviFrame};
 ghost use Rattle.matrix.specs.Matrix.{Bytes};
 ghost use Rattle.request.specs.Read.{pairFor};
 ghost use Rattle.request.specs.ThereAndBack.{Shaped};
-ghost use Rattle.request.specs.Fits.{SoundFits, Fits};
+ghost use Rattle.sound.specs.Fits.{SoundFits};
+ghost use Rattle.request.specs.Fits.{Fits};
 ghost use Rattle.chip.specs.Machine.{up, avi, audio, gc};
 ghost use Rattle.writes.specs.List.{ready};
 ghost use Rattle.plan.specs.Wanted.{laidBytes, stores, twenty, ctsSelect, inputs, rateCode, withAudio, audioBytes, halves, cscBytes};
@@ -27,7 +28,7 @@ use map::Map;
 use matrix::Matrix;
 use refusals::Refusal;
 use request::Request;
-use request::Sound;
+use sound::Sound;
 use video::Video;
 
 // The number of a refusal, 0 for none, and the count of pairs written.
@@ -73,19 +74,17 @@ fn cts_select(sound: Sound) -> u8
     }
 }
 
-const RATE_CODES: [u8; 7] = [3, 0, 2, 8, 10, 12, 14];
-
+// The code of the rate; of 48 kHz, rate 2, where there is no sound.
 fn rate_code(sound: Sound) -> u8
-    requires { ⌜ SoundFits sound ⌝ }
     ensures { λ r. ⌜ (r ≡ rateCode sound) × (r ≤ 15) ⌝ }
 {
     match sound {
-        Sound::Off => 2,
+        Sound::Off => sound::code_of(2),
         Sound::On {
             rate,
             channels: _,
             coherent: _,
-        } => RATE_CODES[rate as usize],
+        } => sound::code_of(rate),
     }
 }
 

@@ -10,8 +10,8 @@ use Rattle.clock.specs.Answers.{noPair}
 use Rattle.clock.proofs.Rows as clocks
 use Rattle.matrix.proofs.Codes as preview
 use Rattle.meter.proofs.Rule as meter
-use Rattle.request.specs.declared.Sound.{Sound}
-use Rattle.request.specs.declared.Sound.the-variants.{Off, On}
+use Rattle.sound.specs.declared.Sound.{Sound}
+use Rattle.sound.specs.declared.Sound.the-variants.{Off, On}
 use Rattle.request.specs.Read.{readOf, nctsOf, pairIn, pairFor}
 use Rattle.chip.specs.Write.{lentAs}
 use Rattle.views.specs.Entry.{marked}

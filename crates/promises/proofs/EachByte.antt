@@ -25,13 +25,16 @@ use Rattle.clock.specs.Pairs.{reference, recommendedOf}
 use Rattle.clock.specs.Found.{nearestK, nearestIn, nearestOf, exactly, coherentOf, pairOf}
 use Rattle.matrix.specs.Matrix.{Bytes}
 use Rattle.matrix.specs.Tests.{within, inRange, isAllowed}
+use Rattle.sound.specs.declared.Sound.the-variants.{Off, On}
+use Rattle.sound.specs.Sound.{soundOf}
+use Rattle.sound.specs.Tests.{isOn, soundOutside}
 use Rattle.request.specs.declared.Checked.{Checked}
 use Rattle.request.specs.declared.Request.{Request}
 use Rattle.request.specs.Sections.{sections, Bodies, Walk, whole, walked}
 use Rattle.request.specs.Walks.{fits}
 use Rattle.request.specs.Bytes.{laid}
 use Rattle.request.specs.Request.{present, requestIn}
-use Rattle.request.specs.Read.{audioOutside, outside, combined, judged, checked, limited, readOf, pairFor, nctsOf}
+use Rattle.request.specs.Read.{outside, combined, judged, checked, limited, readOf, pairFor, nctsOf}
 use Rattle.request.proofs.Walks.{walks}
 use Rattle.request.proofs.Ordered.{limit-there, accepted}
 use Rattle.promises.specs.EachByte.{inTheirs, inNone, vics, depthBytes, editionBytes, bitsUnderD, videoBytes, soundBytes}
@@ -115,7 +118,7 @@ module _ (vic family encoding link range pixel edition : ℕ) (h : Bytes (vic �
       (among edition (editionBytes ++ bitsUnderD)))
 
 sound-inside : (sound : List ℕ) → among (length sound) (0 ∷ 3 ∷ []) ≡ true → Bytes sound
-    → (present sound && audioOutside sound) ≡ not (inTheirs soundBytes sound)
+    → soundOutside (soundOf sound) ≡ not (inTheirs soundBytes sound)
 sound-inside [] t h = refl
 sound-inside (r ∷ []) t h = absurd (false≢true t)
 sound-inside (r ∷ c ∷ []) t h = absurd (false≢true t)
@@ -129,6 +132,13 @@ sound-inside (r ∷ c ∷ k ∷ []) t h =
 sound-inside (r ∷ c ∷ k ∷ x ∷ more) t h =
     let n : ℕ = length (r ∷ c ∷ k ∷ x ∷ more) in
     absurd (false≢true (rw (ne-eqb n 0 (omega arith), ne-eqb n 3 (omega arith)) at t))
+
+on-where : (sound : List ℕ) → isOn (soundOf sound) ≡ not (eqb (length sound) 0)
+on-where sound = go (eqb (length sound) 0)
+  where
+    go : (b : Bool) → isOn (cond b Off (On (getD sound 0 0) (getD sound 1 0) (getD sound 2 0))) ≡ not b
+    go true = refl
+    go false = refl
 
 -- the high byte decides
 by-high : (high low : ℕ) → high < 256 → low < 256 → within (high * 256 + low) ≡ among high highBytes
@@ -274,7 +284,7 @@ module _ (vic family encoding link range pixel edition : ℕ) (sound matrix : Li
     unfolding combined videoCombined shownCombined
     goes-together i =
         let t = chosen videoBytes (λ five. choices ((0 ∷ 3 ∷ []) ∷ (0 ∷ 25 ∷ []) ∷ []) (apart five)) five refl all-apart i in
-        beq-true _ _ (chosen ((0 ∷ 3 ∷ []) ∷ (0 ∷ 25 ∷ []) ∷ []) (apart five) (length sound ∷ length matrix ∷ []) refl t (rw (s, m)))
+        rw (on-where sound) (beq-true _ _ (chosen ((0 ∷ 3 ∷ []) ∷ (0 ∷ 25 ∷ []) ∷ []) (apart five) (length sound ∷ length matrix ∷ []) refl t (rw (s, m))))
 
     too-fast : (f : ℕ) → family ≡ f → among vic (vics f) ≡ true → among pixel depthBytes ≡ true
         → aboveLimit (tmds asked) ≡ not (inNone tooFast (vic ∷ pixel ∷ []))

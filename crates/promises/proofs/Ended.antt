@@ -14,8 +14,8 @@ use Rattle.frames.specs.Frames.{aviFrame}
 use Rattle.frames.specs.Audio.{audioFrame, audioOffFrame}
 use Rattle.matrix.specs.declared.Matrix.{Matrix}
 use Rattle.matrix.specs.Matrix.{noMatrix}
-use Rattle.request.specs.declared.Sound.{Sound}
-use Rattle.request.specs.declared.Sound.the-variants.{Off, On}
+use Rattle.sound.specs.declared.Sound.{Sound}
+use Rattle.sound.specs.declared.Sound.the-variants.{Off, On}
 use Rattle.request.specs.declared.Request.{Request}
 use Rattle.request.specs.ThereAndBack.{Filled}
 use Rattle.request.specs.Fits.{Fits}

@@ -23,11 +23,12 @@ use Rattle.clock.proofs.Rates.{reference-most}
 use Rattle.clock.proofs.Coherence.{in-mode, pair-in}
 use Rattle.frames.specs.Frames.{total, frame, aviFrame}
 use Rattle.frames.proofs.Sealed as frames
-use Rattle.request.specs.declared.Sound.{Sound}
-use Rattle.request.specs.declared.Sound.the-variants.{Off, On}
+use Rattle.sound.specs.declared.Sound.{Sound}
+use Rattle.sound.specs.declared.Sound.the-variants.{Off, On}
 use Rattle.request.specs.declared.Request.{Request}
 use Rattle.request.specs.Read.{readOf, pairIn, pairFor, nctsOf}
-use Rattle.request.specs.Fits.{SoundFits, Fits}
+use Rattle.sound.specs.Fits.{SoundFits}
+use Rattle.request.specs.Fits.{Fits}
 use Rattle.request.proofs.Fits.{fits}
 use Rattle.lists.proofs.Those.{of-those}
 use Rattle.bits.specs.Merge.{merge, under, bit, bitsIn}

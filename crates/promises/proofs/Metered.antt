@@ -22,11 +22,12 @@ use Rattle.matrix.specs.Preview.{noPixel, previewTests, previewOf}
 use Rattle.matrix.proofs.Body.{unmoved, body-back}
 use Rattle.matrix.proofs.Pairs.{sized}
 use Rattle.meter.proofs.Rule.{laid-matrix}
+use Rattle.sound.specs.Sound.{soundOf}
+use Rattle.sound.specs.Tests.{soundOutside}
 use Rattle.request.specs.declared.Request.{Request}
 use Rattle.request.specs.declared.Checked.{Checked}
 use Rattle.request.specs.Sections.{Bodies}
-use Rattle.request.specs.Request.{present}
-use Rattle.request.specs.Read.{audioOutside, outside, combined, judged, limited, readOf}
+use Rattle.request.specs.Read.{outside, combined, judged, limited, readOf}
 use Rattle.request.specs.Bytes.{matrixBody, bodiesOf, asBytes}
 use Rattle.request.specs.ThereAndBack.{Filled, Shaped}
 use Rattle.request.proofs.Ordered.{accepted, not-refused}
@@ -46,7 +47,7 @@ module _ (b : Bodies) (n : List ℕ) (allowed : isAllowed n ≡ true) where
   still-inside e =
       let v : Bool = videoOutside (videoIn (b .video)) in
       let o = neither-left v _ e in
-      let s = neither-left (present (b .audio) && audioOutside (b .audio)) _ (neither-right v _ e) in
+      let s = neither-left (soundOutside (soundOf (b .audio))) _ (neither-right v _ e) in
       rw (o, s, allowed) (ap (λ (t : Bool). not t && false) has)
 
   still-apart : combined b ≡ false → combined with ≡ false

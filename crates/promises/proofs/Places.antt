@@ -24,11 +24,12 @@ use Rattle.frames.specs.Frames as F
 use Rattle.frames.specs.Frames.{checksumOf, aviFrame}
 use Rattle.frames.specs.Audio.{audioFrame, audioOffFrame}
 use Rattle.chip.specs.Machine.{Write}
-use Rattle.request.specs.declared.Sound.{Sound}
-use Rattle.request.specs.declared.Sound.the-variants.{Off, On}
+use Rattle.sound.specs.declared.Sound.{Sound}
+use Rattle.sound.specs.declared.Sound.the-variants.{Off, On}
 use Rattle.request.specs.declared.Request.{Request}
 use Rattle.request.specs.Read.{pairFor}
-use Rattle.request.specs.Fits.{SoundFits, Fits}
+use Rattle.sound.specs.Fits.{SoundFits}
+use Rattle.request.specs.Fits.{Fits}
 use Rattle.request.proofs.Fits.{on-small, coefficients-small}
 use Rattle.writes.specs.List.{decided, isWritten, leftUp, finished}
 use Rattle.plan.specs.Wanted.{laidBytes, audioBytes, wanted, clockBytes, inputBytes, cscBytes, enableBytes}

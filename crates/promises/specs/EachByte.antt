@@ -10,7 +10,7 @@ use lib.ListN.{getD, length}
 use Rattle.lists.specs.Among.{among}
 use Rattle.lists.specs.Find.{every}
 use Rattle.matrix.specs.Matrix.{Bytes}
-use Rattle.request.specs.declared.Sound.the-variants.{Off, On}
+use Rattle.sound.specs.declared.Sound.the-variants.{Off, On}
 use Rattle.request.specs.Read.{readOf, nctsOf}
 
 -- each of some bytes stands in its row

@@ -14,6 +14,7 @@ use Rattle.map.specs.Map.{audioSelectDefault, audioModeDefault, i2sFormatDefaul
 use Rattle.registers.specs.Classes.{mandated, named, bits}
 use Rattle.video.specs.declared.Video.{Video}
 use Rattle.video.specs.Video.{depth, repetition, yccQuantisation, contentType}
+use Rattle.sound.specs.Rates.{codeFor}
 use Rattle.clock.specs.declared.Pair.{Pair}
 use Rattle.clock.specs.Clocks.{times}
 use Rattle.clock.specs.Answers.{clockOf}
@@ -22,8 +23,8 @@ use Rattle.clock.specs.Pairs.{Coherent}
 use Rattle.frames.specs.Frames.{total, frame, aviFrame}
 use Rattle.chip.specs.Machine.{Write, _gets_}
 use Rattle.writes.specs.Rows.{isWritten}
-use Rattle.request.specs.declared.Sound.{Sound}
-use Rattle.request.specs.declared.Sound.the-variants.{Off, On}
+use Rattle.sound.specs.declared.Sound.{Sound}
+use Rattle.sound.specs.declared.Sound.the-variants.{Off, On}
 use Rattle.request.specs.declared.Request.{Request}
 
 -- the bits [high:low] of a register, and the number that stands there
@@ -49,10 +50,10 @@ abbrev pub manualCts : Sound → ℕ
 manualCts Off = 0
 manualCts (On rate channels coherent) = coherent
 
--- the map's codes for 32, 44.1, 48, 88.2, 96, 176.4, 192 kHz; "Audio off: .. the 48 kHz rate code"
+-- the map's code for the rate; "Audio off: .. the 48 kHz rate code", which is rate 2's
 abbrev pub rateCodeOf : Sound → ℕ
-rateCodeOf Off = 0b0010
-rateCodeOf (On rate channels coherent) = getD (0b0011 ∷ 0b0000 ∷ 0b0010 ∷ 0b1000 ∷ 0b1010 ∷ 0b1100 ∷ 0b1110 ∷ []) rate 0
+rateCodeOf Off = codeFor 2
+rateCodeOf (On rate channels coherent) = codeFor rate
 
 -- "C is 0 for RGB, else 1 for VIC 1, 2, 3, 17, 18 and 2 for the rest"; "M from the aspect", which is 4:3, M 1, for VIC 1, 2, 17 and
 -- 16:9, M 2, for the others

@@ -11,11 +11,13 @@ use Rattle.video.specs.declared.Video.{Video}
 use Rattle.video.specs.Tests.{editionOutside, shownOutside, videoOutside, askedUnderD, shownCombined, videoCombined}
 use Rattle.video.specs.Fits.{VideoFits}
 use Rattle.video.proofs.Fits as video
+use Rattle.sound.specs.Sound.{soundOf}
+use Rattle.sound.specs.Tests.{isOn}
 use Rattle.clock.specs.Clocks.{tmds}
 use Rattle.request.specs.declared.Request.{Request}
 use Rattle.request.specs.declared.Checked.{Checked}
 use Rattle.request.specs.Sections.{Bodies}
-use Rattle.request.specs.Request.{present, requestIn}
+use Rattle.request.specs.Request.{requestIn}
 use Rattle.request.specs.Read.{emptied, outside, combined, fieldsTests, judged, limitOf, limited, readOf}
 use Rattle.request.specs.ThereAndBack.{requestInEdition}
 use Rattle.request.specs.Bytes.{bodiesOf, asBytes}
@@ -53,7 +55,7 @@ module _ (r : Request) where
   unfolding combined
   six e =
       let o : videoCombined v ≡ true = confirmed (video.is-combined v) (inr (inr (inr (video.is-under-d v .passes e)))) in
-      rw o (last (not (eqb (v .encoding) 0) && eqb (length (b .matrix)) 0) (eqb (v .link) 0 && present (b .audio)))
+      rw o (last (not (eqb (v .encoding) 0) && eqb (length (b .matrix)) 0) (eqb (v .link) 0 && isOn (soundOf (b .audio))))
     where
       last : (b c : Bool) → (b || (c || true)) ≡ true
       last true c = refl

@@ -19,13 +19,16 @@ use Rattle.refusals.specs.Tests.{answer}
 use Rattle.video.specs.Video.{videoIn, videoBody, answered}
 use Rattle.video.specs.Tests.{videoOutside}
 use Rattle.video.proofs.Bodies as video
+use Rattle.sound.specs.Sound.{soundOf}
+use Rattle.sound.specs.Tests.{soundOutside}
+use Rattle.sound.proofs.Bodies as sound
 use Rattle.request.specs.declared.Request.{Request}
 use Rattle.request.specs.declared.Checked.{Checked}
-use Rattle.request.specs.Sections.{audioCount, matrixCount, Bodies, inTurn, byName, bodiesIn, Walk, ends, notAllowed, whole, walked}
-use Rattle.request.specs.Bytes.{laid, audioBody, matrixBody, asBytes, answeredAs, asReadBack}
+use Rattle.request.specs.Sections.{matrixCount, Bodies, inTurn, byName, bodiesIn, Walk, ends, notAllowed, whole, walked}
+use Rattle.request.specs.Bytes.{laid, matrixBody, asBytes, answeredAs, asReadBack}
 use Rattle.request.specs.Walks.{Sectioned}
-use Rattle.request.specs.Request.{present, soundOf, requestIn}
-use Rattle.request.specs.Read.{audioOutside, outside, emptied, judged, checked, readOf}
+use Rattle.request.specs.Request.{present, requestIn}
+use Rattle.request.specs.Read.{outside, emptied, judged, checked, readOf}
 use Rattle.request.specs.ThereAndBack.{Shaped, ThereAndBack}
 use Rattle.request.proofs.Opened.{sectioned, request-walks}
 use Rattle.request.proofs.Ordered.{both, passed}
@@ -37,16 +40,6 @@ none [] e = refl
 none (x ∷ l) e = absurd (omega arith)
 
 -- ---- each body is that of what it says
-
-audio-back : (a : List ℕ) → (length a ≡ 0) ⊎ (length a ≡ audioCount) → audioBody (soundOf a) ≡ a
-audio-back [] h = refl
-audio-back (x ∷ []) (inl e) = absurd (omega arith)
-audio-back (x ∷ []) (inr e) = absurd (omega arith)
-audio-back (x ∷ y ∷ []) (inl e) = absurd (omega arith)
-audio-back (x ∷ y ∷ []) (inr e) = absurd (omega arith)
-audio-back (x ∷ y ∷ z ∷ []) h = refl
-audio-back (x ∷ y ∷ z ∷ w ∷ l) (inl e) = absurd (omega arith)
-audio-back (x ∷ y ∷ z ∷ w ∷ l) (inr e) = absurd (omega arith)
 
 pair-back : (x y : ℕ) → x < 256 → y < 256 → within (word x y) ≡ true → (highByte (lowThirteen (word x y)) ≡ x) × (lowThirteen (word x y) % 256 ≡ y)
 pair-back x y h k t = go (ltb (word x y) 4096) refl t
@@ -109,10 +102,10 @@ module _ (input : List ℕ) (bytes : Bytes input) where
       let v : List ℕ = b .video in
       let a : List ℕ = b .audio in
       let m : List ℕ = b .matrix in
-      let x : (present m && not (isAllowed m)) ≡ false = neither-right (present a && audioOutside a) _ (neither-right (videoOutside (videoIn v)) _ o) in
+      let x : (present m && not (isAllowed m)) ≡ false = neither-right (soundOutside (soundOf a)) _ (neither-right (videoOutside (videoIn v)) _ o) in
       let end : Bytes m = front (length m) m rest (past (length a) a _ (past (length v) v _ (subst Bytes (s .made) bytes))) in
       let made : matrixBody (cond (present m) (matrixOf m) noMatrix) ≡ m = matrix-back m end (s .matrixCounted) x in
-      ap₂ (λ (x y : List ℕ). laid (x ∷ y ∷ matrixBody (cond (present m) (matrixOf m) noMatrix) ∷ []) []) (video.bodies .whole v (s .videoCounted)) (audio-back a (s .audioCounted))
+      ap₂ (λ (x y : List ℕ). laid (x ∷ y ∷ matrixBody (cond (present m) (matrixOf m) noMatrix) ∷ []) []) (video.bodies .whole v (s .videoCounted)) (sound.bodies .whole a (s .audioCounted))
       ∙ ap₂ (λ (z r : List ℕ). laid (v ∷ a ∷ z ∷ []) r) made (sym n) ∙ sym (s .made)
 
   found : (w : Walk) → walked input ≡ w → checked w .refusal ≡ 0 → outside (bodiesIn w) ≡ false → asBytes (requestIn (bodiesIn w)) ≡ input

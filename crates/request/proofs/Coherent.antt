@@ -12,40 +12,45 @@ use Rattle.refusals.specs.Rows.{noExactPair, _when_, Given}
 use Rattle.refusals.specs.Tests.{_if_, lowest}
 use Rattle.refusals.proofs.Tests.{lowest-given, answer-beside, in-stages, later}
 use Rattle.clock.specs.declared.Pair.{Pair}
-use Rattle.video.specs.Video.{noVideo, videoIn, PixelOutside}
+use Rattle.video.specs.declared.Video.{Video}
+use Rattle.video.specs.Video.{noVideo, videoIn, PixelOutside, VideoOutside}
 use Rattle.video.proofs.Fits.{outside-too}
+use Rattle.sound.specs.declared.Sound.{Sound}
+use Rattle.sound.specs.declared.Sound.the-variants.{Off, On}
+use Rattle.sound.specs.Sound.{soundOf, SoundOutside}
 use Rattle.clock.specs.Answers.{noPair}
 use Rattle.clock.proofs.Rows.{refusals, is-above}
-use Rattle.request.specs.declared.Sound.{Sound}
-use Rattle.request.specs.declared.Sound.the-variants.{Off, On}
 use Rattle.request.specs.declared.Checked.{Checked}
 use Rattle.matrix.specs.Matrix.{noMatrix, Bytes}
 use Rattle.request.specs.Sections.{Bodies, bodiesIn, Walk, ends, notAllowed, whole, after, walk, walked, sections}
-use Rattle.request.specs.Request.{Present, present, rate, channels, coherent, Outside, requestIn, requestOf, NoPair, pairRows, readRules}
+use Rattle.request.specs.Request.{Outside, requestIn, requestOf, NoPair, pairRows, readRules}
 use Rattle.request.specs.Read.{emptied, bytesTests, fieldsTests, judged, checked, limited, pairIn, pairFor, readOf, nctsOf}
 use Rattle.request.specs.Theorems.{Rows}
 use Rattle.request.specs.Stages.{Stages}
-use Rattle.request.proofs.Ordered.{fields-given, limits-given, asks-given, read-given, asked-there, Judged, accepted, passing, passed, full, is-outside}
+use Rattle.request.proofs.Ordered.{fields-given, limits-given, asks-given, read-given, asked-there, Judged, accepted, passing, passed, is-outside}
 
--- where row 5 does not apply, the depth byte, the rate and the coherent byte of an audio section are in range
-in-range : (b : Bodies) → (Outside b → ⊥) → Present (b .audio) → PixelOutside (videoIn (b .video)) ⊎ (6 < rate (b .audio)) ⊎ (1 < coherent (b .audio)) → ⊥
-in-range b o p (inl h) = o (inl (outside-too (videoIn (b .video)) h))
-in-range b o p (inr (inl h)) = o (inr (inl (p, inl h)))
-in-range b o p (inr (inr h)) = o (inr (inl (p, inr (inr h))))
+-- where row 5 does not apply, the depth byte, the rate and the coherent byte are in range
+in-range : (v : Video) (rate channels coherent : ℕ) → (VideoOutside v → ⊥) → (SoundOutside (On rate channels coherent) → ⊥)
+    → PixelOutside v ⊎ (6 < rate) ⊎ (1 < coherent) → ⊥
+in-range v rate channels coherent o p (inl h) = o (outside-too v h)
+in-range v rate channels coherent o p (inr (inl h)) = p (inl h)
+in-range v rate channels coherent o p (inr (inr h)) = p (inr (inr h))
 
 -- the pair's stage, past rows 4 to 6 and 17: row 9 of the call on single fields
 pub nine : (b : Bodies) (c : Checked) → Bytes (b .matrix) → Judged b c → Given (pairRows (requestIn b)) (pairFor (requestIn b) .refusal)
 unfolding pairFor
-nine b c bytes j = go (present (b .audio)) refl
+nine b c bytes j = go (soundOf (b .audio)) (λ o. inside (inr (inl o)))
   where
-    go : (t : Bool) → present (b .audio) ≡ t
-        → let s : Sound = cond t (On (rate (b .audio)) (channels (b .audio)) (coherent (b .audio))) Off in
-        Given (noExactPair when NoPair (videoIn (b .video)) s ∷ []) (pairIn (requestIn b) s .refusal)
-    go true e =
-        let past4 = later _ _ _ (refusals .pair (videoIn (b .video)) (rate (b .audio)) (coherent (b .audio))) refl (λ f. false≢true (sym f ∙ j .mode)) in
-        let past5 = later _ _ _ past4 refl (in-range b (is-outside b bytes .fails (j .inside)) (full (b .audio) .passes e)) in
-        later _ _ _ past5 refl (is-above (videoIn (b .video)) .fails (j .within))
-    go false e =
+    inside : Outside b → ⊥
+    inside = is-outside b bytes .fails (j .inside)
+
+    go : (s : Sound) → (SoundOutside s → ⊥) → Given (noExactPair when NoPair (videoIn (b .video)) s ∷ []) (pairIn (requestIn b) s .refusal)
+    go (On rate channels coherent) o =
+        let v : Video = videoIn (b .video) in
+        let past4 = later _ _ _ (refusals .pair v rate coherent) refl (λ f. false≢true (sym f ∙ j .mode)) in
+        let past5 = later _ _ _ past4 refl (in-range v rate channels coherent (λ h. inside (inl h)) o) in
+        later _ _ _ past5 refl (is-above v .fails (j .within))
+    go Off o =
         lowest-given (noExactPair if false ∷ []) (noExactPair when ⊥ ∷ []) refl
         (refl, record { passes = λ t. absurd (false≢true t); fails = λ _ x. x }, λ _. tt)
 

@@ -1,26 +1,29 @@
--- What the tests of rows 5 and 6 see of the bodies. Assumes nothing.
+-- What the code finds of the bodies, by what they ask for. Assumes nothing.
 use mathlib.Core.Path.{_≡_, refl, sym, _∙_}
 use mathlib.Core.Bool.{Bool, true, false, false≢true, cond, not, _&&_}
 use mathlib.Core.List.{List}
-use Prim.Native.Nat.{ℕ, _<_, _≤_}
+use Prim.Native.Nat.{ℕ}
 use lib.Dec.{eqb}
 use lib.ListN.{length}
-use borrow.Author.Tests.{eqb-true, le-ltb, lt-ltb}
+use borrow.Author.Tests.{ne-eqb, eqb-true}
 use Rattle.lists.proofs.Both.{neither-right}
+use Rattle.refusals.specs.Tests.{lowest}
+use Rattle.refusals.proofs.Tests.{none-at}
 use Rattle.video.specs.declared.Video.{Video}
 use Rattle.video.specs.Video.{videoIn}
-use Rattle.video.specs.Modes.{modeOf}
 use Rattle.video.specs.Tests.{videoOutside}
+use Rattle.sound.specs.declared.Sound.{Sound}
+use Rattle.sound.specs.Sound.{soundOf}
+use Rattle.sound.specs.Tests.{soundOutside}
 use Rattle.matrix.specs.declared.Matrix.{Matrix}
 use Rattle.matrix.specs.Matrix.{matrixOf, noMatrix}
 use Rattle.matrix.specs.Tests.{isAllowed}
+use Rattle.matrix.specs.Read.{allowedMatrix}
 use Rattle.request.specs.Sections.{Bodies}
-use Rattle.request.specs.declared.Sound.{Sound}
-use Rattle.request.specs.Request.{present, soundOf}
-use Rattle.request.specs.Places.{bodies}
-use Rattle.request.specs.Read.{emptied, audioOutside, outside, combined, judged}
+use Rattle.request.specs.Request.{present}
+use Rattle.request.specs.Read.{emptied, outsideIn, combinedIn, outside, combined, fieldTests, fieldsTests, judged}
 
--- where row 5 does not apply, what is read of the matrix's body is what the body says
+-- a body that is empty is not allowed, and one that is not allowed gives no matrix
 absent : (m : List ℕ) → present m ≡ false → isAllowed m ≡ false
 unfolding isAllowed
 absent m e = go (eqb (length m) 0) refl e
@@ -29,7 +32,15 @@ absent m e = go (eqb (length m) 0) refl e
     go true q f = rw (eqb-true (length m) 0 q)
     go false q f = absurd (false≢true (sym f))
 
-as-present : (m : List ℕ) → (present m && not (isAllowed m)) ≡ false → cond (isAllowed m) (matrixOf m) noMatrix ≡ cond (present m) (matrixOf m) noMatrix
+off : (m : List ℕ) → eqb (allowedMatrix m .on) 0 ≡ not (isAllowed m)
+off m = go (isAllowed m)
+  where
+    go : (b : Bool) → eqb (cond b (matrixOf m) noMatrix .on) 0 ≡ not b
+    go true = refl
+    go false = refl
+
+-- where row 5 does not apply, what is read of the matrix's body is what the body says
+as-present : (m : List ℕ) → (present m && not (isAllowed m)) ≡ false → allowedMatrix m ≡ cond (present m) (matrixOf m) noMatrix
 as-present m e = go (present m) refl (isAllowed m) refl e
   where
     go : (p : Bool) → present m ≡ p → (q : Bool) → isAllowed m ≡ q → (p && not q) ≡ false → cond q (matrixOf m) noMatrix ≡ cond p (matrixOf m) noMatrix
@@ -37,39 +48,25 @@ as-present m e = go (present m) refl (isAllowed m) refl e
     go true x false y f = absurd (false≢true (sym f))
     go false x q y f = rw (sym y ∙ absent m x)
 
-pub matrix-read : (b : Bodies) → outside b ≡ false
-    → cond (isAllowed (b .matrix)) (matrixOf (b .matrix)) noMatrix ≡ cond (present (b .matrix)) (matrixOf (b .matrix)) noMatrix
+matrix-read : (b : Bodies) → outside b ≡ false → allowedMatrix (b .matrix) ≡ cond (present (b .matrix)) (matrixOf (b .matrix)) noMatrix
 unfolding outside
 matrix-read b e =
-    as-present (b .matrix) (neither-right (present (b .audio) && audioOutside (b .audio)) _ (neither-right (videoOutside (videoIn (b .video))) _ e))
+    as-present (b .matrix) (neither-right (soundOutside (soundOf (b .audio))) _ (neither-right (videoOutside (videoIn (b .video))) _ e))
 
--- rows 5 and 6 see of the video's body what it asks for
-module _ (b : Bodies) (v : Video) (a m : List ℕ) (e : v ≡ videoIn (b .video)) (f : a ≡ b .audio) (g : m ≡ b .matrix) where
-  pub same-outside : outside (bodies v a m) ≡ outside b
-  unfolding outside
-  same-outside = rw (e, f, g)
+-- what is judged, by what the code finds of each body
+module _ (b : Bodies) (v : Video) (s : Sound) (l : List ℕ) (m : Matrix) (n : ℕ)
+    (e : v ≡ videoIn (b .video)) (f : s ≡ soundOf (b .audio)) (g : l ≡ b .matrix) (h : m ≡ allowedMatrix (b .matrix))
+    (number : n ≡ lowest (fieldTests v (outsideIn v s (not (eqb (length l) 0) && eqb (m .on) 0)) (combinedIn v s (eqb (length l) 0)))) where
+  its-number : n ≡ lowest (fieldsTests b)
+  unfolding outside combined
+  its-number = number ∙ rw (e, f, g, h, off (b .matrix))
 
-  pub same-combined : combined (bodies v a m) ≡ combined b
-  unfolding combined
-  same-combined = rw (e, f, g)
-
--- what is judged, by the first test that is true
-module _ (b : Bodies) where
-  pub no-mode : modeOf (videoIn (b .video) .vic) .families ≤ videoIn (b .video) .family → emptied 4 ≡ judged b
+  pub refused : (n ≡ 0 → ⊥) → emptied n ≡ judged b
   unfolding judged
-  no-mode h = rw (le-ltb _ _ h)
+  refused x = rw (← its-number, ne-eqb n 0 x)
 
-  module _ (o : videoIn (b .video) .family < modeOf (videoIn (b .video) .vic) .families) where
-    pub five : outside b ≡ true → emptied 5 ≡ judged b
-    unfolding judged
-    five x = rw (lt-ltb _ _ o, x)
-
-    pub six : outside b ≡ false → combined b ≡ true → emptied 6 ≡ judged b
-    unfolding judged
-    six x c = rw (lt-ltb _ _ o, x, c)
-
-    pub taken : (v : Video) (s : Sound) (m : Matrix) → outside b ≡ false → combined b ≡ false → v ≡ videoIn (b .video) → s ≡ soundOf (b .audio)
-        → m ≡ cond (isAllowed (b .matrix)) (matrixOf (b .matrix)) noMatrix
-        → record { refusal = 0; request = record { video = v; sound = s; matrix = m } } ≡ judged b
-    unfolding judged
-    taken v s m x c e f g = rw (lt-ltb _ _ o, x, c, e, f, g, matrix-read b x)
+  pub taken : n ≡ 0 → record { refusal = 0; request = record { video = v; sound = s; matrix = m } } ≡ judged b
+  unfolding judged
+  taken x =
+      let z : lowest (fieldsTests b) ≡ 0 = sym its-number ∙ x in
+      rw (z, e, f, h, matrix-read b (none-at (fieldsTests b) 1 z))

@@ -6,7 +6,7 @@ use mathlib.Core.Path.{_≡_, refl, sym, ap, subst, _∙_}
 use mathlib.Core.Logic.{_≢_, _⊎_, inl, inr}
 use mathlib.Core.Bool.{Bool, true, false, cond, _&&_, _||_, or-false}
 use mathlib.Core.List.{List, [], _∷_}
-use Prim.Native.Nat.{ℕ, suc, _+_, _-_, _%_, _≤_, _<_}
+use Prim.Native.Nat.{ℕ, suc, _+_, _-_, _≤_, _<_}
 use native.Mathlib.Omega.{arith}
 use lib.Dec.{eqb}
 use lib.ListN.{length, take, drop, getD}
@@ -14,8 +14,9 @@ use borrow.Author.Tests.{eqb-true, eqb-false, eq-eqb}
 use Rattle.lists.specs.Among.{among}
 use Rattle.lists.proofs.Both.{both-left, both-right}
 use Rattle.video.specs.Video.{videoCount}
+use Rattle.sound.specs.Sound.{audioCount}
 use Rattle.request.specs.declared.sections.Places.{Places}
-use Rattle.request.specs.Sections.{Bodies, inTurn, byName, bodiesIn, Walk, ends, notAllowed, whole, walked, sections, audioCount, matrixCount}
+use Rattle.request.specs.Sections.{Bodies, inTurn, byName, bodiesIn, Walk, ends, notAllowed, whole, walked, sections, matrixCount}
 use Rattle.request.specs.Bytes.{laid}
 use Rattle.request.specs.Walks.{fits, Sectioned, RequestWalks}
 use Rattle.request.specs.Places.{endsFrom, placesOf, EndsAt}
@@ -154,18 +155,3 @@ ask-refused s p e h = rw e (go (walked s) (rw e at h))
     go ends h = refl
     go notAllowed h = refl
     go (whole bodies rest) h = absurd (h refl)
-
--- an audio section is empty or whole
-multiple : (n : ℕ) → (n ≡ 0) ⊎ (n ≡ audioCount) → n % audioCount ≡ 0
-multiple n (inl e) = rw e
-multiple n (inr e) = rw e
-
-pub audio-whole : (s found : List ℕ) → EndsAt s found → length (bodiesIn (walked s) .audio) % audioCount ≡ 0
-audio-whole s found e = go (walked s) refl e
-  where
-    go : (w : Walk) → walked s ≡ w → record { refusal = 0; ends = found } ≡ placesOf w → length (bodiesIn w .audio) % audioCount ≡ 0
-    go ends f q = absurd (omega (arith, ap (λ (x : Places). x .refusal) q))
-    go notAllowed f q = absurd (omega (arith, ap (λ (x : Places). x .refusal) q))
-    go (whole bodies rest) f q =
-        let w : walked s ≡ whole (inTurn (byName bodies)) rest = f ∙ ap (λ (l : List (List ℕ)). whole l rest) (sym (request-walks s .each bodies rest f)) in
-        multiple _ (sectioned s (byName bodies) rest w .audioCounted)

@@ -12,7 +12,7 @@ use lib.ListN.{length}
 use Rattle.refusals.specs.Rows.{Given}
 use Rattle.refusals.specs.Tests.{lowest}
 use Rattle.lists.proofs.Both.{neither-left}
-use Rattle.lists.proofs.Decides.{Decides, failing, itself, equal, less, opposite, either, together, restated}
+use Rattle.lists.proofs.Decides.{Decides, failing, itself, equal, opposite, either, together, restated}
 use Rattle.matrix.specs.Matrix.{Allowed, Bytes}
 use Rattle.matrix.specs.Tests.{isAllowed}
 use Rattle.matrix.proofs.Numbers.{numbers}
@@ -22,6 +22,8 @@ use Rattle.video.specs.Video.{videoIn}
 use Rattle.video.specs.Tests.{pixelOutside, videoOutside}
 use Rattle.video.specs.Modes.{offered}
 use Rattle.video.proofs.Fits as video
+use Rattle.sound.specs.Sound.{soundOf}
+use Rattle.sound.proofs.Fits as sound
 use Rattle.clock.specs.Clocks.{tmds, AboveLimit, limitsRows}
 use Rattle.clock.specs.Answers.{aboveLimit, clockOf}
 use Rattle.clock.proofs.Offered.{number-is}
@@ -29,9 +31,9 @@ use Rattle.clock.proofs.Rows.{is-above}
 use Rattle.request.specs.declared.Request.{Request}
 use Rattle.request.specs.declared.Checked.{Checked}
 use Rattle.request.specs.Sections.{Bodies, Walk, ends, notAllowed, whole, bodiesIn, restOf}
-use Rattle.request.specs.Request.{Present, present, rate, channels, coherent, AudioOutside, Outside, Combined, requestIn, requestOf}
+use Rattle.request.specs.Request.{Present, present, Outside, Combined, requestIn, requestOf}
 use Rattle.request.specs.Request.{bytesRows, fieldsRows, askRules, readRules}
-use Rattle.request.specs.Read.{audioOutside, outside, combined, emptied, isEnds, isNotAllowed, bytesTests, fieldsTests, limitsTests}
+use Rattle.request.specs.Read.{outside, combined, emptied, isEnds, isNotAllowed, bytesTests, fieldsTests, limitsTests}
 use Rattle.request.specs.Read.{judged, checked, limitOf, limited}
 
 -- what the tests of rows 1 and 2 decide
@@ -49,21 +51,18 @@ refused-decided (whole bodies rest) = record { passes = λ t. absurd (false≢tr
 pub full : (l : List ℕ) → Decides (present l) (Present l)
 full l = opposite (equal (length l) 0)
 
-out-of-range : (a : List ℕ) → Decides (audioOutside a) (AudioOutside a)
-out-of-range a = either (less 6 (rate a)) (either (together (opposite (equal (channels a) 2)) (opposite (equal (channels a) 8))) (less 1 (coherent a)))
-
 pub is-outside : (b : Bodies) → Bytes (b .matrix) → Decides (outside b) (Outside b)
 unfolding outside
 is-outside b bytes =
     let m : List ℕ = b .matrix in
     let allowed : Decides (isAllowed m) (Allowed m) = restated (numbers m bytes .rule .0) (numbers m bytes .rule .1) (itself (isAllowed m)) in
-    either (video.is-outside (videoIn (b .video))) (either (together (full (b .audio)) (out-of-range (b .audio))) (together (full m) (opposite allowed)))
+    either (video.is-outside (videoIn (b .video))) (either (sound.is-outside (soundOf (b .audio))) (together (full m) (opposite allowed)))
 
 is-combined : (b : Bodies) → Decides (combined b) (Combined b)
 unfolding combined
 is-combined b =
     let v : Video = videoIn (b .video) in
-    either (together (opposite (equal (v .encoding) 0)) (equal (length (b .matrix)) 0)) (either (together (equal (v .link) 0) (full (b .audio))) (video.is-combined v))
+    either (together (opposite (equal (v .encoding) 0)) (equal (length (b .matrix)) 0)) (either (together (equal (v .link) 0) (sound.is-on (soundOf (b .audio)))) (video.is-combined v))
 
 abbrev numberOf : Checked → ℕ
 numberOf c = c .refusal

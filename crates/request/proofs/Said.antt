@@ -9,19 +9,21 @@ use lib.ListN.{length}
 use borrow.Author.Tests.{ne-eqb}
 use Rattle.lists.specs.Among.{among}
 use Rattle.video.specs.Video.{videoBody}
+use Rattle.sound.specs.declared.Sound.{Sound}
+use Rattle.sound.specs.declared.Sound.the-variants.{Off, On}
+use Rattle.sound.specs.Sound.{audioCount, audioBody}
+use Rattle.sound.proofs.Bodies as sound
 use Rattle.matrix.specs.declared.Matrix.{Matrix}
 use Rattle.matrix.specs.Coefficient.{coefficientBytes}
 use Rattle.matrix.specs.Matrix.{matrixOf, noMatrix}
 use Rattle.matrix.proofs.Pairs.{length-bytes, fields-said}
-use Rattle.request.specs.declared.Sound.{Sound}
-use Rattle.request.specs.declared.Sound.the-variants.{Off, On}
 use Rattle.request.specs.declared.Request.{Request}
 use Rattle.request.specs.declared.Checked.{Checked}
-use Rattle.request.specs.Sections.{audioCount, matrixCount, inTurn, bodiesIn, Walk, whole, walked, sections}
+use Rattle.request.specs.Sections.{matrixCount, inTurn, bodiesIn, Walk, whole, walked, sections}
 use Rattle.request.specs.Walks.{fits}
-use Rattle.request.specs.Request.{present, soundOf, requestIn}
+use Rattle.request.specs.Request.{present, requestIn}
 use Rattle.request.specs.Read.{judged, checked, limited, readOf}
-use Rattle.request.specs.Bytes.{audioBody, matrixBody, bodiesOf, laid, asBytes, withVideo, newVideo}
+use Rattle.request.specs.Bytes.{matrixBody, bodiesOf, laid, asBytes, withVideo, newVideo}
 use Rattle.request.specs.ThereAndBack.{Shaped}
 use Rattle.request.proofs.Walks.{walks}
 use Rattle.request.proofs.Ordered.{accepted}
@@ -31,10 +33,6 @@ use Rattle.request.proofs.Ordered.{accepted}
 audio-counted : (s : Sound) → among (length (audioBody s)) (0 ∷ audioCount ∷ []) ≡ true
 audio-counted Off = refl
 audio-counted (On rate channels coherent) = refl
-
-sound-said : (s : Sound) → soundOf (audioBody s) ≡ s
-sound-said Off = refl
-sound-said (On rate channels coherent) = refl
 
 matrix-counted : (m : Matrix) → Shaped m → among (length (matrixBody m)) (0 ∷ matrixCount ∷ []) ≡ true
 matrix-counted m (inl e) = rw e
@@ -67,7 +65,7 @@ module _ (r : Request) (s : Shaped (r .matrix)) where
 
   pub said : readOf (asBytes r) .refusal ≡ 0 → readOf (asBytes r) ≡ record { refusal = 0; request = r }
   said z =
-      let q : requestIn (bodiesOf r) ≡ r = rw (sound-said (r .sound), matrix-said (r .matrix) s) in
+      let q : requestIn (bodiesOf r) ≡ r = rw (sound.bodies .back (r .sound), matrix-said (r .matrix) s) in
       let y : limited (judged (bodiesOf r)) .refusal ≡ 0 = ap (λ (c : Checked). c .refusal) (sym read-judged) ∙ z in
       read-judged ∙ ap₂ (λ (n : ℕ) (x : Request). the (n, x)) y (accepted (bodiesOf r) y .request ∙ q)
     where

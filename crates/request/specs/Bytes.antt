@@ -8,18 +8,13 @@ use lib.ListN.{length}
 use Rattle.video.specs.declared.Video.{Video}
 use Rattle.video.specs.Video.{videoIn, videoBody, answered}
 use Rattle.video.specs.Video as video
+use Rattle.sound.specs.Sound.{audioBody}
 use Rattle.matrix.specs.declared.Matrix.{Matrix}
 use Rattle.matrix.specs.Coefficient.{coefficientBytes}
-use Rattle.request.specs.declared.Sound.{Sound}
-use Rattle.request.specs.declared.Sound.the-variants.{Off, On}
 use Rattle.request.specs.declared.Request.{Request}
 use Rattle.request.specs.Sections.{Bodies, inTurn, walked, bodiesIn}
 
--- the body of each section: "rate ..; channels ..; coherent .."; "CSC mode, then A1 to A4, B1 to B4, C1 to C4, each two bytes"
-abbrev pub audioBody : Sound → List ℕ
-audioBody Off = []
-audioBody (On rate channels coherent) = rate ∷ channels ∷ coherent ∷ []
-
+-- the body of the matrix section: "CSC mode, then A1 to A4, B1 to B4, C1 to C4, each two bytes"
 abbrev pub matrixBody : Matrix → List ℕ
 matrixBody m = cond (eqb (m .on) 0) [] (m .mode ∷ coefficientBytes (m .coefficients))
 

@@ -1,18 +1,11 @@
 -- What is known of an accepted request: document 01, "The request", the range of each field. `accepted_fits` says so of every input.
 use mathlib.Core.Path.{_≡_}
-use mathlib.Core.Logic.{_⊎_}
 use Prim.Native.Nat.{_≤_}
 use Rattle.video.specs.Fits.{VideoFits}
+use Rattle.sound.specs.Fits.{SoundFits}
 use Rattle.clock.specs.Answers.{clockOf}
-use Rattle.request.specs.declared.Sound.{Sound}
-use Rattle.request.specs.declared.Sound.the-variants.{Off, On}
 use Rattle.request.specs.declared.Request.{Request}
 use Rattle.request.specs.ThereAndBack.{Shaped}
-
--- "rate (0 to 6 ..); channels (2 or 8); coherent (0 or 1)"
-abbrev pub SoundFits : Sound → Type 0
-SoundFits Off = Unit
-SoundFits (On rate channels coherent) = (rate ≤ 6) × ((channels ≡ 2) ⊎ (channels ≡ 8)) × (coherent ≤ 1)
 
 -- the clock is answered; the matrix is none, or twelve fields of 13 bits; "(matrix mode above 2)" is row 5's
 pub record Fits (r : Request) : Type 0 where

@@ -4,11 +4,9 @@ use mathlib.Core.Path.{_≡_}
 use mathlib.Core.List.{List, [], _∷_}
 use Prim.Native.Nat.{ℕ, suc, _+_}
 use lib.ListN.{length, replicate}
-use Rattle.video.specs.declared.Video.{Video}
-use Rattle.video.specs.Video.{videoBody}
 use Rattle.refusals.specs.Rows.{Row, inputEnds, countNotAllowed, number}
 use Rattle.request.specs.declared.sections.Places.{Places}
-use Rattle.request.specs.Sections.{sections, Bodies, Walk, ends, notAllowed, whole, walked}
+use Rattle.request.specs.Sections.{sections, Walk, ends, notAllowed, whole, walked}
 
 -- the ends of bodies, each after its count, from a place on
 abbrev pub endsFrom : ℕ → List (List ℕ) → List ℕ
@@ -27,7 +25,3 @@ placesOf (whole bodies rest) = record { refusal = 0; ends = endsFrom 0 bodies }
 -- where a walk found all sections, their bodies end there
 abbrev pub EndsAt : List ℕ → List ℕ → Type 0
 EndsAt input found = record { refusal = 0; ends = found } ≡ placesOf (walked input)
-
--- bodies of which the video's is read
-abbrev pub bodies : Video → List ℕ → List ℕ → Bodies
-bodies video audio matrix = record { video = videoBody video; audio = audio; matrix = matrix }

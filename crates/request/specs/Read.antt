@@ -4,24 +4,26 @@ use mathlib.Core.Path.{_≡_}
 use mathlib.Core.Bool.{Bool, true, false, not, _&&_, _||_}
 use mathlib.Core.List.{List, [], _∷_}
 use Prim.Native.Nat.{ℕ}
-use lib.Dec.{eqb, ltb}
+use lib.Dec.{eqb}
 use lib.ListN.{length}
 use Rattle.clock.specs.declared.Pair.{Pair}
 use Rattle.video.specs.declared.Video.{Video}
 use Rattle.video.specs.Video.{noVideo, videoIn}
 use Rattle.video.specs.Tests.{videoOutside, videoCombined}
 use Rattle.video.specs.Modes.{offered}
+use Rattle.sound.specs.declared.Sound.{Sound}
+use Rattle.sound.specs.declared.Sound.the-variants.{Off, On}
+use Rattle.sound.specs.Sound.{soundOf}
+use Rattle.sound.specs.Tests.{isOn, soundOutside}
 use Rattle.clock.specs.Answers.{clockOf}
 use Rattle.clock.specs.Answers.{noPair, audioOff}
 use Rattle.clock.specs.Found.{pairOf}
 use Rattle.matrix.specs.Matrix.{noMatrix}
 use Rattle.matrix.specs.Tests.{isAllowed}
-use Rattle.request.specs.declared.Sound.{Sound}
-use Rattle.request.specs.declared.Sound.the-variants.{Off, On}
 use Rattle.request.specs.declared.Request.{Request}
 use Rattle.request.specs.declared.Checked.{Checked}
 use Rattle.request.specs.Sections.{Bodies, Walk, ends, notAllowed, whole, walked, bodiesIn, restOf}
-use Rattle.request.specs.Request.{present, rate, channels, coherent, requestIn}
+use Rattle.request.specs.Request.{present, requestIn}
 use Rattle.refusals.specs.Rows.{number}
 use Rattle.refusals.specs.Tests.{Test, _if_, lowest, answer}
 use Rattle.refusals.specs.Rows.{inputEnds, countNotAllowed, bytesAfter, modeNotOffered, fieldOutOfRange, combination, clockAbove}
@@ -30,19 +32,20 @@ use Rattle.refusals.specs.Rows.{inputEnds, countNotAllowed, bytesAfter, modeNot
 abbrev pub emptied : ℕ → Checked
 emptied number = record { refusal = number; request = record { video = noVideo; sound = Off; matrix = noMatrix } }
 
--- the tests of row 5 and row 6
-abbrev pub audioOutside : List ℕ → Bool
-audioOutside audio = ltb 6 (rate audio) || ((not (eqb (channels audio) 2) && not (eqb (channels audio) 8)) || ltb 1 (coherent audio))
+-- the tests of row 5 and row 6 of a request in hand: its video, its sound, and of its matrix whether it is outside its range and whether
+-- there is none
+abbrev pub outsideIn : Video → Sound → Bool → Bool
+outsideIn video sound spoiled = videoOutside video || (soundOutside sound || spoiled)
 
+abbrev pub combinedIn : Video → Sound → Bool → Bool
+combinedIn video sound bare = (not (eqb (video .encoding) 0) && bare) || ((eqb (video .link) 0 && isOn sound) || videoCombined video)
+
+-- and so of the bodies
 unfoldable pub outside : Bodies → Bool
-outside b =
-    videoOutside (videoIn (b .video))
-    || ((present (b .audio) && audioOutside (b .audio)) || (present (b .matrix) && not (isAllowed (b .matrix))))
+outside b = outsideIn (videoIn (b .video)) (soundOf (b .audio)) (present (b .matrix) && not (isAllowed (b .matrix)))
 
 unfoldable pub combined : Bodies → Bool
-combined b =
-    let video : Video = videoIn (b .video) in
-    (not (eqb (video .encoding) 0) && eqb (length (b .matrix)) 0) || ((eqb (video .link) 0 && present (b .audio)) || videoCombined video)
+combined b = combinedIn (videoIn (b .video)) (soundOf (b .audio)) (eqb (length (b .matrix)) 0)
 
 abbrev pub isEnds : Walk → Bool
 isEnds ends = true
@@ -61,11 +64,14 @@ bytesTests w =
     countNotAllowed if isNotAllowed w ∷
     bytesAfter if present (restOf w) ∷ []
 
+abbrev pub fieldTests : Video → Bool → Bool → List Test
+fieldTests video out together =
+    modeNotOffered if not (offered video) ∷
+    fieldOutOfRange if out ∷
+    combination if together ∷ []
+
 abbrev pub fieldsTests : Bodies → List Test
-fieldsTests b =
-    modeNotOffered if not (offered (videoIn (b .video))) ∷
-    fieldOutOfRange if outside b ∷
-    combination if combined b ∷ []
+fieldsTests b = fieldTests (videoIn (b .video)) (outside b) (combined b)
 
 abbrev pub limitsTests : Video → List Test
 limitsTests video = clockAbove if eqb (clockOf video .refusal) (number clockAbove) ∷ []

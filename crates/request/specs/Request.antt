@@ -4,20 +4,21 @@ use mathlib.Core.Path.{_≡_}
 use mathlib.Core.Logic.{_≢_, _⊎_}
 use mathlib.Core.Bool.{Bool, false, cond, not}
 use mathlib.Core.List.{List, [], _∷_, _++_}
-use Prim.Native.Nat.{ℕ, _<_}
+use Prim.Native.Nat.{ℕ}
 use lib.Dec.{eqb}
-use lib.ListN.{getD, length}
+use lib.ListN.{length}
 use Rattle.refusals.specs.Rows.{Condition, _when_}
 use Rattle.refusals.specs.Rows.{inputEnds, countNotAllowed, bytesAfter, modeNotOffered, fieldOutOfRange, combination, noExactPair}
 use Rattle.video.specs.declared.Video.{Video}
 use Rattle.video.specs.Video.{videoIn, VideoOutside, VideoCombined}
 use Rattle.video.specs.Modes.{offered}
+use Rattle.sound.specs.declared.Sound.{Sound}
+use Rattle.sound.specs.declared.Sound.the-variants.{Off, On}
+use Rattle.sound.specs.Sound.{soundOf, SoundOutside}
 use Rattle.clock.specs.Answers.{clockOf}
 use Rattle.clock.specs.Clocks.{limitsRows}
 use Rattle.clock.specs.Pairs.{NoExact}
 use Rattle.matrix.specs.Matrix.{Allowed, matrixOf, noMatrix}
-use Rattle.request.specs.declared.Sound.{Sound}
-use Rattle.request.specs.declared.Sound.the-variants.{Off, On}
 use Rattle.request.specs.declared.Request.{Request}
 use Rattle.request.specs.Sections.{Bodies, Walk, ends, notAllowed, bodiesIn, restOf}
 
@@ -28,20 +29,7 @@ Present body = length body ≢ 0
 abbrev pub present : List ℕ → Bool
 present body = not (eqb (length body) 0)
 
--- the fields of the audio section
-abbrev pub rate : List ℕ → ℕ
-rate audio = getD audio 0 0
-
-abbrev pub channels : List ℕ → ℕ
-channels audio = getD audio 1 0
-
-abbrev pub coherent : List ℕ → ℕ
-coherent audio = getD audio 2 0
-
--- what the sections say, a line for each: sound is off where the audio section is empty, the converter where the matrix section is
-abbrev pub soundOf : List ℕ → Sound
-soundOf audio = cond (present audio) (On (rate audio) (channels audio) (coherent audio)) Off
-
+-- what the sections say, a line for each: the converter is off where the matrix section is empty
 abbrev pub requestIn : Bodies → Request
 requestIn b =
     record {
@@ -51,19 +39,16 @@ requestIn b =
     }
 
 -- row 5, "any other field outside its range (matrix mode above 2)": of each section
-abbrev pub AudioOutside : List ℕ → Type 0
-AudioOutside audio = (6 < rate audio) ⊎ ((channels audio ≢ 2) × (channels audio ≢ 8)) ⊎ (1 < coherent audio)
-
 abbrev pub Outside : Bodies → Type 0
 Outside b =
-    VideoOutside (videoIn (b .video)) ⊎ (Present (b .audio) × AudioOutside (b .audio)) ⊎ (Present (b .matrix) × (Allowed (b .matrix) → ⊥))
+    VideoOutside (videoIn (b .video)) ⊎ SoundOutside (soundOf (b .audio)) ⊎ (Present (b .matrix) × (Allowed (b .matrix) → ⊥))
 
 -- row 6, "encoding not 0 without a matrix; DVI with audio or with encoding not 0": the last is the video section's,
 -- and so is what concerns the range, the depth and the edition
 abbrev pub Combined : Bodies → Type 0
 Combined b =
     let video : Video = videoIn (b .video) in
-    ((video .encoding ≢ 0) × (length (b .matrix) ≡ 0)) ⊎ ((video .link ≡ 0) × Present (b .audio)) ⊎ VideoCombined video
+    ((video .encoding ≢ 0) × (length (b .matrix) ≡ 0)) ⊎ ((video .link ≡ 0) × (soundOf (b .audio) ≢ Off)) ⊎ VideoCombined video
 
 -- row 9, "coherent audio, and no exact pair exists": without audio it does not apply
 abbrev pub NoPair : Video → Sound → Type 0

@@ -7,11 +7,9 @@ use lib.Dec.{leb}
 use lib.ListN.{getD, length, take, drop}
 use Rattle.lists.specs.Among.{among}
 use Rattle.video.specs.Video.{videoCount}
+use Rattle.sound.specs.Sound.{audioCount}
 
--- "Video, count .." (`videoCount`); "Audio, count 0 or 3"; "Matrix, count 0 or 25"
-abbrev pub audioCount : ℕ
-audioCount = 3
-
+-- "Video, count .." (`videoCount`); "Audio, count 0 or 3" (`audioCount`); "Matrix, count 0 or 25"
 abbrev pub matrixCount : ℕ
 matrixCount = 25
 

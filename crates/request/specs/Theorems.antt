@@ -5,8 +5,8 @@ use mathlib.Core.List.{List}
 use Prim.Native.Nat.{ℕ}
 use Rattle.refusals.specs.Rows.{Given}
 use Rattle.video.specs.Video.{noVideo}
+use Rattle.sound.specs.declared.Sound.the-variants.{Off}
 use Rattle.matrix.specs.Matrix.{noMatrix, Bytes}
-use Rattle.request.specs.declared.Sound.the-variants.{Off}
 use Rattle.request.specs.Sections.{walked}
 use Rattle.request.specs.Request.{requestOf, askRules, readRules, nctsRules}
 use Rattle.request.specs.Read.{askOf, readOf, nctsOf}

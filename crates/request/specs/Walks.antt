@@ -8,7 +8,8 @@ use Prim.Native.Nat.{ℕ, _≤_, _<_}
 use lib.ListN.{getD, length, take}
 use Rattle.lists.specs.Among.{among}
 use Rattle.video.specs.Video.{videoCount}
-use Rattle.request.specs.Sections.{audioCount, matrixCount, Bodies, inTurn, byName, Walk, ends, notAllowed, whole, walk, walked}
+use Rattle.sound.specs.Sound.{audioCount}
+use Rattle.request.specs.Sections.{matrixCount, Bodies, inTurn, byName, Walk, ends, notAllowed, whole, walk, walked}
 use Rattle.request.specs.Bytes.{laid}
 
 -- a body for each section, and each of a count that its section allows

@@ -1,14 +1,12 @@
 // The request: document 01, "The request" and "Refusal numbers"; document 02, requests 01, 06 and 11.
 ghost use mathlib.Core.Path.{_≡_};
-ghost use mathlib.Core.Bool.{not, _&&_};
-ghost use Prim.Native.Nat.{ℕ, _%_, _<_};
+ghost use Prim.Native.Nat.{ℕ, _<_};
 ghost use lib.ListN.{length, getD};
-ghost use Rattle.matrix.specs.Tests.{isAllowed};
-ghost use Rattle.request.specs.Sections.{audioCount, sections, Bodies, inTurn, walked, bodiesIn};
+ghost use Rattle.refusals.specs.Tests.{lowest};
+ghost use Rattle.request.specs.Sections.{sections, Bodies, inTurn, walked, bodiesIn};
 ghost use Rattle.request.specs.Walks.{Walks, RequestWalks};
-ghost use Rattle.request.specs.Places.{EndsAt, bodies};
-ghost use Rattle.request.specs.Request.{present, soundOf};
-ghost use Rattle.request.specs.Read.{audioOutside, outside, combined, emptied, judged, limitOf};
+ghost use Rattle.request.specs.Places.{EndsAt};
+ghost use Rattle.request.specs.Read.{outsideIn, combinedIn, fieldTests, emptied, judged, limitOf};
 ghost use Rattle.request.specs.Read.{Asks, readOf, Reads, Pairs, PairsInput};
 ghost use Rattle.request.specs.Theorems.{Rows};
 ghost use Rattle.request.specs.Lengths.{Lengths};
@@ -25,19 +23,10 @@ use sections::MATRIX;
 use sections::SECTIONS;
 use sections::VIDEO;
 use sections::walk;
+use sound::Sound;
 use video::Video;
 
 pub mod sections;
-
-// What the audio section asks for.
-pub enum Sound {
-    Off,
-    On {
-        rate: u8,
-        channels: u8,
-        coherent: u8,
-    },
-}
 
 // What the three sections ask for.
 pub struct Request {
@@ -68,56 +57,36 @@ fn refused(number: u8) -> Checked
     }
 }
 
-// What an audio section's body, of three bytes or none, asks for.
-fn sound_of(audio: &[u8]) -> Sound
-    requires { ⌜ length (now audio) % audioCount ≡ 0 ⌝ }
-    ensures { λ r. ⌜ r ≡ soundOf (now (audio .entry)) ⌝ }
+// Row 5 of a request in hand, where `spoiled` says that its matrix is outside its range.
+fn is_outside(video: Video, sound: Sound, spoiled: bool) -> bool
+    ensures { λ r. ⌜ r ≡ outsideIn video sound spoiled ⌝ }
 {
-    if audio.len() == 0 {
-        return Sound::Off;
-    }
-    Sound::On {
-        rate: audio[0],
-        channels: audio[1],
-        coherent: audio[2],
-    }
+    video::outside(video) | (sound::outside(sound) | spoiled)
 }
 
-// Whether an audio section is there and has a field outside its range.
-fn audio_outside(audio: &[u8]) -> bool
-    requires { ⌜ length (now audio) % audioCount ≡ 0 ⌝ }
-    ensures { λ r. ⌜ r ≡ (present (now (audio .entry)) && audioOutside (now (audio .entry))) ⌝ }
+// Row 6, where `bare` says that it has no matrix.
+fn is_combined(video: Video, sound: Sound, bare: bool) -> bool
+    ensures { λ r. ⌜ r ≡ combinedIn video sound bare ⌝ }
 {
-    if audio.len() == 0 {
-        return false;
+    ((video.encoding != 0) & bare)
+        | (((video.link == 0) & sound::is_on(sound)) | video::combined(video))
+}
+
+// Rows 4 to 6 of a request in hand.
+fn fields(video: Video, sound: Sound, bare: bool, spoiled: bool) -> u8
+    ensures { λ r. ⌜ r ≡ lowest (fieldTests video (outsideIn video sound spoiled) (combinedIn video sound bare)) ⌝ }
+{
+    let mode = video::mode_of(video.vic);
+    if mode.families <= video.family {
+        return Refusal::MODE_NOT_OFFERED;
     }
-    (6 < audio[0]) | (((audio[1] != 2) & (audio[1] != 8)) | (1 < audio[2]))
-}
-
-// Whether a matrix section is there and has a field outside its range.
-fn matrix_outside(body: &[u8]) -> bool
-    ensures { λ r. ⌜ r ≡ (present (now (body .entry)) && not (isAllowed (now (body .entry)))) ⌝ }
-{
-    if body.len() == 0 {
-        return false;
+    if is_outside(video, sound, spoiled) {
+        return Refusal::FIELD_OUT_OF_RANGE;
     }
-    !matrix::fits(body)
-}
-
-// Row 5.
-fn is_outside(video: Video, audio: &[u8], matrix: &[u8]) -> bool
-    requires { ⌜ length (now audio) % audioCount ≡ 0 ⌝ }
-    ensures { λ r. ⌜ r ≡ outside (bodies video (now (audio .entry)) (now (matrix .entry))) ⌝ }
-{
-    video::outside(video) | (audio_outside(audio) | matrix_outside(matrix))
-}
-
-// Row 6.
-fn is_combined(video: Video, audio: &[u8], matrix: &[u8]) -> bool
-    ensures { λ r. ⌜ r ≡ combined (bodies video (now (audio .entry)) (now (matrix .entry))) ⌝ }
-{
-    ((video.encoding != 0) & (matrix.len() == 0))
-        | (((video.link == 0) & (audio.len() != 0)) | video::combined(video))
+    if is_combined(video, sound, bare) {
+        return Refusal::COMBINATION;
+    }
+    Refusal::NONE
 }
 
 // Where the count of section k stands: where the body before it ends.
@@ -141,26 +110,20 @@ fn body(s: &[u8], ends: [usize; SECTIONS], k: usize) -> &[u8]
     &s[count + 1..end]
 }
 
-// What the sections ask for, where a walk found them all: rows 4 to 6.
+// What the sections ask for, where a walk found them all: rows 4 to 6. A matrix section that is there and outside its range gives no matrix.
 fn judge(s: &[u8], ends: [usize; SECTIONS]) -> Checked
     requires { ⌜ EndsAt (now s) ends ⌝ }
     ensures { λ r. ⌜ r ≡ judged (bodiesIn (walked (now (s .entry)))) ⌝ }
 {
     let video = video::video_in(body(s, ends, VIDEO));
-    let audio = body(s, ends, AUDIO);
-    let matrix = body(s, ends, MATRIX);
-    let mode = video::mode_of(video.vic);
-    if mode.families <= video.family {
-        return refused(Refusal::MODE_NOT_OFFERED);
+    let sound = sound::sound_in(body(s, ends, AUDIO));
+    let section = body(s, ends, MATRIX);
+    let matrix = matrix::read(section);
+    let bare = section.len() == 0;
+    let number = fields(video, sound, bare, !bare & (matrix.on == 0));
+    if number != Refusal::NONE {
+        return refused(number);
     }
-    if is_outside(video, audio, matrix) {
-        return refused(Refusal::FIELD_OUT_OF_RANGE);
-    }
-    if is_combined(video, audio, matrix) {
-        return refused(Refusal::COMBINATION);
-    }
-    let sound = sound_of(audio);
-    let matrix = matrix::read(matrix);
     Checked {
         refusal: Refusal::NONE,
         request: Request {

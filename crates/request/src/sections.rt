@@ -6,6 +6,7 @@ ghost use Rattle.lists.specs.Among.{among};
 ghost use Rattle.request.specs.Sections.{sections, walked};
 ghost use Rattle.request.specs.Places.{placesOf};
 use refusals::Refusal;
+use sound::AUDIO_COUNT;
 use video::VIDEO_COUNT;
 
 // How many sections there are, and the place of each in the order.
@@ -19,9 +20,7 @@ pub const MATRIX: usize = 2;
 
 pub const LAST: usize = SECTIONS - 1;
 
-// The count of each section where it is not empty; the video section's is `video::VIDEO_COUNT`.
-pub const AUDIO_COUNT: u8 = 3;
-
+// The count of the matrix section where it is not empty; the others' are `video::VIDEO_COUNT` and `sound::AUDIO_COUNT`.
 pub const MATRIX_COUNT: u8 = 25;
 
 // "the longest request": of each section its count, and a body of its largest count.

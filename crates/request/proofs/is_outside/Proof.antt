@@ -1,5 +1,4 @@
 -- `request::is_outside` meets its contract. Assumes nothing.
-use Rattle.request.specs.Read.{outside}
 use borrow.Author.Needs.{needs}
 use Rattle.request.proofs.is_outside.Statement.{statement}
 use Rattle.request.proofs.is_outside.Tie as tie
@@ -7,15 +6,11 @@ use Rattle.request.proofs.is_outside.Tie as tie
 outside-requires : tie.Need-outside-requires
 outside-requires c κs = search needs
 
-audio-outside-requires : tie.Need-audio-outside-requires
-audio-outside-requires c κs = search needs
-
-matrix-outside-requires : tie.Need-matrix-outside-requires
-matrix-outside-requires c κs = search needs
+outside-requires-2 : tie.Need-outside-requires-2
+outside-requires-2 c κs = search needs
 
 returns : tie.Need-returns
-unfolding outside
-returns c = simp (c .before .before .outside .ensures, c .before .audio-outside .ensures, c .matrix-outside .ensures)
+returns c = simp (c .before .outside .ensures, c .outside2 .ensures)
 
 pub is-outside-spec : {M : Type 1} → statement M
-is-outside-spec = tie.close (tie.spec outside-requires audio-outside-requires matrix-outside-requires returns)
+is-outside-spec = tie.close (tie.spec outside-requires outside-requires-2 returns)

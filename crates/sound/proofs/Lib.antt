@@ -1,0 +1,3 @@
+pub mod Rates
+pub mod Bodies
+pub mod Fits
