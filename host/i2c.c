@@ -36,7 +36,7 @@ enum { POWER = 0x41, POWER_DOWN = 0x40, STATE = 0x42, SCREEN = 0x40, HOLDS = 0x4
 enum { MUTE = 0x4B, MUTE_BITS = 0xC0, MUTED = 0x40, OPEN = 0x80 };
 enum { FLAGS = 0x96, PLUG_FLAG = 0x80, VSYNC_FLAG = 0x20, SENSE = 0xA1, SENSE_DOWN = 0x40 };
 enum { EDGES = 2, PATIENCE = 250, PAUSE = 1 };           /* edges; ms for each, six frames of the slowest mode; ms between two reads */
-enum { FOR_SCREEN = 1000, FOR_LOCK = 10000 };            /* ms */
+enum { FOR_SCREEN = 1000, FOR_LOCK = 20000 };            /* ms; a run takes 13 s where the line falls in each round */
 
 static unsigned long chip_at = CHIP;
 
@@ -132,7 +132,10 @@ static void find_settings(struct setting *s) {
         struct station_masks m = station_class((uint8_t)a);
         if (!written[a] && a != FLAGS) s->bits[a] = (uint8_t)m.mandated, s->value[a] = (uint8_t)m.value;
     }
-    for (size_t b = 0; b < sizeof board / sizeof board[0]; b++) s->bits[board[b].address] |= board[b].bits, s->value[board[b].address] |= board[b].value;
+    for (size_t b = 0; b < sizeof board / sizeof board[0]; b++) {
+        s->bits[board[b].address] |= board[b].bits;
+        s->value[board[b].address] |= board[b].value;
+    }
 }
 
 static uint8_t set_in(const struct setting *s, int a, uint8_t byte) { return (uint8_t)((byte & ~s->bits[a]) | s->value[a]); }
@@ -161,8 +164,8 @@ static int bring_up(int bus, uint8_t mute, uint8_t power) {
 /* The board's bits are free ones: what a list or the guide sets is no board's to change. */
 static int board_is_free(void) {
     for (size_t b = 0; b < sizeof board / sizeof board[0]; b++)
-        if (board[b].bits & ~station_class(board[b].address).free_bits || board[b].value & ~board[b].bits || (board[b].bits && board[b].address == FLAGS))
-            return 0;
+        if (board[b].bits & ~station_class(board[b].address).free_bits || board[b].value & ~board[b].bits ||
+            (board[b].bits && board[b].address == FLAGS)) return 0;
     return 1;
 }
 

@@ -77,7 +77,8 @@ static struct { long at[PLUGS]; enum phase phase[PLUGS]; long at_ms, low; int lo
 static struct { int is_low; long rises, transfers, kills, powers; } line;       /* kills: the transfer at which the host is killed, from 1 */
 enum by { NOBODY, CAREFUL, CARELESS };
 static enum by stranger;                                /* brings the chip up outside the lock, after the mute or without it */
-static int no_look, no_mute;                            /* the host does not see 0x96[7]; its mute comes after the power */
+/* Wrong hosts: one does not see 0x96[7]; one takes that flag down after the read-back and not before; the mute of one comes after the power. */
+static int no_look, late_flag, no_mute;
 static jmp_buf killed;
 
 /* What is in use, after every event. A chip that is powered and not muted shows a finished request: that of before, or that which is asked for. */
@@ -183,6 +184,7 @@ static int take(const uint8_t *pair) {
 static int fake_write(const uint8_t *pair, int counts) {
     if (pair[0] == FLAGS) return fake_flags(pair[1]);
     bus.sent += counts;
+    if (late_flag && counts && bus.sent == 1) chip.image[FLAGS] &= (uint8_t)~PLUG_FLAG;
     if (counts && bus.resets == bus.sent) {
         reset(reset_by_plug);
         memset(chip.mark, 0, sizeof chip.mark);
@@ -217,7 +219,7 @@ static int fake_read(uint8_t first, uint8_t *bytes, uint16_t length) {
     for (uint16_t k = 0; k < length; k++) {
         if (k == length / 2) plug_at(IN);
         bytes[k] = chip.image[first + k];
-        if (no_look && first + k == FLAGS) bytes[k] &= (uint8_t)~PLUG_FLAG;
+        if ((no_look || (late_flag && !bus.sent)) && first + k == FLAGS) bytes[k] &= (uint8_t)~PLUG_FLAG;
     }
     return 2;
 }
@@ -527,13 +529,13 @@ static void bring_ups(void) {
 static void calm(void) {
     heal();
     memset(&plugs, 0, sizeof plugs), memset(&line, 0, sizeof line);
-    stranger = NOBODY, no_look = no_mute = 0;
+    stranger = NOBODY, no_look = late_flag = no_mute = 0;
     chip.image[STATE] |= SCREEN;
 }
 
 /* After the last event the screen is back, and whoever watches for hot plugs starts the host once more. */
 static int again_at_last(void) {
-    memset(plugs.at, 0, sizeof plugs.at), plugs.at_ms = 0, line.kills = 0, no_look = no_mute = 0;
+    memset(plugs.at, 0, sizeof plugs.at), plugs.at_ms = 0, line.kills = 0, no_look = late_flag = no_mute = 0;
     for (int t = 0; t < 300; t++) tick();
     stranger = NOBODY;
     return again(asked) == ACCEPTED && ended();
@@ -543,7 +545,7 @@ static int again_at_last(void) {
  * meanwhile. */
 static long moments;                                    /* transfers of a run, three each */
 static long runs, open_runs;                            /* runs with a hot plug, and those that showed an open picture that was none */
-static struct { enum by stranger; int no_look, no_mute, kills; } under;
+static struct { enum by stranger; int no_look, late_flag, no_mute, kills; } under;
 static void one_hot_plug(const char *what, int must_finish) {
     static const long lows[] = { 3, 100 };
     runs = open_runs = 0, judge.points = judge.open = judge.unmuted = 0;
@@ -554,7 +556,8 @@ static void one_hot_plug(const char *what, int must_finish) {
                     calm();
                     chip = start;
                     plugs.at[0] = at, plugs.phase[0] = (enum phase)p, plugs.low = lows[l], plugs.lost = lost;
-                    stranger = under.stranger, no_look = under.no_look, no_mute = under.no_mute, line.kills = under.kills ? at + under.kills : 0;
+                    stranger = under.stranger, no_look = under.no_look, late_flag = under.late_flag, no_mute = under.no_mute;
+                    line.kills = under.kills ? at + under.kills : 0;
                     long before = judge.open + judge.unmuted;
                     judge.on = 1;
                     int status = again(asked);
@@ -584,7 +587,14 @@ static void hot_plugs(void) {
     under.kills = 0, under.stranger = CAREFUL;
     one_hot_plug("a hot plug and a stranger", 1);
     tell(open_runs == 0, "a hot plug, and somebody brings the chip up outside the lock", open_runs);
-    under.no_look = 1;
+    under.stranger = CARELESS;
+    one_hot_plug("a hot plug and a careless stranger", 0);
+    tell(judge.open > 0 && judge.unmuted > 0, "somebody who powers the chip outside the lock and without the mute is not found out", judge.open);
+    under.stranger = CAREFUL, under.late_flag = 1;
+    one_hot_plug("the flag taken down late", 0);
+    tell(open_runs > 0, "a host that takes 0x96[7] down after the read-back is not found out", open_runs);
+    printf("late flag: %ld of %ld\n", open_runs, runs);
+    under.late_flag = 0, under.no_look = 1;
     one_hot_plug("no look", 0);
     tell(open_runs > 0, "a host that does not look at 0x96[7] is not found out", open_runs);
     printf("no look: %ld of %ld\n", open_runs, runs);
