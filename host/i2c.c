@@ -219,11 +219,10 @@ struct answer { int status; uint32_t refusal; const char *words; };
 static struct answer failed(const char *words) { return (struct answer){ FAILED, 0, words }; }
 
 /* The pairs in order, with one Vsync just before the last; NULL, or what failed. The picture is muted until the last. Where a hot plug came
- * since the registers were read the last is not sent, and `plugged` becomes 1. */
-static const char *send_pairs(int bus, const uint8_t *list, uint32_t count, int *plugged) {
+ * since the registers were read the last is not sent: the next round reads them again. */
+static const char *send_pairs(int bus, const uint8_t *list, uint32_t count) {
     for (uint32_t i = 0; i < count; i++) {
         enum seen s = i + 1 == count ? vsync(bus) : SEEN;
-        *plugged = s == PLUGGED;
         if (s == PLUGGED) return NULL;
         if (s == NOT_SEEN) return "no Vsync came: is there a picture at the chip's input? It stays muted";
         if (s == NOT_READ) return "Vsync could not be read; the picture stays muted";
@@ -234,7 +233,7 @@ static const char *send_pairs(int bus, const uint8_t *list, uint32_t count, int 
 
 static struct answer show(int bus, const uint8_t *request, size_t length) {
     uint8_t image[STATION_IMAGE], end[STATION_IMAGE], wanted[STATION_IMAGE], list[STATION_WRITES], flags;
-    int is_up = 0, plugged = 0;
+    int is_up = 0;
     find_written(wanted);
     wanted[POWER] = wanted[STATE] = wanted[SENSE] = 1;
     for (int round = 0; round < ROUNDS; round++) {
@@ -261,7 +260,7 @@ static struct answer show(int bus, const uint8_t *request, size_t length) {
         for (uint32_t i = 0; i < plan.count; i++) end[list[2 * i]] = list[2 * i + 1];
         if (!memcmp(end, image, sizeof end)) return (struct answer){ ACCEPTED, 0, "on show" };
         if (image[SENSE] & SENSE_DOWN) return failed("monitor sense is powered down (0xA1[6]), so no Vsync is seen: power it first");
-        const char *why = send_pairs(bus, list, plan.count, &plugged);
+        const char *why = send_pairs(bus, list, plan.count);
         if (why) return failed(why);
     }
     return failed("the registers do not stay as they are written: hot plugs, a reset, or somebody else writes");
@@ -276,8 +275,9 @@ static struct answer run(const char *device, const uint8_t *request, size_t leng
     if (bus < 0) {
         const char *number = strrchr(device, '-');
         if (errno == EBUSY)
-            snprintf(words, sizeof words, "%.40s: a driver of the kernel has the chip at 0x%02lx. Unbind it first, as root: "
-                     "echo %.10s-00%02lx >/sys/bus/i2c/drivers/adv7511/unbind", device, chip_at, number ? number + 1 : "N", chip_at);
+            snprintf(words, sizeof words, "%.40s: a driver of the kernel has the chip at 0x%02lx. Take it away first, as root: "
+                     "echo %.10s-00%02lx >/sys/bus/i2c/devices/%.10s-00%02lx/driver/unbind", device, chip_at, number ? number + 1 : "N", chip_at,
+                     number ? number + 1 : "N", chip_at);
         else if (errno == EWOULDBLOCK) snprintf(words, sizeof words, "%.40s: another host has held the lock for %d s", device, FOR_LOCK / 1000);
         else snprintf(words, sizeof words, "%.40s: %s", device, strerror(errno));
         return failed(words);
