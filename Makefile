@@ -6,7 +6,10 @@
 #                  instructions, bars; writes and bus time of typical changes
 #   make tests     tests/run
 #   make peers     Linux's reader of InfoFrames on every packet that we finish; fetches its source (Debian's linux-source), no part of the gate
-#   make install   the archive, the headers and a pkg-config file, into PREFIX (/usr/local), below DESTDIR where that is given
+#   make install   the archive, the headers and a pkg-config file, into PREFIX (/usr/local), below DESTDIR where that is given;
+#                  TARGET=aarch64-linux-gnu the archive for that processor (tools/archive --help has the four)
+#   make archive   the archive for TARGET alone, target/archive/TARGET/libstation.a
+#   make targets   the archives for other processors, tried under emulators: installs Debian's cross compilers and qemu, some minutes
 #   make clean     takes away what make has built of C; what rt has proved and built (the rest of target/) stays
 #   make help      this list
 LIB      = target/staticlib/libstation.a
@@ -16,10 +19,12 @@ HEADERS  = $(wildcard include/*.h programs/*.h host/*.h tests/*.h tests/*/*.h be
 PROVED   = crates.txt $(wildcard crates/*/src/*.rt crates/*/specs/*.antt crates/*/proofs/*.antt)
 PROGRAMS = $(addprefix target/c/,accident agree image listing meter modes picture request review vectors)
 BINARIES = $(PROGRAMS) $(addprefix target/c/,example host i2c i2c_fake bench tests)
+ARCHIVE  = $(if $(TARGET),target/archive/$(TARGET)/libstation.a,$(LIB))
 PREFIX   = /usr/local
 TO       = $(DESTDIR)$(PREFIX)
 VERSION  = $(shell sed -n 's/^.define STATION_VERSION "\(.*\)"/\1/p' include/station.h)
 
+.PHONY: archive targets
 .PHONY: all programs host bench tests peers install clean help
 all: $(BINARIES)
 programs: $(PROGRAMS)
@@ -32,12 +37,15 @@ peers:
 	@tests/peers/run
 tests:
 	@tests/run
-install: $(LIB)
+install: $(ARCHIVE)
 	install -d $(TO)/include $(TO)/lib/pkgconfig $(TO)/share/doc/station
 	install -m 644 include/station.h include/station_text.h $(TO)/include
-	install -m 644 $(LIB) $(TO)/lib
+	install -m 644 $(ARCHIVE) $(TO)/lib
 	sed -e 's|@PREFIX@|$(PREFIX)|' -e 's|@VERSION@|$(VERSION)|' include/station.pc.in >$(TO)/lib/pkgconfig/station.pc
 	install -m 644 LICENSE CHANGELOG.md $(TO)/share/doc/station
+archive: $(ARCHIVE)
+targets:
+	@tests/targets/run --all
 clean:
 	rm -rf target/c
 help:
@@ -69,6 +77,10 @@ target/c/bench: bench/clang
 $(BINARIES): $(HEADERS) $(LIB) Makefile
 	@mkdir -p target/c
 	@setup=$$(tools/setup) && eval "$$setup" && $$CC $(FLAGS) $(filter %.c,$^) $(LIB) $(MORE) -o $@
+
+# The module of the proved build for another processor.
+target/archive/%/libstation.a: $(PROVED) include/station.h tools/archive
+	tools/archive $*
 
 # An archive that is older than a source is proved and built anew.
 $(LIB): $(PROVED)

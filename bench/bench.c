@@ -397,12 +397,12 @@ static int measured(void) {
  * chip's address and the row, stop. What the host waits, between two transfers and for Vsync, is not counted. */
 enum { BYTE = 8 + 1, OF_A_WRITE = 1 + 3 * BYTE + 1, OF_A_TRANSFER = 1 + 2 * BYTE + 1 + BYTE + 1, ROW = 32 };
 
-/* What a read-back takes, of all registers or as host/i2c.c has it: of the rows that planning looks at and of two of its own, 0x41 and 0xA1. A
+/* What a read-back takes, of all registers or as host/i2c.c has it: of the rows that planning looks at and of three of its own. A
  * register between two of them is read in passing where that takes less than a new transfer. */
 struct read_back { uint32_t registers, transfers, periods; };
 static struct read_back reading(int all) {
     static const uint8_t rows[][2] = STATION_ROWS;
-    uint8_t wanted[STATION_IMAGE] = { [0x41] = 1, [0xA1] = 1 };
+    uint8_t wanted[STATION_IMAGE] = { [0x41] = 1, [0x42] = 1, [0xA1] = 1 };
     struct read_back r = { 0, 0, 0 };
     int last = -STATION_IMAGE, first = last;
     for (size_t k = 0; k < sizeof rows / sizeof rows[0]; k++) memset(wanted + rows[k][0], 1, rows[k][1]);

@@ -13,7 +13,7 @@ static const char help[] =
     "Writes the registers of a chip as the 256 bytes that --image takes, from FILE or\n"
     "the standard input, which has one of these:\n"
     "\n"
-    "  what 'i2cdump -y BUS 0x39 b' prints\n"
+    "  what 'i2cdump -y BUS 0x39 b' prints, or for a chip at 0x3d with that address\n"
     "  what 'xxd', 'xxd -g1' or 'hexdump -v -C' prints\n"
     "  256 bytes in hex, with or without blanks and line ends between ('xxd -p')\n"
     "  the 256 bytes themselves\n"

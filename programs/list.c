@@ -13,14 +13,16 @@ const char list_help[] =
     "                                a pair, as tools/listing --i2ctransfer prints it\n"
     "  sleep 1                       just before the last pair and nowhere else: the\n"
     "                                wait for Vsync. The verdict has one there,\n"
-    "                                written or not\n"
+    "                                written or not; behind it may stand the look at\n"
+    "                                0x41 that tools/listing prints\n"
     "\n"
     "In a command a number has its 0x, for i2cset takes 40 for a decimal one; the\n"
-    "chip is 0x39, all are for one bus, and a line is one pair. 'set -e' alone in a\n"
-    "line, empty lines and what follows a # are passed over; lines may end as those\n"
-    "of DOS. Anything else, raw bytes too, is said with the number of its line.\n";
+    "chip is 0x39 or 0x3d, all are for one bus and one chip, and a line is one pair.\n"
+    "'set -e' alone in a line, empty lines and what follows a # are passed over;\n"
+    "lines may end as those of DOS. Anything else, raw bytes too, is said with the\n"
+    "number of its line.\n";
 
-enum { CHIP_ON_THE_BUS = 0x39, WORD = 48, WORDS = 10 };
+enum { CHIP_ON_THE_BUS = 0x39, OTHER_CHIP = 0x3D, WORD = 48, WORDS = 11 };
 
 /* What stands next in a line. */
 enum next { A_WORD, A_COMMA, THE_END };
@@ -28,6 +30,7 @@ struct reader {
     FILE *from;
     unsigned long line;
     char word[WORD], bus[WORD];     /* a word that is longer is cut: it is none that can be read; the bus of the commands before */
+    int chip;                       /* and their chip, 0 for none yet */
     unsigned long waits;            /* the line of a wait, 0 where there is none, and the bytes before it */
     size_t before_wait;
 };
@@ -101,10 +104,12 @@ static int byte_of_command(const struct reader *r, const char *word) {
     return value;
 }
 
-static void must_be_chip(const struct reader *r, const char *word) {
-    int has_0x;
-    if (byte_of(word, &has_0x) != CHIP_ON_THE_BUS || !has_0x)
-        misuse("line %lu: '%s' is another chip than 0x%02x", r->line, word, CHIP_ON_THE_BUS);
+static void must_be_chip(struct reader *r, const char *word) {
+    int has_0x, chip = byte_of(word, &has_0x);
+    if ((chip != CHIP_ON_THE_BUS && chip != OTHER_CHIP) || !has_0x)
+        misuse("line %lu: '%s' is another chip than 0x%02x or 0x%02x", r->line, word, CHIP_ON_THE_BUS, OTHER_CHIP);
+    if (r->chip && r->chip != chip) misuse("line %lu: the chip is 0x%02x, and in a line before it 0x%02x", r->line, (unsigned)chip, (unsigned)r->chip);
+    r->chip = chip;
 }
 
 /* A wait that was read stands where the verdict has its Vsync, just before the last pair: of so many bytes in all. */
@@ -118,6 +123,15 @@ static void read_wait(struct reader *r, const struct list *l, const char *time) 
     must_wait_before(r, l->all + 2);
     r->waits = r->line;
     r->before_wait = l->all;
+}
+
+/* The look of tools/listing, which stops the shell after a hot plug: as it is printed there, and just behind the wait. */
+static void read_look(const struct reader *r, const struct list *l, char words[][WORD], size_t count) {
+    char has[WORDS * WORD] = "", look[3 * WORD];
+    for (size_t w = 0; w < count; w++) strcat(strcat(has, w ? " " : ""), words[w]);
+    snprintf(look, sizeof look, "test $(($(i2ctransfer -y %s w1@0x%02x 0x41 r1) & 0x40)) = 0", r->bus, (unsigned)r->chip);
+    if (strcmp(has, look) || !r->waits || r->before_wait != l->all)
+        misuse("line %lu: of tests only that of 0x41[6] is read, behind the wait and for the same chip", r->line);
 }
 
 static void read_command(struct reader *r, struct list *l) {
@@ -137,6 +151,10 @@ static void read_command(struct reader *r, struct list *l) {
     if (l->all % 2) misuse("line %lu: a command begins inside a pair", r->line);
     if (!strcmp(words[0], "sleep")) {
         read_wait(r, l, count == 2 ? words[1] : "");
+        return;
+    }
+    if (!strcmp(words[0], "test")) {
+        read_look(r, l, words, count);
         return;
     }
     is_set = !strcmp(words[0], "i2cset");
@@ -178,7 +196,7 @@ static void read_bytes(struct reader *r, struct list *l, enum next n) {
 }
 
 static int is_command(const char *word) {
-    static const char *const commands[] = { "i2cset", "i2ctransfer", "set", "sleep" };
+    static const char *const commands[] = { "i2cset", "i2ctransfer", "set", "sleep", "test" };
     for (size_t c = 0; c < sizeof commands / sizeof commands[0]; c++)
         if (!strcmp(word, commands[c])) return 1;
     return 0;

@@ -41,8 +41,9 @@ static const char help[] =
     "library's verdict do not agree: then trust neither.\n"
     "\n"
     "  tools/review --image chip.image vendor.txt\n"
-    "  tools/listing --i2ctransfer 1 " EXAMPLE " |\n"
-    "    tools/review -\n";
+    "  tools/listing --image chip.image --i2ctransfer 1 \\\n"
+    "    " EXAMPLE " |\n"
+    "    tools/review --image chip.image -\n";
 
 enum { DIFFERS = 3, COLUMNS = 80 };
 

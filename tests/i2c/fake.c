@@ -1,8 +1,11 @@
 /* The example host for a real bus, host/i2c.c, on a fake one: its own text, with the system calls that reach a bus or tell the time
  * replaced by a chip in memory, which reads the messages as an adapter would, and a clock by which Vsync comes. Writes are lost or their
  * acknowledgement is, once or for good, at each place; the chip is reset at each place; Vsync comes at any moment, or never; registers that
- * no list writes hold anything. Prints the numbers that docs/HOST.md has (tests/i2c/run compares), then 'N passed, M failed'. */
+ * no list writes hold anything. A screen is plugged out and in at each moment, also under hosts that are killed, and what is in use is looked at
+ * after every event; hosts that leave out a step are found out by it. Prints the numbers that docs/HOST.md has (tests/i2c/run compares), then
+ * 'N passed, M failed'. */
 #include <fcntl.h>
+#include <setjmp.h>
 #include <sys/file.h>
 #include <sys/ioctl.h>
 #include <time.h>
@@ -20,13 +23,14 @@ static int fake_lock(int bus, int how);
 #define flock(bus, how) fake_lock(bus, how)
 #define close(bus) ((void)(bus))
 #define main example_main
+#define BOARD { 0x0A, 0x03, 0x01 }, { 0x48, 0x18, 0x08 }, { 0xBA, 0xE0, 0x60 }
 #include "../../host/i2c.c"
 #undef main
 #include "../../programs/chip.h"
 #include "../../programs/fields.h"
 #include "../../programs/may.h"
 
-/* ---- The fake bus. */
+/* ---- The chip: document 01's machine, with power, a screen that is there or not, and its flags. */
 
 enum { BUS = 7, NOT_TAKEN = 1, NOT_HEARD = 2, COLOUR_DEPTH = 0x4C };
 static struct chip chip;
@@ -35,7 +39,9 @@ static struct {
     int how, for_good, dead, locked;                    /* how it fails, and whether all after it do; no read either; the lock is held */
     int no_flags;                                       /* no read of the flags, and no write of them */
     int turning;                                        /* the packing phase, 0x4C[7:4], is another at each read */
-    long reads, registers;                              /* transfers that read, but for those of the flags, and registers in them */
+    long reads, registers;                              /* transfers that read, but for those of the flags and of the screen, and registers in them */
+    long opened, held_until;                            /* times that the bus was opened; somebody else has the lock until then */
+    int driver;                                         /* a driver of the kernel has the chip */
 } bus;
 static long wrong;                                      /* messages that a real chip would not understand, and writes without the lock */
 static long opened_early;                               /* times that the picture was opened while a change of the coefficients waited */
@@ -44,12 +50,90 @@ static long opened_early;                               /* times that the pictur
  * The chip's flag tells of the leading edge, its coefficients wait for the rising one. No frame: no Vsync. A flag may be stuck. */
 static struct { long now, frame, pulse; int low, flag, stuck; } video = { .frame = 17, .pulse = 5 };
 
+/* The defaults of the map that are not 0 (000, section 5), the screen there, and a free bit in 0xE4. */
+static const uint8_t defaults[STATION_IMAGE] = {
+    [0x0B] = 0x0E, [0x16] = 0x38, [0x18] = 0x46, 0x62, 0x04, 0xA8, 0x00, 0x00, 0x1C, 0x84, 0x1C, 0xBF, 0x04, 0xA8, 0x1E, 0x70, 0x02, 0x1E, 0x00, 0x00,
+    0x04, 0xA8, 0x08, 0x12, 0x1B, 0xAC, [0x3B] = 0x80, [0x41] = 0x50, [0x43] = 0x7E, [0x44] = 0x79, 0x70, [0x49] = 0xA8, 0x80, [0x52] = 0x02, 0x0D,
+    [0x70] = 0x01, 0x0A, [0x94] = 0xC0, [0x98] = 0x0B, 0x02, [0x9B] = 0x18, 0x5A, 0x60, [0xA2] = 0x80, 0x80, 0x08, 0x04, [0xAB] = 0x40, [0xAF] = 0x14,
+    [0xBA] = 0x10, [0xCE] = 0x01, 0x04, 0x30, 0xFF, 0x80, 0x80, 0x80, [0xDE] = 0x10, [0xE0] = 0x80, 0x78, [0xE4] = 0x5A, [0xF9] = 0x7C,
+    [STATE] = 0xF0,
+};
+
+/* Which bits: 000, Table 97, the columns of the HPD pin and of the power's bit. */
+static uint8_t reset_by_plug(int a) {
+    if (a == STATE) return 0;
+    return a <= 0x95 || (a >= 0xAF && a <= 0xCC) || (a >= 0xF9 && a <= 0xFE) ? 0xFF : a == 0x96 ? 0x3F : a == 0x97 ? 0xC0 : 0;
+}
+static uint8_t reset_by_power(int a) { return a == 0x94 || a == 0x95 || (a >= 0xAF && a <= 0xCC) ? 0xFF : a == 0x96 ? 0x3F : a == 0x97 ? 0xC0 : 0; }
+static void reset(uint8_t (*bits)(int)) {
+    for (int a = 0; a < STATION_IMAGE; a++) chip.image[a] = (uint8_t)((chip.image[a] & ~bits(a)) | (defaults[a] & bits(a)));
+}
+
+/* The screen. One hot plug, or several, each before a transfer, in its middle or after it; how long the line is low; whether writes that come
+ * meanwhile are lost. Somebody who is not the host may bring the chip up when the screen is back. */
+enum phase { BEFORE, IN, AFTER, PHASES };
+enum { PLUGS = 4 };
+static struct { long at[PLUGS]; enum phase phase[PLUGS]; long at_ms, low; int lost; } plugs;     /* transfers from 1; or a time; 0: none */
+static struct { int is_low; long rises, transfers, kills, powers; } line;       /* kills: the transfer at which the host is killed, from 1 */
+enum by { NOBODY, CAREFUL, CARELESS };
+static enum by stranger;                                /* brings the chip up outside the lock, after the mute or without it */
+/* Wrong hosts: one does not see 0x96[7]; one takes that flag down after the read-back and not before; the mute of one comes after the power. */
+static int no_look, late_flag, no_mute;
+static jmp_buf killed;
+
+/* What is in use, after every event. A chip that is powered and not muted shows a finished request: that of before, or that which is asked for. */
+static struct { int on; long points, open, unmuted; } judge;
+static int finished(void);
+static void look(void) {
+    if (!judge.on) return;
+    judge.points++;
+    if (line.is_low || (chip.image[POWER] & POWER_DOWN)) return;
+    uint32_t mute = station_mute(chip.image, STATION_IMAGE, chip.packet, STATION_PACKET).mute;
+    if (mute == STATION_MUTED || finished()) return;
+    judge.open += mute == STATION_OPEN, judge.unmuted += mute != STATION_OPEN;
+}
+
+static void fall(void) {
+    line.is_low = 1, line.rises = video.now + plugs.low, line.powers = 0;
+    reset(reset_by_plug);
+    memset(chip.mark, 0, sizeof chip.mark);
+    video.flag = 0;
+    chip.image[STATE] &= (uint8_t)~SCREEN;
+    chip.image[FLAGS] |= PLUG_FLAG;
+    look();
+}
+
+static int take(const uint8_t *pair);
+static void rise(void) {
+    line.is_low = 0;
+    chip.image[STATE] |= SCREEN;
+    chip.image[FLAGS] |= PLUG_FLAG;
+    if (stranger != NOBODY) line.powers = video.now + 2;
+    look();
+}
+
+static void plug_at(enum phase p) {
+    for (int k = 0; k < PLUGS; k++)
+        if (plugs.at[k] && plugs.at[k] == line.transfers && plugs.phase[k] == p && !line.is_low) fall();
+}
+
+/* The stranger's bring-up. */
+static void power_by_stranger(void) {
+    static const uint8_t mute[] = { MUTE, MUTED }, power[] = { POWER, 0x10 };
+    line.powers = 0;
+    if (stranger == CAREFUL) take(mute), look();
+    take(power), look();
+}
+
 static void tick(void) {
     video.now++;
+    if (plugs.at_ms && video.now == plugs.at_ms) fall();
+    if (line.is_low && video.now >= line.rises) rise();
+    if (line.powers && video.now >= line.powers) power_by_stranger();
     if (!video.frame) return;
     int leads = video.now % video.frame == 0, trails = video.now % video.frame == video.pulse;
     if (leads) video.flag = 1;
-    if (video.low ? trails : leads) wrong += chip_vsync(&chip) != 0;
+    if (video.low ? trails : leads) wrong += chip_vsync(&chip) != 0, look();
 }
 
 static int fake_time(struct timespec *t) {
@@ -58,67 +142,120 @@ static int fake_time(struct timespec *t) {
 }
 
 static int fake_pause(const struct timespec *t) {
-    for (long until = video.now + t->tv_nsec / 1000000; video.now < until; ) tick();
+    for (long until = video.now + t->tv_sec * 1000 + t->tv_nsec / 1000000; video.now < until; ) tick();
     return 0;
 }
 
-/* A chip after bring-up: powered, with free bits here and there. */
-static const struct chip fresh = { .image = { [0x0B] = 0x0E, [0x16] = 0x38, [0x41] = 0x10, [0x42] = 0x70, [0xAF] = 0x14, [0xE4] = 0x5A } };
+/* ---- The bus. */
 
 static int fake_open(const char *device, int flags) {
     (void)device, (void)flags;
+    bus.opened++;
     return BUS;
 }
 
 static int fake_lock(int b, int how) {
-    bus.locked = b == BUS && how == LOCK_EX;
-    return 0;
+    wrong += b != BUS || how != (LOCK_EX | LOCK_NB);
+    bus.locked = video.now >= bus.held_until;
+    errno = EWOULDBLOCK;
+    return bus.locked ? 0 : -1;
 }
 
-/* A flag that is written 1 goes down; the one bit is all that may be written there. */
+/* A flag that is written 1 goes down, of the hot plug or of Vsync; no other may be written there. */
 static int fake_flags(uint8_t value) {
-    wrong += value != VSYNC_FLAG;
+    wrong += value != VSYNC_FLAG && value != PLUG_FLAG;
     if (bus.no_flags) return -1;
-    video.flag = video.stuck;
+    if (value == VSYNC_FLAG) video.flag = video.stuck;
+    else chip.image[FLAGS] &= (uint8_t)~PLUG_FLAG;
     return 1;
 }
 
-static int fake_write(const uint8_t *pair) {
+/* The machine takes a write, but for the power's bit without a screen; powered down, some registers stay reset. The number of the refusal. */
+static int take(const uint8_t *pair) {
+    uint8_t taken[] = { pair[0], pair[1] };
+    if (line.is_low && plugs.lost) return 0;
+    if (pair[0] == POWER && line.is_low) taken[1] |= POWER_DOWN;
+    if (pair[0] == STATE) return 0;
+    uint32_t refusal = chip_write(&chip, taken);
+    if (chip.image[POWER] & POWER_DOWN) reset(reset_by_power);
+    return (int)refusal;
+}
+
+static int fake_write(const uint8_t *pair, int counts) {
     if (pair[0] == FLAGS) return fake_flags(pair[1]);
-    bus.sent++;
-    if (bus.resets == bus.sent) {
-        chip = fresh;
-        chip.image[0x41] |= 0x40;                       /* as after a hot plug */
+    bus.sent += counts;
+    if (late_flag && counts && bus.sent == 1) chip.image[FLAGS] &= (uint8_t)~PLUG_FLAG;
+    if (counts && bus.resets == bus.sent) {
+        reset(reset_by_plug);
+        memset(chip.mark, 0, sizeof chip.mark);
     }
-    int fails = bus.fails && (bus.sent == bus.fails || (bus.for_good && bus.sent > bus.fails));
+    int fails = counts && bus.fails && (bus.sent == bus.fails || (bus.for_good && bus.sent > bus.fails));
     if (!fails || (bus.how == NOT_HEARD && bus.sent == bus.fails)) {
         struct sent s = chip_sent(&chip);
-        wrong += chip_write(&chip, pair) != 0;
+        wrong += take(pair) != 0;
         opened_early += s.waiting && s.mute == STATION_MUTED && chip_sent(&chip).mute == STATION_OPEN;
+        look();
     }
     if (fails) errno = EREMOTEIO;
     return fails ? -1 : 1;
 }
 
-static int fake_ioctl(int b, unsigned long what, void *data) {
-    if (what == I2C_SLAVE) return data == (void *)0x39 ? 0 : -1;
-    struct i2c_rdwr_ioctl_data *d = data;
-    struct i2c_msg *m = d->msgs;
-    wrong += b != BUS || what != I2C_RDWR || !bus.locked;
-    tick();
-    for (uint32_t i = 0; i < d->nmsgs; i++) wrong += m[i].addr != 0x39;
-    if (d->nmsgs == 1 && m[0].flags == 0 && m[0].len == 2) return fake_write(m[0].buf);
-    if (d->nmsgs == 2 && m[0].flags == 0 && m[0].len == 1 && m[1].flags == I2C_M_RD && m[0].buf[0] + m[1].len <= STATION_IMAGE) {
-        int flags = m[0].buf[0] == FLAGS;
-        if (bus.dead || (bus.no_flags && flags)) return -1;
-        if (!flags) bus.reads++, bus.registers += m[1].len;
-        if (bus.turning) chip.image[COLOUR_DEPTH] = (uint8_t)(chip.image[COLOUR_DEPTH] + 0x10);
-        chip.image[FLAGS] = (uint8_t)((chip.image[FLAGS] & ~VSYNC_FLAG) | (video.flag || video.stuck ? VSYNC_FLAG : 0));
-        memcpy(m[1].buf, chip.image + m[0].buf[0], m[1].len);
-        return 2;
+/* Two writes in one transfer are the mute and the power, in this order. A host without the mute has them the other way round. */
+static int fake_two(struct i2c_msg *m) {
+    const uint8_t *first = m[no_mute].buf, *second = m[!no_mute].buf;
+    wrong += m[0].buf[0] != MUTE || (m[0].buf[1] & MUTE_BITS) != MUTED || m[1].buf[0] != POWER || m[1].buf[1] & POWER_DOWN;
+    fake_write(first, 0);
+    plug_at(IN);
+    fake_write(second, 0);
+    return 2;
+}
+
+static int fake_read(uint8_t first, uint8_t *bytes, uint16_t length) {
+    int flags = first == FLAGS;
+    if (bus.dead || (bus.no_flags && flags)) return -1;
+    if (!flags && first != STATE) bus.reads++, bus.registers += length;
+    if (bus.turning) chip.image[COLOUR_DEPTH] = (uint8_t)(chip.image[COLOUR_DEPTH] + 0x10);
+    chip.image[FLAGS] = (uint8_t)((chip.image[FLAGS] & ~VSYNC_FLAG) | (video.flag || video.stuck ? VSYNC_FLAG : 0));
+    for (uint16_t k = 0; k < length; k++) {
+        if (k == length / 2) plug_at(IN);
+        bytes[k] = chip.image[first + k];
+        if ((no_look || (late_flag && !bus.sent)) && first + k == FLAGS) bytes[k] &= (uint8_t)~PLUG_FLAG;
     }
+    return 2;
+}
+
+/* Is it the mute of a bring-up, which a host without it does not send? */
+static int is_early_mute(const uint8_t *pair) { return no_mute && pair[0] == MUTE && (chip.image[POWER] & POWER_DOWN); }
+
+static int fake_transfer(struct i2c_rdwr_ioctl_data *d) {
+    struct i2c_msg *m = d->msgs;
+    if (d->nmsgs == 1 && m[0].flags == 0 && m[0].len == 2) {
+        plug_at(IN);
+        return is_early_mute(m[0].buf) ? 1 : fake_write(m[0].buf, 1);
+    }
+    if (d->nmsgs == 2 && m[0].flags == 0 && m[0].len == 2 && m[1].flags == 0 && m[1].len == 2) return fake_two(m);
+    if (d->nmsgs == 2 && m[0].flags == 0 && m[0].len == 1 && m[1].flags == I2C_M_RD && m[0].buf[0] + m[1].len <= STATION_IMAGE)
+        return fake_read(m[0].buf[0], m[1].buf, m[1].len);
     wrong++;
     return -1;
+}
+
+static int fake_ioctl(int b, unsigned long what, void *data) {
+    if (what == I2C_SLAVE) {
+        errno = EBUSY;
+        wrong += data != (void *)chip_at;
+        return bus.driver ? -1 : 0;
+    }
+    struct i2c_rdwr_ioctl_data *d = data;
+    wrong += b != BUS || what != I2C_RDWR || !bus.locked;
+    for (uint32_t i = 0; i < d->nmsgs; i++) wrong += d->msgs[i].addr != chip_at;
+    line.transfers++;
+    if (line.transfers == line.kills) longjmp(killed, 1);
+    tick();
+    plug_at(BEFORE);
+    int answer = fake_transfer(d);
+    plug_at(AFTER);
+    return answer;
 }
 
 /* ---- The tests. */
@@ -136,15 +273,17 @@ static long writes;
 static struct chip start, end;
 static struct sent old, new;
 
-/* The end is that of a run without a cut: the registers, but for the flags, and all three groups in use; nothing waits. */
-static int is_end(const struct chip *c) {
+/* As a finished run left it: the registers, but for the flags, and all three groups in use; nothing waits. */
+static int is_as(const struct chip *c, const struct chip *left, const struct sent *in_use) {
     struct chip now = *c;
     struct sent s = chip_sent(c);
-    now.image[FLAGS] = end.image[FLAGS];
-    return !memcmp(now.image, end.image, sizeof end.image) && !memcmp(&s, &new, sizeof s);
+    now.image[FLAGS] = left->image[FLAGS];
+    return !memcmp(now.image, left->image, sizeof left->image) && !memcmp(&s, in_use, sizeof s);
 }
 
+static int is_end(const struct chip *c) { return is_as(c, &end, &new); }
 static int ended(void) { return is_end(&chip); }
+static int finished(void) { return is_as(&chip, &end, &new) || is_as(&chip, &start, &old); }
 
 /* Each group in use is all old or all new. */
 static int whole(const struct chip *c) {
@@ -157,14 +296,13 @@ static int whole(const struct chip *c) {
 static int careful(const struct chip *c) { return whole(c) && chip_sent(c).mute == STATION_MUTED; }
 
 /* A new run of the program on the bus as it is: opened, locked, closed. */
+enum { KILLED = -1 };
 static int again(struct request q) {
-    bus.sent = bus.reads = bus.registers = bus.locked = 0;
-    int b = bus_open("/dev/i2c-1"), status = show(b, q.bytes, q.length).status;
-    close(b);
-    return status;
+    bus.sent = bus.reads = bus.registers = bus.locked = bus.opened = line.transfers = 0;
+    return setjmp(killed) ? KILLED : run("/dev/i2c-1", q.bytes, q.length).status;
 }
 
-static void heal(void) { bus.fails = bus.resets = bus.how = bus.for_good = bus.dead = bus.no_flags = video.stuck = 0; }
+static void heal(void) { bus.fails = bus.resets = bus.how = bus.for_good = bus.dead = bus.no_flags = bus.driver = video.stuck = 0, bus.held_until = 0; }
 
 static void on_the_bus(void) {
     heal();
@@ -186,15 +324,13 @@ static void on_the_bus(void) {
     for (long k = 1; k <= writes; k++) {
         chip = start;
         bus.resets = k;
-        tell(again(asked) == FAILED && bus.sent == writes, "a reset", k);
+        tell(again(asked) == ACCEPTED && bus.sent > writes && ended(), "a reset", k);
         heal();
-        chip.image[0x41] &= 0xBF;
-        tell(again(asked) == ACCEPTED && ended(), "after a reset and bring-up", k);
     }
 }
 
 /* Which registers a list writes, by one on registers of which all is wrong. */
-static void find_written(uint8_t *written) {
+static void find_all(uint8_t *written) {
     uint8_t image[STATION_IMAGE], all[STATION_WRITES];
     for (int a = 0; a < STATION_IMAGE; a++) image[a] = (uint8_t)~end.image[a];
     image[0x4A] &= 0x8F;
@@ -203,17 +339,17 @@ static void find_written(uint8_t *written) {
     for (uint32_t w = 0; w < most; w++) written[all[2 * w]] = 1;
 }
 
-/* The other registers hold anything, but for power, monitor sense and the flags: the same list is sent, and they stay. */
+/* The other registers hold anything, but for power, the screen, monitor sense and the flags: the same list is sent, and they stay. */
 static void whatever_else(void) {
     uint8_t written[STATION_IMAGE];
     uint32_t noise = 1;
     heal();
-    find_written(written);
+    find_all(written);
     for (long k = 0; k < 200; k++) {
         struct chip was = start;
         for (int a = 0; a < STATION_IMAGE; a++) {
             noise = noise * 1664525 + 1013904223;
-            if (!written[a] && a != POWER && a != SENSE && a != FLAGS) was.image[a] = (uint8_t)(k ? noise >> 24 : 0xFF);
+            if (!written[a] && a != POWER && a != STATE && a != SENSE && a != FLAGS) was.image[a] = (uint8_t)(k ? noise >> 24 : 0xFF);
         }
         chip = was;
         int good = again(asked) == ACCEPTED && bus.sent == writes;
@@ -240,8 +376,8 @@ static void with_vsync(void) {
     video.frame = 17, video.low = 0;
 }
 
-/* No Vsync, a flag that is stuck, flags that cannot be reached, flags that are off: the picture stays muted, and the next run finishes. A
- * list that mutes is sent up to its last pair. */
+/* No Vsync, a flag that is stuck: the list is sent up to its last pair, and the picture stays muted. Flags that cannot be reached, or are off:
+ * nothing is sent. The next run finishes. */
 static void without_vsync(void) {
     struct { long frame; int stuck, no_flags; } cases[] = { { 0, 0, 0 }, { 17, 1, 0 }, { 17, 0, 1 } };
     for (long k = 0; k < 3; k++) {
@@ -249,7 +385,7 @@ static void without_vsync(void) {
         heal();
         video.frame = cases[k].frame, video.stuck = cases[k].stuck, bus.no_flags = cases[k].no_flags;
         long from = video.now;
-        tell(again(asked) == FAILED && bus.sent == writes - 1 && careful(&chip), "no Vsync", k);
+        tell(again(asked) == FAILED && (cases[k].no_flags ? bus.sent == 0 : bus.sent == writes - 1 && careful(&chip)), "no Vsync", k);
         tell(video.now - from < 2 * writes + 3 * PATIENCE, "no Vsync, and no end of waiting", video.now - from);
         video.frame = 17;
         heal();
@@ -276,8 +412,8 @@ static void on_states(void) {
     heal();
     chip = start;
     chip.image[0x4A] |= 0x10;
-    tell(again(bad) == REFUSED && again(none) == REFUSED && again(above) == REFUSED && again(under_d) == REFUSED && bus.sent == 0,
-         "a refused request", 0);
+    const struct request refused[] = { bad, none, above, under_d };
+    for (long k = 0; k < 4; k++) tell(again(refused[k]) == REFUSED && bus.opened == 0, "a refused request, and the bus opened", k);
     tell(again(asked) == ACCEPTED && bus.sent == writes + 1 && ended(), "the GC hold left up", 0);
     for (int holds = 0x30; holds <= 0x70; holds += 0x10) {
         if (holds == 0x40) continue;
@@ -285,6 +421,21 @@ static void on_states(void) {
         chip.image[0x4A] |= (uint8_t)holds;
         tell(again(asked) == FAILED && bus.sent == 0, "two holds left up", holds);
     }
+    /* Who has the lock, or a driver; no screen. */
+    chip = start;
+    bus.held_until = video.now + FOR_LOCK / 2;
+    tell(again(asked) == ACCEPTED && ended(), "a lock that comes free", 0);
+    chip = start;
+    bus.held_until = video.now + 10 * FOR_LOCK;
+    long from = video.now;
+    tell(again(asked) == FAILED && line.transfers == 0 && video.now - from < 2 * FOR_LOCK, "a lock that never comes free", video.now - from);
+    heal();
+    bus.driver = 1;
+    tell(again(asked) == FAILED && line.transfers == 0, "a driver has the chip", 0);
+    heal();
+    chip.image[STATE] &= (uint8_t)~SCREEN;
+    from = video.now;
+    tell(again(asked) == FAILED && bus.sent == 0 && video.now - from < 3 * FOR_SCREEN, "no screen", video.now - from);
     chip = start;
     bus.dead = 1;
     tell(again(asked) == FAILED && bus.sent == 0, "a bus that cannot be read", 0);
@@ -351,19 +502,181 @@ static void in_bursts(void) {
     printf("bursts: %ld\n", transfers);
 }
 
-/* Registers with mandated bits that no list writes. */
-static void bring_up(void) {
+/* Registers with mandated bits that no list writes; bring-up. */
+static void bring_ups(void) {
     uint8_t written[STATION_IMAGE];
+    struct setting s;
     int count = 0;
-    find_written(written);
+    find_all(written);
     for (int a = 0; a < STATION_IMAGE; a++) count += !written[a] && station_class((uint8_t)a).mandated != 0;
     printf("bring-up: %d\n", count);
+    tell(board_is_free(), "the board's bits are free", 0);
+    /* Each register with other bits than bring-up wants there: it sets those, and keeps the others but for the mute and the power. */
+    find_settings(&s);
+    for (int a = 0; a < STATION_IMAGE; a++) {
+        if (!s.bits[a] || a == POWER) continue;
+        chip = start;
+        chip.image[POWER] |= POWER_DOWN, chip.image[a] ^= 0xFF;
+        if (reset_by_power(a)) continue;
+        bus.locked = 1;
+        tell(bring_up(BUS, chip.image[MUTE], chip.image[POWER]) == 0 && chip.image[POWER] == start.image[POWER] &&
+             (chip.image[MUTE] & MUTE_BITS) == MUTED && chip.image[a] == (uint8_t)((~start.image[a] & ~s.bits[a]) | s.value[a]), "bring-up", a);
+    }
 }
 
-static void waiting(void) { printf("Vsync: %s, %d ms\n", EDGES == 2 ? "two" : "another number", PATIENCE); }
+/* ---- Hot plugs. */
+
+static void calm(void) {
+    heal();
+    memset(&plugs, 0, sizeof plugs), memset(&line, 0, sizeof line);
+    stranger = NOBODY, no_look = late_flag = no_mute = 0;
+    chip.image[STATE] |= SCREEN;
+}
+
+/* After the last event the screen is back, and whoever watches for hot plugs starts the host once more. */
+static int again_at_last(void) {
+    memset(plugs.at, 0, sizeof plugs.at), plugs.at_ms = 0, line.kills = 0, no_look = late_flag = no_mute = 0;
+    for (int t = 0; t < 300; t++) tick();
+    stranger = NOBODY;
+    return again(asked) == ACCEPTED && ended();
+}
+
+/* One hot plug, at each moment of a run: before, in and after each transfer, with the line low for 3 and for 100 ms, and writes taken or lost
+ * meanwhile. */
+static long moments;                                    /* transfers of a run, three each */
+static long runs, open_runs;                            /* runs with a hot plug, and those that showed an open picture that was none */
+static struct { enum by stranger; int no_look, late_flag, no_mute, kills; } under;
+static void one_hot_plug(const char *what, int must_finish) {
+    static const long lows[] = { 3, 100 };
+    runs = open_runs = 0, judge.points = judge.open = judge.unmuted = 0;
+    for (int l = 0; l < 2; l++)
+        for (int lost = 0; lost < 2; lost++)
+            for (long at = 1; at <= moments / PHASES; at++)
+                for (int p = BEFORE; p < PHASES; p++) {
+                    calm();
+                    chip = start;
+                    plugs.at[0] = at, plugs.phase[0] = (enum phase)p, plugs.low = lows[l], plugs.lost = lost;
+                    stranger = under.stranger, no_look = under.no_look, late_flag = under.late_flag, no_mute = under.no_mute;
+                    line.kills = under.kills ? at + under.kills : 0;
+                    long before = judge.open + judge.unmuted;
+                    judge.on = 1;
+                    int status = again(asked);
+                    if (must_finish) tell(status == ACCEPTED || (under.kills && status == KILLED), what, at);
+                    int good = again_at_last();
+                    judge.on = 0;
+                    if (must_finish) tell(good, what, -at);
+                    runs++, open_runs += judge.open + judge.unmuted > before;
+                }
+}
+
+static void hot_plugs(void) {
+    static const int kills[] = { 1, 2, 5, 9, 14, 20, 33, 60 };
+    calm();
+    chip = start;
+    tell(again(asked) == ACCEPTED && ended(), "a run", 0);
+    moments = PHASES * line.transfers;
+    memset(&under, 0, sizeof under);
+    one_hot_plug("a hot plug", 1);
+    tell(open_runs == 0, "a hot plug: open or unmuted on neither request", open_runs);
+    printf("hot plug: %ld moments, %ld runs, %ld points, %ld wrong\n", moments, runs, judge.points, open_runs);
+    for (size_t k = 0; k < sizeof kills / sizeof kills[0]; k++) {
+        under.kills = kills[k];
+        one_hot_plug("a hot plug and a kill", 1);
+        tell(open_runs == 0, "a hot plug and a kill: open or unmuted on neither request", open_runs);
+    }
+    under.kills = 0, under.stranger = CAREFUL;
+    one_hot_plug("a hot plug and a stranger", 1);
+    tell(open_runs == 0, "a hot plug, and somebody brings the chip up outside the lock", open_runs);
+    under.stranger = CARELESS;
+    one_hot_plug("a hot plug and a careless stranger", 0);
+    tell(judge.open > 0 && judge.unmuted > 0, "somebody who powers the chip outside the lock and without the mute is not found out", judge.open);
+    under.stranger = CAREFUL, under.late_flag = 1;
+    one_hot_plug("the flag taken down late", 0);
+    tell(open_runs > 0, "a host that takes 0x96[7] down after the read-back is not found out", open_runs);
+    printf("late flag: %ld of %ld\n", open_runs, runs);
+    under.late_flag = 0, under.no_look = 1;
+    one_hot_plug("no look", 0);
+    tell(open_runs > 0, "a host that does not look at 0x96[7] is not found out", open_runs);
+    printf("no look: %ld of %ld\n", open_runs, runs);
+    memset(&under, 0, sizeof under);
+    under.no_mute = 1;
+    one_hot_plug("no mute", 0);
+    tell(open_runs > 0, "a host that powers the chip before the mute is not found out", open_runs);
+    printf("power before mute: %ld of %ld\n", open_runs, runs);
+    memset(&under, 0, sizeof under);
+    calm();
+}
+
+/* A host that waits by time: at each ms of its run a hot plug. It may look at 0x41[6] before the last pair. Then the chip is brought up, after the mute
+ * or without it. How many of these runs show an open picture that is none. */
+enum { BY_TIME = 60 };
+static long by_time(int looks, enum by afterwards) {
+    const uint8_t power[] = { POWER, 0x10 };
+    long count = 0;
+    for (long at = 1; at < 3 * BY_TIME; at++) {
+        calm();
+        chip = start, judge.on = 1, bus.locked = 1, judge.open = 0;
+        plugs.at_ms = video.now + at, plugs.low = 3;
+        uint8_t pairs[STATION_WRITES], byte;
+        uint32_t n = station_plan(asked.bytes, asked.length, chip.image, STATION_IMAGE, pairs, sizeof pairs).count;
+        for (uint32_t w = 0; w + 1 < n; w++) bus_write(BUS, pairs[2 * w], pairs[2 * w + 1]);
+        for (int t = 0; t < BY_TIME; t++) tick();
+        if (!looks || (bus_read(BUS, POWER, 1, &byte) == 0 && !(byte & POWER_DOWN))) bus_write(BUS, pairs[2 * n - 2], pairs[2 * n - 1]);
+        for (int t = 0; t < 3 * BY_TIME; t++) tick();
+        if (afterwards == CARELESS && (chip.image[POWER] & POWER_DOWN)) take(power), look();
+        if (afterwards == CAREFUL) tell(again_at_last(), "after a wait by time", at);
+        count += judge.open > 0;
+        judge.on = 0;
+    }
+    calm();
+    return count;
+}
+
+static void hot_plugs_by_time(void) {
+    long blind = by_time(0, CARELESS), looking = by_time(1, CARELESS), muted = by_time(0, CAREFUL);
+    tell(blind > 0, "a wait by time without a look at 0x41[6], and bring-up without the mute, is not found out", blind);
+    /* Between the look and the last pair there is a moment. */
+    tell(looking <= 1, "a wait by time, with a look at 0x41[6]", looking);
+    tell(muted == 0, "a wait by time, with the mute before the power", muted);
+    printf("by time: %ld of %d, with a look %ld, with the mute %ld\n", blind, 3 * BY_TIME - 1, looking, muted);
+}
+
+/* Chains: hosts that are killed or not, each with up to four hot plugs anywhere, and at last one in peace. */
+enum { CHAINS = 2000 };
+static void hot_plugs_in_chains(void) {
+    uint32_t noise = 7;
+    long kills = 0, before = 0;
+    judge.points = judge.open = judge.unmuted = 0;
+    for (long c = 0; c < CHAINS; c++) {
+        calm();
+        chip = start;
+        judge.on = 1;
+        for (uint32_t h = 0, hosts = 1 + (noise >> 28) % 4; h < hosts; h++) {
+            for (int k = 0; k < PLUGS; k++) {
+                noise = noise * 1664525 + 1013904223;
+                plugs.at[k] = (noise >> 24) % 3 ? (long)((noise >> 10) % 400) : 0, plugs.phase[k] = (enum phase)((noise >> 20) % PHASES);
+            }
+            noise = noise * 1664525 + 1013904223;
+            plugs.low = 1 + (long)(noise >> 10) % 150, plugs.lost = (noise >> 30) & 1;
+            line.kills = (noise >> 29) & 1 ? (long)((noise >> 12) % 300) : 0;
+            kills += again(asked) == KILLED;
+        }
+        tell(again_at_last(), "a chain of hot plugs", c);
+        judge.on = 0;
+        if (judge.open + judge.unmuted > before) tell(0, "a chain of hot plugs: open or unmuted on neither request", c);
+        before = judge.open + judge.unmuted;
+    }
+    printf("chains of hot plugs: %d, %ld kills, %ld points, %ld wrong\n", CHAINS, kills, judge.points, judge.open + judge.unmuted);
+    calm();
+}
+
+static void waiting(void) {
+    printf("Vsync: %s, %d ms\n", EDGES == 2 ? "two" : "another number", PATIENCE);
+    printf("lock: %d s, screen: %d s\n", FOR_LOCK / 1000, FOR_SCREEN / 1000);
+}
 
 int main(void) {
-    chip = fresh;
+    memcpy(chip.image, defaults, sizeof defaults);
     asked = request_of_text(MAY_ASKED);
     tell(again(request_of_text(MAY_BEFORE)) == ACCEPTED, "the first request", 0);
     start = end = chip;
@@ -377,7 +690,12 @@ int main(void) {
     on_states();
     gone_on();
     in_bursts();
-    bring_up();
+    bring_ups();
+    hot_plugs();
+    hot_plugs_by_time();
+    hot_plugs_in_chains();
+    chip = start, chip_at = OTHER_CHIP;
+    tell(again(asked) == ACCEPTED && ended(), "the chip at its other address", OTHER_CHIP);
     waiting();
     tell(opened_early == 0, "the picture opened while new coefficients waited", opened_early);
     tell(wrong == 0, "messages that a chip does not understand, or writes without the lock", wrong);
