@@ -294,11 +294,31 @@ struct request request_of_text(const char *format, ...) {
     return request_of_words(count, words);
 }
 
+/* Where the byte of a field stands in a request; 0, where no field's does, if its section is left out. */
+static size_t place_of(const struct request *q, const struct field *f) {
+    size_t at = 0;
+    for (int s = 0; s < f->section && at < q->length; s++) at += 1u + q->bytes[at];
+    return at < q->length && q->bytes[at] > f->at && at + 1u + f->at < q->length ? at + 1u + f->at : 0;
+}
+
+int value_of_field(const struct request *q, const char *name) {
+    const struct field *f = field_of(name);
+    size_t at = place_of(q, f);
+    return at ? q->bytes[at] >> f->shift & ((1 << f->bits) - 1) : -1;
+}
+
+struct request with_field(struct request q, const char *name, int value) {
+    const struct field *f = field_of(name);
+    size_t at = place_of(&q, f);
+    int mask = ((1 << f->bits) - 1) << f->shift;
+    if (at) q.bytes[at] = (uint8_t)((q.bytes[at] & ~mask) | (value << f->shift & mask));
+    return q;
+}
+
 struct request as_read_back(struct request q) {
-    uint8_t *video = q.bytes + 1;
-    const struct field *family = field_of("family"), *edition = field_of("edition");
-    video[family->at] = 0;
-    if (video[edition->at] >> edition->bits == 0) video[edition->at] = 0;
+    q = with_field(q, "family", 0);
+    if (value_of_field(&q, "quantisation") == 0 && value_of_field(&q, "content") == 0 && value_of_field(&q, "reserved") == 0)
+        q = with_field(q, "edition", 0);
     return q;
 }
 
