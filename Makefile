@@ -6,7 +6,10 @@
 #                  instructions, bars; writes and bus time of typical changes
 #   make tests     tests/run
 #   make peers     Linux's reader of InfoFrames on every packet that we finish; fetches its source (Debian's linux-source), no part of the gate
-#   make install   the archive, the headers and a pkg-config file, into PREFIX (/usr/local), below DESTDIR where that is given
+#   make install   the archive, the headers and a pkg-config file, the tools and the pages, into PREFIX (/usr/local), below DESTDIR where that is given
+#   make install-tools  of these the tools (bin/station-review and so on), the pages and host/i2c.c (share/doc/station) alone
+#   make helps     writes what --help prints into programs/help, which the scripts of tools/ show before anything is built
+#   make pages     pages of vendors' lists and of runs, into target/pages: what tests/browser looks at
 #   make clean     takes away what make has built of C; what rt has proved and built (the rest of target/) stays
 #   make help      this list
 LIB      = target/staticlib/libstation.a
@@ -20,7 +23,7 @@ PREFIX   = /usr/local
 TO       = $(DESTDIR)$(PREFIX)
 VERSION  = $(shell sed -n 's/^.define STATION_VERSION "\(.*\)"/\1/p' include/station.h)
 
-.PHONY: all programs host bench tests peers install clean help
+.PHONY: all programs host bench tests peers install install-tools helps pages clean help
 all: $(BINARIES)
 programs: $(PROGRAMS)
 host: target/c/host
@@ -32,12 +35,25 @@ peers:
 	@tests/peers/run
 tests:
 	@tests/run
-install: $(LIB)
+install: $(LIB) install-tools
 	install -d $(TO)/include $(TO)/lib/pkgconfig $(TO)/share/doc/station
 	install -m 644 include/station.h include/station_text.h $(TO)/include
 	install -m 644 $(LIB) $(TO)/lib
 	sed -e 's|@PREFIX@|$(PREFIX)|' -e 's|@VERSION@|$(VERSION)|' include/station.pc.in >$(TO)/lib/pkgconfig/station.pc
 	install -m 644 LICENSE CHANGELOG.md $(TO)/share/doc/station
+TOOLS    = image listing meter modes picture request review
+install-tools: $(addprefix target/c/,$(TOOLS))
+	install -d $(TO)/bin $(addprefix $(TO)/share/doc/station/,docs host programs)
+	for tool in $(TOOLS); do install -m 755 target/c/$$tool $(TO)/bin/station-$$tool || exit 1; done
+	install -m 644 docs/*.md $(TO)/share/doc/station/docs
+	install -m 644 README.md $(TO)/share/doc/station
+	install -m 644 host/i2c.c $(TO)/share/doc/station/host
+	install -m 644 programs/words.c programs/words.h $(TO)/share/doc/station/programs
+helps: $(addprefix target/c/,$(TOOLS))
+	mkdir -p programs/help
+	setup=$$(tools/setup) && eval "$$setup" && for tool in $(TOOLS); do $$RUN target/c/$$tool --help >programs/help/$$tool || exit 1; done
+pages: $(addprefix target/c/,listing picture request review)
+	@tests/browser --pages
 clean:
 	rm -rf target/c
 help:

@@ -9,12 +9,12 @@
 
 const char list_help[] =
     "  4b 40                         pairs of address and value in hex, a byte of one\n"
-    "  0x4B, 0x40,                   or two digits. A line may have several pairs, and\n"
+    "  0x4B, 0x40,                   or two digits. A line may have several pairs;\n"
     "  4Bh 40h                       no pair goes on in the next line\n"
     "  0x4B = 0x40\n"
     "  0x4B;0x40\n"
     "  {0x4B,0x40},                  rows of C, with or without the array around them\n"
-    "  72 4B 40                      chip address, register, value; in every line then\n"
+    "  72 4B 40                      chip address, register, value, in every line\n"
     "  Address,Value,Comment         a sheet: its heading names the two columns\n"
     "  i2cset -y 1 0x39 0x4b 0x40    a pair; also with 'b' at the end\n"
     "  i2ctransfer -y 1 w2@0x39 0x4b 0x40\n"

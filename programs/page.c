@@ -30,7 +30,7 @@ static const char style[] =
     "#die { stroke: #000; stroke-width: 3; stroke-dasharray: 9 5 }\n"
     "@media (max-width: 700px) { body { padding: 0 10px } .banner { gap: 10px; font-size: 15px } .sign { font-size: 32px }\n"
     "  dl { grid-template-columns: 1fr } dt { margin-top: 4px } .sig { grid-template-columns: 1fr; gap: 6px } }\n"
-    "@media print { body { font-size: 11px } .cutter { display: none } pre { font-size: 10px; white-space: pre-wrap; overflow: visible }\n"
+    "@media print { body { font-size: 11px } code { font-size: 10px } .key { break-inside: avoid } .cutter { display: none } pre { font-size: 10px; white-space: pre-wrap; overflow: visible }\n"
     "  table { font-size: 10px } td.src { max-width: 200px } h3 { break-after: avoid } .mend, .banner, .sig, pre { break-inside: avoid } }\n";
 
 /* ---- A stranger's text. */
@@ -108,7 +108,7 @@ static void print_facts(const struct review *v) {
     memcpy(list.sha256, l->sha256, SHA256);
     printf("<dl>\n");
     print_given("list", &list, NULL);
-    if (v->is_read) printf("<dd style='grid-column:2'>%lu pair%s in %lu line%s%s\n", (unsigned long)l->all / 2, l->all == 2 ? "" : "s", l->lines,
+    if (v->is_read) printf("<br>%lu pair%s in %lu line%s%s\n", (unsigned long)l->all / 2, l->all == 2 ? "" : "s", l->lines,
                            l->lines == 1 ? "" : "s", !l->bare ? "" : l->base == DECIMAL ? ", numbers read as decimal" : ", numbers read as hex");
     print_given("registers", &v->registers, "zeros, of no real chip");
     print_given("packet buffer", &v->packet, NULL);
@@ -126,9 +126,12 @@ static void print_facts(const struct review *v) {
     printf("</dl>\n");
 }
 
+/* A sentence begins with a capital. */
+static void print_sentence(const char *text) { printf("%c%s", *text >= 'a' && *text <= 'z' ? *text - 'a' + 'A' : *text, text + 1); }
+
 static void tell_note(const char *text) { printf("<p class='note'>%s</p>\n", text); }
 static void tell_worth(const char *text) { printf("<p class='note'><b>Worth knowing:</b> %s</p>\n", text); }
-static void tell_item(const char *text) { printf("<li>%s</li>\n", text); }
+static void tell_item(const char *text) { printf("<li>"), print_sentence(text), printf("</li>\n"); }
 
 /* ---- The vendor's lines. */
 
@@ -180,6 +183,12 @@ static void print_pair(const struct review *v, uint32_t place, uint8_t address, 
     else printf("0x%02x, 0x%02x,", address, value);
 }
 
+/* Is that a pair as the mends have it? */
+static int is_plain(const struct review *v, uint32_t place) {
+    const char *line = v->j.count ? line_of(&v->list, v->list.line[place < v->j.count ? place : v->j.count - 1]) : "";
+    return v->list.bare && v->list.base == HEX && !strstr(line, "i2c") && !strchr(line, '{');
+}
+
 /* ---- Findings. */
 
 static unsigned print_mends(const struct review *v, uint32_t why) {
@@ -190,7 +199,7 @@ static unsigned print_mends(const struct review *v, uint32_t why) {
         if (p->change == KEPT || p->why != why) continue;
         if (!count++) printf("<div class='mend'><b>Mend:</b><ul>\n");
         printf("<li>%s", text_of_change(v, p, text));
-        if (p->change != LEFT_OUT) printf(": <code>"), print_pair(v, p->place, p->address, p->value), printf("</code>");
+        if (p->change != LEFT_OUT && !is_plain(v, p->place)) printf(": <code>"), print_pair(v, p->place, p->address, p->value), printf("</code>");
         printf("</li>\n");
     }
     if (count) printf("</ul></div>\n");
@@ -216,14 +225,21 @@ static void print_findings(const struct review *v) {
     printf("<h2>What is wrong, and how it is mended</h2>\n");
     for (int f = 0; f < FAULTS; f++) {
         if (!pairs_of_fault(v, f, &first)) continue;
-        printf("<h3>%u. %s, %s</h3>\n<p>%s.</p>\n", ++number, fault_words[f], text_of_places(v, f, places), fault_says[f]);
+        printf("<h3>%u. ", ++number);
+        print_sentence(fault_words[f]);
+        printf(", %s</h3>\n<p>", text_of_places(v, f, places));
+        print_sentence(fault_says[f]);
+        printf(".</p>\n");
         print_lines_of_fault(v, f);
         if (f == NOT_MANDATED || f == FREE_MOVED) {
             printf("<ul>\n");
             for (uint32_t i = 0, told = 0; i < v->j.count && told < 12; i++) {
                 char text[TEXT_OF_FAULTS];
-                if (!v->j.pairs[i].broken[f]) continue;
-                text_of_faults(v->list.bytes[2 * i], &v->j.pairs[i], text);
+                struct judged alone = v->j.pairs[i];
+                if (!alone.broken[f]) continue;
+                memset(alone.broken, 0, sizeof alone.broken);
+                alone.broken[f] = 1;
+                text_of_faults(v->list.bytes[2 * i], &alone, text);
                 printf("<li>at %u, line %lu: %s</li>\n", (unsigned)i, v->list.line[i], text), told++;
             }
             printf("</ul>\n");
@@ -231,7 +247,7 @@ static void print_findings(const struct review *v) {
         if (!print_mends(v, (uint32_t)f) && v->mend.accepted) printf("<p class='mend'><b>Mend:</b> by the changes of the others.</p>\n");
     }
     if (!v->ends) {
-        printf("<h3>%u. the end</h3>\n<p>No request ends in the registers that the list leaves.</p>\n<ul>\n", ++number);
+        printf("<h3>%u. The end</h3>\n<p>No request ends in the registers that the list leaves.</p>\n<ul>\n", ++number);
         tell_bad_end(&v->j.last, tell_item);
         printf("</ul>\n");
         print_nearest(v);
@@ -294,7 +310,9 @@ static void play(const struct review *v, struct run *r) {
 
 /* What is left where the host dies: a script moves a line over the drawing. Without one nothing of this is seen, and the table has it all. */
 static void print_slider(const struct review *v, const struct run *r) {
-    int last = 0;
+    int last = 0, first_bad = 0;
+    for (int m = r->count; m-- > 0; )
+        if (r->moments[m].is_bad) first_bad = m;
     printf("<div class='cutter' id='cutter' hidden><label>The host dies after <b id='after'></b>\n"
            "<input type='range' id='k' min='0' max='0' value='0'></label><div id='left'></div></div>\n<script>\n(function () {\n  var s = [");
     for (int m = 0; m < r->count; m++) {
@@ -317,7 +335,7 @@ static void print_slider(const struct review *v, const struct run *r) {
            "      (t[5] ? ', a new one waiting for Vsync' : '') + '.';\n"
            "    line.setAttribute('d', 'M' + t[6] + ' 17V%d');\n"
            "  }\n"
-           "  k.addEventListener('input', show); show();\n})();\n</script>\n", drawing_high() - 4);
+           "  k.addEventListener('input', show); k.value = %d; show();\n})();\n</script>\n", drawing_high() - 4, first_bad);
 }
 
 static void print_time(const struct review *v, struct run *r) {
@@ -331,7 +349,7 @@ static void print_time(const struct review *v, struct run *r) {
     printf("</div>\n");
     print_slider(v, r);
     printf("<p>Of %d places where a host may die, something in use is torn at <b>%d</b>; after the first pair and before the last the picture is "
-           "not muted at <b>%d</b>. A cross and a red column mark each bad pair.</p>\n", t.all, t.torn, t.shown);
+           "not muted at <b>%d</b>. %s</p>\n", t.all, t.torn, t.shown, v->verdict.refusal == STATION_BAD_PAIR ? "A cross and a red column mark each bad pair." : "");
     if (v->j.end < v->j.count)
         printf("<p>The pair at %u would leave two packet holds up: the chip does not take it, and the list ends before it; %u of its %u pairs are "
                "drawn.</p>\n", (unsigned)v->j.end, (unsigned)v->j.end, (unsigned)v->j.count);
