@@ -4,7 +4,7 @@
 /* ---- The nearest request. */
 
 enum { GC = 0x4B, MUTE_BITS = 0xC0, MUTE = 0x40, HOLDS = 0x4A, PACKET_HOLDS = 0x70, MATRIX_HOLD = 0x1A, MATRIX_HOLD_BIT = 0x20, VIC = 0x3C,
-       AVI_SUM = 0x54, AVI_VIC = 0x58, AUDIO_SUM = 0x72, AVI_BYTE_5 = 0x59, MODES = 3, EDITIONS = 3 };
+       AVI_SUM = 0x54, AVI_VIC = 0x58, AUDIO_SUM = 0x72, AVI_BYTE_5 = 0x59, MODES = 3, EDITIONS = 3, YQ = 0xC0, CN = 0x30, OF_E = YQ | CN, CONVERTER = 0x18 };
 
 static unsigned bits_of(unsigned byte) {
     unsigned n = 0;
@@ -68,7 +68,7 @@ static void look_at_fields(struct search *s, struct request q, const char *const
     for (int value = 0; word_of_value(*names, value); value++) look_at_fields(s, with_field(q, *names, value), names + 1);
 }
 
-/* Sections as registers have them: with sound and without, with their matrix, in each mode where theirs is none, and without. */
+/* Sections as registers have them: with sound and without, with their matrix, in each mode where theirs is none (3), and without. */
 static void look_at_sections(struct search *s, int vic, int with_sound, int mode) {
     static const char *const names[] = { "family", "encoding", "link", "range", "depth", "repetition", NULL };
     char text[TEXT_OF_A_REQUEST] = "";
@@ -82,6 +82,7 @@ static void look_at_sections(struct search *s, int vic, int with_sound, int mode
     }
     struct request q = request_of_text("vic %d rgb hdmi%s%s", vic, with_sound ? " audio 48kHz 2" : "", text);
     for (int e = 0; e < EDITIONS; e++) {                        /* D; E with the registers' own bits; E with their content type alone */
+        if ((e == 1 && !(s->image[AVI_BYTE_5] & OF_E)) || (e == 2 && (!(s->image[AVI_BYTE_5] & CN) || !(s->image[AVI_BYTE_5] & YQ)))) continue;
         q = with_field(q, "edition", e > 0);
         q = with_field(q, "quantisation", e == 1 ? s->image[AVI_BYTE_5] >> 6 & 1 : 0);
         q = with_field(q, "content", e > 0 ? s->image[AVI_BYTE_5] >> 4 & 3 : 0);
@@ -91,7 +92,7 @@ static void look_at_sections(struct search *s, int vic, int with_sound, int mode
 
 int nearest_request(const uint8_t image[STATION_IMAGE], const struct request *begun, struct nearest *n) {
     struct search s = { image, { 0 }, ~0u, n };
-    int vics[] = { image[AVI_VIC] & 0x7F, image[VIC] & 0x3F, begun ? value_of_field(begun, "vic") : -1 };
+    int own = image[CONVERTER] >> 5 & 3, vics[] = { image[AVI_VIC] & 0x7F, image[VIC] & 0x3F, begun ? value_of_field(begun, "vic") : -1 };
     memcpy(s.base, image, STATION_IMAGE);
     s.base[HOLDS] &= (uint8_t)~PACKET_HOLDS;                    /* planning refuses two packet holds */
     s.base[MATRIX_HOLD] &= (uint8_t)~MATRIX_HOLD_BIT;
@@ -100,7 +101,8 @@ int nearest_request(const uint8_t image[STATION_IMAGE], const struct request *be
         for (size_t m = 0; m < number_of_modes; m++) known |= modes[m].vic == vics[v];
         for (int before = 0; before < v; before++) known &= vics[before] != vics[v];
         for (int sound = 0; known && sound < 2; sound++)
-            for (int mode = -1; mode < MODES; mode++) look_at_sections(&s, vics[v], sound, mode);
+            for (int mode = -1; mode < MODES; mode++)
+                if (mode < 0 || own == mode || own == MODES) look_at_sections(&s, vics[v], sound, mode);
     }
     return s.least != ~0u;
 }

@@ -156,6 +156,14 @@ static void add_line(const struct review *v, char *text, uint32_t place) {
     add(text, TEXT_OF_A_CHANGE, is_beside(v, place, 1, 1) ? "line %lu (at %u)" : "line %lu", v->list.line[place], (unsigned)place);
 }
 
+/* Pairs that are put into one place, and are told of by more than one finding: after which of them this one stands. */
+static void add_order(const struct review *v, const struct mended *p, char *text) {
+    int others = 0;
+    for (const struct mended *k = p; k-- > v->mend.pairs && k->change == PUT_IN && k->place == p->place && k->after == p->after; )
+        others |= k->why != p->why;
+    if (others) add(text, TEXT_OF_A_CHANGE, ", behind %02x %02x", p[-1].address, p[-1].value);
+}
+
 const char *text_of_change(const struct review *v, const struct mended *p, char text[TEXT_OF_A_CHANGE]) {
     *text = 0;
     switch (p->change) {
@@ -166,6 +174,7 @@ const char *text_of_change(const struct review *v, const struct mended *p, char 
                 add(text, TEXT_OF_A_CHANGE, "%s line %lu", p->after ? "after" : "before", v->list.line[p->place]);
             else add(text, TEXT_OF_A_CHANGE, "into line %lu, %s %02x %02x (at %u)", v->list.line[p->place], p->after ? "after" : "before",
                      v->list.bytes[2 * p->place], v->list.bytes[2 * p->place + 1], (unsigned)p->place);
+            add_order(v, p, text);
             break;
         case CHANGED:
             add(text, TEXT_OF_A_CHANGE, "write %02x %02x, not %02x %02x, in ", p->address, p->value, p->address, p->was);
