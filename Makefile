@@ -6,10 +6,13 @@
 #                  instructions, bars; writes and bus time of typical changes
 #   make tests     tests/run
 #   make peers     Linux's reader of InfoFrames on every packet that we finish; fetches its source (Debian's linux-source), no part of the gate
-#   make install   the archive, the headers and a pkg-config file, into PREFIX (/usr/local), below DESTDIR where that is given;
-#                  TARGET=aarch64-linux-gnu the archive for that processor (tools/archive --help has the four)
+#   make install   the archive, the headers and a pkg-config file, the tools and the pages, into PREFIX (/usr/local), below DESTDIR where that
+#                  is given; TARGET=aarch64-linux-gnu the archive for that processor (tools/archive --help has the four), without the tools
+#   make install-tools  of these the tools (bin/station-review and so on), the pages and host/i2c.c (share/doc/station) alone
 #   make archive   the archive for TARGET alone, target/archive/TARGET/libstation.a
 #   make targets   the archives for other processors, tried under emulators: installs Debian's cross compilers and qemu, some minutes
+#   make helps     writes what --help prints into programs/help, which the scripts of tools/ show before anything is built
+#   make pages     pages of vendors' lists and of runs, into target/pages: what tests/browser looks at
 #   make clean     takes away what make has built of C; what rt has proved and built (the rest of target/) stays
 #   make help      this list
 LIB      = target/staticlib/libstation.a
@@ -24,8 +27,7 @@ PREFIX   = /usr/local
 TO       = $(DESTDIR)$(PREFIX)
 VERSION  = $(shell sed -n 's/^.define STATION_VERSION "\(.*\)"/\1/p' include/station.h)
 
-.PHONY: archive targets
-.PHONY: all programs host bench tests peers install clean help
+.PHONY: all programs host bench tests peers install install-tools archive targets helps pages clean help
 all: $(BINARIES)
 programs: $(PROGRAMS)
 host: target/c/host
@@ -37,7 +39,7 @@ peers:
 	@tests/peers/run
 tests:
 	@tests/run
-install: $(ARCHIVE)
+install: $(ARCHIVE) $(if $(TARGET),,install-tools)
 	install -d $(TO)/include $(TO)/lib/pkgconfig $(TO)/share/doc/station
 	install -m 644 include/station.h include/station_text.h $(TO)/include
 	install -m 644 $(ARCHIVE) $(TO)/lib
@@ -46,6 +48,19 @@ install: $(ARCHIVE)
 archive: $(ARCHIVE)
 targets:
 	@tests/targets/run --all
+TOOLS    = image listing meter modes picture request review
+install-tools: $(addprefix target/c/,$(TOOLS))
+	install -d $(TO)/bin $(addprefix $(TO)/share/doc/station/,docs host programs)
+	for tool in $(TOOLS); do install -m 755 target/c/$$tool $(TO)/bin/station-$$tool || exit 1; done
+	install -m 644 docs/*.md $(TO)/share/doc/station/docs
+	install -m 644 README.md $(TO)/share/doc/station
+	install -m 644 host/i2c.c $(TO)/share/doc/station/host
+	install -m 644 programs/words.c programs/words.h $(TO)/share/doc/station/programs
+helps: $(addprefix target/c/,$(TOOLS))
+	mkdir -p programs/help
+	setup=$$(tools/setup) && eval "$$setup" && for tool in $(TOOLS); do $$RUN target/c/$$tool --help >programs/help/$$tool || exit 1; done
+pages: $(addprefix target/c/,listing picture request review)
+	@tests/browser --pages
 clean:
 	rm -rf target/c
 help:
@@ -57,11 +72,11 @@ target/c/image: programs/image.c programs/words.c
 target/c/listing: programs/listing.c programs/table.c programs/registers.c programs/chip.c programs/words.c
 target/c/meter: programs/meter.c programs/factors.c programs/words.c
 target/c/modes: programs/modes.c programs/clocks.c programs/fields.c programs/factors.c programs/words.c
-target/c/picture: programs/picture.c programs/chain.c programs/events.c programs/list.c programs/judge.c programs/registers.c \
+target/c/picture: programs/picture.c programs/draw.c programs/chain.c programs/events.c programs/registers.c \
   programs/fields.c programs/factors.c programs/chip.c programs/words.c
 target/c/request: programs/request.c programs/clocks.c programs/fields.c programs/factors.c programs/words.c
-target/c/review: programs/review.c programs/list.c programs/judge.c programs/table.c programs/registers.c programs/fields.c \
-  programs/factors.c programs/chip.c programs/words.c
+target/c/review: programs/review.c programs/page.c programs/draw.c programs/chain.c programs/events.c programs/mend.c programs/list.c programs/sha256.c programs/judge.c programs/table.c \
+  programs/registers.c programs/fields.c programs/factors.c programs/chip.c programs/words.c
 target/c/vectors: programs/vectors.c programs/clocks.c programs/fields.c programs/factors.c programs/words.c
 target/c/example: host/example.c
 target/c/host: host/host.c host/chain.c host/plugin.c programs/chain.c programs/events.c programs/fields.c programs/factors.c \

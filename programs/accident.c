@@ -130,5 +130,5 @@ int main(void) {
     tell_warning(&start, &list, &old, &new);
     tell_vsyncs(&start, &list, &old, &new);
     tell_state("Our list with no Vsync, at its end", after(start, &list, list.count), &old, &new);
-    return 0;
+    return printed(ACCEPTED);
 }

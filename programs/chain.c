@@ -160,13 +160,17 @@ static const uint8_t *kept_bits(void) {
     return kept;
 }
 
+static int is_of(const struct chain *c, enum group g, const struct sent *now, int k) {
+    return k >= OF_THE_BEGINNING && age(g, now, &c->asked[k], &c->asked[k]) != NEITHER;
+}
+
 static int whose(const struct chain *c, enum group g, const struct sent *now) {
     for (int k = (int)c->number; k >= OF_THE_BEGINNING; k--)
-        if (age(g, now, &c->asked[k], &c->asked[k]) != NEITHER) return k;
+        if (is_of(c, g, now, k)) return k;
     return MIXED;
 }
 
-struct point chain_point(const struct chain *c, const struct chip *now) {
+static struct point point_of(const struct chain *c, const struct chip *now) {
     static const char *const mutes[4] = { "neither muted nor open", "muted", "open", "neither muted nor open" };
     struct point p = { .sent = chip_sent(now) };
     const uint8_t *kept = kept_bits();
@@ -181,8 +185,17 @@ struct point chain_point(const struct chain *c, const struct chip *now) {
     return p;
 }
 
+struct point chain_point(struct chain *c, const struct chip *now) {
+    struct point p = point_of(c, now);
+    for (int g = 0; g < GROUPS; g++) {
+        if (is_of(c, (enum group)g, &p.sent, c->named[g])) p.whose[g] = c->named[g];
+        c->named[g] = p.whose[g];
+    }
+    return p;
+}
+
 void chain_end(const struct chain *c, const struct chip *now, char fault[TEXT_OF_A_FAULT]) {
-    struct point p = chain_point(c, now);
+    struct point p = point_of(c, now);
     struct request last = as_read_back(c->now.asked);
     uint8_t back[STATION_REQUEST];
     *fault = 0;

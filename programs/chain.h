@@ -32,6 +32,7 @@ struct chain {
     struct sent asked[LINKS + 1];   /* in use at the beginning; and at the end of each request so far, so played alone */
     struct link now;                /* the present link */
     uint32_t mute;                  /* as the picture must be */
+    int named[GROUPS];              /* whose each group was at the last point that was looked at */
 };
 
 /* The beginning of the chain of a seed: nothing has been asked. The same on every machine. */
@@ -43,12 +44,12 @@ int chain_next(struct chain *c, const struct chip *now);
 /* This event of the present link, counted from 0, happens: from its first write on the picture must be muted, from its last on open. */
 void chain_follow(struct chain *c, uint32_t event);
 
-/* A point: what is in use, and whose each group is: 0 as at the beginning, a link's number where it is whole as that request asked, the
- * latest so far; else it is mixed. `fault` says what does not hold here, and is empty where all does: a mixed group, a free or read-only
+/* A point: what is in use, and whose each group is: 0 as at the beginning, a link's number where it is whole as that request asked; else it
+ * is mixed. A name stays while it is right, from point to point; then it is the latest link's. `fault` says what does not hold here, and is empty where all does: a mixed group, a free or read-only
  * bit that is not as at the beginning, the mute. */
 enum { MIXED = -1, OF_THE_BEGINNING = 0 };
 struct point { struct sent sent; int whose[GROUPS]; char fault[TEXT_OF_A_FAULT]; };
-struct point chain_point(const struct chain *c, const struct chip *now);
+struct point chain_point(struct chain *c, const struct chip *now);
 
 /* The end, where the last link has finished: what does not hold, empty where all does. Every group is the last request's, the registers are
  * those that it makes alone of the beginning, and it reads back (as_read_back of fields.h). */

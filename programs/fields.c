@@ -71,7 +71,7 @@ static const struct field {
     { IN_AUDIO, 0, 0, 8, "rate", NULL,
       { { "32kHz", 0, "32 kHz" }, { "44.1kHz", 1, "44.1 kHz" }, { "48kHz", 2, "48 kHz" }, { "88.2kHz", 3, "88.2 kHz" },
         { "96kHz", 4, "96 kHz" }, { "176.4kHz", 5, "176.4 kHz" }, { "192kHz", 6, "192 kHz" } } },
-    { IN_AUDIO, 1, 0, 8, "channels", NULL, { { "2", 2, "two channels" }, { "8", 8, "eight channels" } } },
+    { IN_AUDIO, 1, 0, 8, "channels", NULL, { { "2", 2, "two channels" }, { "8", 8, "eight channels" }, { "stereo", 2, "two channels" } } },
     { IN_AUDIO, 2, 0, 8, "coherent", "not-coherent",
       { { "not-coherent", 0, "not coherent with the picture's clock: the chip measures CTS" },
         { "coherent", 1, "coherent with the picture's clock: N and CTS are exact" } } },
@@ -111,7 +111,7 @@ static const char *words_of_field(const struct field *f, char *text, size_t room
     for (size_t w = 0; w < WORDS_OF_A_FIELD && f->words[w].word && used < room; w++)
         if (row_of(f, f->words[w].value) == &f->words[w])
             used += (size_t)snprintf(text + used, room - used, "%s%s", w ? ", " : "", f->words[w].word);
-    if (!f->words[0].word) snprintf(text, room, "%s and a number", f->name);
+    if (!f->words[0].word) snprintf(text, room, "%s and a number, or a mode such as 1080p60", f->name);
     return text;
 }
 
@@ -218,6 +218,36 @@ static void look_for_factor(const struct reading *r, const char *word) {
         misuse("'%s' is no whole number: a colour meter's numbers stand behind the word 'factors'", shown(word, text));
 }
 
+/* Does a word name a mode by its lines and its frame rate: 1080p60, or of the other family 1080p59.94, 1080p23.976, 1080p23.98? */
+static int is_mode(const char *word, const struct mode *m, int family) {
+    char text[32], shorter[32];
+    const char *lines = strchr(m->lines, 'x') + 1;
+    snprintf(text, sizeof text, "%s%.5g", lines, frame_rate(m, (uint8_t)family));
+    snprintf(shorter, sizeof shorter, "%s%.4g", lines, frame_rate(m, (uint8_t)family));
+    return !strcasecmp(word, text) || !strcasecmp(word, shorter);
+}
+
+/* Such a word sets the VIC, and where it is of the other family that too. */
+static int take_mode(struct reading *r, const char *word) {
+    size_t vic = (size_t)(field_of("vic") - fields), family = (size_t)(field_of("family") - fields), found = 0;
+    char all[64] = "";
+    int value = 0, divided = 0;
+    for (size_t m = 0; r->section == IN_VIDEO && m < COUNT(modes); m++)
+        for (int f = 0; f < 2; f++) {
+            if (!is_mode(word, &modes[m], f)) continue;
+            value = modes[m].vic;
+            divided = f;
+            snprintf(all + strlen(all), sizeof all - strlen(all), "%s%u", found++ ? " or " : "", modes[m].vic);
+        }
+    if (found > 1) misuse("'%.80s' is vic %s: say which (tools/modes)", word, all);
+    if (!found) return 0;
+    if (r->set[vic] || (divided && r->set[family])) misuse("'%.80s': that field is given twice", word);
+    r->value[vic] = value;
+    r->set[vic] = 1;
+    if (divided) r->value[family] = divided, r->set[family] = 1;
+    return 1;
+}
+
 /* Reads a field, or a number after the last field: how many words that took. */
 static int take(struct reading *r, int count, char **words) {
     int whole = 1, used, twice = 0;
@@ -237,7 +267,7 @@ static int take(struct reading *r, int count, char **words) {
     }
     look_for_factor(r, words[0]);
     if (whole && r->numbers < sections[r->section].numbers) {
-        long number = number_of_word(words[0], "coefficient", -32768, 32767);
+        long number = number_of_word(words[0], "coefficient", -4096, 4095);
         r->number[2 * r->numbers] = (uint8_t)(((unsigned long)number & 0xFFFF) >> 8);
         r->number[2 * r->numbers + 1] = (uint8_t)((unsigned long)number & 0xFF);
         r->numbers++;
@@ -266,7 +296,7 @@ struct request request_of_words(int count, char **words) {
             r.section = opens;
             r.given[opens] = 1;
             w++;
-        } else if (take_table(&r, words[w])) w++;
+        } else if (take_table(&r, words[w]) || take_mode(&r, words[w])) w++;
         else if ((used = take_factors(&r, count - w, words + w))) w += used;
         else w += take(&r, count - w, words + w);
     }
@@ -294,11 +324,36 @@ struct request request_of_text(const char *format, ...) {
     return request_of_words(count, words);
 }
 
+/* Where the byte of a field stands in a request; 0, where no field's does, if its section is left out. */
+static size_t place_of(const struct request *q, const struct field *f) {
+    size_t at = 0;
+    for (int s = 0; s < f->section && at < q->length; s++) at += 1u + q->bytes[at];
+    return at < q->length && q->bytes[at] > f->at && at + 1u + f->at < q->length ? at + 1u + f->at : 0;
+}
+
+int value_of_field(const struct request *q, const char *name) {
+    const struct field *f = field_of(name);
+    size_t at = place_of(q, f);
+    return at ? q->bytes[at] >> f->shift & ((1 << f->bits) - 1) : -1;
+}
+
+struct request with_field(struct request q, const char *name, int value) {
+    const struct field *f = field_of(name);
+    size_t at = place_of(&q, f);
+    int mask = ((1 << f->bits) - 1) << f->shift;
+    if (at) q.bytes[at] = (uint8_t)((q.bytes[at] & ~mask) | (value << f->shift & mask));
+    return q;
+}
+
+const uint8_t *matrix_of_request(const struct request *q) {
+    size_t at = place_of(q, field_of("mode"));
+    return at ? q->bytes + at : NULL;
+}
+
 struct request as_read_back(struct request q) {
-    uint8_t *video = q.bytes + 1;
-    const struct field *family = field_of("family"), *edition = field_of("edition");
-    video[family->at] = 0;
-    if (video[edition->at] >> edition->bits == 0) video[edition->at] = 0;
+    q = with_field(q, "family", 0);
+    if (value_of_field(&q, "quantisation") == 0 && value_of_field(&q, "content") == 0 && value_of_field(&q, "reserved") == 0)
+        q = with_field(q, "edition", 0);
     return q;
 }
 

@@ -17,6 +17,13 @@ struct request request_of_text(const char *format, ...);
  * nothing, for then no bit of E is set. */
 struct request as_read_back(struct request q);
 
+/* A field of a whole request by its name: its value, -1 where its section is left out; and the request with another value there. */
+int            value_of_field(const struct request *q, const char *name);
+struct request with_field(struct request q, const char *name, int value);
+
+/* The 25 bytes of its matrix, NULL where it has none. */
+const uint8_t *matrix_of_request(const struct request *q);
+
 /* A request in words, as request_of_words reads them: 0 where its sections are not whole. */
 int words_of_request(const uint8_t *request, size_t length, char text[TEXT_OF_A_REQUEST]);
 

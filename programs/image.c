@@ -138,7 +138,10 @@ int main(int count, char **words) {
     static uint8_t image[STATION_IMAGE];
     FILE *from = stdin;
     for (int i = 1; i < count; i++)
-        if (!strcmp(words[i], "--help")) return printf("%s", help) < 0;
+        if (!strcmp(words[i], "--help")) {
+            printf("%s", help);
+            return printed(ACCEPTED);
+        }
     if (count > 2) misuse("more than one file");
     if (count == 2 && words[1][0] == '-') misuse("%.80s is no option", words[1]);
     if (count == 2 && !(from = fopen(words[1], "rb"))) misuse("%.80s cannot be opened", words[1]);

@@ -1,5 +1,4 @@
 #include "judge.h"
-#include "station_text.h"
 #include <stdarg.h>
 #include <stdio.h>
 #include <string.h>
@@ -8,20 +7,20 @@ const char *const fault_words[FAULTS] = {
     [NO_GROUP] = "a register of no group",
     [NOT_MANDATED] = "mandated bits",
     [FREE_MOVED] = "free bits moved",
-    [TWO_HOLDS] = "would leave two packet holds up",
-    [NOT_MUTED] = "not muted after it",
-    [TORN_AVI] = "AVI torn after it",
-    [TORN_AUDIO] = "audio torn after it",
-    [TORN_MATRIX] = "matrix torn after it",
-    [TORN_AT_VSYNC] = "matrix torn at the Vsync after it",
+    [TWO_HOLDS] = "two packet holds",
+    [NOT_MUTED] = "not muted",
+    [TORN_AVI] = "AVI torn",
+    [TORN_AUDIO] = "audio torn",
+    [TORN_MATRIX] = "matrix torn",
+    [TORN_AT_VSYNC] = "matrix torn at the Vsync",
 };
 
 const char *const fault_says[FAULTS] = {
     [NO_GROUP] = "it holds no named bit, is in neither the AVI nor the audio packet and not in Table 14 of the guide; no list may write it",
     [NOT_MANDATED] = "the guide's tables fix these bits, and the value has them otherwise",
     [FREE_MOVED] = "these bits are nobody's here, and a list keeps them as they are before the pair",
-    [TWO_HOLDS] = "the chip has one packet buffer. For the pairs before it the list ends before the first such pair; those after it are "
-                  "tried by their own bits alone, on a chip that did not take it",
+    [TWO_HOLDS] = "it would leave two packet holds up, and the chip has one packet buffer. For the pairs before it the list ends before the "
+                  "first such pair; those after it are tried by their own bits alone, on a chip that did not take it",
     [NOT_MUTED] = "after the first write and before the last the picture must be muted (0x4B in use, bit 6 is 1 and bit 7 is 0)",
     [TORN_AVI] = "the AVI InfoFrame in use is neither as it began nor as the list ends; its hold is 0x4A[6]",
     [TORN_AUDIO] = "the audio InfoFrame in use is neither as it began nor as the list ends; its hold is 0x4A[5]",
@@ -168,14 +167,6 @@ void text_of_faults(uint8_t address, const struct judged *p, char text[TEXT_OF_F
         if (f == NOT_MANDATED) add_bits(text, address, p->mandated, (uint8_t)station_class(address).value, "must be");
         if (f == FREE_MOVED) add_bits(text, address, p->moved, p->before, "was");
     }
-}
-
-void text_of_verdict(struct station_verdict v, char text[TEXT_OF_A_VERDICT]) {
-    const char *says = station_text(v.refusal);
-    if (!v.refusal) snprintf(text, TEXT_OF_A_VERDICT, "accepted");
-    else if (v.refusal == STATION_BAD_PAIR)
-        snprintf(text, TEXT_OF_A_VERDICT, "refused %u at %u: %.*s", (unsigned)v.refusal, (unsigned)v.place, (int)strcspn(says, ";"), says);
-    else snprintf(text, TEXT_OF_A_VERDICT, "refused %u: %s", (unsigned)v.refusal, says);
 }
 
 struct station_verdict vet(const struct chip *c, const uint8_t *list, size_t length) {

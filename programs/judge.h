@@ -29,10 +29,8 @@ int is_bad(const struct judged *p);
 /* Does a register hold a named bit, belong to the AVI or the audio packet or stand in Table 14? */
 int is_of_a_group(uint8_t address);
 
-/* The library's verdict; and one in words, with the place where there is one. */
-enum { TEXT_OF_A_VERDICT = 160 };
+/* The library's verdict. */
 struct station_verdict vet(const struct chip *c, const uint8_t *list, size_t length);
-void text_of_verdict(struct station_verdict v, char text[TEXT_OF_A_VERDICT]);
 
 /* The rules that a pair breaks, in short words, with its register's bits. */
 enum { TEXT_OF_FAULTS = 400 };

@@ -16,7 +16,7 @@ static const char help[] =
     "\n"
     "Prints the write list of a request as a table, a line for each write: the\n"
     "register, its byte before and after, the fields that the write sets, and what is\n"
-    "in use after it: old, new, both where the two are the same, torn where it is\n"
+    "in use after it: old, new, same where the two are the same, torn where it is\n"
     "neither; waiting where new coefficients wait for the next Vsync. A line of its\n"
     "own, just before the last write, says where the host waits for that. Registers\n"
     "that are right already are left out; the last line says how many. BYTES is the\n"

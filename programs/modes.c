@@ -101,7 +101,10 @@ static void take(char *word) {
 int main(int count, char **words) {
     char text[48];
     for (int i = 1; i < count; i++)
-        if (!strcmp(words[i], "--help")) return printf("%s", help) < 0;
+        if (!strcmp(words[i], "--help")) {
+            printf("%s", help);
+            return printed(ACCEPTED);
+        }
     for (int i = 1; i < count; i++) take(words[i]);
 
     printf("%3s  %-16s %6s  %10s  %-16s %s\n", "VIC", "mode", "family", "frame rate", "TMDS clock in Hz", "in MHz");

@@ -83,6 +83,28 @@ const struct register_words registers[256] = {
     [0xF9] = { "fixed address", "" },
 };
 
+/* The registers of the map that are in no list, by section 5 of 000; at most 13 letters. */
+static const struct { uint8_t first, last; const char *name; } others[] = {
+    { 0x00, 0x00, "chip revision" }, { 0x04, 0x06, "measured CTS" }, { 0x0B, 0x0B, "audio clock" }, { 0x0D, 0x0D, "I2S width" },
+    { 0x0E, 0x11, "I2S sources" }, { 0x12, 0x14, "audio status" }, { 0x17, 0x17, "sync polarity" }, { 0x30, 0x34, "sync decoder" },
+    { 0x35, 0x3A, "DE generator" }, { 0x3D, 0x3F, "VIC detected" }, { 0x41, 0x41, "power" }, { 0x42, 0x42, "hot plug" },
+    { 0x43, 0x43, "EDID address" }, { 0x45, 0x45, "packet memory" }, { 0x46, 0x47, "audio samples" }, { 0x48, 0x49, "input pixels" },
+    { 0x4D, 0x51, "GC packet" }, { 0x62, 0x6F, "AVI, spare" }, { 0x92, 0x97, "interrupts" }, { 0x99, 0x9B, "fixed by 000" },
+    { 0x9E, 0x9E, "PLL lock" }, { 0x9F, 0xA0, "fixed by 000" }, { 0xA1, 0xA1, "channel power" }, { 0xA4, 0xAE, "fixed by 000" },
+    { 0xB0, 0xB7, "HDCP" }, { 0xB8, 0xB9, "fixed by 000" }, { 0xBA, 0xBA, "clock delay" }, { 0xBB, 0xBD, "fixed by 000" }, { 0xBE, 0xC3, "HDCP" },
+    { 0xC4, 0xC4, "EDID segment" }, { 0xC5, 0xC6, "fixed by 000" }, { 0xC7, 0xC7, "HDCP" }, { 0xC8, 0xC8, "DDC state" },
+    { 0xC9, 0xC9, "EDID tries" }, { 0xCA, 0xCB, "HDCP" }, { 0xCC, 0xCF, "fixed by 000" }, { 0xD0, 0xD0, "DDR, sync" },
+    { 0xD1, 0xD4, "fixed by 000" }, { 0xD5, 0xD5, "code shift" }, { 0xD6, 0xD6, "HPD, TMDS" }, { 0xD7, 0xDD, "sync adjust" },
+    { 0xDE, 0xDF, "fixed by 000" }, { 0xE1, 0xE1, "CEC address" }, { 0xE2, 0xE2, "CEC power" }, { 0xE3, 0xE4, "fixed by 000" },
+    { 0xF5, 0xF6, "chip ID" }, { 0xFA, 0xFA, "sync adjust" }, { 0xFB, 0xFB, "DE generator" }, { 0xFC, 0xFE, "HDCP" },
+};
+
+const char *name_of_register(uint8_t address) {
+    for (size_t o = 0; o < sizeof others / sizeof others[0]; o++)
+        if (address >= others[o].first && address <= others[o].last) return others[o].name;
+    return registers[address].name ? registers[address].name : "reserved";
+}
+
 const char *const step_words[STEPS] = {
     [TO_MUTE] = "mute",
     [TO_FIX] = "fixed",

@@ -8,6 +8,9 @@
 struct register_words { const char *name, *fields; };
 extern const struct register_words registers[256];
 
+/* The name of any register, of those that no list writes too: 0x41 is the power, which is the host's when it brings the chip up. */
+const char *name_of_register(uint8_t address);
+
 /* The steps of a list, in their order but for AVI and audio, which may change places. */
 enum step { TO_MUTE, TO_FIX, TO_MATRIX, TO_AVI, TO_AUDIO, TO_OTHERS, TO_OPEN, STEPS };
 extern const char *const step_words[STEPS];

@@ -18,14 +18,16 @@ static const char help[] =
     "\n"
     "The words are those of the video section; then, where there is sound, 'audio'\n"
     "and its words; then, where there is a matrix, 'matrix' and one of these: its\n"
-    "mode and twelve numbers, A1 to A4, B1 to B4, C1 to C4; 'tableNN' (a table of the\n"
-    "programming guide, 39 to 64, its misprints corrected); 'factors' and twelve\n"
-    "numbers as a colour meter has them, such as 1.25, in the same order (tools/meter\n"
-    "reads a meter's file, and says more of them). Within a section the fields\n"
-    "may stand in any order:\n"
+    "mode and twelve whole numbers from -4096 to 4095, A1 to A4, B1 to B4, C1 to C4;\n"
+    "'tableNN' (a table of the programming guide, 39 to 64, its misprints corrected);\n"
+    "'factors' and twelve numbers as a colour meter has them, such as 1.25, in the\n"
+    "same order (tools/meter reads a meter's file, and says more of them). Within a\n"
+    "section the fields may stand in any order:\n"
     "\n",
     more[] =
     "\n"
+    "A mode may be named by its lines and its frame rate: 1080p60, 720p50, 1080i50,\n"
+    "1080p59.94 (with /1.001). 'stereo' is 2 channels.\n"
     "Quantisation and content are of edition E: 861-e stands beside their words.\n"
     "'graphics', for which CEA-861-E has 0, is the same as no-type. NAME=NUMBER gives\n"
     "a field any number, also one that is refused. tools/modes lists the VICs, and\n"
@@ -35,6 +37,7 @@ static const char help[] =
     "then), 2 for a command that is not as above.\n"
     "\n"
     "  tools/request vic 16 rgb hdmi audio 48kHz 2 coherent\n"
+    "  tools/request 1080p60 rgb hdmi audio 48kHz stereo coherent\n"
     "  tools/request vic 4 /1.001 ycbcr444 hdmi matrix table43\n"
     "  tools/request vic 32 rgb hdmi 36bit audio 48kHz 8 coherent\n"
     "  tools/request vic 16 rgb hdmi 861-e photo\n"
@@ -51,24 +54,77 @@ static int tell(FILE *to, struct station_pair p, int of_sound) {
     return ACCEPTED;
 }
 
-/* Where VIC, family, the byte of depth and repetition and that of the edition stand in a request. */
-enum { AT_VIC = 1, AT_FAMILY = 2, AT_DEPTH = 6, AT_EDITION = 7 };
-
 /* The clock of a request of which no rule before that of the clock is broken. */
-static void tell_clock(const uint8_t *request) {
+static void tell_clock(const struct request *q) {
     char factor[48];
-    uint8_t vic = request[AT_VIC], family = request[AT_FAMILY];
-    int depth = request[AT_DEPTH] & 0x0F, repetition = request[AT_DEPTH] >> 4;
+    uint8_t vic = (uint8_t)value_of_field(q, "vic"), family = (uint8_t)value_of_field(q, "family");
+    int depth = value_of_field(q, "depth"), repetition = value_of_field(q, "repetition");
     printf("  TMDS clock             %.9g MHz: %.9g times %s times %d, at most %d\n",
            megahertz(tmds_clock(vic, family, depth, repetition)), megahertz(pixel_clock(vic, family)),
            text_of_clock(of_depth(depth), factor, sizeof factor), (int)of_repetition(repetition).over, HIGHEST_CLOCK / 1000000);
 }
 
-/* Words of edition E, and nobody has named it. */
-static void tell_edition(const struct request *q) {
-    enum { EDITION = 0x03, OF_E = 0x3C };
-    uint8_t byte = q->bytes[AT_EDITION];
-    if ((byte & EDITION) == 0 && (byte & OF_E)) fprintf(stderr, "quantisation and content type are of edition E: say 861-e too\n");
+/* ---- Which clause of a refusal applies, and its mend. The number is the library's; all sections are whole by then. */
+
+static void tell_mode(FILE *to, const struct request *q) {
+    int vic = value_of_field(q, "vic"), is_listed = 0;
+    for (size_t m = 0; m < number_of_modes; m++) is_listed |= modes[m].vic == vic;
+    if (is_listed) {
+        fprintf(to, "vic %d does not offer family %d: leave '/1.001' out\n", vic, value_of_field(q, "family"));
+        return;
+    }
+    fprintf(to, "vic %d is not listed:", vic);
+    for (size_t m = 0; m < number_of_modes; m++) fprintf(to, "%s %u", m ? "," : "", modes[m].vic);
+    fprintf(to, " are (tools/modes)\n");
+}
+
+static void tell_combination(FILE *to, const struct request *q) {
+    int encoding = value_of_field(q, "encoding"), is_dvi = value_of_field(q, "link") == 0, is_deep = value_of_field(q, "depth") > 0;
+    if (encoding && !matrix_of_request(q)) fprintf(to, "YCbCr needs a matrix that makes it of the camera's RGB: matrix table43\n");
+    if (encoding && value_of_field(q, "range"))
+        fprintf(to, "'full' is said of RGB: with YCbCr leave it out; 861-e and ycc-full say it of YCbCr\n");
+    if (is_dvi && value_of_field(q, "rate") >= 0) fprintf(to, "DVI carries no sound: hdmi, or no audio\n");
+    if (is_dvi && encoding) fprintf(to, "DVI carries RGB alone: hdmi, or rgb\n");
+    if (is_deep && encoding == 1) fprintf(to, "YCbCr 4:2:2 has 24 bits: 24bit, or ycbcr444\n");
+    if (is_deep && is_dvi) fprintf(to, "DVI has 24 bits: 24bit, or hdmi\n");
+    if (value_of_field(q, "edition") == 0 && (value_of_field(q, "quantisation") || value_of_field(q, "content")))
+        fprintf(to, "quantisation and content type are of edition E: say 861-e too\n");
+}
+
+static void tell_rates(FILE *to, const struct request *q) {
+    uint8_t vic = (uint8_t)value_of_field(q, "vic"), family = (uint8_t)value_of_field(q, "family");
+    int depth = value_of_field(q, "depth"), repetition = value_of_field(q, "repetition"), some = 0;
+    double clock = megahertz(tmds_clock(vic, family, depth, repetition));
+    fprintf(to, "%g kHz has no exact pair at %.9g%s MHz;", hertz[value_of_field(q, "rate")] / 1000.0, family ? clock * 1.001 : clock,
+            family ? "/1.001" : "");
+    for (int rate = 0; word_of_value("rate", rate); rate++)
+        if (!ask(vic, family, depth, repetition, rate, 1).refusal) fprintf(to, "%s %g", some++ ? "," : "", hertz[rate] / 1000.0);
+    fprintf(to, some ? " kHz %s. Or leave 'coherent' out: the chip then measures CTS\n" : " no rate has. Leave 'coherent' out: the chip then measures CTS\n",
+            some == 1 ? "has" : "have");
+}
+
+static void tell_clause(FILE *to, const uint8_t *bytes, size_t length, uint32_t refusal) {
+    struct request q = { { 0 }, length };
+    if (length > STATION_REQUEST) return;
+    if (length) memcpy(q.bytes, bytes, length);
+    if (refusal == STATION_MODE_NOT_OFFERED) tell_mode(to, &q);
+    if (refusal == STATION_COMBINATION) tell_combination(to, &q);
+    if (refusal == STATION_NO_EXACT_PAIR) tell_rates(to, &q);
+}
+
+/* What a matrix makes of black, grey, white and the primaries, in 12-bit codes. */
+static void tell_colours(const struct request *q) {
+    static const struct { const char *name; uint32_t a, b, c; } colours[] = {
+        { "black", 0, 0, 0 }, { "grey", 2048, 2048, 2048 }, { "white", 4095, 4095, 4095 },
+        { "red", 4095, 0, 0 }, { "green", 0, 4095, 0 }, { "blue", 0, 0, 4095 },
+    };
+    const uint8_t *matrix = matrix_of_request(q);
+    if (!matrix) return;
+    for (size_t k = 0; k < sizeof colours / sizeof colours[0]; k++) {
+        struct station_pixel p = station_preview(matrix, STATION_MATRIX, colours[k].a, colours[k].b, colours[k].c);
+        printf("  %-12s  %4u %4u %4u becomes %4u %4u %4u\n", colours[k].name, (unsigned)colours[k].a, (unsigned)colours[k].b,
+               (unsigned)colours[k].c, (unsigned)p.a, (unsigned)p.b, (unsigned)p.c);
+    }
 }
 
 int main(int count, char **words) {
@@ -87,7 +143,13 @@ int main(int count, char **words) {
         if (words_of_request(request, length, text)) printf("%s\n", text);
         explain_request(stdout, request, length);
         struct station_pair p = station_ncts(request, length);
-        if (p.refusal == 0 || p.refusal == STATION_CLOCK_ABOVE || p.refusal == STATION_NO_EXACT_PAIR) tell_clock(request);
+        if (p.refusal == 0 || p.refusal == STATION_CLOCK_ABOVE || p.refusal == STATION_NO_EXACT_PAIR) {
+            struct request q = { { 0 }, length };
+            memcpy(q.bytes, request, length);
+            tell_colours(&q);
+            tell_clock(&q);
+        }
+        tell_clause(stdout, request, length, p.refusal);
         int status = tell(stdout, p, 1);
         free(request);
         return printed(status);
@@ -96,7 +158,8 @@ int main(int count, char **words) {
     struct request q = request_of_words(count - 1, words + 1);
     for (size_t i = 0; i < q.length; i++) printf("%s%02x", i ? " " : "", q.bytes[i]);
     printf("\n");
-    int status = tell(stderr, station_ncts(q.bytes, q.length), 0);
-    if (status == REFUSED) tell_edition(&q);
+    struct station_pair p = station_ncts(q.bytes, q.length);
+    int status = tell(stderr, p, 0);
+    tell_clause(stderr, q.bytes, q.length, p.refusal);
     return printed(status);
 }

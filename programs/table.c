@@ -16,20 +16,24 @@ enum { GC = 0x4B, MUTE_SHIFT = 6 };
 static const char *const mute_words[4] = { "neither", "mute", "open", "neither" };
 static const char *const picture_words[4] = { "neither", "muted", "open", "neither" };
 
-static const char *const age_words[] = { [NEITHER] = "torn", [OLD] = "old", [NEW] = "new", [BOTH] = "both" };
+static const char *const age_words[] = { [NEITHER] = "torn", [OLD] = "old", [NEW] = "new", [BOTH] = "same" };
 
-/* The width of the column, and room for what is in it. */
-enum { SETS = 18, TEXT = 64 };
+/* The width of the column, by itself and beside that of a line. */
+enum { SETS = 18, SETS_BESIDE = 14, TEXT = TEXT_OF_SETS };
 
-/* One more of the fields that a write sets, where it fits. */
-static void add(char *text, const char *first, const char *second) {
-    size_t length = strlen(text), more = strlen(first) + strlen(second);
-    if (more && length + (length ? 2 : 0) + more <= SETS)
-        snprintf(text + length, TEXT - length, "%s%s%s", length ? ", " : "", first, second);
+/* One more of the fields that a write sets, or those of several that fit. */
+static void add(char *text, size_t width, const char *first, const char *second) {
+    char more[TEXT];
+    size_t length = strlen(text), used = (size_t)snprintf(more, sizeof more, "%s%s", first, second);
+    while (used && length + (length ? 2 : 0) + used > width) {
+        char *comma = strrchr(more, ',');
+        if (comma) *comma = 0;
+        used = comma ? strlen(more) : 0;
+    }
+    if (used) snprintf(text + length, TEXT - length, "%s%s", length ? ", " : "", more);
 }
 
-/* What a write sets, in short words: holds or the mute with their value, the other named fields, and whether there are mandated bits. */
-static void sets(char *text, uint8_t address, uint8_t old, uint8_t new) {
+void sets_of_write(char text[TEXT_OF_SETS], size_t width, uint8_t address, uint8_t old, uint8_t new) {
     struct station_masks c = station_class(address);
     *text = 0;
     if (c.named) {
@@ -38,23 +42,36 @@ static void sets(char *text, uint8_t address, uint8_t old, uint8_t new) {
             if (holds[h].address != address) continue;
             here++;
             if (!((old | new) & holds[h].mask)) continue;
-            add(text, holds[h].name, hold_words[(old & holds[h].mask) != 0][(new & holds[h].mask) != 0]);
+            add(text, width, holds[h].name, hold_words[(old & holds[h].mask) != 0][(new & holds[h].mask) != 0]);
             told++;
         }
-        if (here && !told) add(text, here > 1 ? "holds " : "hold ", hold_words[0][0]);
-        if (address == GC) add(text, mute_words[new >> MUTE_SHIFT & 3], "");
-        add(text, registers[address].fields ? registers[address].fields : "named", "");
+        if (here && !told) add(text, width, here > 1 ? "holds " : "hold ", hold_words[0][0]);
+        if (address == GC) add(text, width, mute_words[new >> MUTE_SHIFT & 3], "");
+        add(text, width, registers[address].fields ? registers[address].fields : "named", "");
     }
-    if (c.mandated) add(text, "mandated", "");
+    if (c.mandated) add(text, width, "mandated", "");
 }
 
 /* The columns: those of the write, and what is in use after it. */
-#define OF_A_WRITE "%-4s %-13s %-3s %-2s %-18s"
+#define OF_A_WRITE "%-4s %-13s %-3s %-2s %-*s"
 #define IN_USE "%-7s %-4s %-5s %s%s\n"
 
-void table_head(const char *number) {
-    printf("%3s " OF_A_WRITE " " IN_USE, number, "addr", "register", "was", "is", "sets", "picture", "AVI", "audio", "matrix", "");
+static void print_head(int width) {
+    printf(OF_A_WRITE " " IN_USE, "addr", "register", "was", "is", width, "sets", "picture", "AVI", "audio", "matrix", "");
 }
+
+void table_head(const char *number) {
+    printf("%3s ", number);
+    print_head(SETS);
+}
+
+void table_head_with_lines(void) {
+    printf("%3s %4s ", "at", "line");
+    print_head(SETS_BESIDE);
+}
+
+const char *word_of_picture(uint32_t mute) { return picture_words[mute & 3]; }
+const char *word_of_age(int age) { return age_words[age]; }
 
 static void print_in_use(const struct sent *now, const struct sent *old, const struct sent *new) {
     if (!now) printf(" " IN_USE, "-", "-", "-", "-", "");
@@ -62,19 +79,40 @@ static void print_in_use(const struct sent *now, const struct sent *old, const s
                 age_words[age(MATRIX, now, old, new)], now->waiting ? " waiting" : "");
 }
 
-void table_row(unsigned number, uint8_t address, uint8_t before, uint8_t after, const struct sent *now, const struct sent *old,
-               const struct sent *new) {
+static void print_row(int width, uint8_t address, uint8_t before, uint8_t after, const struct sent *now, const struct sent *old,
+                      const struct sent *new) {
     char text[TEXT], at[8], was[4], is[4];
-    const char *name = registers[address].name;
-    sets(text, address, before, after);
+    sets_of_write(text, (size_t)width, address, before, after);
     snprintf(at, sizeof at, "0x%02X", address);
     snprintf(was, sizeof was, "%02X", before);
     snprintf(is, sizeof is, "%02X", after);
-    printf("%3u " OF_A_WRITE, number, at, name ? name : "", was, is, text);
+    printf(OF_A_WRITE, at, name_of_register(address), was, is, width, text);
+    print_in_use(now, old, new);
+}
+
+void table_row(unsigned number, uint8_t address, uint8_t before, uint8_t after, const struct sent *now, const struct sent *old,
+               const struct sent *new) {
+    printf("%3u ", number);
+    print_row(SETS, address, before, after, now, old, new);
+}
+
+void table_row_with_line(unsigned number, unsigned long line, uint8_t address, uint8_t before, uint8_t after, const struct sent *now,
+                         const struct sent *old, const struct sent *new) {
+    printf("%3u %4lu ", number, line);
+    print_row(SETS_BESIDE, address, before, after, now, old, new);
+}
+
+static void print_vsync(int width, const struct sent *now, const struct sent *old, const struct sent *new) {
+    printf("%-*s", width, "wait for Vsync");
     print_in_use(now, old, new);
 }
 
 void table_vsync(const struct sent *now, const struct sent *old, const struct sent *new) {
-    printf("%3s %-44s", "", "wait for Vsync");
-    print_in_use(now, old, new);
+    printf("%3s ", "");
+    print_vsync(26 + SETS, now, old, new);
+}
+
+void table_vsync_with_lines(const struct sent *now, const struct sent *old, const struct sent *new) {
+    printf("%3s %4s ", "", "");
+    print_vsync(26 + SETS_BESIDE, now, old, new);
 }

@@ -16,4 +16,17 @@ void table_row(unsigned number, uint8_t address, uint8_t before, uint8_t after, 
 /* The Vsync that the host waits for, and what is in use after it. */
 void table_vsync(const struct sent *now, const struct sent *old, const struct sent *new);
 
+/* The same with the line of a text beside each write. */
+void table_head_with_lines(void);
+void table_row_with_line(unsigned number, unsigned long line, uint8_t address, uint8_t before, uint8_t after, const struct sent *now,
+                         const struct sent *old, const struct sent *new);
+void table_vsync_with_lines(const struct sent *now, const struct sent *old, const struct sent *new);
+
+/* What a write sets, in short words that have so much room: holds or the mute with their value, the other named fields, and whether there
+ * are mandated bits. And the words of a picture and of a group in use. */
+enum { TEXT_OF_SETS = 64 };
+void        sets_of_write(char text[TEXT_OF_SETS], size_t width, uint8_t address, uint8_t old, uint8_t new);
+const char *word_of_picture(uint32_t mute);
+const char *word_of_age(int age);
+
 #endif

@@ -1,4 +1,5 @@
 #include "words.h"
+#include <errno.h>
 #include <stdarg.h>
 #include <stdio.h>
 #include <stdlib.h>
@@ -14,7 +15,9 @@ void misuse(const char *format, ...) {
     va_end(list);
     for (char *at = text; *at; at++)
         if (*at < ' ' || *at > '~') *at = '?';
-    fprintf(stderr, "%s: %s (%s --help)\n", program, text, program);
+    /* An installed tool has a name of its own. */
+    const char *name = strncmp(program_invocation_short_name, "station-", 8) ? program : program_invocation_short_name;
+    fprintf(stderr, "%s: %s (%s --help)\n", name, text, name);
     exit(MISUSE);
 }
 
@@ -103,7 +106,10 @@ void take_number(const char *word, struct option *o) { *(long *)o->into = number
 void words_of_command(int count, char **words, const char *help, struct option *options, size_t number,
                       void (*other)(const char *word, void *into), void *into) {
     for (int i = 1; i < count; i++)
-        if (!strcmp(words[i], "--help")) exit(printf("%s", help) < 0);
+        if (!strcmp(words[i], "--help")) {
+            printf("%s", help);
+            exit(printed(ACCEPTED));
+        }
     for (int i = 1; i < count; i++) {
         size_t o = 0;
         if (words[i][0] != '-' || !words[i][1]) {
