@@ -24,7 +24,7 @@ use Rattle.writes.specs.List.{byte, written, isWritten, finished, column, finis
 use Rattle.cut.specs.Run.{Event, run, standing}
 use Rattle.cut.specs.Vsync.{waited, FinishedRun}
 use Rattle.cut.specs.Demand.{toItsEnd, After, Clauses, Same}
-use Rattle.promises.specs.Finished.{audioPacket}
+use Rattle.plan.specs.Places.{audioPacket}
 use Rattle.promises.specs.Rules.{asked}
 use Rattle.promises.specs.LentBytes.{pairsLeft}
 use Rattle.promises.specs.AnyCut.{listOf, Headed, AnyCut, EveryCut}

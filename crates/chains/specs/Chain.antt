@@ -20,7 +20,7 @@ use Rattle.cut.specs.Run.{Event, cut, writesOf, writesBy, InUse}
 use Rattle.cut.specs.Demand.{Cut, cuts}
 use Rattle.vendor.specs.Vendor.{endOf}
 use Rattle.vendor.specs.Found.{vetOf}
-use Rattle.promises.specs.Finished.{audioPacket}
+use Rattle.plan.specs.Places.{audioPacket}
 use Rattle.promises.specs.LentBytes.{pairsLeft}
 
 -- whose list comes next: a plug-in's request, as bytes, with the buffer that is lent for its list; or a vendor's own list, with the request

@@ -32,7 +32,7 @@ use Rattle.plan.specs.Wanted.{wanted}
 use Rattle.writes.specs.List.{byte, decided, written, isWritten, finished}
 use Rattle.decode.specs.declared.Decoded.{Decoded}
 use Rattle.decode.specs.Ends.{Acceptable, Stands, Ends}
-use Rattle.decode.specs.Extract.{byteIn, matrixIn, dataIn, extract}
+use Rattle.decode.specs.Extract.{bitsAt, matrixIn, dataIn, extract}
 use Rattle.writes.specs.List.{standsBelow}
 use Rattle.decode.specs.Decode.{endsIn, someEnds, decodeTests, decodeRefusal, notDecoded, decodeOf, decodedBuffer}
 use Rattle.decode.specs.Theorems.{Answered, ExactlyWhen, AtMostOne, decodeRules, Refusals}
@@ -104,7 +104,7 @@ twice r = rw (edition-twice (r .video .edition))
 
 module _ (image : List ℕ) (long : length image ≡ 256) where
   pub shaped : Shaped (matrixIn image)
-  shaped = go (eqb (byteIn image reg.csc / reg.cscEnableMask % 2) 0)
+  shaped = go (eqb (bitsAt 0x18 7 7 image) 0)
     where
       coefficients : List ℕ
       coefficients = take reg.cscCount (drop reg.csc image)
@@ -112,7 +112,7 @@ module _ (image : List ℕ) (long : length image ≡ 256) where
       l : length (take reg.cscCount (drop reg.csc image)) ≡ 24
       l = simp (length-take, length-drop, long)
 
-      go : (b : Bool) → Shaped (cond b noMatrix (record { on = 1; mode = byteIn image reg.csc / 32 % 4; coefficients = fields (take reg.cscCount (drop reg.csc image)) }))
+      go : (b : Bool) → Shaped (cond b noMatrix (record { on = 1; mode = bitsAt 0x18 6 5 image; coefficients = fields (take reg.cscCount (drop reg.csc image)) }))
       go true = inl refl
       go false = inr (record {
         on = refl;

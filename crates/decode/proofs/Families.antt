@@ -1,15 +1,13 @@
 -- A request whose sound is not coherent wants the same registers in both families, so the second need not be tried. Assumes nothing.
 use mathlib.Core.Path.{_≡_, refl, sym, ap, subst, _∙_}
 use mathlib.Core.Bool.{true, false, _&&_}
-use mathlib.Core.List.{List, _++_}
+use mathlib.Core.List.{List}
 use Prim.Native.Nat.{ℕ, _<_}
 use native.Mathlib.Omega.{arith}
 use lib.Dec.{eqb}
-use lib.ListN.{getD, replicate}
 use borrow.Author.Tests.{eqb-true, eq-eqb, ltb-true, lt-ltb}
 use Rattle.lists.proofs.Both.{both-left, both-right, neither-left}
 use Rattle.lists.proofs.Decides.{refuted}
-use Rattle.map.specs.Map as reg
 use Rattle.video.specs.declared.Video.{Video}
 use Rattle.video.specs.Tests.{shownOutside, videoOutside, shownCombined, videoCombined}
 use Rattle.video.proofs.Fits.{is-pixel-outside, pixel-inside}
@@ -34,7 +32,8 @@ use Rattle.request.specs.Fits.{Fits}
 use Rattle.request.proofs.Fits.{fits}
 use Rattle.request.proofs.Ordered.{accepted, not-refused}
 use Rattle.request.proofs.Said.{read-judged, said}
-use Rattle.plan.specs.Wanted.{laidBytes, stores, clockBytes, inputBytes, cscBytes, enableBytes, frameBytes, wantedImage, wanted}
+use Rattle.plan.specs.Places.{places}
+use Rattle.plan.specs.Wanted.{placedAt, wanted}
 use Rattle.writes.specs.List.{standsBelow}
 use Rattle.decode.specs.Decode.{isCoherent, endsIn}
 
@@ -87,11 +86,8 @@ module _ (r : Request) (s : Shaped (r .matrix)) where
     -- ---- the wanted bytes
 
     same-wanted : isCoherent (r .sound) ≡ false → wanted (requestInFamily 0 r) ≡ wanted (requestInFamily 1 r)
-    unfolding wanted wantedImage aviFrame
-    same-wanted n =
-        let with : Pair → ℕ → ℕ = λ p a. getD (stores (replicate 256 0)
-        (clockBytes p ++ inputBytes r ++ laidBytes reg.csc (cscBytes (r .matrix)) ++ enableBytes r ++ frameBytes r)) a 0 in
-        ap with (same-pair n)
+    unfolding wanted aviFrame
+    same-wanted n = let of : Pair → ℕ → ℕ = λ p a. placedAt a (places r p) in ap of (same-pair n)
 
   pub spared : (image : List ℕ) → isCoherent (r .sound) ≡ false → endsIn r 1 image ≡ true → endsIn r 0 image ≡ true
   unfolding endsIn

@@ -1,4 +1,3 @@
-pub mod Stored
 pub mod Standing
 pub mod BitByBit
 pub mod Groups

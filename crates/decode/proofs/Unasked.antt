@@ -1,15 +1,11 @@
 -- A request under E that asks for nothing is accepted under D, and wants the same registers: so each request is accepted with its edition byte
 -- as it is answered, and wants the same. Assumes nothing.
-use mathlib.Core.Path.{_≡_, refl, sym, ap, ap₂, _∙_, subst}
+use mathlib.Core.Path.{_≡_, refl, sym, ap, _∙_, subst}
 use mathlib.Core.Bool.{Bool, true, false, cond}
-use mathlib.Core.List.{List, _++_}
 use Prim.Native.Nat.{ℕ}
 use lib.Dec.{eqb}
-use lib.ListN.{getD, drop, replicate}
 use borrow.Author.Tests.{eqb-true}
-use Rattle.map.specs.Map as reg
 use Rattle.video.specs.Video.{answeredEdition}
-use Rattle.video.specs.Video as video
 use Rattle.clock.specs.declared.Pair.{Pair}
 use Rattle.clock.specs.Clocks.{tmds}
 use Rattle.clock.specs.Answers.{clockOf}
@@ -23,7 +19,8 @@ use Rattle.request.specs.Read.{pairIn, pairFor}
 use Rattle.request.specs.ThereAndBack.{requestInEdition}
 use Rattle.request.specs.Fits.{Fits}
 use Rattle.request.proofs.Alone.{accepted-under-d}
-use Rattle.plan.specs.Wanted.{audioBytes, laidBytes, stores, clockBytes, inputBytes, cscBytes, enableBytes, wantedImage, wanted}
+use Rattle.plan.specs.Places.{places}
+use Rattle.plan.specs.Wanted.{placedAt, wanted}
 use Rattle.decode.specs.Ends.{Acceptable}
 
 -- N and CTS are those of any edition byte
@@ -42,18 +39,12 @@ taken-under-d r g t =
       paired = ap (λ (p : Pair). p .refusal) (same-pair r 0x00) ∙ t .paired;
     }
 
--- where nothing is asked for the packets are the same
-same-frame : (r : Request) → aviFrame (video.inEdition 0x01 (r .video)) ≡ aviFrame (video.inEdition 0x00 (r .video))
-unfolding aviFrame
-same-frame r = refl
-
+-- where nothing is asked for, each row is the same
 same-wanted : (r : Request) → wanted (requestInEdition 0x01 r) ≡ wanted (requestInEdition 0x00 r)
-unfolding wanted wantedImage
+unfolding wanted aviFrame
 same-wanted r =
-    let of : Pair → List ℕ → ℕ → ℕ = λ p frame a. getD (stores (replicate 256 0)
-    (clockBytes p ++ inputBytes r ++ laidBytes reg.csc (cscBytes (r .matrix)) ++ enableBytes r
-    ++ laidBytes reg.aviInfoframeVersion (drop 1 frame) ++ laidBytes reg.audioInfoframeVersion (drop 1 (audioBytes (r .sound))))) a 0 in
-    ap₂ of (same-pair r 0x01 ∙ sym (same-pair r 0x00)) (same-frame r)
+    let of : Pair → ℕ → ℕ = λ p a. placedAt a (places (requestInEdition 0x00 r) p) in
+    ap of (same-pair r 0x01 ∙ sym (same-pair r 0x00))
 
 -- with the edition byte as it is answered
 pub unasked : (r : Request) → Fits r → Acceptable r

@@ -1,58 +1,50 @@
--- How the code reads a request off an image: each section from some registers. `ExactlyWhen` and `AtMostOne` (Theorems) tie it to
--- document 01.
+-- How the code reads a request off an image: by rows of the table of named fields (`places` of plan), each named by its register and its
+-- bits, and by the runs of the AVI data bytes and the coefficients. `ExactlyWhen` and `AtMostOne` (Theorems) tie it to document 01.
 use mathlib.Core.Bool.{cond}
 use mathlib.Core.List.{List, [], _∷_}
-use Prim.Native.Nat.{ℕ, _+_, _/_, _%_, _^_}
+use Prim.Native.Nat.{ℕ, suc, _+_}
 use lib.Dec.{eqb}
 use lib.ListN.{getD, take, drop}
-use Rattle.map.specs.Map as reg
+use Rattle.bits.specs.Merge.{bitsIn}
 use Rattle.matrix.specs.declared.Matrix.{Matrix}
 use Rattle.matrix.specs.Matrix.{fields, noMatrix}
 use Rattle.frames.specs.Frames.{aviCount}
 use Rattle.frames.specs.Named.{videoNamed}
+use Rattle.chip.specs.Machine.{matrix, registersOf}
 use Rattle.sound.specs.Coded.{rateOf}
 use Rattle.sound.specs.declared.Sound.{Sound}
 use Rattle.sound.specs.declared.Sound.the-variants.{Off, On}
 use Rattle.request.specs.declared.Request.{Request}
+use Rattle.plan.specs.Places.{depthNumbers}
 
-abbrev pub byteIn : List ℕ → ℕ → ℕ
-byteIn image a = getD image a 0
+-- the bits [high:low] of a register
+abbrev pub bitsAt : ℕ → ℕ → ℕ → List ℕ → ℕ
+bitsAt address high low image = bitsIn high low (getD image address 0)
+
+-- the place of a code in a list of codes; their count where it is none of them
+abbrev pub indexOf : ℕ → List ℕ → ℕ
+indexOf code [] = 0
+indexOf code (c ∷ codes) = cond (eqb code c) 0 (suc (indexOf code codes))
 
 -- sound is on where its sample packets are; the channels are one more than CC
 abbrev pub soundIn : List ℕ → Sound
 soundIn image =
-    cond (eqb (byteIn image reg.packetEnable1 / reg.audioSamplePacketEnableMask % 2) 0) Off
-    (On (rateOf (byteIn image reg.i2sFreqIdCfg / 2 ^ reg.i2sSamplingFrequencyShift % 16)) (byteIn image reg.audioInfoframeByte1 % 8 + 1)
-    (byteIn image reg.audioSource / reg.ctsSelectMask % 2))
+    cond (eqb (bitsAt 0x44 5 5 image) 0) Off
+    (On (rateOf (bitsAt 0x15 7 4 image)) (bitsAt 0x73 2 0 image + 1) (bitsAt 0x0A 7 7 image))
 
 abbrev pub matrixIn : List ℕ → Matrix
 matrixIn image =
-    cond (eqb (byteIn image reg.csc / reg.cscEnableMask % 2) 0) noMatrix
-    (record {
-      on = 1;
-      mode = byteIn image reg.csc / 2 ^ reg.cscScalingFactorShift % 4;
-      coefficients = fields (take reg.cscCount (drop reg.csc image));
-    })
-
--- HDMI or DVI
-abbrev pub linkIn : List ℕ → ℕ
-linkIn image = byteIn image reg.hdcpHdmiCfg / reg.hdmiDviModeSelectMask % 2
-
--- the depth of a code, 0 to 2; 3 for a code that is none
-abbrev pub depthOf : ℕ → ℕ
-depthOf code = getD (0 ∷ 3 ∷ 3 ∷ 3 ∷ 3 ∷ 1 ∷ 2 ∷ 3 ∷ 3 ∷ 3 ∷ 3 ∷ 3 ∷ 3 ∷ 3 ∷ 3 ∷ 3 ∷ []) code 3
-
-abbrev pub depthIn : List ℕ → ℕ
-depthIn image = depthOf (byteIn image reg.gcDepth % 16)
+    cond (eqb (bitsAt 0x18 7 7 image) 0) noMatrix
+    (record { on = 1; mode = bitsAt 0x18 6 5 image; coefficients = fields (registersOf matrix image) })
 
 -- the data bytes of the AVI InfoFrame: the video is the one that they name, over that link and at that depth
 abbrev pub dataIn : List ℕ → List ℕ
-dataIn image = take aviCount (drop reg.aviInfoframeByte1 image)
+dataIn image = take aviCount (drop 0x55 image)
 
 unfoldable pub extract : List ℕ → Request
 extract image =
     record {
-      video = videoNamed (linkIn image) (depthIn image) (dataIn image);
+      video = videoNamed (bitsAt 0xAF 1 1 image) (indexOf (bitsAt 0x4C 3 0 image) depthNumbers) (dataIn image);
       sound = soundIn image;
       matrix = matrixIn image;
     }

@@ -3,5 +3,4 @@ pub mod Sealed
 pub mod Small
 pub mod Refused
 pub mod Named
-pub mod Bytes
 pub mod Readers

@@ -1,5 +1,5 @@
 -- What planning answers for a request that was read, row by row. Assumes nothing.
-use mathlib.Core.Path.{_≡_, refl, ap}
+use mathlib.Core.Path.{_≡_, refl, ap, subst}
 use mathlib.Core.Logic.{_≢_}
 use mathlib.Core.Bool.{true, false}
 use mathlib.Core.List.{List}
@@ -10,7 +10,7 @@ use Rattle.request.specs.declared.Request.{Request}
 use Rattle.request.specs.Read.{pairFor}
 use Rattle.writes.specs.List.{ready, Lists}
 use Rattle.plan.specs.declared.Planned.{Planned}
-use Rattle.plan.specs.Wanted.{wantedImage, wanted}
+use Rattle.plan.specs.Wanted.{wanted}
 use Rattle.plan.specs.Plan.{nothing, laterRefusal, planWith, bufferWith}
 
 module _ (r : Request) (image buffer : List ℕ) where
@@ -38,12 +38,14 @@ module _ (r : Request) (image buffer : List ℕ) where
       none p b = simp (eq-eqb _ _ l, h, eq-eqb _ _ p, le-ltb _ _ b)
 
       -- no row applies: the list is that of the wanted bytes
-      pub accepts : pairFor r .refusal ≡ 0 → 256 ≤ length buffer → {bytes left : List ℕ} {count : ℕ} → bytes ≡ wantedImage r
+      pub accepts : pairFor r .refusal ≡ 0 → 256 ≤ length buffer → (bytes : List ℕ) {left : List ℕ} {count : ℕ}
+          → ((a : ℕ) → getD bytes a 0 ≡ wanted r a)
           → Lists (λ a. getD bytes a 0) image buffer count left
           → (record { refusal = 0; count = count } ≡ planWith r image buffer) × (left ≡ bufferWith r image buffer)
-      unfolding planWith bufferWith wanted
-      accepts p b e w =
-          let v = simp (eq-eqb _ _ l, le-ltb _ _ b, e) at w in
+      unfolding planWith bufferWith
+      accepts p b bytes {left = left} {count = count} e w =
+          let x : Lists (wanted r) image buffer count left = subst (λ (want : ℕ → ℕ). Lists want image buffer count left) (λ j a. e a j) w in
+          let v = simp (eq-eqb _ _ l, le-ltb _ _ b) at x in
           rw (none p b) (ap (λ (n : ℕ). record { refusal = 0; count = n }) (v .0), v .1)
 
   -- a refusal has its number and count 0, and leaves the buffer alone

@@ -1,4 +1,8 @@
+pub mod Accepted
+pub mod Made
+pub mod Tidy
 pub mod Stored
+pub mod Shown
 pub mod Frame
 pub mod Answer
 pub mod Fine

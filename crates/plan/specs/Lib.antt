@@ -1,3 +1,4 @@
+pub mod Places
 pub mod Wanted
 pub mod Plan
 pub mod Rules

@@ -1,23 +1,26 @@
 // Planning: from a request and a register image to the write list. Document 01, "The write list"; document 02, request 06.
 ghost use mathlib.Core.Path.{_≡_};
 ghost use mathlib.Core.Bool.{true, cond, not, _&&_};
-ghost use mathlib.Core.List.{List};
-ghost use Prim.Native.Nat.{ℕ, _+_, _/_, _%_, _<_, _≤_};
+ghost use mathlib.Core.List.{List, [], _∷_, _++_, map};
+ghost use Prim.Native.Nat.{ℕ, _+_, _*_, _/_, _%_, _^_, _<_, _≤_};
 ghost use lib.Dec.{eqb};
-ghost use lib.ListN.{getD, length};
-ghost use Rattle.map.specs.Map.{outputFormatMask};
-ghost use Rattle.video.specs.Video.{repetition};
+ghost use lib.ListN.{getD, length, replicate};
+ghost use Rattle.map.specs.Map.{outputFormatMask, prModeShift, prPllManualShift, prValueManualShift};
+ghost use Rattle.video.specs.Video.{depth, repetition};
 ghost use Rattle.video.specs.Fits.{VideoFits};
 ghost use Rattle.frames.specs.Frames.{aviFrame};
 ghost use Rattle.matrix.specs.Matrix.{Bytes};
+ghost use Rattle.clock.specs.declared.Pair.{Pair};
+ghost use Rattle.request.specs.declared.Request.{Request};
 ghost use Rattle.request.specs.Read.{pairFor};
 ghost use Rattle.request.specs.ThereAndBack.{Shaped};
 ghost use Rattle.sound.specs.Fits.{SoundFits};
 ghost use Rattle.request.specs.Fits.{Fits};
 ghost use Rattle.chip.specs.Machine.{up, avi, audio, gc};
+ghost use Rattle.writes.specs.Rows.{from};
 ghost use Rattle.writes.specs.List.{ready};
-ghost use Rattle.plan.specs.Wanted.{laidBytes, stores, twenty, ctsSelect, inputs, rateCode, withAudio, audioBytes, halves, cscBytes};
-ghost use Rattle.plan.specs.Wanted.{clockBytes, inputBytes, repetitionByte, depthCode, enableBytes, frameBytes, wantedBytes};
+ghost use Rattle.plan.specs.Places.{withSound, eightChannels, manualCts, rateCodeOf, depthNumbers, audioPacket, coefficientPlaces, places};
+ghost use Rattle.plan.specs.Wanted.{placedAt, wanted, laidOut, laidBytes, stores};
 ghost use Rattle.plan.specs.Plan.{nothing, PlansWith, Plans, standsIn};
 ghost use Rattle.plan.specs.Rules.{PlanRefusals};
 ghost use Rattle.plan.specs.Another.{AnyOther};
@@ -51,7 +54,7 @@ fn laid(out: &mut [u8], at: usize, bytes: &[u8])
 
 // A number of 20 bits as three bytes.
 fn twenty(n: u32) -> [u8; 3]
-    ensures { λ r. ⌜ r ≡ twenty n ⌝ }
+    ensures { λ r. ⌜ r ≡ n / 65536 % 256 ∷ n / 256 % 256 ∷ n % 256 ∷ [] ⌝ }
 {
     [
         (n / 65536 % 256) as u8,
@@ -62,7 +65,7 @@ fn twenty(n: u32) -> [u8; 3]
 
 fn cts_select(sound: Sound) -> u8
     requires { ⌜ SoundFits sound ⌝ }
-    ensures { λ r. ⌜ (r ≡ ctsSelect sound) × (r ≤ 1) ⌝ }
+    ensures { λ r. ⌜ (r ≡ manualCts sound) × (r ≤ 1) ⌝ }
 {
     match sound {
         Sound::Off => 0,
@@ -76,7 +79,7 @@ fn cts_select(sound: Sound) -> u8
 
 // The code of the rate; of 48 kHz, rate 2, where there is no sound.
 fn rate_code(sound: Sound) -> u8
-    ensures { λ r. ⌜ (r ≡ rateCode sound) × (r ≤ 15) ⌝ }
+    ensures { λ r. ⌜ (r ≡ rateCodeOf sound) × (r ≤ 15) ⌝ }
 {
     match sound {
         Sound::Off => sound::code_of(2),
@@ -88,8 +91,9 @@ fn rate_code(sound: Sound) -> u8
     }
 }
 
+// A bit for each of I2S0 to I2S3.
 fn inputs(sound: Sound) -> u8
-    ensures { λ r. ⌜ (r ≡ inputs sound) × (r ≤ 15) ⌝ }
+    ensures { λ r. ⌜ (r ≡ eightChannels sound * 14 + withSound sound) × (r ≤ 15) ⌝ }
 {
     match sound {
         Sound::Off => 0,
@@ -107,7 +111,7 @@ fn inputs(sound: Sound) -> u8
 }
 
 fn with_audio(sound: Sound) -> u8
-    ensures { λ r. ⌜ (r ≡ withAudio sound) × (r ≤ 1) ⌝ }
+    ensures { λ r. ⌜ (r ≡ withSound sound) × (r ≤ 1) ⌝ }
 {
     match sound {
         Sound::Off => 0,
@@ -121,7 +125,7 @@ fn with_audio(sound: Sound) -> u8
 
 fn audio_bytes(sound: Sound) -> [u8; AUDIO_FRAME]
     requires { ⌜ SoundFits sound ⌝ }
-    ensures { λ r. ⌜ r ≡ audioBytes sound ⌝ }
+    ensures { λ r. ⌜ r ≡ audioPacket sound ⌝ }
 {
     match sound {
         Sound::Off => frames::audio_off(),
@@ -139,7 +143,7 @@ fn audio_bytes(sound: Sound) -> [u8; AUDIO_FRAME]
 // Twelve coefficients as 24 bytes, the high five bits of each first.
 fn halves(k: [u16; 12]) -> [u8; 24]
     requires { ⌜ ((i : ℕ) → getD k i 0 < 8192) ⌝ }
-    ensures { λ r. ⌜ r ≡ halves k 0 12 ⌝ }
+    ensures { λ r. ⌜ r ≡ map (λ f. f .number) (coefficientPlaces 0x18 k 0 12) ⌝ }
 {
     let mut out = [0u8; 24];
     let mut i: usize = 0;
@@ -154,7 +158,7 @@ fn halves(k: [u16; 12]) -> [u8; 24]
 // The 24 bytes of the converter.
 fn csc_bytes(m: Matrix) -> [u8; 24]
     requires { ⌜ Shaped m × (m .mode ≤ 2) ⌝ }
-    ensures { λ r. ⌜ r ≡ cscBytes m ⌝ }
+    ensures { λ bytes. ⌜ ((r : Request) (p : Pair) → r .matrix ≡ m → bytes ≡ map (λ a. placedAt a (places r p)) (from 0x18 24)) ⌝ }
 {
     let k = m.coefficients;
     let mut out = halves(k);
@@ -166,8 +170,8 @@ fn csc_bytes(m: Matrix) -> [u8; 24]
 
 // N and CTS.
 fn with_clock(out: &mut [u8], pair: Pair)
-    requires { ⌜ length (now out) ≡ 256 ⌝ }
-    ensures { λ _. ⌜ now (out .exit) ≡ stores (now (out .entry)) (clockBytes pair) ⌝ }
+    requires { ⌜ (length (now out) ≡ 256) × (pair .n < 1048576) × (pair .cts < 1048576) ⌝ }
+    ensures { λ _. ⌜ ((r : Request) → now (out .exit) ≡ stores (now (out .entry)) (laidOut (from 0x01 3 ++ from 0x07 3) (places r pair))) ⌝ }
 {
     let n = twenty(pair.n);
     let cts = twenty(pair.cts);
@@ -176,7 +180,7 @@ fn with_clock(out: &mut [u8], pair: Pair)
 }
 
 fn output_format(encoding: u8) -> u8
-    ensures { λ r. ⌜ r ≡ cond (eqb encoding 1) outputFormatMask 0 ⌝ }
+    ensures { λ r. ⌜ r ≡ cond (eqb encoding 1) 1 0 * outputFormatMask ⌝ }
 {
     if encoding == 1 {
         return Map::OUTPUT_FORMAT_MASK;
@@ -187,7 +191,7 @@ fn output_format(encoding: u8) -> u8
 // How sound arrives, and the output format.
 fn with_inputs(out: &mut [u8], r: Request)
     requires { ⌜ (length (now out) ≡ 256) × SoundFits (r .sound) ⌝ }
-    ensures { λ _. ⌜ now (out .exit) ≡ stores (now (out .entry)) (inputBytes r) ⌝ }
+    ensures { λ _. ⌜ ((p : Pair) → now (out .exit) ≡ stores (now (out .entry)) (laidOut (0x0A ∷ 0x0C ∷ 0x15 ∷ 0x16 ∷ []) (places r p))) ⌝ }
 {
     let sound = r.sound;
     out[Map::AUDIO_SOURCE as usize] = cts_select(sound) * (1 << Map::CTS_SELECT_SHIFT);
@@ -200,7 +204,7 @@ fn with_inputs(out: &mut [u8], r: Request)
 // The repetition in its two fields, beside the mode of repetition.
 fn repetition_byte(video: Video) -> u8
     requires { ⌜ repetition video ≤ 2 ⌝ }
-    ensures { λ r. ⌜ r ≡ repetitionByte video ⌝ }
+    ensures { λ r. ⌜ r ≡ 2 * 2 ^ prModeShift + repetition video * 2 ^ prPllManualShift + repetition video * 2 ^ prValueManualShift ⌝ }
 {
     let repetition = video::repetition(video);
     2 * (1 << Map::PR_MODE_SHIFT)
@@ -210,7 +214,7 @@ fn repetition_byte(video: Video) -> u8
 
 // The code of the depth.
 fn depth_code(video: Video) -> u8
-    ensures { λ r. ⌜ r ≡ depthCode video ⌝ }
+    ensures { λ r. ⌜ r ≡ getD depthNumbers (depth video) 0 ⌝ }
 {
     let depth = video::depth(video);
     match depth {
@@ -223,7 +227,8 @@ fn depth_code(video: Video) -> u8
 // The repetition, the VIC, the enables, the depth and HDMI or DVI.
 fn with_enables(out: &mut [u8], r: Request)
     requires { ⌜ (length (now out) ≡ 256) × (r .video .link ≤ 1) × (repetition (r .video) ≤ 2) ⌝ }
-    ensures { λ _. ⌜ now (out .exit) ≡ stores (now (out .entry)) (enableBytes r) ⌝ }
+    ensures { λ _. ⌜ ((p : Pair) → now (out .exit)
+        ≡ stores (now (out .entry)) (laidOut (0x3B ∷ 0x3C ∷ 0x40 ∷ 0x44 ∷ 0x4A ∷ 0x4B ∷ 0x4C ∷ 0xAF ∷ []) (places r p))) ⌝ }
 {
     let sound = r.sound;
     let audio = Map::N_CTS_PACKET_ENABLE_MASK
@@ -235,6 +240,7 @@ fn with_enables(out: &mut [u8], r: Request)
     out[Map::PACKET_ENABLE1 as usize] = with_audio(sound) * audio
         + r.video.link * Map::AVI_INFOFRAME_ENABLE_MASK;
     out[Map::INFOFRAME_UPDATE as usize] = Map::AUTO_CHECKSUM_ENABLE_MASK;
+    out[Map::AV_MUTE as usize] = Map::CLEAR_AV_MUTE_MASK;
     out[Map::GC_DEPTH as usize] = depth_code(r.video);
     out[Map::HDCP_HDMI_CFG as usize] = r.video.link * Map::HDMI_DVI_MODE_SELECT_MASK;
 }
@@ -251,7 +257,7 @@ fn avi_bytes(video: Video) -> [u8; AVI_FRAME]
 // The registers of the two InfoFrames.
 fn with_frames(out: &mut [u8], r: Request)
     requires { ⌜ (length (now out) ≡ 256) × Fits r ⌝ }
-    ensures { λ _. ⌜ now (out .exit) ≡ stores (now (out .entry)) (frameBytes r) ⌝ }
+    ensures { λ _. ⌜ ((p : Pair) → now (out .exit) ≡ stores (now (out .entry)) (laidOut (from 0x52 16 ++ from 0x70 13) (places r p))) ⌝ }
 {
     let sound = r.sound;
     let video = avi_bytes(r.video);
@@ -260,12 +266,12 @@ fn with_frames(out: &mut [u8], r: Request)
     laid(out, Map::AUDIO_INFOFRAME_VERSION as usize, &audio[1..]);
 }
 
-// The byte that every register with a named bit is to hold, stored in its place.
+// The byte that every register with a named bit is to hold, stored in its place, over zeros.
 fn wanted_image(r: Request, pair: Pair, out: &mut [u8])
     requires { ⌜ Fits r ⌝ }
     requires { ⌜ pair ≡ pairFor r ⌝ }
-    requires { ⌜ length (now out) ≡ 256 ⌝ }
-    ensures { λ _. ⌜ now (out .exit) ≡ stores (now (out .entry)) (wantedBytes r) ⌝ }
+    requires { ⌜ (length (now out) ≡ 256) × (now out ≡ replicate 256 0) ⌝ }
+    ensures { λ _. ⌜ ((a : ℕ) → getD (now (out .exit)) a 0 ≡ wanted r a) ⌝ }
 {
     let matrix = r.matrix;
     let csc = csc_bytes(matrix);

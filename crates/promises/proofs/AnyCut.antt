@@ -53,7 +53,6 @@ use Rattle.frames.proofs.Readers.{editions}
 use Rattle.promises.proofs.Only.{same-but-two, shown-alike}
 use Rattle.promises.proofs.Ended.{avi-head, audio-head, enable-in, mode-in}
 use Rattle.promises.proofs.Filled.{filled, paired, never-three}
-use Rattle.promises.proofs.Places.{audio-frame}
 use Rattle.promises.specs.LentBytes.{enteredCuts, OverSlices}
 use Rattle.promises.proofs.LentBytes.{left, slices-run, followed}
 use Rattle.promises.specs.AnyCut.{listOf, Headed, EveryCut}
@@ -158,7 +157,7 @@ any-cut input buffer s z =
       headAvi = rw (end .ended .avi) (avi-head q (e .image) g (end .stands));
       headAudio = rw (end .ended .audio) (audio-head q (e .image) g (end .stands));
       newAvi = new-avi input buffer s f;
-      newAudio = ap (drop 2) (end .ended .audio) ∙ audio-in q (e .image) (end .sized) g (end .stands) ∙ ap (drop 3) (audio-frame (q .sound));
+      newAudio = ap (drop 2) (end .ended .audio) ∙ audio-in q (e .image) (end .sized) g (end .stands);
       newMatrix = end .ended .matrix ∙ matrix-in q (e .image) (end .sized) g (end .stands);
       newEnable = enable-in q (e .image) g (end .stands);
       newMode = mode-in q (e .image) g (end .stands);
@@ -230,10 +229,10 @@ rules input buffer s = record {
   reported = λ z. reported input (s .image) buffer (fits z);
   finished = λ z es e. any-cut input buffer s z .demand .runs es e .registers;
   fields = λ z. let f = fits z in
-      filled input (s .image) (f .read) (eqb-true _ _ (f .paired)) _ (image-length (asked input) (s .image))
+      filled input (s .image) (f .read) _ (image-length (asked input) (s .image))
       (image-at (asked input) (s .image));
   pair = paired input;
-  neverThree = λ z. let f = fits z in never-three input (s .image) (f .read) (eqb-true _ _ (f .paired));
+  neverThree = λ z. let f = fits z in never-three input (s .image) (f .read);
   readBack = λ b z room h. read-back input (s .image) (finishedImage (asked input) (s .image)) .answered (ran input b z) room h;
   only = λ b z other c y e.
       same-but-two input other (finishedImage (asked input) (s .image)) (s .image) (ran input b z)

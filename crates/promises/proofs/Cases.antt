@@ -35,7 +35,7 @@ use Rattle.bits.specs.Merge.{merge}
 use Rattle.registers.specs.Classes.{classAt}
 use Rattle.writes.specs.Steps.{middle}
 use Rattle.writes.specs.List.{decided, byte, written, isWritten, finished, column, flat, alreadyThere}
-use Rattle.plan.specs.Wanted.{wantedImage, wanted}
+use Rattle.plan.specs.Wanted.{wanted}
 use Rattle.plan.specs.Plan.{laterRefusal, planWith, bufferWith, planOf, planBuffer}
 use Rattle.request.specs.Bytes.{asReadBack}
 use Rattle.writes.proofs.Image.{image-length, image-at}
@@ -50,15 +50,15 @@ unfolding reference tmds clockOf modeOf divisorOf euclid
 multiple n cts e = divides 6750000000 372736000 (lit< tt) n cts (omega arith)
 
 few : Few
-unfolding flatMap euclid divisorOf modeOf tmds clockOf reference recommendedOf nearestK nearestIn nearestOf exactly coherentOf pairOf total aviFrame audioFrame fields inRange isAllowed walk walked videoOutside shownOutside videoCombined shownCombined outside combined judged readOf pairFor merge classAt decided byte written middle isWritten finished column flat alreadyThere wantedImage wanted laterRefusal planWith bufferWith planOf planBuffer
+unfolding flatMap euclid divisorOf modeOf tmds clockOf reference recommendedOf nearestK nearestIn nearestOf exactly coherentOf pairOf total aviFrame audioFrame fields inRange isAllowed walk walked videoOutside shownOutside videoCombined shownCombined outside combined judged readOf pairFor merge classAt decided byte written middle isWritten finished column flat alreadyThere wanted laterRefusal planWith bufferWith planOf planBuffer
 few = (refl, refl)
 
 few-deep : FewDeep
-unfolding flatMap euclid divisorOf modeOf tmds clockOf reference recommendedOf nearestK nearestIn nearestOf exactly coherentOf pairOf total aviFrame audioFrame audioOffFrame fields inRange isAllowed walk walked videoOutside shownOutside videoCombined shownCombined outside combined judged readOf pairFor merge classAt decided byte written middle isWritten finished column flat alreadyThere wantedImage wanted laterRefusal planWith bufferWith planOf planBuffer
+unfolding flatMap euclid divisorOf modeOf tmds clockOf reference recommendedOf nearestK nearestIn nearestOf exactly coherentOf pairOf total aviFrame audioFrame audioOffFrame fields inRange isAllowed walk walked videoOutside shownOutside videoCombined shownCombined outside combined judged readOf pairFor merge classAt decided byte written middle isWritten finished column flat alreadyThere wanted laterRefusal planWith bufferWith planOf planBuffer
 few-deep = (refl, refl)
 
 few-editions : FewEditions
-unfolding flatMap euclid divisorOf modeOf tmds clockOf reference recommendedOf nearestK nearestIn nearestOf exactly coherentOf pairOf total aviFrame audioFrame audioOffFrame fields inRange isAllowed walk walked videoOutside shownOutside videoCombined shownCombined outside combined judged readOf pairFor merge classAt decided byte written middle isWritten finished column flat alreadyThere wantedImage wanted laterRefusal planWith bufferWith planOf planBuffer
+unfolding flatMap euclid divisorOf modeOf tmds clockOf reference recommendedOf nearestK nearestIn nearestOf exactly coherentOf pairOf total aviFrame audioFrame audioOffFrame fields inRange isAllowed walk walked videoOutside shownOutside videoCombined shownCombined outside combined judged readOf pairFor merge classAt decided byte written middle isWritten finished column flat alreadyThere wanted laterRefusal planWith bufferWith planOf planBuffer
 few-editions = (refl, refl, refl)
 
 -- each edition byte

@@ -1,25 +1,19 @@
 -- The finished image of an accepted request, and the N and CTS that are answered for it. Assumes nothing.
 use mathlib.Core.Path.{_≡_, refl, sym, ap, subst, _∙_}
-use mathlib.Core.Bool.{Bool, true, false, false≢true, cond, _&&_, _||_}
+use mathlib.Core.Bool.{Bool, false, cond}
 use mathlib.Core.List.{List, [], _∷_}
 use Prim.Native.Nat.{ℕ, suc, _+_, _*_, _/_, _%_, _<_, _≤_}
 use native.Mathlib.Omega.{arith}
-use lib.Dec.{eqb, ltb, lit<}
+use lib.Dec.{eqb, lit<}
 use lib.ListN.{length, getD, take, drop}
-use borrow.Author.Tests.{eqb-true, eqb-false, eq-eqb, ne-eqb, ltb-true}
-use Rattle.lists.specs.Find.{find}
-use Rattle.lists.proofs.Both.{both-left, both-right}
+use borrow.Author.Tests.{eqb-true, eq-eqb, ne-eqb}
 use Rattle.bits.proofs.Below.{at-below}
 use Rattle.video.specs.declared.Video.{Video}
-use Rattle.video.specs.Modes.{modeOf}
-use Rattle.video.proofs.Fits.{vic-small, is-listed}
 use Rattle.clock.specs.declared.Pair.{Pair}
 use Rattle.clock.specs.Answers.{clockOf}
-use Rattle.clock.specs.Tables.{otherRow}
 use Rattle.clock.specs.Pairs.{Coherent}
 use Rattle.clock.specs.Answers.{other}
 use Rattle.clock.specs.Found.{coherentOf, pairOf}
-use Rattle.clock.proofs.Rates.{reference-most}
 use Rattle.clock.proofs.Coherence.{in-mode, pair-in}
 use Rattle.frames.specs.Frames.{total, frame, aviFrame}
 use Rattle.frames.proofs.Sealed as frames
@@ -39,14 +33,14 @@ use Rattle.writes.specs.Carried.{requested}
 use Rattle.writes.proofs.Carries.{masked, entries}
 use Rattle.writes.proofs.Image.{image-length, image-at}
 use Rattle.plan.specs.Wanted.{wanted}
+use Rattle.plan.proofs.Shown.{Wanted, each-wanted, shown, picked}
 use Rattle.decode.specs.Ends.{Stands}
-use Rattle.decode.proofs.Stored.{window}
-use Rattle.decode.proofs.Groups.{avi-in, audio-in}
+use Rattle.decode.proofs.Groups.{window, avi-in, audio-in}
 use Rattle.decode.proofs.Answers.{finished-again}
-use Rattle.promises.specs.Finished.{Place, place, NeverThree, inM, inC, audioPacket, places, Shows, Each, FinishedFields, Paired}
+use Rattle.plan.specs.Places.{audioPacket, places, Shows}
+use Rattle.promises.specs.Finished.{NeverThree, FinishedFields, Paired}
 use Rattle.bits.proofs.Fields.{field-same}
 use Rattle.writes.proofs.Named.{field, ordered}
-use Rattle.promises.proofs.Places.{audio-frame, Ranges, stand}
 
 -- ---- N and CTS
 
@@ -78,78 +72,7 @@ paired input z =
     let f : Fits r = fits input z in
     subst (λ (p : Pair). Paired (r .video) (r .sound) p) (sym (asked-pair input z)) (paired-in r (r .sound) (f .clock) (f .sound))
 
--- ---- what is known of an accepted request
-
-other-small : (rate : ℕ) → rate < 7 → getD otherRow rate 0 < 1048576
-other-small rate h = ltb-true _ _ (at-below (λ n. ltb (getD otherRow n 0) 1048576) 7 rate refl h)
-
-abbrev Small : Pair → Type 0
-Small p = (p .n < 1048576) × (p .cts < 1048576)
-
--- N and CTS have 20 bits
-small : (video : Video) (s : Sound) (p : Pair) → SoundFits s → Paired video s p → p .refusal ≡ 0 → Small p
-small video Off p h k z = (omega (arith, k .1), omega (arith, k .2))
-small video (On rate channels coherent) p h k z = go (eqb coherent 1) refl
-  where
-    l : rate < 7
-    l = omega (arith, h .0)
-
-    go : (b : Bool) → eqb coherent 1 ≡ b → Small p
-    go true e =
-        let x = k .0 (eqb-true _ _ e) .exact (λ n. omega arith) .1 in
-        (omega (arith, x .most, reference-most rate), omega (arith, x .fits))
-    go false e =
-        let x = k .1 (eqb-false _ _ e) in
-        (omega (arith, x .1, other-small rate l), omega (arith, x .2))
-
--- C and M of a mode that is listed
-abbrev right : ℕ → Bool
-right vic =
-    cond (eqb (modeOf vic .families) 0) true (eqb (modeOf vic .colorimetry) (inC vic 1) && eqb (modeOf vic .aspect) (inM vic))
-
-all-right : (vic : ℕ) → vic < 64 → right vic ≡ true
-unfolding modeOf
-all-right vic h = at-below right 64 vic refl h
-
-ranges : (input : List ℕ) → readOf input .refusal ≡ 0 → pairFor (readOf input .request) .refusal ≡ 0
-    → Ranges (readOf input .request) (pairFor (readOf input .request))
-ranges input z y =
-    let r : Request = readOf input .request in
-    let f : Fits r = fits input z in
-    let q = subst (λ (p : Pair). Paired (r .video) (r .sound) p) (asked-pair input z) (paired input z) in
-    let two = small (r .video) (r .sound) (pairFor r) (f .sound) q y in
-    let t : right (r .video .vic) ≡ true = all-right (r .video .vic) (vic-small (r .video) (f .video)) in
-    let m = rw (ne-eqb _ 0 (is-listed (r .video) (f .video))) at t in
-    record {
-      n = two .0;
-      cts = two .1;
-      fits = f;
-      color = eqb-true _ _ (both-left _ (eqb (modeOf (r .video .vic) .aspect) (inM (r .video .vic))) m);
-      shape = eqb-true _ _ (both-right (eqb (modeOf (r .video .vic) .colorimetry) (inC (r .video .vic) 1)) _ m);
-    }
-
 -- ---- the finished image
-
--- one place of them all, by its register and its highest bit
-abbrev isAt : ℕ → ℕ → Place → Bool
-isAt address high f = eqb (f .address) address && eqb (f .high) high
-
-abbrev isThere : (Place → Bool) → List Place → Bool
-isThere test [] = false
-isThere test (f ∷ fs) = test f || isThere test fs
-
-pick : (P : Place → Type 0) (test : Place → Bool) (fs : List Place) → Each P fs → isThere test fs ≡ true → P (find test (place 0 0 0 0) fs)
-pick P test [] e h = absurd (false≢true h)
-pick P test (f ∷ fs) e h = go (test f) h (pick P test fs (e .1))
-  where
-    go : (b : Bool) → (b || isThere test fs) ≡ true → (isThere test fs ≡ true → P (find test (place 0 0 0 0) fs))
-        → P (cond b f (find test (place 0 0 0 0) fs))
-    go true t more = e .0
-    go false t more = more t
-
-pub picked : (P : Place → Type 0) (fs : List Place) → Each P fs → (address high : ℕ) → isThere (isAt address high) fs ≡ true
-    → P (find (isAt address high) (place 0 0 0 0) fs)
-picked P fs e address high = pick P (isAt address high) fs e
 
 twenty : (x y z n : ℕ) → x ≡ n / 65536 → y ≡ n / 256 % 256 → z ≡ n % 256 → x * 65536 + y * 256 + z ≡ n
 twenty x y z n e f g = omega arith
@@ -172,29 +95,29 @@ avi-zero video = sum-zero 0x82 0x02 0x0D _
 audio-zero : (s : Sound) → (0x84 + 0x01 + 0x0A + total (drop 3 (audioPacket s))) % 256 ≡ 0
 audio-zero s = sum-zero 0x84 0x01 0x0A _
 
-pub filled : (input image : List ℕ) → readOf input .refusal ≡ 0 → pairFor (readOf input .request) .refusal ≡ 0
+pub filled : (input image : List ℕ) → readOf input .refusal ≡ 0
     → (after : List ℕ) → length after ≡ 256 → ((a : ℕ) → a < 256 → getD after a 0 ≡ finished (wanted (readOf input .request)) image a)
     → FinishedFields (readOf input .request) (nctsOf input) after
-filled input image z y after sized ends =
+filled input image z after sized ends =
     let r : Request = readOf input .request in
     let p : Pair = pairFor r in
-    let e = stand r image after ends (ranges input z y) in
+    let g : Fits r = fits input z in
+    let e = shown r g image after ends in
     let at = picked (Shows after) (places r p) e in
     let stands : Stands r after = λ a h. finished-again (wanted r) image after a (ends a h) in
-    let g : Fits r = fits input z in
     let v : bitsIn 2 0 (getD after 0x52 0) ≡ 0x02 = at 0x52 2 refl in
     let l : bitsIn 4 0 (getD after 0x53 0) ≡ 0x0D = at 0x53 4 refl in
     let va : bitsIn 2 0 (getD after 0x70 0) ≡ 0x01 = at 0x70 2 refl in
     let la : bitsIn 4 0 (getD after 0x71 0) ≡ 0x0A = at 0x71 4 refl in
     let d = after-two after 0x52 14 (omega arith) ∙ avi-in r after sized g stands in
-    let da = after-two after 0x70 11 (omega arith) ∙ audio-in r after sized g stands ∙ ap (drop 3) (audio-frame (r .sound)) in
+    let da = after-two after 0x70 11 (omega arith) ∙ audio-in r after sized g stands in
     subst (λ (q : Pair). FinishedFields r q after) (sym (asked-pair input z)) (record {
       fields = e;
       n = twenty _ _ _ (p .n) (at 0x01 3 refl) (at 0x02 7 refl) (at 0x03 7 refl);
       cts = twenty _ _ _ (p .cts) (at 0x07 3 refl) (at 0x08 7 refl) (at 0x09 7 refl);
       aviSum = rw (v, l, d) (avi-zero (r .video));
       audioSum = rw (va, la, da) (audio-zero (r .sound));
-      mode = omega (arith, at 0x18 6 refl, fits input z .mode);
+      mode = omega (arith, at 0x18 6 refl, g .mode);
       ordered = λ a h w. rw (ends a h) (ordered (wanted r) image a h w);
     })
 
@@ -224,14 +147,8 @@ in-entry want image =
     of-those (λ w. w .address ≡ 0x18 → bitsIn 6 5 (w .value) ≡ bitsIn 6 5 (want 0x18)) (stays image) (0 gets 0) (fullList want image)
     (in-full want image)
 
-pub never-three : (input image : List ℕ) → readOf input .refusal ≡ 0 → pairFor (readOf input .request) .refusal ≡ 0
-    → NeverThree (writeList (wanted (readOf input .request)) image)
-unfolding classAt decided isWritten
-never-three input image z y k h e =
+pub never-three : (input image : List ℕ) → readOf input .refusal ≡ 0 → NeverThree (writeList (wanted (readOf input .request)) image)
+never-three input image z k h e =
     let r : Request = readOf input .request in
-    let after : List ℕ = finishedImage (wanted r) image in
-    let f = filled input image z y after (image-length (wanted r) image) (image-at (wanted r) image) in
-    let m : bitsIn 6 5 (getD after 0x18 0) < 3 = f .mode in
-    let t : bitsIn 6 5 (getD after 0x18 0) ≡ bitsIn 6 5 (wanted r 0x18)
-    = ap (bitsIn 6 5) (image-at (wanted r) image 0x18 (lit< tt)) ∙ field (wanted r) image 0x18 false 5 2 refl in
-    rw (in-entry (wanted r) image k h e ∙ sym t) m
+    let g : Fits r = fits input z in
+    omega (arith, in-entry (wanted r) image k h e, picked (Wanted r g) (places r (pairFor r)) (each-wanted r g) 0x18 6 refl, g .mode)

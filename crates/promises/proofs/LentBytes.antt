@@ -37,7 +37,7 @@ use Rattle.cut.proofs.Repeated.{turned-again}
 use Rattle.cut.proofs.ClausesOfRuns.{after-same}
 use Rattle.cut.proofs.DemandOfGoodLists.{waited-writes}
 use Rattle.vendor.proofs.Moved.{vsync-use}
-use Rattle.promises.specs.Finished.{audioPacket}
+use Rattle.plan.specs.Places.{audioPacket}
 use Rattle.promises.specs.Rules.{asked}
 use Rattle.promises.specs.AnyCut.{listOf, Headed}
 use Rattle.promises.specs.LentBytes.{pairsLeft, enters, entered, enteredCuts, OverSlices}

@@ -8,7 +8,6 @@ pub mod AnyCut
 pub mod AnyInput
 pub mod Outcomes
 pub mod Example
-pub mod Places
 pub mod Filled
 pub mod Shown
 pub mod Metered

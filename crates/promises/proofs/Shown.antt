@@ -11,7 +11,8 @@ use borrow.Author.Tests.{eqb-true, eqb-false}
 use Rattle.lists.specs.Among.{among}
 use Rattle.bits.specs.Merge.{bitsIn}
 use Rattle.bits.proofs.Below.{at-below}
-use Rattle.refusals.specs.Rows.{number, at, First}
+use Rattle.refusals.specs.Rows.{number, First}
+use Rattle.refusals.specs.Rows as rows
 use Rattle.video.specs.declared.Video.{Video}
 use Rattle.video.specs.Video.{depth, repetition, editionNumber, yccQuantisation, contentType, AsksE, answered}
 use Rattle.video.proofs.Fits.{range-fits, depth-fits, repetition-fits, ycc-fits}
@@ -19,7 +20,7 @@ use Rattle.video.proofs.Alike.{exceptions}
 use Rattle.request.specs.declared.Request.{Request}
 use Rattle.request.specs.declared.Checked.{Checked}
 use Rattle.request.specs.Sections.{longest}
-use Rattle.request.specs.Read.{readOf, pairFor, nctsOf}
+use Rattle.request.specs.Read.{readOf, nctsOf}
 use Rattle.request.specs.Bytes.{asBytes, requestInFamily}
 use Rattle.request.specs.Fits.{Fits}
 use Rattle.request.proofs.Fits.{fits}
@@ -29,9 +30,11 @@ use Rattle.decode.specs.Ends.{Ends}
 use Rattle.decode.specs.Decode.{decodeOf}
 use Rattle.decode.specs.Theorems.{decodeRules}
 use Rattle.decode.proofs.Answers.{exactly, refusals}
-use Rattle.promises.specs.Finished.{place, places, Shows, inQ, inPR, depthNumbers, inCD, FinishedFields}
+use Rattle.plan.specs.Places.{place, places, Shows, inQ, inPR, depthNumbers}
+use Rattle.promises.specs.Finished.{FinishedFields}
 use Rattle.promises.specs.FieldByField.{FieldByField}
-use Rattle.promises.proofs.Filled.{filled, picked}
+use Rattle.plan.proofs.Shown.{Picked, picked}
+use Rattle.promises.proofs.Filled.{filled}
 
 -- the Q that an encoding allows
 abbrev allowed : ℕ → List ℕ
@@ -53,8 +56,8 @@ is-allowed encoding range h = go (eqb encoding 0)
 is-pr : (repetition : ℕ) → repetition ≤ 2 → among (inPR repetition) (0 ∷ 1 ∷ 3 ∷ []) ≡ true
 is-pr repetition h = at-below (λ n. among (inPR n) (0 ∷ 1 ∷ 3 ∷ [])) 3 repetition refl (omega arith)
 
-is-code : (depth : ℕ) → depth ≤ 2 → among (inCD depth) depthNumbers ≡ true
-is-code depth h = at-below (λ n. among (inCD n) depthNumbers) 3 depth refl (omega arith)
+is-code : (depth : ℕ) → depth ≤ 2 → among (getD depthNumbers depth 0) depthNumbers ≡ true
+is-code depth h = at-below (λ n. among (getD depthNumbers n 0) depthNumbers) 3 depth refl (omega arith)
 
 -- one of E's bits is asked for
 asked-one : (v : Video) → (yccQuantisation v * 4 + contentType v ≡ 0 → ⊥) → AsksE v
@@ -79,18 +82,19 @@ module _ (image : List ℕ) (sized : length image ≡ 256) where
     in-fields : FinishedFields q (nctsOf (asBytes q)) image
     in-fields =
         let z : readOf (asBytes q) .refusal ≡ 0 = ap (λ (c : Checked). c .refusal) (e .acceptable .read) in
-        let y : pairFor (readOf (asBytes q) .request) .refusal ≡ 0 = ap (λ (x : Request). pairFor x .refusal) said ∙ e .acceptable .paired in
         let ends : (a : ℕ) → a < 256 → getD image a 0 ≡ finished (wanted (readOf (asBytes q) .request)) image a
         = λ a h. sym (e .stands a h) ∙ ap (λ (x : Request). finished (wanted x) image a) (sym said) in
-        subst (λ (x : Request). FinishedFields x (nctsOf (asBytes q)) image) said (filled (asBytes q) image z y image sized ends)
+        subst (λ (x : Request). FinishedFields x (nctsOf (asBytes q)) image) said (filled (asBytes q) image z image sized ends)
 
     fitting : Fits q
     fitting = subst Fits said (fits (asBytes q) (ap (λ (c : Checked). c .refusal) (e .acceptable .read)))
 
+    at : Picked (Shows image) (places q (nctsOf (asBytes q)))
+    at = picked (Shows image) (places q (nctsOf (asBytes q))) (in-fields .fields)
+
     -- Q
     in-q : among (bitsIn 3 2 (getD image 0x57 0)) (allowed (bitsIn 6 5 (getD image 0x55 0))) ≡ true
     in-q =
-        let at = picked (Shows image) (places q (nctsOf (asBytes q))) (in-fields .fields) in
         let y : bitsIn 6 5 (getD image 0x55 0) ≡ r .video .encoding = at 0x55 6 refl in
         let x : bitsIn 3 2 (getD image 0x57 0) ≡ inQ (r .video .encoding) (r .video .range) = at 0x57 3 refl in
         rw (x, y) (is-allowed (r .video .encoding) (r .video .range) (range-fits (q .video) (fitting .video)))
@@ -98,30 +102,27 @@ module _ (image : List ℕ) (sized : length image ≡ 256) where
     -- the depth
     in-depth : among (bitsIn 3 0 (getD image 0x4C 0)) depthNumbers ≡ true
     in-depth =
-        let at = picked (Shows image) (places q (nctsOf (asBytes q))) (in-fields .fields) in
-        let x : bitsIn 3 0 (getD image 0x4C 0) ≡ inCD (depth (r .video)) = at 0x4C 3 refl in
+        let x : bitsIn 3 0 (getD image 0x4C 0) ≡ getD depthNumbers (depth (r .video)) 0 = at 0x4C 3 refl in
         rw x (is-code (depth (r .video)) (depth-fits (q .video) (fitting .video)))
 
     -- the repetition
     in-pr : among (bitsIn 3 0 (getD image 0x59 0)) (0 ∷ 1 ∷ 3 ∷ []) ≡ true
     in-pr =
-        let at = picked (Shows image) (places q (nctsOf (asBytes q))) (in-fields .fields) in
         let x : bitsIn 3 0 (getD image 0x59 0) ≡ inPR (repetition (r .video)) = at 0x59 3 refl in
         rw x (is-pr (repetition (r .video)) (repetition-fits (q .video) (fitting .video)))
 
     in-both : bitsIn 4 3 (getD image 0x3B 0) ≡ bitsIn 2 1 (getD image 0x3B 0)
     in-both =
-        let at = picked (Shows image) (places q (nctsOf (asBytes q))) (in-fields .fields) in
         let x : bitsIn 4 3 (getD image 0x3B 0) ≡ repetition (r .video) = at 0x3B 4 refl in
         let y : bitsIn 2 1 (getD image 0x3B 0) ≡ repetition (r .video) = at 0x3B 2 refl in
         x ∙ sym y
 
     -- YQ and CN
     in-yq : bitsIn 7 6 (getD image 0x59 0) ≡ yccQuantisation (r .video)
-    in-yq = picked (Shows image) (places q (nctsOf (asBytes q))) (in-fields .fields) 0x59 7 refl
+    in-yq = at 0x59 7 refl
 
     in-cn : bitsIn 5 4 (getD image 0x59 0) ≡ contentType (r .video)
-    in-cn = picked (Shows image) (places q (nctsOf (asBytes q))) (in-fields .fields) 0x59 5 refl
+    in-cn = at 0x59 5 refl
 
     yq-small : bitsIn 7 6 (getD image 0x59 0) ≤ 1
     yq-small = rw in-yq (ycc-fits (q .video) (fitting .video))
@@ -153,8 +154,8 @@ eleven : (image room : List ℕ) → length image ≡ 256 → longest ≤ length
     → decodeOf image room .refusal ≡ 11
 eleven image room sized long f = go (f .place) (f .within) (f .numbered) (f .applies)
   where
-    go : (place : ℕ) → place < 3 → decodeOf image room .refusal ≡ number (at (decodeRules image room) place .row)
-        → at (decodeRules image room) place .When → decodeOf image room .refusal ≡ 11
+    go : (place : ℕ) → place < 3 → decodeOf image room .refusal ≡ number (rows.at (decodeRules image room) place .row)
+        → rows.at (decodeRules image room) place .When → decodeOf image room .refusal ≡ 11
     go zero h n w = absurd (w sized)
     go (suc zero) h n w = omega arith
     go (suc (suc zero)) h n w = n

@@ -65,14 +65,14 @@ use Rattle.vendor.proofs.Verdicts.{ends-whole}
 use Rattle.vendor.proofs.Alike.{Alike, same-verdict}
 use Rattle.vendor.proofs.Ended.{last-of}
 use Rattle.vendor.proofs.Careful.{CarefulList, pairs-first, last-event, cut-by-pairs, careful-passes, passes-careful}
-use Rattle.promises.specs.Finished.{places, Shows}
+use Rattle.plan.specs.Places.{places, Shows}
 use Rattle.promises.specs.Rules.{asked, Listed}
 use Rattle.promises.specs.LentBytes.{bytesLeft, entered}
 use Rattle.promises.specs.Said.{muteSaid, Entering}
 use Rattle.promises.specs.AnyCut.{listOf}
 use Rattle.promises.specs.Vendors.{inputOf, Passing, PassingToo, Vendors}
 use Rattle.promises.proofs.AnyCut.{any-cut, accepted, listed, again-fine}
-use Rattle.promises.proofs.Filled.{picked}
+use Rattle.plan.proofs.Shown.{picked}
 use Rattle.promises.proofs.LentBytes.{entered-run, faced, end-faces, says-open, enters-so}
 use Rattle.promises.proofs.Shown.{shown}
 

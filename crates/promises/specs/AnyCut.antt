@@ -13,7 +13,7 @@ use Rattle.cut.specs.Run.{Event, writesOf}
 use Rattle.cut.specs.Demand.{toItsEnd, Cut, cuts, PlannedAgain, Demand3}
 use Rattle.views.specs.Entry.{Lent, stateOf}
 use Rattle.views.specs.Sized.{LentSized}
-use Rattle.promises.specs.Finished.{audioPacket}
+use Rattle.plan.specs.Places.{audioPacket}
 use Rattle.promises.specs.Rules.{asked, Listed}
 use Rattle.promises.specs.LentBytes.{enteredCuts, OverSlices}
 

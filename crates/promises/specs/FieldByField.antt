@@ -15,7 +15,8 @@ use Rattle.request.specs.Read.{nctsOf}
 use Rattle.request.specs.Bytes.{asBytes, requestInFamily}
 use Rattle.decode.specs.Ends.{Ends}
 use Rattle.decode.specs.Decode.{decodeOf}
-use Rattle.promises.specs.Finished.{depthNumbers, FinishedFields}
+use Rattle.plan.specs.Places.{depthNumbers}
+use Rattle.promises.specs.Finished.{FinishedFields}
 
 -- an image in which a request ends has that request's numbers in its named fields, in the family in which it ends
 pub record FieldByField (image : List ℕ) : Type 0 where

@@ -19,7 +19,7 @@ use Rattle.views.specs.Sized.{LentSized}
 use Rattle.plan.specs.Plan.{planOf}
 use Rattle.cut.specs.Run.{Event, event, writesOf, writesBy, Either}
 use Rattle.cut.specs.Vsync.{changeWaits, turnedOver, waited, FinishedRun}
-use Rattle.promises.specs.Finished.{audioPacket}
+use Rattle.plan.specs.Places.{audioPacket}
 use Rattle.promises.specs.LentBytes.{pairsLeft, enters, entered}
 use Rattle.promises.specs.AnyCut.{Headed}
 

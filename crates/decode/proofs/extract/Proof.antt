@@ -1,4 +1,5 @@
 -- `decode::extract` meets its contract: each section from its registers. Assumes nothing.
+use native.Mathlib.Nat.{div-one}
 use borrow.Author.Needs.{needs}
 use Rattle.decode.specs.Extract.{extract}
 use Rattle.decode.proofs.extract.Statement.{statement}
@@ -51,7 +52,7 @@ unfolding extract
 returns c =
     let d = c .before .before in
     let p = d .before .before .before in
-    simp (c .video-named .ensures, d .depth-of .ensures, p .before .sound-in .ensures, p .matrix-in .ensures)
+    simp (c .video-named .ensures, d .depth-of .ensures, p .before .sound-in .ensures, p .matrix-in .ensures, div-one)
 
 pub extract-spec : {M : Type 1} → statement M
 extract-spec =

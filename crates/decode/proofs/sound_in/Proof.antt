@@ -1,4 +1,5 @@
 -- `decode::sound_in` meets its contract. Assumes nothing.
+use native.Mathlib.Nat.{div-one}
 use borrow.Author.Tests.{eq-eqb, ne-eqb}
 use borrow.Author.Needs.{needs}
 use Rattle.decode.proofs.sound_in.Statement.{statement}
@@ -38,7 +39,7 @@ shared-slice-read-t14 : tie.Need-shared-slice-read-t14
 shared-slice-read-t14 c = search needs
 
 returns-2 : tie.Need-returns-2
-returns-2 c = simp (ne-eqb _ _ (c .before .before .before .before .if1 .left), c .before .before .rate-of .ensures)
+returns-2 c = rw (ne-eqb _ _ (c .before .before .before .before .if1 .left), c .before .before .rate-of .ensures, div-one)
 
 pub sound-in-spec : {M : Type 1} → statement M
 sound-in-spec =

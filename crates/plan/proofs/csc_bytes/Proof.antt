@@ -6,6 +6,7 @@ use native.Mathlib.Omega.{arith}
 use lib.ListN.{getD}
 use borrow.Author.Needs.{needs}
 use Rattle.request.proofs.Fits.{on-small, coefficients-small}
+use Rattle.plan.proofs.Made.{matrix-made}
 use Rattle.plan.proofs.csc_bytes.Statement.{statement}
 use Rattle.plan.proofs.csc_bytes.Tie as tie
 
@@ -33,7 +34,7 @@ array-write-out : tie.Need-array-write-out
 array-write-out c = search needs
 
 returns : tie.Need-returns
-returns c = let h = c .before .before in rw (h .halves .ensures)
+returns c r p e = let h = c .before .before in rw (h .halves .ensures, ← e) (matrix-made r p)
 
 pub csc-bytes-spec : {M : Type 1} → statement M
 csc-bytes-spec =

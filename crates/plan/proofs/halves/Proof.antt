@@ -5,13 +5,13 @@ use native.Mathlib.Omega.{arith}
 use lib.ListN.{length}
 use lib.Seq.{sets}
 use borrow.Author.Needs.{needs}
-use Rattle.plan.specs.Wanted.{halves}
+use Rattle.plan.proofs.Made.{numbers}
 use Rattle.plan.proofs.Stored.{halves-more}
 use Rattle.plan.proofs.halves.Statement.{statement}
 use Rattle.plan.proofs.halves.Tie as tie
 
 abbrev Inv-loop : tie.InvT-loop
-Inv-loop k out₀ i₀ out i = (i ≤ 12) × (length out ≡ 24) × (sets out (2 * i) (halves k i (12 - i)) ≡ sets out₀ 0 (halves k 0 12))
+Inv-loop k out₀ i₀ out i = (i ≤ 12) × (length out ≡ 24) × (sets out (2 * i) (numbers k i (12 - i)) ≡ sets out₀ 0 (numbers k 0 12))
 
 abbrev μ-loop : tie.MeasureT-loop
 μ-loop k out₀ i₀ out i = 12 - i

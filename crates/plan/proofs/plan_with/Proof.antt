@@ -8,7 +8,6 @@ use borrow.Author.Needs.{needs}
 use Rattle.clock.specs.declared.Pair.{Pair}
 use Rattle.request.specs.Read.{pairFor}
 use Rattle.writes.specs.List.{ready}
-use Rattle.plan.specs.Wanted.{wantedImage}
 use Rattle.plan.proofs.Answer.{seven, eight, nine, ten, accepts, refuses}
 use Rattle.plan.proofs.plan_with.Statement.{statement}
 use Rattle.plan.proofs.plan_with.Tie as tie
@@ -87,7 +86,6 @@ same-length : tie.Need-same-length
 same-length c = search needs
 
 returns-5 : tie.Need-returns-5
-unfolding wantedImage
 returns-5 c =
     let w = c .before .before in
     let i = w .before .before .before .before in
@@ -96,7 +94,7 @@ returns-5 c =
     let p = q .before .before in
     let e = p .before .before .before .before in
     let a = e .before .before .before .args in
-    accepts (a .r) (a .image .now) (a .writes .now) (e .if1 .left) (readied (p .before)) (sym (paired p) ∙ q .if3 .left) (l .if4 .left)
+    accepts (a .r) (a .image .now) (a .writes .now) (e .if1 .left) (readied (p .before)) (sym (paired p) ∙ q .if3 .left) (l .if4 .left) (i .wanted-image .last .1 .1 .0)
     (i .wanted-image .ensures) (w .write-list .ensures)
 
 pub plan-with-spec : {M : Type 1} → statement M

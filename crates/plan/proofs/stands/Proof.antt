@@ -3,17 +3,23 @@ use mathlib.Core.Path.{_≡_, refl, sym, ap, _∙_}
 use mathlib.Core.Bool.{and-false}
 use borrow.Author.Tests.{eq-eqb, ne-eqb}
 use Rattle.request.specs.Read.{readOf}
-use Rattle.plan.specs.Wanted.{wantedImage, wanted}
+use Prim.Native.Nat.{ℕ}
+use lib.ListN.{getD}
+use Rattle.plan.specs.Wanted.{wanted}
 use Rattle.plan.specs.Plan.{standsIn}
 use Rattle.request.proofs.Fits.{fits}
 use borrow.Author.Needs.{needs}
 use Rattle.plan.proofs.stands.Statement.{statement}
 use Rattle.plan.proofs.stands.Tie as tie
 
--- the wanted bytes, over zeros
-made : (c : tie.After-wanted-image) → c .wanted-image .last .1 .1 .0 ≡ wantedImage (c .before .before .before .before .before .before .before .before .before .read .result .request)
-unfolding wantedImage
-made c = c .wanted-image .ensures
+-- the wanted bytes
+abbrev Made : tie.After-wanted-image → Type 0
+Made c =
+    let made : ℕ → ℕ = λ a. getD (c .wanted-image .last .1 .1 .0) a 0 in
+    made ≡ wanted (c .before .before .before .before .before .before .before .before .before .read .result .request)
+
+made : (c : tie.After-wanted-image) → Made c
+made c = λ j a. c .wanted-image .ensures a j
 
 read-requires : tie.Need-read-requires
 read-requires c κs = search needs
@@ -42,13 +48,13 @@ wanted-image-requires : tie.Need-wanted-image-requires
 wanted-image-requires c κs =
     let e = c .before .before .before .before .before in
     let r = e .before .before .before in
-    (rw (r .read .ensures) (fits _ (rw (r .read .ensures) at (e .before .if1 .left))), (c .before .before .before .pair-for .ensures, refl))
+    (rw (r .read .ensures) (fits _ (rw (r .read .ensures) at (e .before .if1 .left))), (c .before .before .before .pair-for .ensures, (refl, refl)))
 
 stands-requires : tie.Need-stands-requires
 stands-requires c κs = search needs
 
 returns-4 : tie.Need-returns-4
-unfolding standsIn wanted
+unfolding standsIn
 returns-4 c =
     let i = c .before .before .before in
     let d = i .before .before in

@@ -1,12 +1,17 @@
 -- `plan::wanted_image` meets its contract. Assumes nothing.
-use mathlib.Core.List.{List, _++_}
+use mathlib.Core.Path.{_≡_, refl, ap, _∙_}
+use mathlib.Core.List.{List, [], _∷_, _++_}
 use Prim.Native.Nat.{ℕ}
-use Rattle.map.specs.Map as reg
+use lib.ListN.{getD}
 use Rattle.chip.specs.Machine.{Write}
+use Rattle.writes.specs.Rows.{from}
+use Rattle.writes.specs.List.{column}
 use Rattle.video.proofs.Fits.{link-fits, repetition-fits}
 use Rattle.request.specs.Read.{pairFor}
-use Rattle.plan.specs.Wanted.{laidBytes, cscBytes, clockBytes, inputBytes, enableBytes, frameBytes}
-use Rattle.plan.proofs.Stored.{more}
+use Rattle.plan.specs.Places.{Place, places}
+use Rattle.plan.specs.Wanted.{wanted, laidOut}
+use Rattle.plan.proofs.Accepted.{pair-twenty}
+use Rattle.plan.proofs.Stored.{more, in-column}
 use borrow.Author.Needs.{needs}
 use Rattle.plan.proofs.wanted_image.Statement.{statement}
 use Rattle.plan.proofs.wanted_image.Tie as tie
@@ -15,7 +20,10 @@ csc-bytes-requires : tie.Need-csc-bytes-requires
 csc-bytes-requires c κs = search needs
 
 with-clock-requires : tie.Need-with-clock-requires
-with-clock-requires c κs = search needs
+with-clock-requires c κs =
+    let p = c .before .before .before .before in
+    let t = pair-twenty _ (p .pre .0) in
+    (search needs, rw (p .pre .1 .0) (t .0), rw (p .pre .1 .0) (t .1))
 
 with-inputs-requires : tie.Need-with-inputs-requires
 with-inputs-requires c κs = search needs
@@ -41,7 +49,8 @@ same-length : tie.Need-same-length
 same-length c = search needs
 
 returns : tie.Need-returns
-returns c =
+unfolding wanted column
+returns c a =
     let e = c .before .before .before .before .before .before in
     let l = e .before .before .before .before in
     let i = l .before .before .before .before .before in
@@ -50,17 +59,20 @@ returns c =
     let p = m .before .before .before in
     let r = p .args .r in
     let z : List ℕ = p .args .out .now in
-    let one : List Write = clockBytes (pairFor r) in
-    let two : List Write = one ++ inputBytes r in
-    let three : List Write = two ++ laidBytes reg.csc (cscBytes (r .matrix)) in
-    let four : List Write = three ++ enableBytes r in
-    more z four (frameBytes r)
-    (more z three (enableBytes r)
-    (more z two (laidBytes reg.csc (cscBytes (r .matrix)))
-    (more z one (inputBytes r) (rw (p .pre .1 .0) at (k .with-clock .ensures)) (i .with-inputs .ensures))
-    (rw (m .csc-bytes .ensures) at (l .laid .ensures)))
-    (e .with-enables .ensures))
-    (c .before .before .with-frames .ensures)
+    let rows : List Place = places r (pairFor r) in
+    let one : List Write = laidOut (from 0x01 3 ++ from 0x07 3) rows in
+    let two : List Write = laidOut (0x0A ∷ 0x0C ∷ 0x15 ∷ 0x16 ∷ []) rows in
+    let three : List Write = laidOut (from 0x18 24) rows in
+    let four : List Write = laidOut (0x3B ∷ 0x3C ∷ 0x40 ∷ 0x44 ∷ 0x4A ∷ 0x4B ∷ 0x4C ∷ 0xAF ∷ []) rows in
+    let five : List Write = laidOut (from 0x52 16 ++ from 0x70 13) rows in
+    let all = more z (((one ++ two) ++ three) ++ four) five
+    (more z ((one ++ two) ++ three) four
+    (more z (one ++ two) three
+    (more z one two (rw (p .pre .1 .0) at (k .with-clock .ensures r)) (i .with-inputs .ensures (pairFor r)))
+    (rw (m .csc-bytes .ensures r (pairFor r) refl) at (l .laid .ensures)))
+    (e .with-enables .ensures (pairFor r)))
+    (c .before .before .with-frames .ensures (pairFor r)) in
+    ap (λ (image : List ℕ). getD image a 0) (rw (p .pre .1 .1 .1) at all) ∙ in-column rows a refl
 
 pub wanted-image-spec : {M : Type 1} → statement M
 wanted-image-spec =

@@ -1,6 +1,7 @@
 -- `plan::with_clock` meets its contract. Assumes nothing.
-use Rattle.map.specs.Map as reg
-use Rattle.plan.specs.Wanted.{laidBytes, twenty}
+use mathlib.Core.Path.{ap, _∙_}
+use Rattle.plan.specs.Wanted.{laidBytes, stores}
+use Rattle.plan.proofs.Made.{three, clock-made}
 use Rattle.plan.proofs.Stored.{more}
 use borrow.Author.Needs.{needs}
 use Rattle.plan.proofs.with_clock.Statement.{statement}
@@ -34,12 +35,14 @@ same-length : tie.Need-same-length
 same-length c = search needs
 
 returns : tie.Need-returns
-returns c =
+returns c r =
     let l = c .before .before .before .before .before .before .before in
     let t = l .before .before .before in
-    let a = t .before .before .before .args in
-    more (a .out .now) (laidBytes reg.n0 (twenty (a .pair .n))) (laidBytes reg.ctsManual0 (twenty (a .pair .cts)))
+    let p = t .before .before .before in
+    let a = p .args in
+    more (a .out .now) (laidBytes 0x01 (three (a .pair .n))) (laidBytes 0x07 (three (a .pair .cts)))
     (rw (t .before .twenty .ensures) at (l .laid .ensures)) (rw (t .twenty2 .ensures) at (c .before .before .laid2 .ensures))
+    ∙ ap (stores (a .out .now)) (clock-made r (a .pair) (p .pre .1) (p .pre .2))
 
 pub with-clock-spec : {M : Type 1} → statement M
 with-clock-spec =

@@ -1,6 +1,9 @@
 -- `plan::with_enables` meets its contract. Assumes nothing.
 use native.Mathlib.Omega.{arith}
 use lib.ListN.{length-set}
+use mathlib.Core.Path.{ap}
+use Rattle.plan.specs.Wanted.{stores}
+use Rattle.plan.proofs.Made.{enables-made}
 use borrow.Author.Needs.{needs}
 use Rattle.plan.proofs.with_enables.Statement.{statement}
 use Rattle.plan.proofs.with_enables.Tie as tie
@@ -59,32 +62,38 @@ cast-out-5 c = search needs
 slice-write-out-5 : tie.Need-slice-write-out-5
 slice-write-out-5 c = let z = c .before .before .before .before .before .pre .0 in simp length-set (omega (arith, z))
 
-depth-code-requires : tie.Need-depth-code-requires
-depth-code-requires c κs = search needs
-
 cast-out-6 : tie.Need-cast-out-6
 cast-out-6 c = search needs
 
 slice-write-out-6 : tie.Need-slice-write-out-6
-slice-write-out-6 c = let z = c .before .before .before .before .before .before .pre .0 in simp length-set (omega (arith, z))
+slice-write-out-6 c = let z = c .before .before .before .before .before .pre .0 in simp length-set (omega (arith, z))
 
-mul-out-4 : tie.Need-mul-out-4
-mul-out-4 c = search needs
+depth-code-requires : tie.Need-depth-code-requires
+depth-code-requires c κs = search needs
 
 cast-out-7 : tie.Need-cast-out-7
 cast-out-7 c = search needs
 
 slice-write-out-7 : tie.Need-slice-write-out-7
-slice-write-out-7 c = let z = c .before .before .before .before .before .before .before .pre .0 in simp length-set (omega (arith, z))
+slice-write-out-7 c = let z = c .before .before .before .before .before .before .pre .0 in simp length-set (omega (arith, z))
+
+mul-out-4 : tie.Need-mul-out-4
+mul-out-4 c = search needs
+
+cast-out-8 : tie.Need-cast-out-8
+cast-out-8 c = search needs
+
+slice-write-out-8 : tie.Need-slice-write-out-8
+slice-write-out-8 c = let z = c .before .before .before .before .before .before .before .pre .0 in simp length-set (omega (arith, z))
 
 same-length : tie.Need-same-length
 same-length c = simp length-set
 
 returns : tie.Need-returns
-returns c =
+returns c p =
     let d = c .before in
     let a = d .before .before in
-    simp (a .before .before .repetition-byte .ensures, a .with-audio .ensures .0, d .depth-code .ensures)
+    simp (a .before .before .repetition-byte .ensures, a .with-audio .ensures .0, d .depth-code .ensures) (ap (stores (c .before .before .before .before .before .before .before .args .out .now)) (enables-made (c .before .before .before .before .before .before .before .args .r) p))
 
 pub with-enables-spec : {M : Type 1} → statement M
 with-enables-spec =
@@ -108,11 +117,13 @@ with-enables-spec =
     slice-write-out-4
     cast-out-5
     slice-write-out-5
-    depth-code-requires
     cast-out-6
     slice-write-out-6
-    mul-out-4
+    depth-code-requires
     cast-out-7
     slice-write-out-7
+    mul-out-4
+    cast-out-8
+    slice-write-out-8
     same-length
     returns)

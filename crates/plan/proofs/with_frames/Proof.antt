@@ -1,8 +1,10 @@
 -- `plan::with_frames` meets its contract. Assumes nothing.
-use mathlib.Core.Path.{_≡_}
+use mathlib.Core.Path.{_≡_, ap, _∙_}
 use lib.ListN.{take, drop}
 use Rattle.frames.specs.Frames.{aviFrame}
-use Rattle.plan.specs.Wanted.{laidBytes, audioBytes}
+use Rattle.plan.specs.Places.{audioPacket}
+use Rattle.plan.specs.Wanted.{laidBytes, stores}
+use Rattle.plan.proofs.Made.{frames-made}
 use Rattle.plan.proofs.Stored.{more, rest}
 use borrow.Author.Needs.{needs}
 use Rattle.plan.proofs.with_frames.Statement.{statement}
@@ -48,14 +50,16 @@ same-length : tie.Need-same-length
 same-length c = search needs
 
 returns : tie.Need-returns
-returns c =
+returns c pair =
     let l = c .before .before .before .before .before .before .before .before in
     let b = l .before .before .before .before in
-    let a = b .before .before .before .args in
+    let p = b .before .before .before in
+    let a = p .args in
     let audio : take 13 (drop 1 (b .audio-bytes .result)) ≡ drop 1 (b .audio-bytes .result) = rest 13 (b .audio-bytes .result) (search needs) in
     let video : take 16 (drop 1 (b .before .avi-bytes .result)) ≡ drop 1 (b .before .avi-bytes .result) = rest 16 (b .before .avi-bytes .result) (search needs) in
-    more (a .out .now) (laidBytes 0x52 (drop 1 (aviFrame (a .r .video)))) (laidBytes 0x70 (drop 1 (audioBytes (a .r .sound))))
+    more (a .out .now) (laidBytes 0x52 (drop 1 (aviFrame (a .r .video)))) (laidBytes 0x70 (drop 1 (audioPacket (a .r .sound))))
     (rw (video, b .before .avi-bytes .ensures) at (l .laid .ensures)) (rw (audio, b .audio-bytes .ensures) at (c .before .before .laid2 .ensures))
+    ∙ ap (stores (a .out .now)) (frames-made (a .r) pair (p .pre .1 .video))
 
 pub with-frames-spec : {M : Type 1} → statement M
 with-frames-spec =

@@ -1,4 +1,7 @@
 -- `plan::with_inputs` meets its contract. Assumes nothing.
+use mathlib.Core.Path.{ap}
+use Rattle.plan.specs.Wanted.{stores}
+use Rattle.plan.proofs.Made.{inputs-made}
 use borrow.Author.Needs.{needs}
 use Rattle.plan.proofs.with_inputs.Statement.{statement}
 use Rattle.plan.proofs.with_inputs.Tie as tie
@@ -52,8 +55,9 @@ same-length : tie.Need-same-length
 same-length c = search needs
 
 returns : tie.Need-returns
-returns c =
+returns c p =
     simp (c .output-format .ensures, c .before .rate-code .ensures .0, c .before .before .inputs .ensures .0, c .before .before .before .cts-select .ensures .0)
+    (ap (stores (c .before .before .before .before .before .args .out .now)) (inputs-made (c .before .before .before .before .before .args .r) p))
 
 pub with-inputs-spec : {M : Type 1} → statement M
 with-inputs-spec =

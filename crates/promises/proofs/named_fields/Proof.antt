@@ -4,7 +4,8 @@ use lib.Dec.{eqb}
 use borrow.Author.Tests.{eqb-true}
 use Rattle.bits.proofs.Below.{at-below}
 use Rattle.registers.specs.Classes.{classAt, named}
-use Rattle.promises.specs.Finished.{places, maskAt}
+use Rattle.plan.specs.Places.{places}
+use Rattle.promises.specs.Finished.{maskAt}
 use Rattle.promises.proofs.named_fields.Statement.{statement}
 use Rattle.promises.proofs.named_fields.Tie as tie
 
