@@ -437,6 +437,8 @@ static void on_states(void) {
     heal();
     bus.driver = 1;
     tell(again(asked) == FAILED && line.transfers == 0, "a driver has the chip", 0);
+    tell(strstr(run("/dev/i2c-12", asked.bytes, asked.length).words, "echo 12-0039 >/sys/bus/i2c/devices/12-0039/driver/unbind") != NULL,
+         "a driver has the chip, and no word on what to do", 0);
     heal();
     chip.image[STATE] &= (uint8_t)~SCREEN;
     from = video.now;
