@@ -41,7 +41,7 @@ static struct {
     int turning;                                        /* the packing phase, 0x4C[7:4], is another at each read */
     long reads, registers;                              /* transfers that read, but for those of the flags and of the screen, and registers in them */
     long opened, held_until;                            /* times that the bus was opened; somebody else has the lock until then */
-    int driver;                                         /* a driver of the kernel has the chip */
+    int driver, first;                                  /* a driver of the kernel has the chip; the first register written, but for the flags */
 } bus;
 static long wrong;                                      /* messages that a real chip would not understand, and writes without the lock */
 static long opened_early;                               /* times that the picture was opened while a change of the coefficients waited */
@@ -73,7 +73,7 @@ static void reset(uint8_t (*bits)(int)) {
  * meanwhile are lost. Somebody who is not the host may bring the chip up when the screen is back. */
 enum phase { BEFORE, IN, AFTER, PHASES };
 enum { PLUGS = 4 };
-static struct { long at[PLUGS]; enum phase phase[PLUGS]; long at_ms, low; int lost; } plugs;     /* transfers from 1; or a time; 0: none */
+static struct { long at[PLUGS]; enum phase phase[PLUGS]; long at_ms, low, stall; int lost; } plugs;      /* transfers from 1; or a time; 0: none */
 static struct { int is_low; long rises, transfers, kills, powers; } line;       /* kills: the transfer at which the host is killed, from 1 */
 enum by { NOBODY, CAREFUL, CARELESS };
 static enum by stranger;                                /* brings the chip up outside the lock, after the mute or without it */
@@ -112,9 +112,13 @@ static void rise(void) {
     look();
 }
 
+static void tick(void);
 static void plug_at(enum phase p) {
     for (int k = 0; k < PLUGS; k++)
-        if (plugs.at[k] && plugs.at[k] == line.transfers && plugs.phase[k] == p && !line.is_low) fall();
+        if (plugs.at[k] && plugs.at[k] == line.transfers && plugs.phase[k] == p && !line.is_low) {
+            fall();
+            for (long t = 0; t < plugs.stall; t++) tick();      /* the host is held up, and sees nothing of it */
+        }
 }
 
 /* The stranger's bring-up. */
@@ -183,6 +187,7 @@ static int take(const uint8_t *pair) {
 
 static int fake_write(const uint8_t *pair, int counts) {
     if (pair[0] == FLAGS) return fake_flags(pair[1]);
+    if (!bus.first) bus.first = pair[0];
     bus.sent += counts;
     if (late_flag && counts && bus.sent == 1) chip.image[FLAGS] &= (uint8_t)~PLUG_FLAG;
     if (counts && bus.resets == bus.sent) {
@@ -298,7 +303,7 @@ static int careful(const struct chip *c) { return whole(c) && chip_sent(c).mute 
 /* A new run of the program on the bus as it is: opened, locked, closed. */
 enum { KILLED = -1 };
 static int again(struct request q) {
-    bus.sent = bus.reads = bus.registers = bus.locked = bus.opened = line.transfers = 0;
+    bus.sent = bus.reads = bus.registers = bus.locked = bus.opened = bus.first = line.transfers = 0;
     return setjmp(killed) ? KILLED : run("/dev/i2c-1", q.bytes, q.length).status;
 }
 
@@ -432,6 +437,8 @@ static void on_states(void) {
     heal();
     bus.driver = 1;
     tell(again(asked) == FAILED && line.transfers == 0, "a driver has the chip", 0);
+    tell(strstr(run("/dev/i2c-12", asked.bytes, asked.length).words, "echo 12-0039 >/sys/bus/i2c/devices/12-0039/driver/unbind") != NULL,
+         "a driver has the chip, and no word on what to do", 0);
     heal();
     chip.image[STATE] &= (uint8_t)~SCREEN;
     from = video.now;
@@ -511,6 +518,11 @@ static void bring_ups(void) {
     for (int a = 0; a < STATION_IMAGE; a++) count += !written[a] && station_class((uint8_t)a).mandated != 0;
     printf("bring-up: %d\n", count);
     tell(board_is_free(), "the board's bits are free", 0);
+    tell((start.image[0x0A] & 0x03) == 0x01 && (start.image[0x48] & 0x18) == 0x08 && (start.image[0xBA] & 0xE0) == 0x60, "the board's bits are set", 0);
+    /* A chip that somebody powered without the mute is muted first; flags that are up stay up. */
+    chip = start;
+    chip.image[MUTE] = 0, chip.image[0x48] ^= 0x08, chip.image[FLAGS] |= 0x08;
+    tell(again(asked) == ACCEPTED && ended() && bus.first == MUTE && (chip.image[FLAGS] & 0x08), "a chip that was powered without the mute", bus.first);
     /* Each register with other bits than bring-up wants there: it sets those, and keeps the others but for the mute and the power. */
     find_settings(&s);
     for (int a = 0; a < STATION_IMAGE; a++) {
@@ -545,16 +557,23 @@ static int again_at_last(void) {
  * meanwhile. */
 static long moments;                                    /* transfers of a run, three each */
 static long runs, open_runs;                            /* runs with a hot plug, and those that showed an open picture that was none */
-static struct { enum by stranger; int no_look, late_flag, no_mute, kills; } under;
+static struct { enum by stranger; int no_look, late_flag, no_mute, kills, from; long stall; } under;
+enum { FROM_RESET = 1, FROM_HALF = 2 };                 /* a chip that was just reset; one that is powered and muted, with 0x41 not as it must be */
+static void begin(void) {
+    chip = start;
+    if (under.from == FROM_RESET) memcpy(chip.image, defaults, sizeof defaults), memset(chip.mark, 0, sizeof chip.mark);
+    if (under.from == FROM_HALF) chip.image[MUTE] = MUTED, chip.image[POWER] = 0x11;
+}
 static void one_hot_plug(const char *what, int must_finish) {
     static const long lows[] = { 3, 100 };
     runs = open_runs = 0, judge.points = judge.open = judge.unmuted = 0;
     for (int l = 0; l < 2; l++)
         for (int lost = 0; lost < 2; lost++)
             for (long at = 1; at <= moments / PHASES; at++)
-                for (int p = BEFORE; p < PHASES; p++) {
+                for (int p = BEFORE; p < (under.stall ? IN : PHASES); p++) {
                     calm();
-                    chip = start;
+                    begin();
+                    plugs.stall = under.stall;
                     plugs.at[0] = at, plugs.phase[0] = (enum phase)p, plugs.low = lows[l], plugs.lost = lost;
                     stranger = under.stranger, no_look = under.no_look, late_flag = under.late_flag, no_mute = under.no_mute;
                     line.kills = under.kills ? at + under.kills : 0;
@@ -569,6 +588,7 @@ static void one_hot_plug(const char *what, int must_finish) {
                 }
 }
 
+enum { STALL = 200 };
 static void hot_plugs(void) {
     static const int kills[] = { 1, 2, 5, 9, 14, 20, 33, 60 };
     calm();
@@ -584,7 +604,27 @@ static void hot_plugs(void) {
         one_hot_plug("a hot plug and a kill", 1);
         tell(open_runs == 0, "a hot plug and a kill: open or unmuted on neither request", open_runs);
     }
-    under.kills = 0, under.stranger = CAREFUL;
+    under.kills = 0, under.stall = STALL;
+    one_hot_plug("a hot plug while the host is held up", 1);
+    tell(open_runs == 0, "a hot plug while the host is held up: open or unmuted on neither request", open_runs);
+    printf("held up: %ld runs, %ld wrong\n", runs, open_runs);
+    /* The same through a bring-up. */
+    long of_a_run = moments;
+    for (int from = FROM_RESET; from <= FROM_HALF; from++) {
+        under.stall = 0, under.from = from;
+        calm(), begin();
+        tell(again(asked) == ACCEPTED && ended(), "a run through bring-up", from);
+        moments = PHASES * line.transfers;
+        one_hot_plug("a hot plug, through bring-up", 1);
+        tell(open_runs == 0, "a hot plug, through bring-up: open or unmuted on neither request", open_runs);
+        printf("through bring-up, %d: %ld moments, %ld runs, %ld wrong\n", from, moments, runs, open_runs);
+        under.stall = STALL;
+        one_hot_plug("a hot plug while the host is held up, through bring-up", 1);
+        tell(open_runs == 0, "a hot plug while the host is held up, through bring-up: open or unmuted on neither request", open_runs);
+    }
+    moments = of_a_run;
+    memset(&under, 0, sizeof under);
+    under.stranger = CAREFUL;
     one_hot_plug("a hot plug and a stranger", 1);
     tell(open_runs == 0, "a hot plug, and somebody brings the chip up outside the lock", open_runs);
     under.stranger = CARELESS;
