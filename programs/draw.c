@@ -328,10 +328,18 @@ static void print_meanings(const struct meaning *looks, int number) {
 static const char key_style[] = "<style>.key { display: flex; flex-wrap: wrap; gap: 4px 18px; margin: 6px 0; font-size: 13px }\n"
     ".key span { display: flex; align-items: center; gap: 6px } .key svg { display: inline-block }</style>\n";
 
-void draw_key(void) {
+/* What is no box. */
+static void print_signs(int of_lists) {
+    printf("<span>step fixed: bytes of the guide's Table 14</span>\n<span>step others: every other register</span>\n<span>dotted line: Vsync</span>\n"
+           "<span>dashed line: the host dies</span>\n");
+    if (of_lists) printf("<span>&#10007; and a red column: a bad pair</span>\n");
+}
+
+void draw_key(int of_lists) {
     printf("%s<div class='key' role='img' aria-label='the key'>\n", key_style);
     print_meanings(ages, AGES);
-    print_meanings(pictures, PICTURES);
+    print_meanings(pictures, PICTURES - (of_lists ? 0 : 1));
+    print_signs(of_lists);
     printf("</div>\n");
 }
 
@@ -342,5 +350,6 @@ void draw_key_of_chain(uint32_t links) {
     print_meanings(owners, 2 + (int)links);
     print_meanings(ages + 4, AGES - 4);
     print_meanings(pictures, PICTURES - 1);
+    print_signs(0);
     printf("</div>\n");
 }

@@ -43,11 +43,11 @@ void           run_stay(struct run *r, int width);
 struct tally { int all, torn, shown; };
 struct tally tally_of(const struct run *r);
 
-/* The front of a page with its style, and `title` as it is; the drawing with no heading; what its looks mean; the same of a chain; what is in
+/* The front of a page with its style, and `title` as it is; the drawing with no heading; what its looks mean, of a vendor's list or of ours; the same of a chain; what is in
  * use at a moment, in words. */
 void print_head(const char *title, const char *more_style);
 void draw_lanes(const struct run *r, const char *label, const char *of_cut);
-void draw_key(void);
+void draw_key(int of_lists);
 void draw_key_of_chain(uint32_t links);
 void say_moment(const struct run *r, int moment);
 

@@ -153,6 +153,8 @@ static void part_into_lines(struct reader *r, char *text, size_t length) {
             fail(r, "the byte 0x%02x is no text; %s", (unsigned)c,
                  i + 3 < length && !c && text[i + 1] && !text[i + 2] ? "it looks like UTF-16 without its mark: save it as UTF-8" :
                  is_raw(text, length) ? "of a list of raw bytes 'od -An -v -tx1' makes one" : "take it out");
+        if (!strncmp(text + i, "\xE2\x80\xA8", 3) || !strncmp(text + i, "\xE2\x80\xA9", 3) || !strncmp(text + i, "\xC2\x85", 2))
+            fail(r, "a line end of Unicode's own: save the text with the line ends of Unix or DOS");
         if (c == '\r') text[i] = 0;
         if (c != '\n') continue;
         text[i] = 0;
@@ -257,6 +259,8 @@ static char *code_of(struct reader *r, const char *line) {
             if (!strncmp(at, "*/", 2)) r->comment = 0, at++;
             at++;
         } else if (!strncmp(at, "/*", 2)) {
+            if (strchr(code, ';') && !strstr(at, "*/"))
+                fail(r, "a /* behind a ';' that does not end in its line: are these words, or a comment of C? Take the /* out, or end it");
             r->comment = r->line;
             code[used++] = ' ';
             at += 2;
@@ -424,6 +428,9 @@ static int read_heading(struct reader *r, const char *code) {
 static void read_row(struct reader *r, char *code) {
     char *cells[CELLS];
     const struct columns *c = &r->columns;
+    size_t quotes = 0;
+    for (const char *at = code; *at; at++) quotes += *at == '"';
+    if (quotes % 2) fail(r, "a quote that does not end in its line: put the row into one line");
     int count = (int)cells_of(code, c->parts, cells);
     const char *address = c->address < count ? cells[c->address] : "", *value = c->value < count ? cells[c->value] : "";
     if (!*address && !*value) return;

@@ -343,13 +343,13 @@ static void print_time(const struct review *v, struct run *r) {
     play(v, r);
     t = tally_of(r);
     printf("<h2>Time, from the first pair to the last</h2>\n");
-    draw_key();
+    draw_key(1);
     printf("<div id='time'>\n");
     draw_lanes(r, "what is in use after each pair", "");
     printf("</div>\n");
     print_slider(v, r);
     printf("<p>Of %d places where a host may die, something in use is torn at <b>%d</b>; after the first pair and before the last the picture is "
-           "not muted at <b>%d</b>. %s</p>\n", t.all, t.torn, t.shown, v->verdict.refusal == STATION_BAD_PAIR ? "A cross and a red column mark each bad pair." : "");
+           "not muted at <b>%d</b>.</p>\n", t.all, t.torn, t.shown);
     if (v->j.end < v->j.count)
         printf("<p>The pair at %u would leave two packet holds up: the chip does not take it, and the list ends before it; %u of its %u pairs are "
                "drawn.</p>\n", (unsigned)v->j.end, (unsigned)v->j.end, (unsigned)v->j.count);

@@ -212,7 +212,7 @@ static void page_of_accident(void) {
     say_request("On show before:", before.bytes, before.length);
     say_request("Asked for:", asked.bytes, asked.length);
     say_list(g.pairs, g.count);
-    draw_key();
+    draw_key(0);
     draw_old_way(&r, &g);
     draw_cut(&r, &g, events_to(&g, FIRST_COEFFICIENT + FIVE - 1, 0), "Our list, cut, and planned again from what the chip then had");
     draw_cut(&r, &g, events_to(&g, COEFFICIENT_HOLD, 1), "Our list, cut before Vsync; the second list raises the lowered hold again");
@@ -324,7 +324,7 @@ int main(int count, char **words) {
     if (!options[BY_IMAGE].given) say_request("On show before:", options[BY_BEFORE].into, options[BY_BEFORE].length);
     say_request("Asked for:", request, length);
     say_list(g.pairs, g.count);
-    draw_key();
+    draw_key(0);
     run_begin(&r, &c, &g.new);
     run_events(&r, g.pairs, &g.events, g.events.count);
     draw(&r, "Our list, from the first write to the last", "");

@@ -184,8 +184,7 @@ const char *text_of_change(const struct review *v, const struct mended *p, char 
             add(text, TEXT_OF_A_CHANGE, "leave out %02x %02x in ", p->address, p->value);
             add_line(v, text, p->place);
             if (p->why == NO_GROUP)
-                add(text, TEXT_OF_A_CHANGE, " (%s: %s)", name_of_register(p->address),
-                    p->address == 0x41 || p->address == 0x17 ? "bring-up is the host's" : "it is of no list, and the host's to set");
+                add(text, TEXT_OF_A_CHANGE, " (%s: bring-up is the host's)", name_of_register(p->address));
             break;
         case KEPT: break;
     }
@@ -289,6 +288,7 @@ static void set_subject(struct review *v) {
     else if (v->verdict.refusal == STATION_LIST_LENGTH)
         add(text, TEXT_OF_A_SUBJECT, "refused %u: %lu pairs, more than %u", (unsigned)v->verdict.refusal, (unsigned long)v->list.all / 2, LIST_PAIRS);
     else add(text, TEXT_OF_A_SUBJECT, "refused %u: %s", (unsigned)v->verdict.refusal, station_text(v->verdict.refusal));
+    if (v->is_read && v->agrees && v->list.all == 0) add(text, TEXT_OF_A_SUBJECT, " (the list is empty)");
 }
 
 static void judge_list(struct review *v) {

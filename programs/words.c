@@ -94,8 +94,9 @@ void bytes_of_file(const char *name, uint8_t *bytes, size_t length) {
     size_t got = fread(bytes, 1, length, f);
     int longer = got == length && fread(&more, 1, 1, f) == 1;
     if (ferror(f)) misuse("%s cannot be read", name);
-    if (got < length) misuse("%s has %u bytes, and not %u", name, (unsigned)got, (unsigned)length);
-    if (longer) misuse("%s has more than %u bytes", name, (unsigned)length);
+    const char *of_dump = length == 256 ? ": tools/image makes them of a dump" : "";
+    if (got < length) misuse("%s has %u bytes, and not %u%s", name, (unsigned)got, (unsigned)length, of_dump);
+    if (longer) misuse("%s has more than %u bytes%s", name, (unsigned)length, of_dump);
     fclose(f);
 }
 
