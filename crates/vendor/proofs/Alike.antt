@@ -21,8 +21,8 @@ use Rattle.decode.specs.Decode.{someEnds}
 use Rattle.cut.specs.Run.{InUse, allInUse}
 use Rattle.vendor.specs.declared.Verdict.{Verdict}
 use Rattle.vendor.specs.Vendor.{endOf, shortened, mostPairs}
-use Rattle.vendor.specs.Found.{mayMove, fairTest, isIdle, isTurned, isLast, isEvent, isBetween, isNext, firstFault, placeOf, vetRefusal, vetOf}
-use Rattle.vendor.proofs.Moved.{avi-stays, avi-moves, audio-stays, audio-moves, gc-stays, gc-moves, matrix-stays, matrix-moves, vsync-use}
+use Rattle.vendor.specs.Found.{packetMoving, matrixMoving, mayMove, fairTest, isTurned, isLast, isEvent, isBetween, isNext, firstFault, placeOf, vetRefusal, vetOf}
+use Rattle.vendor.proofs.Moved.{Packet, avi-packet, audio-packet, gc-packet, stays, moves, matrix-stays, matrix-moves, vsync-use}
 use Rattle.cut.proofs.VsyncsLeave.{alike-self, alike-vsync, alike-write}
 use Rattle.vendor.proofs.Faults.{Takes, shortened-takes, not-taken-first, is-taken-first, is-taken}
 
@@ -107,24 +107,23 @@ module _ (s t : Chip) (r : Alike s t) (a v : ℕ) where
             let q : held s′ ≡ held s = k ∙ sym h in
             stepped t a v y .waits (held-next ∙ q ∙ sym held-same) ∙ r .waiting h ∙ sym (stepped s a v z .waits q)
 
-    moved : (g : Group) → mayMove g a (holdsOf packets (t .image)) (holdsOf packets (t′ .image))
-        ≡ mayMove g a (holdsOf packets (s .image)) (holdsOf packets (s′ .image))
-    moved g = ap₂ (λ (x y : List ℕ). mayMove g a (holdsOf packets x) (holdsOf packets y)) (r .image) next-image
+    -- a packet, and the coefficients
+    packet : (g : Group) → Packet g → inUse packets g t ≡ inUse packets g s → inUse packets g t′ ≡ inUse packets g s′
+    packet g F same =
+        group _ _ (ap₂ (λ (x y : List ℕ). mayMove (packetMoving g (holdsOf packets x) y) a) (r .image) next-image) same (stays s a v z e g F)
+        (λ m. moves s a v z e g F m ∙ ap (registersOf g) (sym next-image)) (stays t a v y f g F) (moves t a v y f g F)
 
-    idle : (isIdle (t′ .image) (t′ .waiting) && covers matrix a) ≡ (isIdle (s′ .image) (s′ .waiting) && covers matrix a)
+    idle : mayMove (matrixMoving (t′ .waiting) (t′ .image)) a ≡ mayMove (matrixMoving (s′ .waiting) (s′ .image)) a
     idle =
-        ap (λ (x : List ℕ). isIdle x (t′ .waiting) && covers matrix a) next-image
+        ap (λ (x : List ℕ). mayMove (matrixMoving (t′ .waiting) x) a) next-image
         ∙ ap (λ (b : Bool). b && covers matrix a) (idle-by (held s′) (t′ .waiting) (s′ .waiting) next-waiting)
 
     next : Alike s′ t′
     next = record {
       image = next-image;
-      avi = group _ _ (moved avi) (r .avi) (avi-stays s a v z e) (λ m. avi-moves s a v z e m ∙ ap (registersOf avi) (sym next-image))
-          (avi-stays t a v y f) (avi-moves t a v y f);
-      audio = group _ _ (moved audio) (r .audio) (audio-stays s a v z e) (λ m. audio-moves s a v z e m ∙ ap (registersOf audio) (sym next-image))
-          (audio-stays t a v y f) (audio-moves t a v y f);
-      gc = group _ _ (moved gc) (r .gc) (gc-stays s a v z e) (λ m. gc-moves s a v z e m ∙ ap (registersOf gc) (sym next-image))
-          (gc-stays t a v y f) (gc-moves t a v y f);
+      avi = packet avi avi-packet (r .avi);
+      audio = packet audio audio-packet (r .audio);
+      gc = packet gc gc-packet (r .gc);
       matrix = group _ _ idle (r .matrix) (matrix-stays s a v z e) (λ m. matrix-moves s a v z e m ∙ ap (registersOf matrix) (sym next-image))
           (matrix-stays t a v y f) (matrix-moves t a v y f);
       waiting = next-waiting;

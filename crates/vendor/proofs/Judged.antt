@@ -31,7 +31,7 @@ use Rattle.cut.specs.Run.{allInUse, Between, Fair}
 use Rattle.cut.proofs.NoneRefused.{neat-two}
 use Rattle.vendor.specs.declared.Verdict.{Verdict}
 use Rattle.vendor.specs.Vendor.{pairAt, cutAt, endOf, pairsBy, Inside, LeavesTwo, Decodable, Passes, shortened, Fails, Bad, FirstBad, SomeBad, mostPairs, WrongLength, vetRules}
-use Rattle.vendor.specs.Found.{placeOf, vetTests, vetRefusal, vetOf}
+use Rattle.vendor.specs.Found.{placeOf, vetTests, vetRefusal, vetOf, Untold}
 use Rattle.vendor.specs.Theorems.{Readable, Vetted}
 use Rattle.vendor.proofs.Loops.{shortened-short}
 use Rattle.vendor.proofs.Verdicts as verdicts
@@ -211,59 +211,46 @@ module _ (s : Chip) (list : List ℕ) where
     fourteen w = sym (ap (λ (v : Verdict). v .refusal) (verdicts.wrong-length s list (is-sized z) (is-ready h) (not-not wrong-length w)))
 
     pub not-fourteen : (WrongLength list → ⊥) → vetOf s list .refusal ≢ 14
-    not-fourteen w n =
-        go (ltb p (length ws)) (someEnds (endOf hs s .image)) refl refl
+    not-fourteen w n = go (ltb p (length ws)) (someEnds (endOf hs s .image)) refl refl
       where
-        c : (eqb (length list % 2) 1 || ltb mostPairs (length ws)) ≡ false
-        c = refuted wrong-length w
+        u : Untold s list
+        u = record { sized = is-sized z; fit = is-ready h; whole = refuted wrong-length w }
 
         go : (d e : Bool) → ltb p (length ws) ≡ d → someEnds (endOf hs s .image) ≡ e → ⊥
-        go true e q t =
-            let x : _≡_ {A = ℕ} 15 14 = ap (λ (v : Verdict). v .refusal) (verdicts.bad-pair s list (is-sized z) (is-ready h) c p refl q) ∙ n in
-            omega (arith, x)
-        go false false q t =
-            let x : _≡_ {A = ℕ} 16 14 = ap (λ (v : Verdict). v .refusal) (verdicts.bad-end s list (is-sized z) (is-ready h) c q t) ∙ n in
-            omega (arith, x)
-        go false true q t =
-            let x : _≡_ {A = ℕ} 0 14 = ap (λ (v : Verdict). v .refusal) (verdicts.passed s list (is-sized z) (is-ready h) c q t) ∙ n in
-            omega (arith, x)
+        go true e q t = let x : _≡_ {A = ℕ} 15 14 = ap (λ (v : Verdict). v .refusal) (verdicts.bad-pair s list u p refl q) ∙ n in omega (arith, x)
+        go false false q t = let x : _≡_ {A = ℕ} 16 14 = ap (λ (v : Verdict). v .refusal) (verdicts.bad-end s list u q t) ∙ n in omega (arith, x)
+        go false true q t = let x : _≡_ {A = ℕ} 0 14 = ap (λ (v : Verdict). v .refusal) (verdicts.passed s list u q t) ∙ n in omega (arith, x)
 
   -- nor does 14
   module _ (e : Readable s list) where
-    a : not (isSized s) ≡ false
-    a = is-sized (e .sized)
-
-    b : not (ready (s .image)) ≡ false
-    b = is-ready (e .holds)
-
-    c : (eqb (length list % 2) 1 || ltb mostPairs (length ws)) ≡ false
-    c = refuted wrong-length (e .whole)
+    u : Untold s list
+    u = record { sized = is-sized (e .sized); fit = is-ready (e .holds); whole = refuted wrong-length (e .whole) }
 
     pub passed : Passes ws s → record { refusal = 0; place = 0 } ≡ vetOf s list
     passed q =
-        let d = none-bad (e .sized) (fit b) q in
-        verdicts.passed s list a b c d (not-false _ (refuted (at-end (e .sized) (fit b) d) (λ n. n (q .decodes))))
+        let d = none-bad (e .sized) (fit (u .fit)) q in
+        verdicts.passed s list u d (not-false _ (refuted (at-end (e .sized) (fit (u .fit)) d) (λ n. n (q .decodes))))
 
     bad-pair : p < length ws → record { refusal = 15; place = p } ≡ vetOf s list
-    bad-pair h = verdicts.bad-pair s list a b c p refl (lt-ltb _ _ h)
+    bad-pair h = verdicts.bad-pair s list u p refl (lt-ltb _ _ h)
 
     to : (k : ℕ) → vetOf s list ≡ record { refusal = 15; place = k } → FirstBad ws s k
     to k v = go (ltb p (length ws)) refl
       where
         other : ltb p (length ws) ≡ false → (t : Bool) → someEnds (endOf hs s .image) ≡ t → vetOf s list .refusal ≢ 15
-        other d true t n = let x : _≡_ {A = ℕ} 0 15 = ap (λ (w : Verdict). w .refusal) (verdicts.passed s list a b c d t) ∙ n in omega (arith, x)
-        other d false t n = let x : _≡_ {A = ℕ} 16 15 = ap (λ (w : Verdict). w .refusal) (verdicts.bad-end s list a b c d t) ∙ n in omega (arith, x)
+        other d true t n = let x : _≡_ {A = ℕ} 0 15 = ap (λ (w : Verdict). w .refusal) (verdicts.passed s list u d t) ∙ n in omega (arith, x)
+        other d false t n = let x : _≡_ {A = ℕ} 16 15 = ap (λ (w : Verdict). w .refusal) (verdicts.bad-end s list u d t) ∙ n in omega (arith, x)
 
         go : (t : Bool) → ltb p (length ws) ≡ t → FirstBad ws s k
         go true d =
             let h : p < length ws = ltb-true p (length ws) d in
-            subst (λ (n : ℕ). FirstBad ws s n) (ap (λ (w : Verdict). w .place) (bad-pair h ∙ v)) (first (e .sized) (fit b) h)
+            subst (λ (n : ℕ). FirstBad ws s n) (ap (λ (w : Verdict). w .place) (bad-pair h ∙ v)) (first (e .sized) (fit (u .fit)) h)
         go false d = absurd (other d (someEnds (endOf hs s .image)) refl (ap (λ (w : Verdict). w .refusal) v))
 
     from : (k : ℕ) → FirstBad ws s k → vetOf s list ≡ record { refusal = 15; place = k }
     from k g =
-        let h : p < length ws = ltb-true p (length ws) (not-not (some-bad (e .sized) (fit b)) (record { place = k; bad = g .bad })) in
-        sym (bad-pair h) ∙ ap (λ (n : ℕ). record { refusal = 15; place = n }) (one-first ws s p k (first (e .sized) (fit b) h) g)
+        let h : p < length ws = ltb-true p (length ws) (not-not (some-bad (e .sized) (fit (u .fit))) (record { place = k; bad = g .bad })) in
+        sym (bad-pair h) ∙ ap (λ (n : ℕ). record { refusal = 15; place = n }) (one-first ws s p k (first (e .sized) (fit (u .fit)) h) g)
 
   number : vetOf s list .refusal ≡ lowest (vetTests s list)
   unfolding vetOf vetRefusal

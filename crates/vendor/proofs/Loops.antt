@@ -21,17 +21,17 @@ use Rattle.bits.proofs.Below.{at-below}
 use Rattle.registers.specs.declared.Class.{Class}
 use Rattle.registers.specs.declared.ByColumn.{ByColumn}
 use Rattle.registers.specs.Classes.{classAt, readOnly, mandated, free, bits}
-use Rattle.registers.specs.ByColumns.{columnOf, HasColumns}
+use Rattle.registers.specs.ByColumns.{HasColumns}
 use Rattle.registers.proofs.Columns.{at-address}
 use Rattle.chip.specs.declared.Chip.{Chip}
 use Rattle.chip.specs.declared.Wrote.{Wrote}
 use Rattle.chip.specs.Machine.{Write, _gets_, packets, converter, holdsOf, held}
 use Rattle.chip.specs.Write.{lentAs, put, stored, two, holdsAfter, refuses, writeOf, vsyncOf, Stores}
-use Rattle.chip.proofs.Writes.{written-as, refused-write, taken-write, stepped}
+use Rattle.chip.proofs.Writes.{written-as, refused-write, taken-write}
 use Rattle.writes.specs.List.{pairsOf, isWritten, column}
 use Rattle.writes.specs.Columns.{keptBits}
 use Rattle.writes.proofs.Image.{column-at}
-use Rattle.writes.proofs.Pairs.{pair-at}
+use Rattle.writes.proofs.Pairs.{length-pairs, pair-at}
 use Rattle.cut.specs.Run.{InUse}
 use Rattle.cut.proofs.VsyncsLeave.{alike-self, alike-vsync, alike-write}
 use Rattle.vendor.specs.Vendor.{pairAt, endOf, shortened}
@@ -41,6 +41,17 @@ use Rattle.vendor.specs.Found.{takenBy, fairTest, isLast, isEvent, isNex
 abbrev pub wrote : List Write → ℕ → Chip → Wrote
 wrote ws i t = writeOf t (pairAt ws i .address) (pairAt ws i .value)
 
+-- the bytes of a pair
+module _ (list : List ℕ) (i : ℕ) (h : i < length (pairsOf list)) where
+  pub pair-inside : 2 * i + 1 < length list
+  pair-inside = omega (arith, h, length-pairs list)
+
+  pub address-at : pairAt (pairsOf list) i .address ≡ getD list (2 * i) 0
+  address-at = ap (λ (w : Write). w .address) (pair-at list i h)
+
+  pub value-at : pairAt (pairsOf list) i .value ≡ getD list (2 * i + 1) 0
+  value-at = ap (λ (w : Write). w .value) (pair-at list i h)
+
 -- a state keeps the length of its image
 kept-length : (t : Chip) (address byte : ℕ) (done : Bool) → length (cond done (put address byte t) t .image) ≡ length (t .image)
 unfolding put
@@ -48,16 +59,12 @@ kept-length t address byte true = length-set (t .image) address byte
 kept-length t address byte false = refl
 
 -- the byte that the code stores, and the answer of the write
-module _ (list : List ℕ) (i : ℕ) (t left : Chip) (column : List ℕ) (byte : ℕ) (done : Bool) (h : i < length (pairsOf list))
-    (whole : length (t .image) ≡ 256) (c : column ≡ columnOf (λ r. r .«read_only»))
-    (b : byte ≡ merge 8 (getD column (getD list (2 * i) 0) 0) (getD (t .image) (getD list (2 * i) 0) 0) (getD list (2 * i + 1) 0))
+module _ (list : List ℕ) (i : ℕ) (t left : Chip) (byte : ℕ) (done : Bool) (h : i < length (pairsOf list)) (whole : length (t .image) ≡ 256)
+    (b : byte ≡ merge 8 (readOnly (getD list (2 * i) 0)) (getD (t .image) (getD list (2 * i) 0) 0) (getD list (2 * i + 1) 0))
     (st : Stores t (getD list (2 * i) 0) byte done left) where
   its-byte : byte ≡ stored (getD list (2 * i) 0) (getD list (2 * i + 1) 0) (t .image)
   unfolding stored
-  its-byte =
-      b ∙ ap (λ (l : List ℕ). merge 8 (getD l (getD list (2 * i) 0) 0) (getD (t .image) (getD list (2 * i) 0) 0) (getD list (2 * i + 1) 0)) c
-      ∙ ap (λ (n : ℕ). merge 8 n (getD (t .image) (getD list (2 * i) 0) 0) (getD list (2 * i + 1) 0))
-      (at-address (λ (r : Class). r .«read_only») (getD list (2 * i) 0))
+  its-byte = b
 
   stores : Stores t (getD list (2 * i) 0) (stored (getD list (2 * i) 0) (getD list (2 * i + 1) 0) (t .image)) done left
   stores = subst (λ (n : ℕ). Stores t (getD list (2 * i) 0) n done left) its-byte st
@@ -109,16 +116,14 @@ held-write t left address byte done s g =
     subst (λ (d : Bool). Stores t address byte d left) (s .0 ∙ ap (λ (b : Bool). not (b || two (holdsAfter address byte (t .image)))) g) s
 
 -- a write that is not refused
-pub by-done : (list : List ℕ) (i : ℕ) (t left : Chip) (column : List ℕ) (byte : ℕ) (done : Bool) → i < length (pairsOf list)
-    → length (t .image) ≡ 256 → column ≡ columnOf (λ r. r .«read_only»)
-    → byte ≡ merge 8 (getD column (getD list (2 * i) 0) 0) (getD (t .image) (getD list (2 * i) 0) 0) (getD list (2 * i + 1) 0)
+pub by-done : (list : List ℕ) (i : ℕ) (t left : Chip) (byte : ℕ) (done : Bool) → i < length (pairsOf list) → length (t .image) ≡ 256
+    → byte ≡ merge 8 (readOnly (getD list (2 * i) 0)) (getD (t .image) (getD list (2 * i) 0) 0) (getD list (2 * i + 1) 0)
     → (two (holdsOf packets (t .image)) ≡ false → Stores t (getD list (2 * i) 0) byte done left) → (wrote (pairsOf list) i t .refusal ≡ 13 → ⊥)
     → (wrote (pairsOf list) i t ≡ record { refusal = 0; chip = left }) × (length (left .image) ≡ 256)
-by-done list i t left column byte true h z c b st n =
-    let s = st (one-hold (pairsOf list) i t n) in
-    (taken list i t left column byte true h z c b s refl, left-sized list i t left column byte true h z c b s)
-by-done list i t left column byte false h z c b st n =
-    absurd (n (ap (λ (w : Wrote). w .refusal) (not-taken list i t left column byte false h z c b (st (one-hold (pairsOf list) i t n)) refl)))
+by-done list i t left byte true h z b st n =
+    let s = st (one-hold (pairsOf list) i t n) in (taken list i t left byte true h z b s refl, left-sized list i t left byte true h z b s)
+by-done list i t left byte false h z b st n =
+    absurd (n (ap (λ (w : Wrote). w .refusal) (not-taken list i t left byte false h z b (st (one-hold (pairsOf list) i t n)) refl)))
 
 -- what is taken from a place on
 shortened-on : (ws : List Write) (i : ℕ) (t : Chip) → i < length ws
@@ -135,11 +140,8 @@ shortened-short (w ∷ ws) s = go (eqb (writeOf s (w .address) (w .value) .refus
     go true h = suc-le-suc h
     go false h = omega arith
 
--- the buffers keep their lengths too
-pub packet-sized : (ws : List Write) (i : ℕ) (t u : Chip) → length (t .image) ≡ 256 → length (t .packet) ≡ 32
-    → wrote ws i t ≡ record { refusal = 0; chip = u } → length (u .packet) ≡ 32
-packet-sized ws i t u z p e =
-    sym (ap (λ (w : Wrote). length (w .chip .packet)) e) ∙ stepped t (pairAt ws i .address) (pairAt ws i .value) z .packetSized p
+pub taken-listed : (list : List ℕ) (s : Chip) (i : ℕ) → i < length (shortened (pairsOf list) s) → i < length (pairsOf list)
+taken-listed list s i h = omega (arith, h, shortened-short (pairsOf list) s)
 
 -- ---- how many pairs are taken
 
@@ -310,23 +312,22 @@ pub kept-whole : (a : ℕ) → a < 256 → not (eqb (keptBits a) 255) ≡ isWrit
 unfolding isWritten classAt merge
 kept-whole a h = same _ _ (at-below told 256 a refl h)
 
--- a pair's test, by the code's columns
-module _ (list : List ℕ) (i : ℕ) (image : List ℕ) (c : ByColumn) (keep : List ℕ) (h : i < length (pairsOf list)) (small : getD list (2 * i) 0 < 256)
-    (cs : HasColumns c) (ks : keep ≡ column keptBits) where
-  pub fairly : let a : ℕ = getD list (2 * i) 0 in let v : ℕ = getD list (2 * i + 1) 0 in
-      (not (eqb (getD keep a 0) 255) && (eqb (under (getD (c .mandated) a 0) v) (under (getD (c .mandated) a 0) (getD (c .bits) a 0)) &&
-      eqb (under (getD (c .free) a 0) v) (under (getD (c .free) a 0) (getD image a 0)))) ≡ fairTest image (pairAt (pairsOf list) i)
-  fairly =
-      let a : ℕ = getD list (2 * i) 0 in
-      let v : ℕ = getD list (2 * i + 1) 0 in
+-- a pair's byte and its test, by the code's columns
+module _ (c : ByColumn) (cs : HasColumns c) (a old v : ℕ) where
+  pub merged : merge 8 (getD (c .«read_only») a 0) old v ≡ merge 8 (readOnly a) old v
+  merged = ap (λ (n : ℕ). merge 8 n old v) (ap (λ (l : List ℕ). getD l a 0) (cs .readOnly) ∙ at-address (λ (r : Class). r .«read_only») a)
+
+  pub fairly : (image keep : List ℕ) → old ≡ getD image a 0 → keep ≡ column keptBits → a < 256
+      → (not (eqb (getD keep a 0) 255) && (eqb (under (getD (c .mandated) a 0) v) (under (getD (c .mandated) a 0) (getD (c .bits) a 0)) &&
+      eqb (under (getD (c .free) a 0) v) (under (getD (c .free) a 0) old))) ≡ fairTest image (a gets v)
+  fairly image keep o ks small =
       let k : getD keep a 0 ≡ keptBits a = ap (λ (l : List ℕ). getD l a 0) ks ∙ column-at keptBits a small in
       let m : getD (c .mandated) a 0 ≡ mandated a = ap (λ (l : List ℕ). getD l a 0) (cs .mandated) ∙ at-address (λ (r : Class). r .mandated) a in
       let f : getD (c .free) a 0 ≡ free a = ap (λ (l : List ℕ). getD l a 0) (cs .free) ∙ at-address (λ (r : Class). r .free) a in
       let b : getD (c .bits) a 0 ≡ bits a = ap (λ (l : List ℕ). getD l a 0) (cs .bits) ∙ at-address (λ (r : Class). r .bits) a in
       let t : not (eqb (keptBits a) 255) ≡ isWritten a = kept-whole a small in
-      (λ j. not (eqb (k j) 255) && (eqb (under (m j) v) (under (m j) (b j)) && eqb (under (f j) v) (under (f j) (getD image a 0))))
-      ∙ (λ j. t j && (eqb (under (mandated a) v) (under (mandated a) (bits a)) && eqb (under (free a) v) (under (free a) (getD image a 0))))
-      ∙ ap (fairTest image) (sym (pair-at list i h))
+      (λ j. not (eqb (k j) 255) && (eqb (under (m j) v) (under (m j) (b j)) && eqb (under (f j) v) (under (f j) old)))
+      ∙ (λ j. t j && (eqb (under (mandated a) v) (under (mandated a) (bits a)) && eqb (under (free a) v) (under (free a) (o j))))
 
 module _ (old new : InUse) (ws : List Write) (s : Chip) where
   -- at place i the state is t

@@ -4,7 +4,7 @@ use mathlib.Core.Path.{_≡_, refl, sym, ap, subst, _∙_}
 use mathlib.Core.Logic.{_⊎_, ⊎-map}
 use mathlib.Core.Bool.{Bool, true, false, false≢true, cond, not, _&&_, _||_}
 use mathlib.Core.List.{List, []}
-use Prim.Native.Nat.{ℕ, _+_, _^_, _<_}
+use Prim.Native.Nat.{ℕ, _+_, _^_, _<_, _≤_}
 use native.Mathlib.Omega.{arith}
 use lib.Dec.{eqb, leb, ltb}
 use lib.ListN.{length}
@@ -16,7 +16,7 @@ use Rattle.bits.specs.Merge.{bit}
 use Rattle.matrix.specs.Matrix.{fields}
 use Rattle.chip.specs.declared.Chip.{Chip}
 use Rattle.chip.specs.declared.Wrote.{Wrote}
-use Rattle.chip.specs.Machine.{Write, _gets_, Group, Buffer, avi, audio, gc, matrix, packets, converter, up, holdsOf, registersOf, held, inUse, coefficients, gcInUse, mute, Muted}
+use Rattle.chip.specs.Machine.{Write, _gets_, Group, avi, audio, gc, matrix, packets, converter, up, holdsOf, registersOf, held, inUse, coefficients, gcInUse, mute, Muted}
 use Rattle.chip.specs.Write.{lentAs, stored, two, writeOf, vsyncOf}
 use Rattle.chip.proofs.Writes.{written-as, allowed, turned}
 use Rattle.writes.specs.List.{covers}
@@ -24,46 +24,40 @@ use Rattle.cut.specs.Run.{InUse, Either, Between}
 use Rattle.cut.proofs.MendedRun.{lone}
 use Rattle.cut.proofs.GroupStays.{store, only, status, quiet, Shown, avi-shown, audio-shown, gc-shown, avi-same, audio-same, gc-same, down-part}
 use Rattle.cut.proofs.CoefficientsInUse.{away, mark, phase, write-keeps}
-use Rattle.vendor.specs.Found.{mayMove, oneOf, isIdle, isBetween, isTurned}
+use Rattle.vendor.specs.Found.{packetMoving, matrixMoving, mayMove, oneOf, isKept, isBetween, isTurned}
 
--- no two packet holds are up, and one is: the byte of the holds alone has this one
-hold-alone : (n : ℕ) (p q r : ℕ) → p ≡ bit 6 n → q ≡ bit 5 n → r ≡ bit 4 n
-    → ((eqb p 1 && eqb q 1) || ((eqb p 1 && eqb r 1) || (eqb q 1 && eqb r 1))) ≡ false
-    → (eqb p 1 ≡ true → (q ≡ 0) × (r ≡ 0)) × (eqb q 1 ≡ true → (p ≡ 0) × (r ≡ 0)) × (eqb r 1 ≡ true → (p ≡ 0) × (q ≡ 0))
-hold-alone n p q r a b c t = go (eqb p 1) (eqb q 1) (eqb r 1) refl refl refl t
+-- of three bits no two are up
+at-most-one : (p q r : ℕ) → p < 2 → q < 2 → r < 2 → ((eqb p 1 && eqb q 1) || ((eqb p 1 && eqb r 1) || (eqb q 1 && eqb r 1))) ≡ false → p + (q + r) ≤ 1
+at-most-one p q r a b c t = go (eqb p 1) (eqb q 1) (eqb r 1) refl refl refl t
   where
-    zero-of : (x j : ℕ) → x ≡ bit j n → eqb x 1 ≡ false → bit j n < 2 → x ≡ 0
-    zero-of x j e f l = let d : (x ≡ 1) → ⊥ = eqb-false x 1 f in omega (arith, e, l, d)
+    down : (n : ℕ) → n < 2 → eqb n 1 ≡ false → n ≡ 0
+    down n h e = let d : (n ≡ 1) → ⊥ = eqb-false n 1 e in omega arith
 
-    go : (x y z : Bool) → eqb p 1 ≡ x → eqb q 1 ≡ y → eqb r 1 ≡ z → ((x && y) || ((x && z) || (y && z))) ≡ false
-        → (x ≡ true → (q ≡ 0) × (r ≡ 0)) × (y ≡ true → (p ≡ 0) × (r ≡ 0)) × (z ≡ true → (p ≡ 0) × (q ≡ 0))
+    go : (x y z : Bool) → eqb p 1 ≡ x → eqb q 1 ≡ y → eqb r 1 ≡ z → ((x && y) || ((x && z) || (y && z))) ≡ false → p + (q + r) ≤ 1
     go true true z e f g t = absurd (false≢true (sym t))
     go true false true e f g t = absurd (false≢true (sym t))
-    go true false false e f g t =
-        ((λ _. (zero-of q 5 b f (omega arith), zero-of r 4 c g (omega arith))), (λ h. absurd (false≢true h)), (λ h. absurd (false≢true h)))
+    go true false false e f g t = omega (arith, down q b f, down r c g)
     go false true true e f g t = absurd (false≢true (sym t))
-    go false true false e f g t =
-        ((λ h. absurd (false≢true h)), (λ _. (zero-of p 6 a e (omega arith), zero-of r 4 c g (omega arith))), (λ h. absurd (false≢true h)))
-    go false false z e f g t =
-        ((λ h. absurd (false≢true h)), (λ h. absurd (false≢true h)), (λ _. (zero-of p 6 a e (omega arith), zero-of q 5 b f (omega arith))))
+    go false true false e f g t = omega (arith, down p a e, down r c g)
+    go false false z e f g t = omega (arith, down p a e, down q b f)
 
-avi-alone : (n : ℕ) → two n ≡ false → up avi n ≡ true → only (packets .groups) n ≡ 2 ^ avi .hold
-avi-alone n t u =
-    let o : (bit 5 n ≡ 0) × (bit 4 n ≡ 0) = hold-alone n (bit 6 n) (bit 5 n) (bit 4 n) refl refl refl t .0 u in
-    let p : bit 6 n ≡ 1 = eqb-true (bit 6 n) 1 u in
-    rw (p, o .0, o .1) refl
+single-hold : (n : ℕ) → two n ≡ false → bit 6 n + (bit 5 n + bit 4 n) ≤ 1
+single-hold n = at-most-one (bit 6 n) (bit 5 n) (bit 4 n) (omega arith) (omega arith) (omega arith)
 
-audio-alone : (n : ℕ) → two n ≡ false → up audio n ≡ true → only (packets .groups) n ≡ 2 ^ audio .hold
-audio-alone n t u =
-    let o : (bit 6 n ≡ 0) × (bit 4 n ≡ 0) = hold-alone n (bit 6 n) (bit 5 n) (bit 4 n) refl refl refl t .1 u in
-    let p : bit 5 n ≡ 1 = eqb-true (bit 5 n) 1 u in
-    rw (p, o .0, o .1) refl
+-- a packet: its view, its hold among the holds alone, and that where no two are up and it is, the byte of the holds alone has this one
+pub record Packet (g : Group) : Type 0 where
+  pub shown : Shown packets g
+  pub same : (n : ℕ) → up g (only (packets .groups) n) ≡ up g n
+  pub alone : (n : ℕ) → two n ≡ false → up g n ≡ true → only (packets .groups) n ≡ 2 ^ g .hold
 
-gc-alone : (n : ℕ) → two n ≡ false → up gc n ≡ true → only (packets .groups) n ≡ 2 ^ gc .hold
-gc-alone n t u =
-    let o : (bit 6 n ≡ 0) × (bit 5 n ≡ 0) = hold-alone n (bit 6 n) (bit 5 n) (bit 4 n) refl refl refl t .2 u in
-    let p : bit 4 n ≡ 1 = eqb-true (bit 4 n) 1 u in
-    rw (p, o .0, o .1) refl
+pub avi-packet : Packet avi
+avi-packet = record { shown = avi-shown; same = avi-same; alone = λ n t u. omega (arith, single-hold n t, eqb-true (bit 6 n) 1 u) }
+
+pub audio-packet : Packet audio
+audio-packet = record { shown = audio-shown; same = audio-same; alone = λ n t u. omega (arith, single-hold n t, eqb-true (bit 5 n) 1 u) }
+
+pub gc-packet : Packet gc
+gc-packet = record { shown = gc-shown; same = gc-same; alone = λ n t u. omega (arith, single-hold n t, eqb-true (bit 4 n) 1 u) }
 
 -- a register that a group does not cover lies outside
 outside : (g : Group) (a : ℕ) → covers g a ≡ false → (ltb a (g .first) || leb (g .first + g .count) a) ≡ true
@@ -100,62 +94,40 @@ module _ (s : Chip) (a v : ℕ) (whole : length (s .image) ≡ 256) (taken : wri
   single : two (holdsOf packets (t .image)) ≡ false
   single = lone s a v taken
 
-  -- a packet: its view, and that its hold up is alone in the byte of the holds
-  module _ (g : Group) (F : Shown packets g) (same : (n : ℕ) → up g (only (packets .groups) n) ≡ up g n)
-      (alone : up g (holdsOf packets (t .image)) ≡ true → only (packets .groups) (holdsOf packets (t .image)) ≡ 2 ^ g .hold) where
-    abbrev b : Buffer
-    b = packets
-
+  -- a packet: what it has in use stays, or is what stands in its registers
+  module _ (g : Group) (F : Packet g) where
     abbrev old : ℕ
-    old = holdsOf b (s .image)
+    old = holdsOf packets (s .image)
 
     abbrev new : ℕ
-    new = holdsOf b (t .image)
+    new = holdsOf packets (t .image)
 
-    still : mayMove g a old new ≡ false → quiet g (only (b .groups) old) (only (b .groups) new) a ≡ true
-    still m = rw (same new, same old) (go (up g new) refl m)
+    still : mayMove (packetMoving g old (t .image)) a ≡ false → quiet g (only (packets .groups) old) (only (packets .groups) new) a ≡ true
+    still m = rw (F .same new, F .same old) (go (up g new) refl m)
       where
         go : (u : Bool) → up g new ≡ u → (not u && (up g old || covers g a)) ≡ false
-            → cond u (eqb (only (b .groups) new) (2 ^ g .hold)) (not (up g old) && (ltb a (g .first) || leb (g .first + g .count) a)) ≡ true
-        go true e q = eq-eqb _ _ (alone e)
+            → cond u (eqb (only (packets .groups) new) (2 ^ g .hold)) (not (up g old) && (ltb a (g .first) || leb (g .first + g .count) a)) ≡ true
+        go true e q = eq-eqb _ _ (F .alone new single e)
         go false e q = rw (neither-left (up g old) (covers g a) q) (outside g a (neither-right (up g old) (covers g a) q))
 
-    stays : mayMove g a old new ≡ false → inUse b g t ≡ inUse b g s
+    pub stays : mayMove (packetMoving g old (t .image)) a ≡ false → inUse packets g t ≡ inUse packets g s
     stays m =
-        ap (inUse b g) is-put
-        ∙ F .keeps w s whole (subst (λ (n : ℕ). quiet g (only (b .groups) old) n a ≡ true)
-        (ap (λ (u : Chip). status b (u .image)) is-put ∙ F .tracks w s whole) (still m))
+        ap (inUse packets g) is-put
+        ∙ F .shown .keeps w s whole (subst (λ (n : ℕ). quiet g (only (packets .groups) old) n a ≡ true)
+        (ap (λ (u : Chip). status packets (u .image)) is-put ∙ F .shown .tracks w s whole) (still m))
 
-    moves : mayMove g a old new ≡ true → inUse b g t ≡ registersOf g (t .image)
-    moves m = down-part b g t refl (go (up g new) m)
+    pub moves : mayMove (packetMoving g old (t .image)) a ≡ true → inUse packets g t ≡ registersOf g (t .image)
+    moves m = down-part packets g t refl (go (up g new) m)
       where
         go : (u : Bool) → (not u && (up g old || covers g a)) ≡ true → u ≡ false
         go true q = absurd (false≢true q)
         go false q = refl
 
-  -- of each group: what it has in use stays, or is what stands in its registers
-  pub avi-stays : mayMove avi a (holdsOf packets (s .image)) (holdsOf packets (t .image)) ≡ false → inUse packets avi t ≡ inUse packets avi s
-  avi-stays = stays avi avi-shown avi-same (avi-alone _ single)
-
-  pub avi-moves : mayMove avi a (holdsOf packets (s .image)) (holdsOf packets (t .image)) ≡ true → inUse packets avi t ≡ registersOf avi (t .image)
-  avi-moves = moves avi avi-shown avi-same (avi-alone _ single)
-
-  pub audio-stays : mayMove audio a (holdsOf packets (s .image)) (holdsOf packets (t .image)) ≡ false
-      → inUse packets audio t ≡ inUse packets audio s
-  audio-stays = stays audio audio-shown audio-same (audio-alone _ single)
-
-  pub audio-moves : mayMove audio a (holdsOf packets (s .image)) (holdsOf packets (t .image)) ≡ true
-      → inUse packets audio t ≡ registersOf audio (t .image)
-  audio-moves = moves audio audio-shown audio-same (audio-alone _ single)
-
-  pub gc-stays : mayMove gc a (holdsOf packets (s .image)) (holdsOf packets (t .image)) ≡ false → inUse packets gc t ≡ inUse packets gc s
-  gc-stays = stays gc gc-shown gc-same (gc-alone _ single)
-
-  pub gc-moves : mayMove gc a (holdsOf packets (s .image)) (holdsOf packets (t .image)) ≡ true → inUse packets gc t ≡ registersOf gc (t .image)
-  gc-moves = moves gc gc-shown gc-same (gc-alone _ single)
+    decides : {o n : List ℕ} → Either o n (inUse packets g s) → Decides (isKept (packetMoving g old (t .image)) (λ x. x) o n a (t .image)) (Either o n (inUse packets g t))
+    decides = decided _ _ _ _ _ _ stays moves
 
   -- the coefficients: with the hold up or a change waiting nothing moves them; else a write to one of their registers may
-  pub matrix-stays : (isIdle (t .image) (t .waiting) && covers matrix a) ≡ false → inUse converter matrix t ≡ inUse converter matrix s
+  pub matrix-stays : mayMove (matrixMoving (t .waiting) (t .image)) a ≡ false → inUse converter matrix t ≡ inUse converter matrix s
   matrix-stays m =
       ap (inUse converter matrix) is-put
       ∙ write-keeps w s whole (subst (λ (u : Chip). (not (eqb (phase u) 0) || away w) ≡ true) is-put (go (t .waiting) (held t) m))
@@ -166,7 +138,7 @@ module _ (s : Chip) (a v : ℕ) (whole : length (s .image) ≡ 256) (taken : wri
       go false true h = refl
       go false false h = outside matrix a h
 
-  pub matrix-moves : (isIdle (t .image) (t .waiting) && covers matrix a) ≡ true → inUse converter matrix t ≡ registersOf matrix (t .image)
+  pub matrix-moves : mayMove (matrixMoving (t .waiting) (t .image)) a ≡ true → inUse converter matrix t ≡ registersOf matrix (t .image)
   matrix-moves m = go (t .waiting) (held t) refl refl m
     where
       go : (q u : Bool) → t .waiting ≡ q → held t ≡ u → (not (q || u) && covers matrix a) ≡ true
@@ -197,7 +169,7 @@ module _ (s : Chip) (a v : ℕ) (whole : length (s .image) ≡ 256) (taken : wri
     between-decides =
         restated (λ h. record { muted = h .0; avi = h .1 .0; audio = h .1 .1 .0; matrix = h .1 .1 .1 })
         (λ b. (b .muted, (b .avi, (b .audio, b .matrix))))
-        (together muted (together (decided _ _ _ _ _ _ avi-stays avi-moves av) (together (decided _ _ _ _ _ _ audio-stays audio-moves au)
+        (together muted (together (decides avi avi-packet av) (together (decides audio audio-packet au)
         (decided _ _ _ _ _ _ (λ m. ap fields (matrix-stays m)) (λ m. ap fields (matrix-moves m)) ma))))
 
 -- ---- the event

@@ -4,7 +4,7 @@ use mathlib.Core.Bool.{Bool, true, false, cond, not, _&&_, _||_}
 use mathlib.Core.List.{List, [], _∷_}
 use Prim.Native.Nat.{ℕ, suc, _%_}
 use lib.Dec.{eqb, ltb}
-use lib.ListN.{length, getD}
+use lib.ListN.{length, getD, take, drop}
 use Rattle.lists.specs.Same.{sameList}
 use Rattle.bits.specs.Merge.{merge, under}
 use Rattle.registers.specs.Classes.{readOnly, mandated, free, bits}
@@ -15,11 +15,12 @@ use Rattle.chip.specs.declared.Chip.{Chip}
 use Rattle.chip.specs.Machine.{Write, Group, avi, audio, matrix, packets, converter, up, holdsOf, registersOf, mute}
 use Rattle.chip.specs.Write.{lentAs, two, writeOf}
 use Rattle.views.specs.Entry.{isSized}
-use Rattle.writes.specs.List.{pairsOf, covers, isWritten, ready}
+use Rattle.writes.specs.List.{pairsOf, inRun, isWritten, ready}
 use Rattle.decode.specs.Decode.{someEnds}
 use Rattle.cut.specs.Run.{InUse, allInUse}
 use Rattle.vendor.specs.declared.Verdict.{Verdict}
 use Rattle.vendor.specs.declared.Used.{Used}
+use Rattle.vendor.specs.declared.Moving.{Moving}
 use Rattle.vendor.specs.Vendor.{shortened, endOf, mostPairs}
 
 -- a pair on its own
@@ -33,27 +34,40 @@ fairTest image w =
 abbrev pub shown : Used → InUse
 shown u = record { avi = u .avi; audio = u .audio; matrix = u .matrix }
 
--- a write at an address may have moved what is in use of a group, by the byte of its holds before and after: its hold is down, and was up
--- or the write is to one of its registers
-abbrev pub mayMove : Group → ℕ → ℕ → ℕ → Bool
-mayMove g a before after = not (up g after) && (up g before || covers g a)
+-- a group at a write, by whether its buffer was in use before the write and is after it
+abbrev pub atWrite : Group → Bool → Bool → Moving
+atWrite g before after = record { first = g .first; count = g .count; before = before; after = after }
+
+-- a packet, by the byte of its holds before the write and the image after it; the coefficients, by the mark and the image after it: a write
+-- alone never brings them out of their buffer
+abbrev pub packetMoving : Group → ℕ → List ℕ → Moving
+packetMoving g held image = atWrite g (up g held) (up g (holdsOf packets image))
+
+abbrev pub matrixMoving : Bool → List ℕ → Moving
+matrixMoving waiting image = atWrite matrix false (waiting || up matrix (holdsOf converter image))
+
+-- a write at an address may have moved what is in use of a group: its registers are, and its buffer was or the write is to one of them
+abbrev pub mayMove : Moving → ℕ → Bool
+mayMove m a = not (m .after) && (m .before || inRun (m .first) (m .count) a)
 
 -- what may have moved is now one of the two
 abbrev pub oneOf : Bool → List ℕ → List ℕ → List ℕ → Bool
 oneOf moved old new x = not moved || (sameList x old || sameList x new)
 
--- no coefficient hold is up, and none waits: the coefficients in use are those of the registers. A write alone never brings that about.
-abbrev pub isIdle : List ℕ → Bool → Bool
-isIdle image waiting = not (waiting || up matrix (holdsOf converter image))
+-- a group after a write: where it may have moved, what its registers are read as is one of the two; else it is what it was
+abbrev pub isKept : Moving → (List ℕ → List ℕ) → List ℕ → List ℕ → ℕ → List ℕ → Bool
+isKept m read old new a image = oneOf (mayMove m a) old new (read (take (m .count) (drop (m .first) image)))
 
--- the cut after a write: muted, and each group that may have moved is one of the two; the others are what they were. `held` is the byte of
--- the packet holds before the write; `image`, `packet` and `waiting` are the state after it.
+-- the cut after a write: each group is kept, and muted. `held` is the byte of the packet holds before the write; `image`, `packet` and
+-- `waiting` are the state after it.
+abbrev pub isWhole : InUse → InUse → ℕ → ℕ → List ℕ → Bool → Bool
+isWhole old new a held image waiting =
+    isKept (packetMoving avi held image) (λ x. x) (old .avi) (new .avi) a image &&
+    (isKept (packetMoving audio held image) (λ x. x) (old .audio) (new .audio) a image &&
+    isKept (matrixMoving waiting image) fields (old .matrix) (new .matrix) a image)
+
 unfoldable pub isBetween : InUse → InUse → ℕ → ℕ → List ℕ → List ℕ → Bool → Bool
-isBetween old new a held image packet waiting =
-    eqb (mute (lentAs image packet [] false)) 1 &&
-    (oneOf (mayMove avi a held (holdsOf packets image)) (old .avi) (new .avi) (registersOf avi image) &&
-    (oneOf (mayMove audio a held (holdsOf packets image)) (old .audio) (new .audio) (registersOf audio image) &&
-    oneOf (isIdle image waiting && covers matrix a) (old .matrix) (new .matrix) (fields (registersOf matrix image))))
+isBetween old new a held image packet waiting = eqb (mute (lentAs image packet [] false)) 1 && isWhole old new a held image waiting
 
 -- the cut after the event that may follow: where a change waits, the registers come into use
 unfoldable pub isTurned : InUse → InUse → List ℕ → Bool → Bool
@@ -99,13 +113,22 @@ abbrev pub placeOf : List Write → Chip → ℕ
 placeOf ws s = firstFault (allInUse s) (allInUse (endOf (shortened ws s) s)) (shortened ws s) s
 
 -- the tests of rows 7, 8, 14, 15 and 16
+abbrev pub wrongLength : List ℕ → Bool
+wrongLength list = eqb (length list % 2) 1 || ltb mostPairs (length (pairsOf list))
+
 abbrev pub vetTests : Chip → List ℕ → List Test
 vetTests s list =
     imageLength if not (isSized s) ∷
     holdsUp if not (ready (s .image)) ∷
-    listLength if (eqb (length list % 2) 1 || ltb mostPairs (length (pairsOf list))) ∷
+    listLength if wrongLength list ∷
     badPair if ltb (placeOf (pairsOf list) s) (length (pairsOf list)) ∷
     badEnd if not (someEnds (endOf (shortened (pairsOf list) s) s .image)) ∷ []
+
+-- the first three do not apply
+pub record Untold (s : Chip) (list : List ℕ) : Type 0 where
+  pub sized : not (isSized s) ≡ false
+  pub fit : not (ready (s .image)) ≡ false
+  pub whole : wrongLength list ≡ false
 
 unfoldable pub vetRefusal : Chip → List ℕ → ℕ
 vetRefusal s list = lowest (vetTests s list)

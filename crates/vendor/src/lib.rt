@@ -5,17 +5,19 @@ ghost use mathlib.Core.List.{List, []};
 ghost use Prim.Native.Nat.{ℕ, _+_, _≤_};
 ghost use lib.Dec.{eqb};
 ghost use lib.ListN.{length, getD, take, drop};
+ghost use Rattle.lists.specs.Same.{sameList};
 ghost use Rattle.bits.specs.Merge.{under};
 ghost use Rattle.map.specs.Map.{infoframeUpdate};
 ghost use Rattle.matrix.specs.Matrix.{fields};
 ghost use Rattle.chip.specs.declared.Chip.{Chip};
-ghost use Rattle.chip.specs.Machine.{avi, audio, matrix, up, mute};
+ghost use Rattle.chip.specs.Machine.{avi, audio, matrix, up, registersOf, mute};
 ghost use Rattle.chip.specs.Write.{lentAs, two, holdsAfter, Stores};
 ghost use Rattle.writes.specs.List.{pairsOf, inRun, covers};
 ghost use Rattle.views.specs.Entry.{marked};
+ghost use Rattle.decode.specs.Decode.{someEnds};
 ghost use Rattle.cut.specs.Run.{allInUse};
 ghost use Rattle.vendor.specs.Vendor.{shortened, endOf};
-ghost use Rattle.vendor.specs.Found.{shown, oneOf, isBetween, isTurned, takenBy, firstFault, Vets};
+ghost use Rattle.vendor.specs.Found.{shown, atWrite, mayMove, isKept, isWhole, isBetween, isTurned, takenBy, firstFault, Untold, Vets};
 ghost use Rattle.vendor.specs.Theorems.{Vetted};
 use chip::Chip;
 use map::Map;
@@ -38,15 +40,60 @@ struct Used {
     matrix: [u16; 12],
 }
 
-// A group's bytes in use: the front of its buffer where its hold is up, else its registers.
-fn part(image: &[u8], buffer: &[u8], held: bool, first: usize, count: usize, out: &mut [u8])
-    requires { ⌜ (first + count ≤ length (now image)) × (count ≤ length (now buffer)) × (length (now out) ≡ count) ⌝ }
-    ensures { λ _. ⌜ now (out .exit) ≡ cond held (take count (now (buffer .entry))) (take count (drop first (now (image .entry)))) ⌝ }
+// A group at a write: its first register, how many they are, and whether its buffer was in use before the write and is after it.
+struct Moving {
+    first: u8,
+    count: u8,
+    before: bool,
+    after: bool,
+}
+
+// The packets, by the byte of their holds before a write and after it; the coefficients, by whether their buffer is in use.
+fn avi_at(before: u8, after: u8) -> Moving
+    ensures { λ r. ⌜ r ≡ atWrite avi (up avi before) (up avi after) ⌝ }
 {
-    if held {
+    Moving {
+        first: Map::AVI_INFOFRAME_VERSION,
+        count: Map::AVI_INFOFRAME_COUNT,
+        before: before / Map::AVI_PACKET_UPDATE_MASK % 2 == 1,
+        after: after / Map::AVI_PACKET_UPDATE_MASK % 2 == 1,
+    }
+}
+
+fn audio_at(before: u8, after: u8) -> Moving
+    ensures { λ r. ⌜ r ≡ atWrite audio (up audio before) (up audio after) ⌝ }
+{
+    Moving {
+        first: Map::AUDIO_INFOFRAME_VERSION,
+        count: Map::AUDIO_INFOFRAME_COUNT,
+        before: before / Map::AUDIO_INFOFRAME_PACKET_UPDATE_MASK % 2 == 1,
+        after: after / Map::AUDIO_INFOFRAME_PACKET_UPDATE_MASK % 2 == 1,
+    }
+}
+
+fn matrix_at(hold: u8, waiting: bool) -> Moving
+    ensures { λ r. ⌜ r ≡ atWrite matrix false (waiting || up matrix hold) ⌝ }
+{
+    Moving {
+        first: Map::CSC,
+        count: Map::CSC_COUNT,
+        before: false,
+        after: waiting | chip::is_held(hold),
+    }
+}
+
+// A group's bytes in use: the front of its buffer, or its registers.
+fn part(m: Moving, image: &[u8], buffer: &[u8], out: &mut [u8])
+    requires { ⌜ (m .first + m .count ≤ length (now image)) × (m .count ≤ length (now buffer)) × (length (now out) ≡ m .count) ⌝ }
+    ensures { λ _. ⌜ now (out .exit) ≡ cond (m .after) (take (m .count) (now (buffer .entry)))
+        (take (m .count) (drop (m .first) (now (image .entry)))) ⌝ }
+{
+    let count = m.count as usize;
+    if m.after {
         lists::copy(&buffer[..count], out);
         return;
     }
+    let first = m.first as usize;
     let end = first + count;
     lists::copy(&image[first..end], out);
 }
@@ -61,30 +108,14 @@ fn in_use(s: Chip) -> Used
     let holds = image[Map::INFOFRAME_UPDATE as usize];
     let hold = image[Map::COEFFICIENT_UPDATE as usize];
     let mut avi = [0u8; Map::AVI_INFOFRAME_COUNT as usize];
-    part(
-        &image,
-        &packet,
-        holds / Map::AVI_PACKET_UPDATE_MASK % 2 == 1,
-        Map::AVI_INFOFRAME_VERSION as usize,
-        Map::AVI_INFOFRAME_COUNT as usize,
-        &mut avi,
-    );
+    part(avi_at(holds, holds), &image, &packet, &mut avi);
     let mut audio = [0u8; Map::AUDIO_INFOFRAME_COUNT as usize];
-    part(
-        &image,
-        &packet,
-        holds / Map::AUDIO_INFOFRAME_PACKET_UPDATE_MASK % 2 == 1,
-        Map::AUDIO_INFOFRAME_VERSION as usize,
-        Map::AUDIO_INFOFRAME_COUNT as usize,
-        &mut audio,
-    );
+    part(audio_at(holds, holds), &image, &packet, &mut audio);
     let mut bytes = [0u8; Map::CSC_COUNT as usize];
     part(
+        matrix_at(hold, s.waiting),
         &image,
         &coefficients,
-        s.waiting | chip::is_held(hold),
-        Map::CSC as usize,
-        Map::CSC_COUNT as usize,
         &mut bytes,
     );
     let twelve = matrix::twelve(&bytes);
@@ -114,180 +145,141 @@ fn in_run(first: u8, count: u8, address: u8) -> bool
 }
 
 // Whether a write may have moved what is in use of a group.
-fn may_move(before: bool, after: bool, first: u8, count: u8, address: u8) -> bool
-    ensures { λ r. ⌜ r ≡ (not after && (before || inRun first count address)) ⌝ }
+fn may_move(m: Moving, address: u8) -> bool
+    ensures { λ r. ⌜ r ≡ mayMove m address ⌝ }
 {
-    !after & (before | in_run(first, count, address))
+    !m.after & (m.before | in_run(m.first, m.count, address))
 }
 
-// Whether a write left every group alone: it is to none of their registers, and no packet hold changed.
-fn is_still(address: u8, held: u8, holds: u8) -> bool
-    ensures { λ r. ⌜ r ≡ (not (covers avi address || (covers audio address || covers matrix address)) && eqb held holds) ⌝ }
+// A packet after a write: where it may have moved, its registers are one of the two.
+fn is_kept(m: Moving, address: u8, image: &[u8], old: &[u8], new: &[u8]) -> bool
+    requires { ⌜ m .first + m .count ≤ length (now image) ⌝ }
+    ensures { λ r. ⌜ r ≡ isKept m (λ x. x) (now (old .entry)) (now (new .entry)) address (now (image .entry)) ⌝ }
 {
-    let avi = in_run(
-        Map::AVI_INFOFRAME_VERSION,
-        Map::AVI_INFOFRAME_COUNT,
-        address,
-    );
-    let audio = in_run(
-        Map::AUDIO_INFOFRAME_VERSION,
-        Map::AUDIO_INFOFRAME_COUNT,
-        address,
-    );
-    let matrix = in_run(Map::CSC, Map::CSC_COUNT, address);
-    !(avi | (audio | matrix)) & (held == holds)
-}
-
-// What may have moved is now one of the two; the same of the coefficients.
-fn one_of(moved: bool, bytes: &[u8], old: &[u8], new: &[u8]) -> bool
-    ensures { λ r. ⌜ r ≡ oneOf moved (now (old .entry)) (now (new .entry)) (now (bytes .entry)) ⌝ }
-{
-    if !moved {
+    if !may_move(m, address) {
         return true;
     }
-    lists::same(bytes, old) | lists::same(bytes, new)
+    let first = m.first as usize;
+    let end = first + m.count as usize;
+    lists::same(&image[first..end], old) | lists::same(&image[first..end], new)
 }
 
-fn one_matrix(moved: bool, bytes: &[u8], old: [u16; 12], new: [u16; 12]) -> bool
-    requires { ⌜ length (now bytes) ≡ 24 ⌝ }
-    ensures { λ r. ⌜ r ≡ oneOf moved old new (fields (now (bytes .entry))) ⌝ }
+// The coefficients that the registers have are one of the two.
+fn is_either(image: &[u8], old: [u16; 12], new: [u16; 12]) -> bool
+    requires { ⌜ length (now image) ≡ 256 ⌝ }
+    ensures { λ r. ⌜ r ≡ (sameList (fields (registersOf matrix (now (image .entry)))) old || sameList (fields (registersOf matrix (now (image .entry)))) new) ⌝ }
 {
-    if !moved {
-        return true;
-    }
-    let twelve = matrix::twelve(bytes);
+    let start = Map::CSC as usize;
+    let end = start + Map::CSC_COUNT as usize;
+    let twelve = matrix::twelve(&image[start..end]);
     lists::same_numbers(twelve, old) | lists::same_numbers(twelve, new)
 }
 
 // "Muted: set bit 1, clear bit 0.", of the GC byte in use.
-fn is_muted(image: &[u8], packet: &[u8]) -> bool
+fn is_muted(image: &[u8; 256], packet: &[u8; 32]) -> bool
     ensures { λ r. ⌜ r ≡ eqb (mute (lentAs (now (image .entry)) (now (packet .entry)) [] false)) 1 ⌝ }
 {
     views::mute_bits(image, packet) == 1
 }
 
-// The cut after a write, by the packet holds before it: muted, and each group that may have moved old or new.
-fn is_whole(
-    image: &[u8],
-    packet: &[u8],
-    waiting: bool,
+// A pair that was written: its address, the byte of the packet holds before it, the mark after it, and whether the event follows.
+struct Pair {
     address: u8,
     held: u8,
-    old: Used,
-    new: Used,
-) -> bool
-    requires { ⌜ (length (now image) ≡ 256) × (length (now packet) ≡ 32) ⌝ }
-    ensures { λ r. ⌜ r ≡ isBetween (shown old) (shown new) address held (now (image .entry)) (now (packet .entry)) waiting ⌝ }
+    waiting: bool,
+    event: bool,
+}
+
+// Whether a pair left every group alone: it is to none of their registers, and no packet hold changed.
+fn is_still(pair: Pair, holds: u8) -> bool
+    ensures { λ r. ⌜ r ≡ (not (covers avi (pair .address) || (covers audio (pair .address) || covers matrix (pair .address))) &&
+        eqb (pair .held) holds) ⌝ }
+{
+    let avi = in_run(
+        Map::AVI_INFOFRAME_VERSION,
+        Map::AVI_INFOFRAME_COUNT,
+        pair.address,
+    );
+    let audio = in_run(
+        Map::AUDIO_INFOFRAME_VERSION,
+        Map::AUDIO_INFOFRAME_COUNT,
+        pair.address,
+    );
+    let matrix = in_run(Map::CSC, Map::CSC_COUNT, pair.address);
+    !(avi | (audio | matrix)) & (pair.held == holds)
+}
+
+// Each group that may have moved is old or new.
+fn is_whole(image: &[u8; 256], pair: Pair, old: Used, new: Used) -> bool
+    ensures { λ r. ⌜ r ≡ isWhole (shown old) (shown new) (pair .address) (pair .held) (now (image .entry)) (pair .waiting) ⌝ }
+{
+    let holds = image[Map::INFOFRAME_UPDATE as usize];
+    if !is_kept(
+        avi_at(pair.held, holds),
+        pair.address,
+        image,
+        &old.avi,
+        &new.avi,
+    ) {
+        return false;
+    }
+    if !is_kept(
+        audio_at(pair.held, holds),
+        pair.address,
+        image,
+        &old.audio,
+        &new.audio,
+    ) {
+        return false;
+    }
+    let hold = image[Map::COEFFICIENT_UPDATE as usize];
+    if !may_move(matrix_at(hold, pair.waiting), pair.address) {
+        return true;
+    }
+    let old_matrix = old.matrix;
+    let new_matrix = new.matrix;
+    is_either(image, old_matrix, new_matrix)
+}
+
+// The cut after a pair: muted, and each group old or new, which is told at once where none can have moved.
+fn is_between(image: &[u8; 256], packet: &[u8; 32], pair: Pair, old: Used, new: Used) -> bool
+    ensures { λ r. ⌜ r ≡ isBetween (shown old) (shown new) (pair .address) (pair .held) (now (image .entry)) (now (packet .entry)) (pair .waiting) ⌝ }
 {
     if !is_muted(image, packet) {
         return false;
     }
     let holds = image[Map::INFOFRAME_UPDATE as usize];
-    let avi_moved = may_move(
-        held / Map::AVI_PACKET_UPDATE_MASK % 2 == 1,
-        holds / Map::AVI_PACKET_UPDATE_MASK % 2 == 1,
-        Map::AVI_INFOFRAME_VERSION,
-        Map::AVI_INFOFRAME_COUNT,
-        address,
-    );
-    let avi_start = Map::AVI_INFOFRAME_VERSION as usize;
-    let avi_end = avi_start + Map::AVI_INFOFRAME_COUNT as usize;
-    let old_avi = old.avi;
-    let new_avi = new.avi;
-    if !one_of(avi_moved, &image[avi_start..avi_end], &old_avi, &new_avi) {
-        return false;
-    }
-    let audio_moved = may_move(
-        held / Map::AUDIO_INFOFRAME_PACKET_UPDATE_MASK % 2 == 1,
-        holds / Map::AUDIO_INFOFRAME_PACKET_UPDATE_MASK % 2 == 1,
-        Map::AUDIO_INFOFRAME_VERSION,
-        Map::AUDIO_INFOFRAME_COUNT,
-        address,
-    );
-    let audio_start = Map::AUDIO_INFOFRAME_VERSION as usize;
-    let audio_end = audio_start + Map::AUDIO_INFOFRAME_COUNT as usize;
-    let old_audio = old.audio;
-    let new_audio = new.audio;
-    if !one_of(
-        audio_moved,
-        &image[audio_start..audio_end],
-        &old_audio,
-        &new_audio,
-    ) {
-        return false;
-    }
-    let hold = image[Map::COEFFICIENT_UPDATE as usize];
-    let idle = !(waiting | chip::is_held(hold));
-    let matrix_moved = idle & in_run(Map::CSC, Map::CSC_COUNT, address);
-    if !matrix_moved {
+    if is_still(pair, holds) {
         return true;
     }
-    let start = Map::CSC as usize;
-    let end = start + Map::CSC_COUNT as usize;
-    let old_matrix = old.matrix;
-    let new_matrix = new.matrix;
-    one_matrix(matrix_moved, &image[start..end], old_matrix, new_matrix)
-}
-
-// The same, told at once where no group can have moved.
-fn is_between(
-    image: &[u8],
-    packet: &[u8],
-    waiting: bool,
-    address: u8,
-    held: u8,
-    old: Used,
-    new: Used,
-) -> bool
-    requires { ⌜ (length (now image) ≡ 256) × (length (now packet) ≡ 32) ⌝ }
-    ensures { λ r. ⌜ r ≡ isBetween (shown old) (shown new) address held (now (image .entry)) (now (packet .entry)) waiting ⌝ }
-{
-    let holds = image[Map::INFOFRAME_UPDATE as usize];
-    if is_still(address, held, holds) {
-        return is_muted(image, packet);
-    }
-    is_whole(image, packet, waiting, address, held, old, new)
+    is_whole(image, pair, old, new)
 }
 
 // The cut after the event, where a change may have been waiting: the coefficients of the registers are old or new.
-fn is_turned(image: &[u8], waiting: bool, old: Used, new: Used) -> bool
-    requires { ⌜ length (now image) ≡ 256 ⌝ }
+fn is_turned(image: &[u8; 256], waiting: bool, old: Used, new: Used) -> bool
     ensures { λ r. ⌜ r ≡ isTurned (shown old) (shown new) (now (image .entry)) waiting ⌝ }
 {
     let hold = image[Map::COEFFICIENT_UPDATE as usize];
-    let moved = waiting & !chip::is_held(hold);
-    if !moved {
+    if !(waiting & !chip::is_held(hold)) {
         return true;
     }
-    let start = Map::CSC as usize;
-    let end = start + Map::CSC_COUNT as usize;
     let old_matrix = old.matrix;
     let new_matrix = new.matrix;
-    one_matrix(moved, &image[start..end], old_matrix, new_matrix)
+    is_either(image, old_matrix, new_matrix)
 }
 
 // Both, where the event follows.
-fn is_careful(
-    image: &[u8],
-    packet: &[u8],
-    waiting: bool,
-    event: bool,
-    address: u8,
-    held: u8,
-    old: Used,
-    new: Used,
-) -> bool
-    requires { ⌜ (length (now image) ≡ 256) × (length (now packet) ≡ 32) ⌝ }
-    ensures { λ r. ⌜ r ≡ (isBetween (shown old) (shown new) address held (now (image .entry)) (now (packet .entry)) waiting &&
-        (not event || isTurned (shown old) (shown new) (now (image .entry)) waiting)) ⌝ }
+fn is_careful(image: &[u8; 256], packet: &[u8; 32], pair: Pair, old: Used, new: Used) -> bool
+    ensures { λ r. ⌜ r ≡ (isBetween (shown old) (shown new) (pair .address) (pair .held) (now (image .entry)) (now (packet .entry)) (pair .waiting) &&
+        (not (pair .event) || isTurned (shown old) (shown new) (now (image .entry)) (pair .waiting))) ⌝ }
 {
-    if !is_between(image, packet, waiting, address, held, old, new) {
+    if !is_between(image, packet, pair, old, new) {
         return false;
     }
-    if !event {
+    if !pair.event {
         return true;
     }
-    is_turned(image, waiting, old, new)
+    is_turned(image, pair.waiting, old, new)
 }
 
 // How many pairs the machine takes, by the byte of the packet holds.
@@ -416,8 +408,13 @@ fn first_fault(start: Chip, old: Used, new: Used, list: &[u8], count: usize) -> 
             byte,
         );
         let last = i + 1 == count;
-        let event = i + 2 == count;
-        if !(last | is_careful(&image, &packet, waiting, event, address, held, old, new)) {
+        let pair = Pair {
+            address: address,
+            held: held,
+            waiting: waiting,
+            event: i + 2 == count,
+        };
+        if !(last | is_careful(&image, &packet, pair, old, new)) {
             return i;
         }
         i = i + 1;
@@ -435,6 +432,37 @@ fn refused(number: u8) -> Verdict
     }
 }
 
+// Whether a request ends in an image.
+fn decodes(image: &[u8; 256]) -> bool
+    ensures { λ r. ⌜ r ≡ someEnds (now (image .entry)) ⌝ }
+{
+    let mut request = [0u8; LONGEST];
+    let decoded = decode::decode(image, &mut request);
+    decoded.refusal == Refusal::NONE
+}
+
+// The verdict where neither 7 nor 8 nor 14 applies, by how many pairs the machine takes: 15, 16 or none.
+fn verdict_on(start: Chip, list: &[u8], count: usize) -> Verdict
+    requires { ⌜ Untold start (now list) × (count ≡ length (shortened (pairsOf (now list)) start)) ⌝ }
+    ensures { λ r. ⌜ Vets start (now (list .entry)) r ⌝ }
+{
+    let end = ending(start, list, count);
+    let old = in_use(start);
+    let new = in_use(end);
+    let place = first_fault(start, old, new, list, count);
+    if place < list.len() / 2 {
+        return Verdict {
+            refusal: Refusal::BAD_PAIR,
+            place: place as u32,
+        };
+    }
+    let image = end.image;
+    if !decodes(&image) {
+        return refused(Refusal::BAD_END);
+    }
+    refused(Refusal::NONE)
+}
+
 // Whether a list may be run on the chip from a state: refusals 7, 8, 14, 15 and 16.
 pub fn vet(image: &[u8], packet: &[u8], coefficients: &[u8], mark: u8, list: &[u8]) -> Verdict
     ensures { λ r. ⌜ Vets (lentAs (now (image .entry)) (now (packet .entry)) (now (coefficients .entry)) (marked mark)) (now (list .entry)) r ⌝ }
@@ -442,31 +470,16 @@ pub fn vet(image: &[u8], packet: &[u8], coefficients: &[u8], mark: u8, list: &[u
     if !((image.len() == 256) & ((packet.len() == 32) & (coefficients.len() == 24))) {
         return refused(Refusal::IMAGE_LENGTH);
     }
-    if !plan::is_ready(image[Map::INFOFRAME_UPDATE as usize]) {
+    let holds = image[Map::INFOFRAME_UPDATE as usize];
+    if !plan::is_ready(holds) {
         return refused(Refusal::HOLDS_UP);
     }
-    let n = list.len() / 2;
-    if (list.len() % 2 == 1) | (MOST_PAIRS < n) {
+    if (list.len() % 2 == 1) | (MOST_PAIRS < list.len() / 2) {
         return refused(Refusal::LIST_LENGTH);
     }
     let start = views::gathered(image, packet, coefficients, mark);
-    let count = taken(image[Map::INFOFRAME_UPDATE as usize], list);
-    let end = ending(start, list, count);
-    let old = in_use(start);
-    let new = in_use(end);
-    let place = first_fault(start, old, new, list, count);
-    if place < n {
-        return Verdict {
-            refusal: Refusal::BAD_PAIR,
-            place: place as u32,
-        };
-    }
-    let mut request = [0u8; LONGEST];
-    let decoded = decode::decode(&end.image, &mut request);
-    if decoded.refusal != Refusal::NONE {
-        return refused(Refusal::BAD_END);
-    }
-    refused(Refusal::NONE)
+    let count = taken(holds, list);
+    verdict_on(start, list, count)
 }
 
 // What the verdict says of a list.

@@ -64,6 +64,14 @@ module _ (image bytes : List ℕ) where
   pub few : (rs : List ℕ) → length (moving image bytes rs) ≤ length rs
   few rs = let n = no-more differ rs in let m = length-map (those differ rs) (λ (a : ℕ). a gets getD bytes a 0) in omega (arith, n, m)
 
+  -- one that stands is not stored, one that differs is
+  pub one-stands : (d : List ℕ) (at a : ℕ) → getD bytes a 0 ≡ getD image a 0 → Puts d at (moving image bytes (a ∷ [])) at d
+  one-stands d at a n = rw (eq-eqb _ _ n) (nothing d at)
+
+  pub one-differs : (d : List ℕ) (at a : ℕ) → getD bytes a 0 ≢ getD image a 0
+      → Puts d at (moving image bytes (a ∷ [])) (at + 1) (set (set d (2 * at) a) (2 * at + 1) (getD bytes a 0))
+  one-differs d at a n = rw (ne-eqb _ _ n) (one d at a (getD bytes a 0))
+
   module _ (rs d : List ℕ) (at : ℕ) where
     -- what is stored after i of them
     abbrev pub done : ℕ → List Write
@@ -75,19 +83,11 @@ module _ (image bytes : List ℕ) where
         ap (λ (l : List ℕ). moving image bytes l) t ∙ ap (map (λ (a : ℕ). a gets getD bytes a 0)) (those-append differ (take i rs) (a ∷ []))
         ∙ map-append (λ (a : ℕ). a gets getD bytes a 0) (those differ (take i rs)) (those differ (a ∷ []))
 
-    -- one that differs is stored
-    pub stored : (i a next : ℕ) → i < length rs → a ≡ getD rs i 0 → getD bytes a 0 ≢ getD image a 0
-        → {e : List ℕ} → Puts d at (done i) next e → Puts d at (done (i + 1)) (next + 1) (set (set e (2 * next) a) (2 * next + 1) (getD bytes a 0))
-    stored i a next h q n {e} p =
-        let x : moving image bytes (a ∷ []) ≡ a gets getD bytes a 0 ∷ [] = rw (ne-eqb _ _ n) in
-        subst (λ (ws : List Write). Puts d at ws (next + 1) (set (set e (2 * next) a) (2 * next + 1) (getD bytes a 0)))
-        (sym (more i a h q ∙ ap (λ (l : List Write). done i ++ l) x)) (then d at (done i) (a gets getD bytes a 0 ∷ []) p (one e next a (getD bytes a 0)))
-
-    -- one that stands is not
-    pub passed : (i a : ℕ) → i < length rs → a ≡ getD rs i 0 → getD bytes a 0 ≡ getD image a 0 → done (i + 1) ≡ done i
-    passed i a h q n =
-        let x : moving image bytes (a ∷ []) ≡ [] = rw (eq-eqb _ _ n) in
-        more i a h q ∙ ap (λ (l : List Write). done i ++ l) x ∙ append-nil (done i)
+    -- the next of them, stored or not
+    pub onward : (i a : ℕ) → i < length rs → a ≡ getD rs i 0 → {next last : ℕ} {e f : List ℕ} → Puts d at (done i) next e
+        → Puts e next (moving image bytes (a ∷ [])) last f → Puts d at (done (i + 1)) last f
+    onward i a h q {next} {last} {e} {f} p r =
+        subst (λ (ws : List Write). Puts d at ws last f) (sym (more i a h q)) (then d at (done i) (moving image bytes (a ∷ [])) p r)
 
     pub whole : (i next : ℕ) {e : List ℕ} → length rs ≤ i → Puts d at (done i) next e → Puts d at (moving image bytes rs) next e
     whole i next {e} h p = subst (λ (l : List ℕ). Puts d at (moving image bytes l) next e) (take-all i rs h) p

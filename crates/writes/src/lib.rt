@@ -1,7 +1,7 @@
 // The write list of any wanted bytes: its steps, what each write carries, which are left out, the finished image. Document 01, "The write
 // list"; document 02, request 09.
 ghost use mathlib.Core.Path.{_≡_};
-ghost use mathlib.Core.List.{List};
+ghost use mathlib.Core.List.{List, [], _∷_};
 ghost use Prim.Native.Nat.{ℕ, _+_, _*_, _<_, _≤_};
 ghost use lib.ListN.{getD, length};
 ghost use Rattle.bits.specs.Merge.{merge};
@@ -91,6 +91,22 @@ fn put(bytes: &[u8; 256], address: u8, bits: u8, writes: &mut [u8], at: usize) -
     at + 1
 }
 
+// A register where its byte is another than the image's.
+fn put_other(image: &[u8], bytes: &[u8; 256], address: u8, writes: &mut [u8], at: usize) -> usize
+    requires { ⌜ length (now image) ≡ 256 ⌝ }
+    requires { ⌜ 2 * at + 2 ≤ length (now writes) ⌝ }
+    ensures { λ r. ⌜ Puts (now (writes .entry)) at (moving (now (image .entry)) (now (bytes .entry)) (address ∷ [])) r (now (writes .exit)) ⌝ }
+    ensures { λ r. ⌜ r ≤ at + 1 ⌝ }
+{
+    let byte = bytes[address as usize];
+    if byte == image[address as usize] {
+        return at;
+    }
+    writes[2 * at] = address;
+    writes[2 * at + 1] = byte;
+    at + 1
+}
+
 // Of some registers those whose byte is another than the image's.
 fn each(image: &[u8], bytes: &[u8; 256], registers: &[u8], writes: &mut [u8], at: usize) -> usize
     requires { ⌜ length (now image) ≡ 256 ⌝ }
@@ -102,13 +118,7 @@ fn each(image: &[u8], bytes: &[u8; 256], registers: &[u8], writes: &mut [u8], at
     let mut next = at;
     let mut i: usize = 0;
     while i < registers.len() {
-        let a = registers[i];
-        let byte = bytes[a as usize];
-        if byte != image[a as usize] {
-            writes[2 * next] = a;
-            writes[2 * next + 1] = byte;
-            next = next + 1;
-        }
+        next = put_other(image, bytes, registers[i], writes, next);
         i = i + 1;
     }
     next
@@ -139,12 +149,7 @@ fn row(
     let mut i: usize = 0;
     while i < count {
         let a = first + i;
-        let byte = bytes[a];
-        if byte != image[a] {
-            writes[2 * next] = a as u8;
-            writes[2 * next + 1] = byte;
-            next = next + 1;
-        }
+        next = put_other(image, bytes, a as u8, writes, next);
         i = i + 1;
     }
     next

@@ -9,9 +9,8 @@ use borrow.Author.Needs.{needs}
 use Rattle.chip.specs.declared.Chip.{Chip}
 use Rattle.chip.specs.Write.{lentAs, vsyncOf}
 use Rattle.writes.specs.List.{pairsOf}
-use Rattle.writes.proofs.Pairs.{length-pairs}
 use Rattle.vendor.specs.Vendor.{shortened}
-use Rattle.vendor.proofs.Loops.{wrote, Ends, ends-start, ends-next, ends-end, taken-so, before-pair, by-done, shortened-short}
+use Rattle.vendor.proofs.Loops.{wrote, Ends, ends-start, ends-next, ends-end, taken-so, before-pair, merged, by-done, taken-listed, pair-inside}
 use Rattle.vendor.proofs.ending.Statement.{statement}
 use Rattle.vendor.proofs.ending.Tie as tie
 
@@ -38,10 +37,10 @@ shortened-at : (c : tie.In-loop Inv-loop μ-loop) → c .before .loop .i < lengt
 shortened-at c = let e = begin c .pre in omega (arith, c .loop-test .taken, e)
 
 listed : (c : tie.In-loop Inv-loop μ-loop) → c .before .loop .i < length (pairsOf (begin c .args .list .now))
-listed c = omega (arith, shortened-at c, shortened-short (pairsOf (begin c .args .list .now)) (begin c .args .start))
+listed c = taken-listed (begin c .args .list .now) (begin c .args .start) (c .before .loop .i) (shortened-at c)
 
 inside : (c : tie.In-loop Inv-loop μ-loop) → 2 * c .before .loop .i + 1 < length (begin c .args .list .now)
-inside c = omega (arith, listed c, length-pairs (begin c .args .list .now))
+inside c = pair-inside (begin c .args .list .now) (c .before .loop .i) (listed c)
 
 bound : (c : tie.In-loop Inv-loop μ-loop) → 2 * c .before .loop .i + 1 < 2 ^ 64
 bound c = let z : length (begin c .args .list .now) < 2 ^ 64 = begin c .good .1 .0 .0 in omega (arith, inside c, z)
@@ -72,8 +71,8 @@ stored c =
     let ws = pairsOf (begin l .args .list .now) in
     let k = l .before .before .before .before .before .table-columns in
     let d =
-    by-done (begin l .args .list .now) (l .before .loop .i) _ (after c) (k .result .«read_only») (m .merge .result) _ (listed l)
-    (l .before .loop .inv .1) (k .ensures .readOnly) (m .merge .ensures) (c .store .ensures)
+    by-done (begin l .args .list .now) (l .before .loop .i) _ (after c) (m .merge .result) _ (listed l) (l .before .loop .inv .1)
+    (m .merge .ensures ∙ merged (k .result) (k .ensures) _ _ _) (c .store .ensures)
     (λ e. taken-so ws (begin l .args .start) (l .before .loop .i) (state l) (l .before .loop .inv .2) (shortened-at l) (listed l) (last c)
     (ap (λ (t : Chip). wrote ws (l .before .loop .i) t .refusal) (sym (at-pair c)) ∙ e)) in
     (subst (λ (t : Chip). wrote ws (l .before .loop .i) t ≡ record { refusal = 0; chip = after c }) (at-pair c) (d .0), d .1)

@@ -1,5 +1,5 @@
 -- `vendor::first_fault` meets its contract. The loop's invariant: the rest of what is taken, from the state as it is then. Assumes nothing.
-use mathlib.Core.Path.{_≡_, sym, ap, ap₂, _∙_}
+use mathlib.Core.Path.{_≡_, refl, sym, ap, ap₂, _∙_}
 use mathlib.Core.Bool.{Bool, _||_}
 use Prim.Native.Nat.{ℕ, _+_, _*_, _-_, _^_, _≤_, _<_}
 use native.Mathlib.Omega.{arith}
@@ -8,27 +8,26 @@ use lib.ListN.{length, getD}
 use borrow.Author.Tests.{not-true, not-false}
 use borrow.Author.Needs.{needs}
 use Rattle.chip.specs.declared.Chip.{Chip}
-use Rattle.chip.specs.Machine.{Write}
+use Rattle.chip.specs.Machine.{_gets_}
 use Rattle.chip.specs.Write.{lentAs}
 use Rattle.writes.specs.List.{pairsOf}
-use Rattle.writes.proofs.Pairs.{length-pairs, pair-at}
 use Rattle.vendor.specs.Vendor.{pairAt, shortened}
 use Rattle.vendor.specs.Found.{shown, fairTest, isNext}
-use Rattle.vendor.proofs.Loops.{wrote, Left, left-start, left-next, left-torn, left-unfair, left-end, goes, shortened-short, fairly, is-taken, by-done, packet-sized}
+use Rattle.vendor.proofs.Loops.{wrote, Left, left-start, left-next, left-torn, left-unfair, left-end, goes, taken-listed, pair-inside, address-at, value-at, fairly, merged, is-taken, by-done}
 use Rattle.vendor.proofs.first_fault.Statement.{statement}
 use Rattle.vendor.proofs.first_fault.Tie as tie
 
 abbrev Inv-loop : tie.InvT-loop
 Inv-loop old new list count columns keep image₀ packet₀ coefficients₀ waiting₀ i₀ image packet coefficients waiting i =
-    (i ≤ count) × (length image ≡ 256) × (length packet ≡ 32)
+    (i ≤ count) × (length image ≡ 256)
     × Left (shown old) (shown new) (pairsOf list) (lentAs image₀ packet₀ coefficients₀ waiting₀) i (lentAs image packet coefficients waiting)
 
 abbrev μ-loop : tie.MeasureT-loop
 μ-loop old new list count columns keep image₀ packet₀ coefficients₀ waiting₀ i₀ image packet coefficients waiting i = count - i
 
 -- where a turn begins, and what it begins with
-whole : (z : tie.Start Inv-loop μ-loop) → (length (z .args .start .image) ≡ 256) × (length (z .args .start .packet) ≡ 32)
-whole z = (search needs, search needs)
+whole : (z : tie.Start Inv-loop μ-loop) → length (z .args .start .image) ≡ 256
+whole z = search needs
 
 abbrev begin : (c : tie.In-loop Inv-loop μ-loop) → tie.Start Inv-loop μ-loop
 begin c = c .before .before .before .before .before .before .before .before
@@ -41,10 +40,10 @@ shortened-at : (c : tie.In-loop Inv-loop μ-loop) → c .before .loop .i < lengt
 shortened-at c = let e = begin c .pre in omega (arith, c .loop-test .taken, e)
 
 listed : (c : tie.In-loop Inv-loop μ-loop) → c .before .loop .i < length (pairsOf (begin c .args .list .now))
-listed c = omega (arith, shortened-at c, shortened-short (pairsOf (begin c .args .list .now)) (begin c .args .start))
+listed c = taken-listed (begin c .args .list .now) (begin c .args .start) (c .before .loop .i) (shortened-at c)
 
 inside : (c : tie.In-loop Inv-loop μ-loop) → 2 * c .before .loop .i + 1 < length (begin c .args .list .now)
-inside c = omega (arith, listed c, length-pairs (begin c .args .list .now))
+inside c = pair-inside (begin c .args .list .now) (c .before .loop .i) (listed c)
 
 bound : (c : tie.In-loop Inv-loop μ-loop) → 2 * c .before .loop .i + 1 < 2 ^ 64
 bound c = let z : length (begin c .args .list .now) < 2 ^ 64 = begin c .good .1 .1 .1 .0 .0 in omega (arith, inside c, z)
@@ -58,9 +57,14 @@ tested : (c : tie.After-is-fair Inv-loop μ-loop) → let l = c .before .before 
 tested c =
     let s = c .before .before .before .before .before in
     let l = s .before in
+    let k = l .before .before .before .before .before in
+    let list = begin l .args .list .now in
+    let image = l .before .loop .image in
+    let a = getD list (2 * l .before .loop .i) 0 in
     c .is-fair .ensures
-    ∙ fairly (begin l .args .list .now) (l .before .loop .i) (l .before .loop .image) (l .before .before .before .before .before .before .table-columns .result)
-    (l .before .before .before .before .before .keep .result) (listed l) (small s) (l .before .before .before .before .before .before .table-columns .ensures) (l .before .before .before .before .before .keep .ensures)
+    ∙ fairly (k .before .table-columns .result) (k .before .table-columns .ensures) a (getD image a 0) (getD list (2 * l .before .loop .i + 1) 0)
+    image (k .keep .result) refl (k .keep .ensures) (small s)
+    ∙ ap₂ (λ (x y : ℕ). fairTest image (x gets y)) (sym (address-at list (l .before .loop .i) (listed l))) (sym (value-at list (l .before .loop .i) (listed l)))
 
 -- the write
 abbrev after : tie.After-store Inv-loop μ-loop → Chip
@@ -74,30 +78,23 @@ stored c =
     let l = c .before .before .before .before .before .before .before .before .before .before .before .before .before in
     let ws = pairsOf (begin l .args .list .now) in
     let k = l .before .before .before .before .before .before .table-columns in
-    by-done (begin l .args .list .now) (l .before .loop .i) (state l) (after c) (k .result .«read_only») (m .merge .result) _ (listed l)
-    (l .before .loop .inv .1) (k .ensures .readOnly) (m .merge .ensures) (c .store .ensures)
+    by-done (begin l .args .list .now) (l .before .loop .i) (state l) (after c) (m .merge .result) _ (listed l) (l .before .loop .inv .1)
+    (m .merge .ensures ∙ merged (k .result) (k .ensures) _ _ _) (c .store .ensures)
     (λ e. is-taken (shown (begin l .args .old)) (shown (begin l .args .new)) ws (begin l .args .start) (l .before .loop .i) (state l)
-    (l .before .loop .inv .3) (shortened-at l) (listed l) e)
-
-packet-long : (c : tie.After-store Inv-loop μ-loop) → length (after c .packet) ≡ 32
-packet-long c =
-    let l = c .before .before .before .before .before .before .before .before .before .before .before .before .before in
-    packet-sized (pairsOf (begin l .args .list .now)) (l .before .loop .i) (state l) (after c) (l .before .loop .inv .1) (l .before .loop .inv .2)
-    (stored c .0)
+    (l .before .loop .inv .2) (shortened-at l) (listed l) e)
 
 -- the cut after it
 gone : (c : tie.After-is-careful Inv-loop μ-loop) → let x = c .before .before .before in let l = x .before .before .before .before .before .before .before .before .before .before .before .before .before in
     (eqb (l .before .loop .i + 1) (begin l .args .count) || c .is-careful .result)
     ≡ goes (shown (begin l .args .old)) (shown (begin l .args .new)) (pairsOf (begin l .args .list .now)) (begin l .args .start) (l .before .loop .i)
-    (state l) (l .before .loop .inv .3) (shortened-at l) (listed l) (after x) (stored x .0)
+    (state l) (l .before .loop .inv .2) (shortened-at l) (listed l) (after x) (stored x .0)
 gone c =
     let x = c .before .before .before in
     let l = x .before .before .before .before .before .before .before .before .before .before .before .before .before in
-    let p = pair-at (begin l .args .list .now) (l .before .loop .i) (listed l) in
     ap₂ (λ (a b : Bool). a || b) (ap (λ (n : ℕ). eqb (l .before .loop .i + 1) n) (begin l .pre))
     (c .is-careful .ensures
-    ∙ ap₂ (λ (w : Write) (n : ℕ). isNext (shown (begin l .args .old)) (shown (begin l .args .new)) (eqb (l .before .loop .i + 2) n) (w .address) (state l) (after x))
-    (sym p) (begin l .pre))
+    ∙ ap₂ (λ (a n : ℕ). isNext (shown (begin l .args .old)) (shown (begin l .args .new)) (eqb (l .before .loop .i + 2) n) a (state l) (after x))
+    (sym (address-at (begin l .args .list .now) (l .before .loop .i) (listed l))) (begin l .pre))
 
 table-columns-requires : tie.Need-table-columns-requires Inv-loop μ-loop
 table-columns-requires c κs = tt
@@ -109,8 +106,7 @@ loop-holds : tie.Need-loop-holds Inv-loop μ-loop
 loop-holds c =
     let z = c .before .before .before .before .before .before in (
       omega arith,
-      whole z .0,
-      whole z .1,
+      whole z,
       left-start (shown (z .args .old)) (shown (z .args .new)) (pairsOf (z .args .list .now)) (z .args .start),
     )
 
@@ -155,7 +151,7 @@ returns c =
     let f = c .before in
     let l = f .before .before .before .before .before .before in
     left-unfair (shown (begin l .args .old)) (shown (begin l .args .new)) (pairsOf (begin l .args .list .now)) (begin l .args .start) (l .before .loop .i)
-    (state l) (l .before .loop .inv .3) (shortened-at l) (listed l) (sym (tested f) ∙ not-true _ (c .if1 .taken))
+    (state l) (l .before .loop .inv .2) (shortened-at l) (listed l) (sym (tested f) ∙ not-true _ (c .if1 .taken))
 
 cast-held : tie.Need-cast-held Inv-loop μ-loop
 cast-held c = search needs
@@ -175,17 +171,11 @@ store-requires c κs = tt
 add-last : tie.Need-add-last Inv-loop μ-loop
 add-last c = record { fits = omega (arith, bound (c .before .before .before .before .before .before .before .before .before .before .before .before .before)) }
 
-add-event : tie.Need-add-event Inv-loop μ-loop
-add-event c = record { fits = omega (arith, bound (c .before .before .before .before .before .before .before .before .before .before .before .before .before)) }
-
-slice-aggregate-is-careful : tie.Need-slice-aggregate-is-careful Inv-loop μ-loop
-slice-aggregate-is-careful c = sym (stored (c .before) .1)
-
-slice-aggregate-is-careful-2 : tie.Need-slice-aggregate-is-careful-2 Inv-loop μ-loop
-slice-aggregate-is-careful-2 c = sym (packet-long (c .before .before))
+add-if2 : tie.Need-add-if2 Inv-loop μ-loop
+add-if2 c = record { fits = omega (arith, bound (c .before .before .before .before .before .before .before .before .before .before .before .before .before)) }
 
 is-careful-requires : tie.Need-is-careful-requires Inv-loop μ-loop
-is-careful-requires c κs = (stored (c .before .before) .1, packet-long (c .before .before))
+is-careful-requires c κs = tt
 
 returns-2 : tie.Need-returns-2 Inv-loop μ-loop
 returns-2 c =
@@ -193,7 +183,7 @@ returns-2 c =
     let f = x .before .before .before .before .before .before .before in
     let l = f .before .before .before .before .before .before in
     left-torn (shown (begin l .args .old)) (shown (begin l .args .new)) (pairsOf (begin l .args .list .now)) (begin l .args .start) (l .before .loop .i)
-    (state l) (l .before .loop .inv .3) (shortened-at l) (listed l) (after x) (stored x .0)
+    (state l) (l .before .loop .inv .2) (shortened-at l) (listed l) (after x) (stored x .0)
     (sym (tested f) ∙ not-false _ (x .before .before .before .before .before .before .if1 .left)) (sym (gone (c .before)) ∙ not-true _ (c .if2 .taken))
 
 add-i : tie.Need-add-i Inv-loop μ-loop
@@ -209,9 +199,8 @@ loop-again c =
     let l = f .before .before .before .before .before .before in (
       omega (arith, l .loop-test .taken),
       stored x .1,
-      packet-long x,
       left-next (shown (begin l .args .old)) (shown (begin l .args .new)) (pairsOf (begin l .args .list .now)) (begin l .args .start) (l .before .loop .i)
-          (state l) (l .before .loop .inv .3) (shortened-at l) (listed l) (after x) (stored x .0)
+          (state l) (l .before .loop .inv .2) (shortened-at l) (listed l) (after x) (stored x .0)
           (sym (tested f) ∙ not-false _ (x .before .before .before .before .before .before .if1 .left)) (sym (gone (c .before)) ∙ not-false _ (c .if2 .left)),
     )
 
@@ -221,7 +210,7 @@ returns-3 c =
     let z = l .before .before .before .before .before .before .before in
     let e : l .loop .i ≡ z .args .count = omega (arith, l .loop .inv .0, c .loop-test .left) in
     sym e ∙ left-end (shown (z .args .old)) (shown (z .args .new)) (pairsOf (z .args .list .now)) (z .args .start) (l .loop .i)
-    (lentAs (l .loop .image) (l .loop .packet) (l .loop .coefficients) (l .loop .waiting)) (l .loop .inv .3) (e ∙ z .pre)
+    (lentAs (l .loop .image) (l .loop .packet) (l .loop .coefficients) (l .loop .waiting)) (l .loop .inv .2) (e ∙ z .pre)
 
 pub first-fault-spec : {M : Type 1} → statement M
 first-fault-spec =
@@ -251,9 +240,7 @@ first-fault-spec =
     merge-requires
     store-requires
     add-last
-    add-event
-    slice-aggregate-is-careful
-    slice-aggregate-is-careful-2
+    add-if2
     is-careful-requires
     returns-2
     add-i

@@ -15,10 +15,10 @@ returns c = failed _ (c .before .is-between .ensures) (c .if1 .taken)
 
 returns-2 : tie.Need-returns-2
 returns-2 c =
-    let e = c .before in
+    let e = c .before .before in
     let b = e .before in
-    let a = b .before .before .before .args in
-    ap (λ (x : Bool). x || isTurned (shown (a .old)) (shown (a .new)) (a .image .now) (a .waiting)) (sym (c .if2 .taken))
+    let a = b .before .args in
+    ap (λ (x : Bool). x || isTurned (shown (a .old)) (shown (a .new)) (a .image .now) (a .pair .waiting)) (sym (c .if2 .taken))
     ∙ passed _ (b .is-between .ensures) (e .if1 .left)
 
 is-turned-requires : tie.Need-is-turned-requires
@@ -27,11 +27,11 @@ is-turned-requires c κs = search needs
 returns-3 : tie.Need-returns-3
 returns-3 c =
     let f = c .before in
-    let e = f .before in
+    let e = f .before .before in
     let b = e .before in
-    let a = b .before .before .before .args in
+    let a = b .before .args in
     c .is-turned .ensures
-    ∙ ap (λ (x : Bool). x || isTurned (shown (a .old)) (shown (a .new)) (a .image .now) (a .waiting)) (sym (f .if2 .left))
+    ∙ ap (λ (x : Bool). x || isTurned (shown (a .old)) (shown (a .new)) (a .image .now) (a .pair .waiting)) (sym (f .if2 .left))
     ∙ passed _ (b .is-between .ensures) (e .if1 .left)
 
 pub is-careful-spec : {M : Type 1} → statement M

@@ -16,7 +16,7 @@ merge-requires-4 : tie.Need-merge-requires-4
 merge-requires-4 c κs = search needs
 
 returns : tie.Need-returns
-returns c = cc
+returns c = rw (c .before .before .before .merge .ensures, c .before .before .merge2 .ensures, c .before .merge3 .ensures, c .merge4 .ensures)
 
 pub is-fair-spec : {M : Type 1} → statement M
 is-fair-spec =

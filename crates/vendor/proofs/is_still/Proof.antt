@@ -13,7 +13,7 @@ in-run-requires-3 : tie.Need-in-run-requires-3
 in-run-requires-3 c κs = search needs
 
 returns : tie.Need-returns
-returns c = rw (c .before .before .in-run .ensures, c .before .in-run2 .ensures, c .in-run3 .ensures)
+returns c = let i = c .before in rw (i .before .before .in-run .ensures, i .before .in-run2 .ensures, i .in-run3 .ensures)
 
 pub is-still-spec : {M : Type 1} → statement M
 is-still-spec = tie.close (tie.spec in-run-requires in-run-requires-2 in-run-requires-3 returns)

@@ -12,9 +12,9 @@ use Rattle.registers.specs.Classes.{readOnly}
 use Rattle.chip.specs.Machine.{Write, packets}
 use Rattle.chip.specs.Write.{two}
 use Rattle.writes.specs.List.{pairsOf}
-use Rattle.writes.proofs.Pairs.{length-pairs, pair-at}
+use Rattle.writes.proofs.Pairs.{length-pairs}
 use Rattle.vendor.specs.Vendor.{pairAt}
-use Rattle.vendor.proofs.Loops.{Counts, counts-start, counts-away, counts-next, counts-stop, counts-end}
+use Rattle.vendor.proofs.Loops.{pair-inside, address-at, value-at, Counts, counts-start, counts-away, counts-next, counts-stop, counts-end}
 use Rattle.vendor.proofs.taken.Statement.{statement}
 use Rattle.vendor.proofs.taken.Tie as tie
 
@@ -32,17 +32,17 @@ turn : (c : tie.In-loop Inv-loop μ-loop) → c .before .loop .i < length (pairs
 turn c = let n = c .before .loop .inv .1 in omega (arith, c .loop-test .taken, n)
 
 inside : (c : tie.In-loop Inv-loop μ-loop) → 2 * c .before .loop .i + 1 < length (begin c .args .list .now)
-inside c = omega (arith, turn c, length-pairs (begin c .args .list .now))
+inside c = pair-inside (begin c .args .list .now) (c .before .loop .i) (turn c)
 
 bound : (c : tie.In-loop Inv-loop μ-loop) → 2 * c .before .loop .i + 1 < 2 ^ 64
 bound c = let z : length (begin c .args .list .now) < 2 ^ 64 = begin c .good .1 .0 .0 in omega (arith, inside c, z)
 
 -- a pair's address and value
 address : (c : tie.In-loop Inv-loop μ-loop) → let l = begin c .args .list .now in pairAt (pairsOf l) (c .before .loop .i) .address ≡ getD l (2 * c .before .loop .i) 0
-address c = ap (λ (w : Write). w .address) (pair-at (begin c .args .list .now) (c .before .loop .i) (turn c))
+address c = address-at (begin c .args .list .now) (c .before .loop .i) (turn c)
 
 value : (c : tie.In-loop Inv-loop μ-loop) → let l = begin c .args .list .now in pairAt (pairsOf l) (c .before .loop .i) .value ≡ getD l (2 * c .before .loop .i + 1) 0
-value c = ap (λ (w : Write). w .value) (pair-at (begin c .args .list .now) (c .before .loop .i) (turn c))
+value c = value-at (begin c .args .list .now) (c .before .loop .i) (turn c)
 
 -- the byte of the holds after a pair to 0x4A
 its-byte : (c : tie.In-loop Inv-loop μ-loop) (keep byte : ℕ) → let l = begin c .args .list .now in

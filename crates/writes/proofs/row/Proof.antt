@@ -1,18 +1,17 @@
 -- `writes::row` meets its contract: before turn i those of the first i registers are stored that differ. Assumes nothing.
 use mathlib.Core.Path.{_≡_, refl, sym, subst, _∙_}
 use mathlib.Core.Bool.{true}
-use mathlib.Core.Logic.{⊎-elim}
 use mathlib.Core.List.{List}
 use Prim.Native.Nat.{ℕ, _+_, _-_, _*_, _<_, _≤_}
 use native.Mathlib.Omega.{arith}
-use lib.ListN.{length, getD, take, drop, length-set}
+use lib.ListN.{length, getD, take, drop}
 use lib.Seq.{sets}
 use borrow.Author.Needs.{needs}
 use Rattle.lists.specs.Same.{sameList}
 use Rattle.writes.specs.List.{flat}
 use Rattle.writes.specs.Steps.{from}
 use Rattle.writes.proofs.Image.{length-from, from-at}
-use Rattle.writes.proofs.Parts.{nothing, done, stored, passed, whole, row-stands}
+use Rattle.writes.proofs.Parts.{nothing, done, onward, whole, row-stands}
 use Rattle.writes.proofs.row.Statement.{statement}
 use Rattle.writes.proofs.row.Tie as tie
 
@@ -65,32 +64,11 @@ loop-holds c =
 add-a : tie.Need-add-a Inv-loop μ-loop
 add-a c = search needs
 
-element-copy-out-byte : tie.Need-element-copy-out-byte Inv-loop μ-loop
-element-copy-out-byte c = search needs
+cast-put-other : tie.Need-cast-put-other Inv-loop μ-loop
+cast-put-other c = search needs
 
-shared-slice-read-if2 : tie.Need-shared-slice-read-if2 Inv-loop μ-loop
-shared-slice-read-if2 c = search needs
-
-cast-writes : tie.Need-cast-writes Inv-loop μ-loop
-cast-writes c = search needs
-
-mul-writes : tie.Need-mul-writes Inv-loop μ-loop
-mul-writes c = search needs
-
-slice-write-writes : tie.Need-slice-write-writes Inv-loop μ-loop
-slice-write-writes c = search needs
-
-mul-writes-2 : tie.Need-mul-writes-2 Inv-loop μ-loop
-mul-writes-2 c = search needs
-
-add-writes : tie.Need-add-writes Inv-loop μ-loop
-add-writes c = search needs
-
-slice-write-writes-2 : tie.Need-slice-write-writes-2 Inv-loop μ-loop
-slice-write-writes-2 c = simp length-set (omega arith)
-
-add-next : tie.Need-add-next Inv-loop μ-loop
-add-next c = search needs
+put-other-requires : tie.Need-put-other-requires Inv-loop μ-loop
+put-other-requires c κs = search needs
 
 add-i : tie.Need-add-i Inv-loop μ-loop
 add-i c = search needs
@@ -100,19 +78,14 @@ loop-less c = search needs
 
 loop-again : tie.Need-loop-again Inv-loop μ-loop
 loop-again c =
-    let l = c .before .before .before .before .loop in
-    let a = c .before .before .before .before .before .before .before .before .before .before .before .before .args in
+    let l = c .before .before .before .before .before .loop in
+    let a = c .before .before .before .before .before .before .before .before .before .before .before .before .before .args in
     let rs : List ℕ = from (a .first) (a .count) in
     let h : l .i < length rs = rw (length-from (a .first) (a .count)) (search needs) in
-    let q : a .first + l .i ≡ getD rs (l .i) 0 = sym (from-at (a .first) (a .count) (l .i) (search needs)) in
-    ⊎-elim
-    (λ w.
-    let p = stored (a .image .now) (a .bytes .now) rs (a .writes .now) (a .at) (l .i) (a .first + l .i) (l .next) h q (w .0 .taken) (l .inv .3, l .inv .4) in
-    rw (w .1, w .2) (search needs, search needs, simp length-set (l .inv .2), p .0, p .1))
-    (λ w.
-    let p = passed (a .image .now) (a .bytes .now) rs (a .writes .now) (a .at) (l .i) (a .first + l .i) h q (w .0 .left) in
-    rw (w .1, w .2, p) (search needs, search needs, l .inv .2, l .inv .3, l .inv .4))
-    (c .if2 .came)
+    let e : a .first + l .i ≡ getD rs (l .i) 0 = sym (from-at (a .first) (a .count) (l .i) (search needs)) in
+    let q = c .before .before .put-other .ensures in
+    let p = onward (a .image .now) (a .bytes .now) rs (a .writes .now) (a .at) (l .i) (a .first + l .i) h e (l .inv .3, l .inv .4) (q .0) in
+    (search needs, omega (arith, q .1), search needs, p .0, p .1)
 
 same-length : tie.Need-same-length Inv-loop μ-loop
 same-length c = search needs
@@ -141,15 +114,8 @@ row-spec =
     returns
     loop-holds
     add-a
-    element-copy-out-byte
-    shared-slice-read-if2
-    cast-writes
-    mul-writes
-    slice-write-writes
-    mul-writes-2
-    add-writes
-    slice-write-writes-2
-    add-next
+    cast-put-other
+    put-other-requires
     add-i
     loop-less
     loop-again
