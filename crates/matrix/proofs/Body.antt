@@ -50,7 +50,7 @@ unmoved [] h = refl
 unmoved (c ∷ cs) h = ap₂ (λ (x : ℕ) (l : List ℕ). x ∷ l) (mod-eq-of-lt (h 0)) (unmoved cs (λ i. h (suc i)))
 
 -- each coefficient is from -4096 to 4095
-all-within : (cs : List ℕ) → ((i : ℕ) → getD cs i 0 < 8192) → inRange (coefficientBytes cs) ≡ true
+pub all-within : (cs : List ℕ) → ((i : ℕ) → getD cs i 0 < 8192) → inRange (coefficientBytes cs) ≡ true
 unfolding inRange
 all-within [] h = refl
 all-within (c ∷ cs) h = rw (carried c (h 0) .range) (all-within cs (λ i. h (suc i)))

@@ -2,6 +2,7 @@ pub mod Order
 pub mod Signs
 pub mod Pairs
 pub mod Body
+pub mod Held
 pub mod Numbers
 pub mod Codes
 pub mod Differences

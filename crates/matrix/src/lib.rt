@@ -12,7 +12,7 @@ ghost use Rattle.matrix.specs.Tests.{Sent, SaidByBytes};
 ghost use Rattle.matrix.specs.Matrix.{noMatrix, wordAt, Bytes};
 ghost use Rattle.matrix.specs.Numbers.{Numbers};
 ghost use Rattle.matrix.specs.Body.{bodyOf, Whole, BodyBack};
-ghost use Rattle.matrix.specs.Tests.{isAllowed};
+ghost use Rattle.matrix.specs.Tests.{isAllowed, matrixInRange};
 ghost use Rattle.matrix.specs.Read.{twelveOf, allowedMatrix};
 ghost use Rattle.matrix.specs.Preview.{heldWithin, codeOf, outputOf, Previews, PreviewRefusals, RoundedDown, Clamped};
 use refusals::Refusal;
@@ -100,6 +100,25 @@ pub fn fits(body: &[u8]) -> bool
         i = i + 1;
     }
     true
+}
+
+// Whether a matrix in hand is none, or one that a request may have. All fields are looked at, which is the faster way for twelve.
+pub fn in_range(m: Matrix) -> bool
+    ensures { λ r. ⌜ r ≡ matrixInRange m ⌝ }
+{
+    let fields = m.coefficients;
+    if m.on == 0 {
+        let nothing = none();
+        let others = nothing.coefficients;
+        return (m.mode == nothing.mode) & lists::same_numbers(fields, others);
+    }
+    let mut all = (m.on == 1) & (m.mode <= 2);
+    let mut i: usize = 0;
+    while i < 12 {
+        all = all & (fields[i] < 8192);
+        i = i + 1;
+    }
+    all
 }
 
 // The matrix of a body that fits; no matrix of one that does not.

@@ -8,6 +8,7 @@ pub mod Ordered
 pub mod Coherent
 pub mod Cut
 pub mod Fits
+pub mod Hand
 pub mod Said
 pub mod Back
 pub mod Alone

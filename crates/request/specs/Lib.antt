@@ -9,3 +9,4 @@ pub mod Lengths
 pub mod ThereAndBack
 pub mod Stages
 pub mod Fits
+pub mod Hand

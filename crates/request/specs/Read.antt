@@ -2,7 +2,7 @@
 -- and bytes, `OnSomeImage` (promises) `pairFor` to what is accepted.
 use mathlib.Core.Path.{_≡_}
 use mathlib.Core.Bool.{Bool, true, false, not, _&&_, _||_}
-use mathlib.Core.List.{List, [], _∷_}
+use mathlib.Core.List.{List, [], _∷_, _++_}
 use Prim.Native.Nat.{ℕ}
 use lib.Dec.{eqb}
 use lib.ListN.{length}
@@ -19,7 +19,7 @@ use Rattle.clock.specs.Answers.{clockOf}
 use Rattle.clock.specs.Answers.{noPair, audioOff}
 use Rattle.clock.specs.Found.{pairOf}
 use Rattle.matrix.specs.Matrix.{noMatrix}
-use Rattle.matrix.specs.Tests.{isAllowed}
+use Rattle.matrix.specs.Tests.{isAllowed, matrixInRange}
 use Rattle.request.specs.declared.Request.{Request}
 use Rattle.request.specs.declared.Checked.{Checked}
 use Rattle.request.specs.Sections.{Bodies, Walk, ends, notAllowed, whole, walked, bodiesIn, restOf}
@@ -94,7 +94,17 @@ Asks input given = given ≡ askOf input
 abbrev pub limitOf : Video → ℕ
 limitOf video = lowest (limitsTests video)
 
--- and of what is known of a request, which stays known
+-- rows 4 to 6 and 17 of a request in hand: `InHand` ties them to its bytes
+abbrev pub handTests : Request → List Test
+handTests r =
+    let video : Video = r .video in
+    fieldTests video (outsideIn video (r .sound) (not (matrixInRange (r .matrix)))) (combinedIn video (r .sound) (eqb (r .matrix .on) 0))
+    ++ limitsTests video
+
+unfoldable pub allowedOf : Request → ℕ
+allowedOf r = lowest (handTests r)
+
+-- and row 17 of what is known of a request, which stays known
 abbrev pub limited : Checked → Checked
 limited c = record { refusal = answer (c .refusal) (λ n. n) (limitOf (c .request .video)); request = c .request }
 

@@ -6,13 +6,15 @@ ghost use Rattle.refusals.specs.Tests.{lowest};
 ghost use Rattle.request.specs.Sections.{sections, Bodies, inTurn, walked, bodiesIn};
 ghost use Rattle.request.specs.Walks.{Walks, RequestWalks};
 ghost use Rattle.request.specs.Places.{EndsAt};
-ghost use Rattle.request.specs.Read.{outsideIn, combinedIn, fieldTests, emptied, judged, limitOf};
+ghost use Rattle.request.specs.Read.{outsideIn, combinedIn, fieldTests, emptied, judged, limitOf, allowedOf};
 ghost use Rattle.request.specs.Read.{Asks, readOf, Reads, Pairs, PairsInput};
 ghost use Rattle.request.specs.Theorems.{Rows};
 ghost use Rattle.request.specs.Lengths.{Lengths};
 ghost use Rattle.request.specs.ThereAndBack.{ThereAndBack};
 ghost use Rattle.request.specs.Stages.{Stages};
 ghost use Rattle.request.specs.Fits.{Fits};
+ghost use Rattle.request.specs.Hand.{InHand};
+ghost use Rattle.request.specs.declared.Request.{Request};
 ghost use mathlib.Core.List.{List, [], _∷_};
 use clock::Pair;
 use matrix::Matrix;
@@ -160,6 +162,19 @@ pub fn limits(video: Video) -> u8
     Refusal::NONE
 }
 
+// A request in hand, nobody's bytes: which of rows 4 to 6 and 17 refuses it, 0 for none.
+pub fn allowed(r: Request) -> u8
+    ensures { λ n. ⌜ n ≡ allowedOf r ⌝ }
+{
+    let sound = r.sound;
+    let matrix = r.matrix;
+    let number = fields(r.video, sound, matrix.on == 0, !matrix::in_range(matrix));
+    if number != Refusal::NONE {
+        return number;
+    }
+    limits(r.video)
+}
+
 // A request read from an input: rows 1 to 6 and 17.
 pub fn read(s: &[u8]) -> Checked
     ensures { λ r. ⌜ Reads (now (s .entry)) r ⌝ }
@@ -226,6 +241,11 @@ pub fn rows()
 // What each stage of the rows gives, by itself.
 pub fn stages()
     ensures { λ _. ⌜ ((b : Bodies) → Stages b) ⌝ }
+{}
+
+// A request in hand is judged as its bytes are.
+pub fn in_hand()
+    ensures { λ _. ⌜ ((r : Request) → InHand r) ⌝ }
 {}
 
 // What is known of an accepted request.
