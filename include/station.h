@@ -27,7 +27,7 @@
 #include <stdint.h>
 
 /* The version of this header, one for each landing; CHANGELOG.md says what came with it. */
-#define STATION_VERSION "5.3.0"
+#define STATION_VERSION "5.4.0"
 #define STATION_MAJOR 5
 #define STATION_MINOR 3
 #define STATION_PATCH 0
