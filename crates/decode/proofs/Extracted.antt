@@ -8,7 +8,7 @@ use native.Mathlib.Omega.{arith}
 use lib.Dec.{eqb}
 use lib.ListN.{length, getD}
 use borrow.Author.Tests.{eqb-true, eq-eqb, ne-eqb}
-use Rattle.bits.proofs.Below.{below, at-below}
+use Rattle.bits.proofs.Below.{at-below}
 use Rattle.video.specs.Video.{depth, answered}
 use Rattle.video.proofs.Fits.{depth-fits}
 use Rattle.frames.specs.Named.{videoNamed}
@@ -25,23 +25,23 @@ use Rattle.request.specs.Fits.{Fits}
 use Rattle.plan.specs.Places.{places, Shows, withSound, manualCts, rateCodeOf, depthNumbers, inCC}
 use Rattle.plan.proofs.Shown.{Picked, picked}
 use Rattle.decode.specs.Ends.{Stands}
-use Rattle.decode.specs.Extract.{bitsAt, indexOf, soundIn, matrixIn, dataIn, extract}
+use Rattle.decode.specs.Extract.{bitsAt, depthOf, soundIn, matrixIn, dataIn, extract}
 use Rattle.decode.proofs.Standing.{each-shows}
 use Rattle.decode.proofs.Groups.{avi-data, matrix-in}
 
--- a code is found at its place
-code-back : (codes : List ℕ) (count n : ℕ) → below (λ n. eqb (indexOf (getD codes n 0) codes) n) count ≡ true → n < count → indexOf (getD codes n 0) codes ≡ n
-code-back codes count n t h = eqb-true _ _ (at-below (λ n. eqb (indexOf (getD codes n 0) codes) n) count n t h)
+-- the code of a depth reads back
+depth-back : (n : ℕ) → n ≤ 2 → depthOf (getD depthNumbers n 0) ≡ n
+depth-back n h = eqb-true _ _ (at-below (λ n. eqb (depthOf (getD depthNumbers n 0)) n) 3 n refl (omega arith))
 
 module _ (r : Request) (image : List ℕ) (long : length image ≡ 256) (g : Fits r) (st : Stands r image) where
   at : Picked (Shows image) (places r (pairFor r))
   at = picked (Shows image) (places r (pairFor r)) (each-shows r image st g)
 
-  video : videoNamed (bitsAt 0xAF 1 1 image) (indexOf (bitsAt 0x4C 3 0 image) depthNumbers) (dataIn image) ≡ answered (r .video)
+  video : videoNamed (bitsAt 0xAF 1 1 image) (depthOf (bitsAt 0x4C 3 0 image)) (dataIn image) ≡ answered (r .video)
   video =
       let link : bitsAt 0xAF 1 1 image ≡ r .video .link = at 0xAF 1 refl in
       let deep : bitsAt 0x4C 3 0 image ≡ getD depthNumbers (depth (r .video)) 0 = at 0x4C 3 refl in
-      let back = code-back depthNumbers 3 (depth (r .video)) refl (omega (arith, depth-fits (r .video) (g .video))) in
+      let back = depth-back (depth (r .video)) (depth-fits (r .video) (g .video)) in
       rw (link, deep, back, avi-data r image long g st) (named (r .video) (g .video))
 
   heard : (s : Sound) → SoundFits s → bitsAt 0x44 5 5 image ≡ withSound s → bitsAt 0x15 7 4 image ≡ rateCodeOf s → bitsAt 0x73 2 0 image ≡ inCC s

@@ -26,6 +26,10 @@ abbrev pub indexOf : ℕ → List ℕ → ℕ
 indexOf code [] = 0
 indexOf code (c ∷ codes) = cond (eqb code c) 0 (suc (indexOf code codes))
 
+-- the depth of a code, 0 to 2; 3 for a code that is none
+abbrev pub depthOf : ℕ → ℕ
+depthOf code = indexOf code depthNumbers
+
 -- sound is on where its sample packets are; the channels are one more than CC
 abbrev pub soundIn : List ℕ → Sound
 soundIn image =
@@ -44,7 +48,7 @@ dataIn image = take aviCount (drop 0x55 image)
 unfoldable pub extract : List ℕ → Request
 extract image =
     record {
-      video = videoNamed (bitsAt 0xAF 1 1 image) (indexOf (bitsAt 0x4C 3 0 image) depthNumbers) (dataIn image);
+      video = videoNamed (bitsAt 0xAF 1 1 image) (depthOf (bitsAt 0x4C 3 0 image)) (dataIn image);
       sound = soundIn image;
       matrix = matrixIn image;
     }

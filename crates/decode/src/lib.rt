@@ -11,8 +11,7 @@ ghost use Rattle.request.specs.Sections.{matrixCount, longest};
 ghost use Rattle.request.specs.Bytes.{matrixBody, asBytes, requestInFamily};
 ghost use Rattle.request.specs.ThereAndBack.{Shaped};
 ghost use Rattle.plan.specs.Plan.{standsIn};
-ghost use Rattle.plan.specs.Places.{depthNumbers};
-ghost use Rattle.decode.specs.Extract.{indexOf, soundIn, matrixIn, extract};
+ghost use Rattle.decode.specs.Extract.{soundIn, matrixIn, depthOf, extract};
 ghost use Rattle.decode.specs.Decode.{inFront, isCoherent, notDecoded, Decodes};
 ghost use Rattle.decode.specs.Theorems.{ExactlyWhen, BitByBit, AtMostOne, Refusals};
 ghost use Rattle.decode.specs.ReadBack.{ReadBack};
@@ -36,7 +35,7 @@ const DEPTHS: [u8; 16] = [0, 3, 3, 3, 3, 1, 2, 3, 3, 3, 3, 3, 3, 3, 3, 3];
 // The depth of a code.
 fn depth_of(code: u8) -> u8
     requires { ⌜ code < 16 ⌝ }
-    ensures { λ r. ⌜ r ≡ indexOf code depthNumbers ⌝ }
+    ensures { λ r. ⌜ r ≡ depthOf code ⌝ }
 {
     DEPTHS[code as usize]
 }

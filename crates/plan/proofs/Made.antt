@@ -14,11 +14,10 @@ use Rattle.clock.specs.declared.Pair.{Pair}
 use Rattle.matrix.specs.declared.Matrix.{Matrix}
 use Rattle.frames.specs.Frames.{aviFrame}
 use Rattle.chip.specs.Machine.{Write, _gets_}
-use Rattle.writes.specs.Rows.{from}
 use Rattle.sound.specs.declared.Sound.{Sound}
 use Rattle.request.specs.declared.Request.{Request}
 use Rattle.plan.specs.Places.{withSound, eightChannels, manualCts, rateCodeOf, depthNumbers, audioPacket, coefficientPlaces, places}
-use Rattle.plan.specs.Wanted.{placedAt, laidOut, laidBytes}
+use Rattle.plan.specs.Wanted.{placedAt, laidOut, laidBytes, clockRegisters, inputRegisters, matrixRegisters, enableRegisters, frameRegisters}
 use Rattle.plan.proofs.Accepted.{color, shape, range, again}
 
 -- one register's byte, and the others
@@ -46,7 +45,7 @@ module _ (r : Request) (p : Pair) where
   v = r .video
 
   pub clock-made : p .n < 1048576 → p .cts < 1048576
-      → laidBytes 0x01 (three (p .n)) ++ laidBytes 0x07 (three (p .cts)) ≡ laidOut (from 0x01 3 ++ from 0x07 3) (places r p)
+      → laidBytes 0x01 (three (p .n)) ++ laidBytes 0x07 (three (p .cts)) ≡ laidOut clockRegisters (places r p)
   clock-made h k = omega arith ▹ omega arith ▹ omega arith ▹ omega arith ▹ omega arith ▹ omega arith ▹ refl
 
   abbrev inputBytes : List Write
@@ -54,7 +53,7 @@ module _ (r : Request) (p : Pair) where
       0x0A gets (manualCts s * 128) ∷ 0x0C gets ((eightChannels s * 14 + withSound s) * 4) ∷ 0x15 gets (rateCodeOf s * 16) ∷
       0x16 gets (cond (eqb (v .encoding) 1) 1 0 * 128) ∷ []
 
-  pub inputs-made : inputBytes ≡ laidOut (0x0A ∷ 0x0C ∷ 0x15 ∷ 0x16 ∷ []) (places r p)
+  pub inputs-made : inputBytes ≡ laidOut inputRegisters (places r p)
   inputs-made = omega arith ▹ omega arith ▹ omega arith ▹ omega arith ▹ refl
 
   abbrev enableBytes : List Write
@@ -62,12 +61,12 @@ module _ (r : Request) (p : Pair) where
       0x3B gets (2 * 32 + repetition v * 8 + repetition v * 2) ∷ 0x3C gets v .vic ∷ 0x40 gets (v .link * 128) ∷
       0x44 gets (withSound s * 104 + v .link * 16) ∷ 0x4A gets 128 ∷ 0x4B gets 128 ∷ 0x4C gets getD depthNumbers (depth v) 0 ∷ 0xAF gets (v .link * 2) ∷ []
 
-  pub enables-made : enableBytes ≡ laidOut (0x3B ∷ 0x3C ∷ 0x40 ∷ 0x44 ∷ 0x4A ∷ 0x4B ∷ 0x4C ∷ 0xAF ∷ []) (places r p)
+  pub enables-made : enableBytes ≡ laidOut enableRegisters (places r p)
   enables-made =
       omega arith ▹ omega arith ▹ omega arith ▹ omega arith ▹ refl ▹ refl ▹ omega arith ▹ omega arith ▹ refl
 
   pub frames-made : VideoFits v
-      → laidBytes 0x52 (drop 1 (aviFrame v)) ++ laidBytes 0x70 (drop 1 (audioPacket s)) ≡ laidOut (from 0x52 16 ++ from 0x70 13) (places r p)
+      → laidBytes 0x52 (drop 1 (aviFrame v)) ++ laidBytes 0x70 (drop 1 (audioPacket s)) ≡ laidOut frameRegisters (places r p)
   unfolding aviFrame
   frames-made f =
       let c = color v f in
@@ -80,5 +79,5 @@ module _ (r : Request) (p : Pair) where
 
   pub matrix-made :
       let m : Matrix = r .matrix in
-      set (numbers (m .coefficients) 0 12) 0 (m .on * 128 + m .mode * 32 + getD (m .coefficients) 0 0 / 256) ≡ map (λ a. placedAt a (places r p)) (from 0x18 24)
+      set (numbers (m .coefficients) 0 12) 0 (m .on * 128 + m .mode * 32 + getD (m .coefficients) 0 0 / 256) ≡ map (λ a. placedAt a (places r p)) matrixRegisters
   matrix-made = simp (add-zero, zero-add, mul-one, add-assoc)

@@ -1,11 +1,12 @@
 -- The byte that a request wants in each register: what the table of named fields places there. And how the code makes these bytes, group by
 -- group: bytes stored one after the other. `Demand2.fields` (promises) says that the finished image shows each row of the table.
-use mathlib.Core.List.{List, [], _∷_, map}
+use mathlib.Core.List.{List, [], _∷_, _++_, map}
 use Prim.Native.Nat.{ℕ, suc, _+_, _*_, _^_}
 use lib.Dec.{eqb}
 use lib.ListN.{set}
 use Rattle.lists.specs.Those.{those}
 use Rattle.chip.specs.Machine.{Write, _gets_}
+use Rattle.writes.specs.Rows.{from}
 use Rattle.request.specs.declared.Request.{Request}
 use Rattle.request.specs.Read.{pairFor}
 use Rattle.plan.specs.Places.{Place, places}
@@ -23,6 +24,23 @@ placedAt a rows = summed (rowsIn a rows)
 
 unfoldable pub wanted : Request → ℕ → ℕ
 wanted r a = placedAt a (places r (pairFor r))
+
+-- the registers of the table, by the groups in which the code makes them: N and CTS; how sound arrives, and the output format; the converter;
+-- the repetition, the VIC, the enables, the mute, the depth and the link; the InfoFrames, reserved bytes included
+abbrev pub clockRegisters : List ℕ
+clockRegisters = from 0x01 3 ++ from 0x07 3
+
+abbrev pub inputRegisters : List ℕ
+inputRegisters = 0x0A ∷ 0x0C ∷ 0x15 ∷ 0x16 ∷ []
+
+abbrev pub matrixRegisters : List ℕ
+matrixRegisters = from 0x18 24
+
+abbrev pub enableRegisters : List ℕ
+enableRegisters = 0x3B ∷ 0x3C ∷ 0x40 ∷ 0x44 ∷ 0x4A ∷ 0x4B ∷ 0x4C ∷ 0xAF ∷ []
+
+abbrev pub frameRegisters : List ℕ
+frameRegisters = from 0x52 16 ++ from 0x70 13
 
 -- some registers, each with what some rows place there
 abbrev pub laidOut : List ℕ → List Place → List Write

@@ -1,7 +1,7 @@
 // Planning: from a request and a register image to the write list. Document 01, "The write list"; document 02, request 06.
 ghost use mathlib.Core.Path.{_≡_};
 ghost use mathlib.Core.Bool.{true, cond, not, _&&_};
-ghost use mathlib.Core.List.{List, [], _∷_, _++_, map};
+ghost use mathlib.Core.List.{List, [], _∷_, map};
 ghost use Prim.Native.Nat.{ℕ, _+_, _*_, _/_, _%_, _^_, _<_, _≤_};
 ghost use lib.Dec.{eqb};
 ghost use lib.ListN.{getD, length, replicate};
@@ -17,10 +17,10 @@ ghost use Rattle.request.specs.ThereAndBack.{Shaped};
 ghost use Rattle.sound.specs.Fits.{SoundFits};
 ghost use Rattle.request.specs.Fits.{Fits};
 ghost use Rattle.chip.specs.Machine.{up, avi, audio, gc};
-ghost use Rattle.writes.specs.Rows.{from};
 ghost use Rattle.writes.specs.List.{ready};
 ghost use Rattle.plan.specs.Places.{withSound, eightChannels, manualCts, rateCodeOf, depthNumbers, audioPacket, coefficientPlaces, places};
 ghost use Rattle.plan.specs.Wanted.{placedAt, wanted, laidOut, laidBytes, stores};
+ghost use Rattle.plan.specs.Wanted.{clockRegisters, inputRegisters, matrixRegisters, enableRegisters, frameRegisters};
 ghost use Rattle.plan.specs.Plan.{nothing, PlansWith, Plans, standsIn};
 ghost use Rattle.plan.specs.Rules.{PlanRefusals};
 ghost use Rattle.plan.specs.Another.{AnyOther};
@@ -158,7 +158,7 @@ fn halves(k: [u16; 12]) -> [u8; 24]
 // The 24 bytes of the converter.
 fn csc_bytes(m: Matrix) -> [u8; 24]
     requires { ⌜ Shaped m × (m .mode ≤ 2) ⌝ }
-    ensures { λ bytes. ⌜ ((r : Request) (p : Pair) → r .matrix ≡ m → bytes ≡ map (λ a. placedAt a (places r p)) (from 0x18 24)) ⌝ }
+    ensures { λ bytes. ⌜ ((r : Request) (p : Pair) → r .matrix ≡ m → bytes ≡ map (λ a. placedAt a (places r p)) matrixRegisters) ⌝ }
 {
     let k = m.coefficients;
     let mut out = halves(k);
@@ -171,7 +171,7 @@ fn csc_bytes(m: Matrix) -> [u8; 24]
 // N and CTS.
 fn with_clock(out: &mut [u8], pair: Pair)
     requires { ⌜ (length (now out) ≡ 256) × (pair .n < 1048576) × (pair .cts < 1048576) ⌝ }
-    ensures { λ _. ⌜ ((r : Request) → now (out .exit) ≡ stores (now (out .entry)) (laidOut (from 0x01 3 ++ from 0x07 3) (places r pair))) ⌝ }
+    ensures { λ _. ⌜ ((r : Request) → now (out .exit) ≡ stores (now (out .entry)) (laidOut clockRegisters (places r pair))) ⌝ }
 {
     let n = twenty(pair.n);
     let cts = twenty(pair.cts);
@@ -191,7 +191,7 @@ fn output_format(encoding: u8) -> u8
 // How sound arrives, and the output format.
 fn with_inputs(out: &mut [u8], r: Request)
     requires { ⌜ (length (now out) ≡ 256) × SoundFits (r .sound) ⌝ }
-    ensures { λ _. ⌜ ((p : Pair) → now (out .exit) ≡ stores (now (out .entry)) (laidOut (0x0A ∷ 0x0C ∷ 0x15 ∷ 0x16 ∷ []) (places r p))) ⌝ }
+    ensures { λ _. ⌜ ((p : Pair) → now (out .exit) ≡ stores (now (out .entry)) (laidOut inputRegisters (places r p))) ⌝ }
 {
     let sound = r.sound;
     out[Map::AUDIO_SOURCE as usize] = cts_select(sound) * (1 << Map::CTS_SELECT_SHIFT);
@@ -227,8 +227,7 @@ fn depth_code(video: Video) -> u8
 // The repetition, the VIC, the enables, the depth and HDMI or DVI.
 fn with_enables(out: &mut [u8], r: Request)
     requires { ⌜ (length (now out) ≡ 256) × (r .video .link ≤ 1) × (repetition (r .video) ≤ 2) ⌝ }
-    ensures { λ _. ⌜ ((p : Pair) → now (out .exit)
-        ≡ stores (now (out .entry)) (laidOut (0x3B ∷ 0x3C ∷ 0x40 ∷ 0x44 ∷ 0x4A ∷ 0x4B ∷ 0x4C ∷ 0xAF ∷ []) (places r p))) ⌝ }
+    ensures { λ _. ⌜ ((p : Pair) → now (out .exit) ≡ stores (now (out .entry)) (laidOut enableRegisters (places r p))) ⌝ }
 {
     let sound = r.sound;
     let audio = Map::N_CTS_PACKET_ENABLE_MASK
@@ -257,7 +256,7 @@ fn avi_bytes(video: Video) -> [u8; AVI_FRAME]
 // The registers of the two InfoFrames.
 fn with_frames(out: &mut [u8], r: Request)
     requires { ⌜ (length (now out) ≡ 256) × Fits r ⌝ }
-    ensures { λ _. ⌜ ((p : Pair) → now (out .exit) ≡ stores (now (out .entry)) (laidOut (from 0x52 16 ++ from 0x70 13) (places r p))) ⌝ }
+    ensures { λ _. ⌜ ((p : Pair) → now (out .exit) ≡ stores (now (out .entry)) (laidOut frameRegisters (places r p))) ⌝ }
 {
     let sound = r.sound;
     let video = avi_bytes(r.video);

@@ -8,8 +8,7 @@ use lib.ListN.{getD}
 use borrow.Author.Needs.{needs}
 use borrow.Author.Tests.{eqb-true}
 use Rattle.bits.proofs.Below.{at-below}
-use Rattle.plan.specs.Places.{depthNumbers}
-use Rattle.decode.specs.Extract.{indexOf}
+use Rattle.decode.specs.Extract.{depthOf}
 use Rattle.decode.proofs.depth_of.Statement.{statement}
 use Rattle.decode.proofs.depth_of.Tie as tie
 
@@ -20,7 +19,7 @@ abbrev depths : List ℕ
 depths = 0 ∷ 3 ∷ 3 ∷ 3 ∷ 3 ∷ 1 ∷ 2 ∷ 3 ∷ 3 ∷ 3 ∷ 3 ∷ 3 ∷ 3 ∷ 3 ∷ 3 ∷ 3 ∷ []
 
 returns : tie.Need-returns
-returns c = eqb-true _ _ (at-below (λ n. eqb (getD depths n 0) (indexOf n depthNumbers)) 16 (c .args .code) refl (omega arith))
+returns c = eqb-true _ _ (at-below (λ n. eqb (getD depths n 0) (depthOf n)) 16 (c .args .code) refl (omega arith))
 
 pub depth-of-spec : {M : Type 1} → statement M
 depth-of-spec = tie.close (tie.spec array-read-result returns)

@@ -1,15 +1,14 @@
 -- `plan::wanted_image` meets its contract. Assumes nothing.
 use mathlib.Core.Path.{_≡_, refl, ap, _∙_}
-use mathlib.Core.List.{List, [], _∷_, _++_}
+use mathlib.Core.List.{List, _++_}
 use Prim.Native.Nat.{ℕ}
 use lib.ListN.{getD}
 use Rattle.chip.specs.Machine.{Write}
-use Rattle.writes.specs.Rows.{from}
 use Rattle.writes.specs.List.{column}
 use Rattle.video.proofs.Fits.{link-fits, repetition-fits}
 use Rattle.request.specs.Read.{pairFor}
 use Rattle.plan.specs.Places.{Place, places}
-use Rattle.plan.specs.Wanted.{wanted, laidOut}
+use Rattle.plan.specs.Wanted.{wanted, laidOut, clockRegisters, inputRegisters, matrixRegisters, enableRegisters, frameRegisters}
 use Rattle.plan.proofs.Accepted.{pair-twenty}
 use Rattle.plan.proofs.Stored.{more, in-column}
 use borrow.Author.Needs.{needs}
@@ -60,11 +59,11 @@ returns c a =
     let r = p .args .r in
     let z : List ℕ = p .args .out .now in
     let rows : List Place = places r (pairFor r) in
-    let one : List Write = laidOut (from 0x01 3 ++ from 0x07 3) rows in
-    let two : List Write = laidOut (0x0A ∷ 0x0C ∷ 0x15 ∷ 0x16 ∷ []) rows in
-    let three : List Write = laidOut (from 0x18 24) rows in
-    let four : List Write = laidOut (0x3B ∷ 0x3C ∷ 0x40 ∷ 0x44 ∷ 0x4A ∷ 0x4B ∷ 0x4C ∷ 0xAF ∷ []) rows in
-    let five : List Write = laidOut (from 0x52 16 ++ from 0x70 13) rows in
+    let one : List Write = laidOut clockRegisters rows in
+    let two : List Write = laidOut inputRegisters rows in
+    let three : List Write = laidOut matrixRegisters rows in
+    let four : List Write = laidOut enableRegisters rows in
+    let five : List Write = laidOut frameRegisters rows in
     let all = more z (((one ++ two) ++ three) ++ four) five
     (more z ((one ++ two) ++ three) four
     (more z (one ++ two) three
