@@ -443,7 +443,7 @@ static void look_at_comment(struct reader *r, const char *line) {
 /* ---- A line of bytes. */
 
 /* The bytes of a line that stand in no braces: the first three wait, for they may be chip address, register and value. */
-struct row { size_t count; int first[3], is_thirds; unsigned long digits; };
+struct row { size_t count; int first[3], is_thirds; };
 
 static void take_byte(struct reader *r, struct row *row, int value) {
     static const int chips[] = { 0x72, 0x7A };
@@ -497,7 +497,7 @@ static int may_be_numbers(const char *text) {
 }
 
 static void read_bytes(struct reader *r, const char *at) {
-    struct row row = { 0, { 0, 0, 0 }, 1, 0 };
+    struct row row = { 0, { 0, 0, 0 }, 1 };
     int after = 0, in_braces = 0, groups = 0, group[3], count = 0;
     if (r->array == CLOSED && strspn(at, "; \t") < strlen(at)) fail(r, "more after the array's end: one list in a text");
     while (*at) {
