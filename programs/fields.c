@@ -433,9 +433,10 @@ static void meaning(const struct field *f, const uint8_t *body, size_t there, ch
     const struct word *w = row_of(f, value);
     if (w) snprintf(text, room, "%s", w->says);
     else snprintf(text, room, "%d, outside its range", value);
-    if (f == &fields[0]) {
+    if (f == field_of("vic")) {
+        const struct field *family = field_of("family");
         char mode[64];
-        text_of_mode((uint8_t)value, there > 1 ? body[1] : 0, mode, sizeof mode);
+        text_of_mode((uint8_t)value, there > family->at ? (uint8_t)value_in(family, body) : 0, mode, sizeof mode);
         snprintf(text, room, "%d: %s", value, mode);
     }
 }

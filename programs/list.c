@@ -133,7 +133,10 @@ static char *of_utf16(struct reader *r, const uint8_t *bytes, size_t length, siz
 /* Most of it is no text: somebody's raw bytes. */
 static int is_raw(const char *text, size_t length) {
     size_t odd = 0, step;
-    for (size_t i = 0; i < length; i += step) odd += is_control((uint8_t)text[i]) || letter_at(text + i, &step) == 0;
+    for (size_t i = 0; i < length; i += step) {
+        int is_letter = letter_at(text + i, &step) != 0;
+        odd += !is_letter || is_control((uint8_t)text[i]);
+    }
     return odd > length / 8;
 }
 
@@ -141,6 +144,7 @@ static int is_raw(const char *text, size_t length) {
 static void part_into_lines(struct reader *r, char *text, size_t length) {
     struct list *l = r->l;
     size_t lines = 1;
+    int raw = is_raw(text, length);
     for (size_t i = 0; i < length; i++) lines += text[i] == '\n';
     if (!(l->text = malloc((lines + 1) * sizeof *l->text))) misuse("no memory");
     l->text[l->lines++] = text;
@@ -152,7 +156,7 @@ static void part_into_lines(struct reader *r, char *text, size_t length) {
         if (is_control(c))
             fail(r, "the byte 0x%02x is no text; %s", (unsigned)c,
                  i + 3 < length && !c && text[i + 1] && !text[i + 2] ? "it looks like UTF-16 without its mark: save it as UTF-8" :
-                 is_raw(text, length) ? "of a list of raw bytes 'od -An -v -tx1' makes one" : "take it out");
+                 raw ? "of a list of raw bytes 'od -An -v -tx1' makes one" : "take it out");
         if (!strncmp(text + i, "\xE2\x80\xA8", 3) || !strncmp(text + i, "\xE2\x80\xA9", 3) || !strncmp(text + i, "\xC2\x85", 2))
             fail(r, "a line end of Unicode's own: save the text with the line ends of Unix or DOS");
         if (c == '\r') text[i] = 0;
@@ -457,7 +461,7 @@ static void look_at_comment(struct reader *r, const char *line) {
 /* ---- A line of bytes. */
 
 /* The bytes of a line that stand in no braces: the first three wait, for they may be chip address, register and value. */
-struct row { size_t count; int first[3], is_thirds; unsigned long digits; };
+struct row { size_t count; int first[3], is_thirds; };
 
 static void take_byte(struct reader *r, struct row *row, int value) {
     static const int chips[] = { 0x72, 0x7A };
@@ -511,7 +515,7 @@ static int may_be_numbers(const char *text) {
 }
 
 static void read_bytes(struct reader *r, const char *at) {
-    struct row row = { 0, { 0, 0, 0 }, 1, 0 };
+    struct row row = { 0, { 0, 0, 0 }, 1 };
     int after = 0, in_braces = 0, groups = 0, group[3], count = 0;
     if (r->array == CLOSED && strspn(at, "; \t") < strlen(at)) fail(r, "more after the array's end: one list in a text");
     while (*at) {

@@ -96,13 +96,13 @@ int nearest_request(const uint8_t image[STATION_IMAGE], const struct request *be
     memcpy(s.base, image, STATION_IMAGE);
     s.base[HOLDS] &= (uint8_t)~PACKET_HOLDS;                    /* planning refuses two packet holds */
     s.base[MATRIX_HOLD] &= (uint8_t)~MATRIX_HOLD_BIT;
-    for (int v = 0; v < 3; v++) {
-        int known = 0;
-        for (size_t m = 0; m < number_of_modes; m++) known |= modes[m].vic == vics[v];
-        for (int before = 0; before < v; before++) known &= vics[before] != vics[v];
-        for (int sound = 0; known && sound < 2; sound++)
+    for (size_t m = 0; m < number_of_modes; m++) {
+        int is_named = 0, none = 1;
+        for (int v = 0; v < 3; v++) is_named |= modes[m].vic == vics[v];
+        for (size_t k = 0; k < number_of_modes; k++) none &= modes[k].vic != vics[0] && modes[k].vic != vics[1] && modes[k].vic != vics[2];
+        for (int sound = 0; (is_named || none) && sound < 2; sound++)
             for (int mode = -1; mode < MODES; mode++)
-                if (mode < 0 || own == mode || own == MODES) look_at_sections(&s, vics[v], sound, mode);
+                if (mode < 0 || own == mode || own == MODES) look_at_sections(&s, modes[m].vic, sound, mode);
     }
     return s.least != ~0u;
 }

@@ -7,7 +7,8 @@
 #include "judge.h"
 
 /* The request whose finished registers differ from these in the fewest places, and those registers. It is looked for among the requests
- * that the registers themselves speak of, field by field, and where `begun` is not NULL in its VIC too. 0 where there is none. */
+ * that the registers themselves speak of, field by field, with the VIC of `begun` too where that is not NULL, and with every VIC where none of
+ * these is listed. 0 where there is none. */
 struct nearest { struct request asked; uint8_t image[STATION_IMAGE]; unsigned registers; };
 int nearest_request(const uint8_t image[STATION_IMAGE], const struct request *begun, struct nearest *n);
 

@@ -115,7 +115,7 @@ static void print_facts(const struct review *v) {
     print_given("coefficient buffer", &v->coefficients, NULL);
     if (v->chip.mark[0]) printf("<dt>waiting mark<dd>%u: a change of the coefficients waits for Vsync\n", v->chip.mark[0]);
     printf("<dt>judged by<dd>station_vet of version %s%s\n", STATION_VERSION,
-           !v->is_read ? ": not yet" : v->agrees ? "; the reasons were found by tools/review, and lead to the same verdict" : "; the reasons differ");
+           !v->is_read ? ": not asked, for the text could not be read" : v->agrees ? "; the reasons were found by tools/review, and lead to the same verdict" : "; the reasons differ");
     if (v->date) printf("<dt>date<dd>"), print_text_of(v->date, LONG_LINE), printf("\n");
     if (v->is_read) {
         if (v->begins) print_frame("from", v->chip.image, &v->begin);
