@@ -30,7 +30,8 @@ static const char style[] =
     "#die { stroke: #000; stroke-width: 3; stroke-dasharray: 9 5 }\n"
     "@media (max-width: 700px) { body { padding: 0 10px } .banner { gap: 10px; font-size: 15px } .sign { font-size: 32px }\n"
     "  dl { grid-template-columns: 1fr } dt { margin-top: 4px } .sig { grid-template-columns: 1fr; gap: 6px } }\n"
-    "@media print { body { font-size: 11px } code { font-size: 10px } .key { break-inside: avoid } .cutter { display: none } pre { font-size: 10px; white-space: pre-wrap; overflow: visible }\n"
+    "@media print { body { font-size: 11px } code { font-size: 10px } .key { break-inside: avoid; font-size: 10px !important } .cutter, #die { display: none }\n"
+    "  tr:first-child { break-after: avoid } pre { font-size: 10px; white-space: pre-wrap; overflow: visible }\n"
     "  table { font-size: 10px } td.src { max-width: 200px } h3 { break-after: avoid } .mend, .banner, .sig, pre { break-inside: avoid } }\n";
 
 /* ---- A stranger's text. */

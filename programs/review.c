@@ -454,9 +454,9 @@ static void print_text(const struct review *v) {
 
 static void print_mended(const struct review *v) {
     const struct mend *m = &v->mend;
-    char text[TEXT_OF_A_CHANGE];
-    printf("# %s, mended: %u change%s; %s\n", v->list.name, (unsigned)m->changes, m->changes == 1 ? "" : "s",
-           m->accepted ? "the library accepts it so" : "the library REFUSES it so");
+    char text[TEXT_OF_A_CHANGE], registers[200];
+    printf("# %s, mended: %u change%s. The library %s it so on %s\n", v->list.name, (unsigned)m->changes, m->changes == 1 ? "" : "s",
+           m->accepted ? "accepts" : "REFUSES", text_of_given(&v->registers, registers, sizeof registers));
     for (uint32_t i = 0; i < m->count; i++) {
         const struct mended *p = &m->pairs[i];
         const char *sign = p->change == LEFT_OUT ? "# " : "";
@@ -486,7 +486,14 @@ static void take_name(const char *word, void *into) {
 
 static void take_word(const char *word, struct option *o) { *(const char **)o->into = word; }
 
-static const char *without_folders(const char *name) { return strrchr(name, '/') ? strrchr(name, '/') + 1 : name; }
+/* A file's name, in one line whatever stands in it. */
+static const char *without_folders(const char *name) {
+    char *copy = strdup(strrchr(name, '/') ? strrchr(name, '/') + 1 : name);
+    if (!copy) misuse("no memory");
+    for (char *at = copy; *at; at++)
+        if ((uint8_t)*at < ' ' || *at == 0x7F) *at = '?';
+    return copy;
+}
 
 /* The file of an option, by its name and its sum. */
 static struct given take_given(const struct option *o, const char *name, uint8_t *bytes, size_t length) {
