@@ -3,3 +3,4 @@ pub mod Frame
 pub mod Answer
 pub mod Fine
 pub mod Ordered
+pub mod Stood
