@@ -1,7 +1,7 @@
 -- What decoding answers, and when: the theorems of `specs/Theorems.antt`. Assumes nothing.
 use mathlib.Core.Path.{_≡_, refl, sym, ap, _∙_, subst}
 use mathlib.Core.Logic.{_≢_, _⊎_, inl, inr}
-use mathlib.Core.Bool.{Bool, true, false, false≢true, cond, not, _&&_, _||_}
+use mathlib.Core.Bool.{Bool, true, false, false≢true, cond, not, _||_}
 use mathlib.Core.List.{List, [], _∷_}
 use Prim.Native.Nat.{ℕ, zero, suc, _+_, _*_, _/_, _%_, _<_, _≤_}
 use native.Mathlib.Nat.{eq-or-lt-of-le, le-of-suc-le-suc, not-suc-le-zero}
@@ -24,7 +24,7 @@ use Rattle.matrix.proofs.Pairs.{fields-small, length-fields}
 use Rattle.request.specs.declared.Request.{Request}
 use Rattle.request.specs.declared.Checked.{Checked}
 use Rattle.request.specs.Sections.{longest}
-use Rattle.request.specs.Read.{readOf, pairFor}
+use Rattle.request.specs.Read.{readOf}
 use Rattle.request.specs.Bytes.{asBytes, requestInFamily, answeredAs}
 use Rattle.request.specs.ThereAndBack.{Shaped}
 use Rattle.request.specs.Fits.{Fits}
@@ -34,11 +34,13 @@ use Rattle.decode.specs.declared.Decoded.{Decoded}
 use Rattle.decode.specs.Ends.{Acceptable, Stands, Ends}
 use Rattle.decode.specs.Extract.{bitsAt, matrixIn, dataIn, extract}
 use Rattle.writes.specs.List.{standsBelow}
-use Rattle.decode.specs.Decode.{endsIn, someEnds, decodeTests, decodeRefusal, notDecoded, decodeOf, decodedBuffer}
+use Rattle.decode.specs.Decode.{someEnds, decodeTests, decodeRefusal, notDecoded, decodeOf, decodedBuffer}
 use Rattle.decode.specs.Theorems.{Answered, ExactlyWhen, AtMostOne, decodeRules, Refusals}
 use Rattle.decode.specs.ReadBack.{Ran, ReadBack}
-use Rattle.request.proofs.Fits.{fits}
-use Rattle.request.proofs.Said.{said}
+use Rattle.request.proofs.Fits.{fits, twelve-there}
+use Rattle.request.proofs.Hand.{in-hand}
+use Rattle.plan.specs.Plan.{standsIn}
+use Rattle.plan.proofs.Stood.{stood, standing}
 use Rattle.request.proofs.Back.{back, there-and-back}
 use Rattle.decode.proofs.Extracted.{extracted}
 use Rattle.decode.proofs.Unasked.{unasked}
@@ -67,26 +69,19 @@ acceptable-fits r a = subst Fits (ap (λ (c : Checked). c .request) (a .read)) (
 
 -- ---- one family
 
-ends-tested : (r : Request) (f : ℕ) (image : List ℕ) → Acceptable (requestInFamily f r) → Stands (requestInFamily f r) image → endsIn r f image ≡ true
-unfolding endsIn
-ends-tested r f image a s =
-    let q : Request = requestInFamily f r in
-    let z : readOf (asBytes q) .refusal ≡ 0 = ap (λ (c : Checked). c .refusal) (a .read) in
-    rw (eq-eqb (readOf (asBytes q) .refusal) 0 z, eq-eqb (pairFor q .refusal) 0 (a .paired)) (stands-tested q image 256 s)
+ends-tested : (q : Request) (image : List ℕ) → length image ≡ 256 → Acceptable q → Stands q image → standsIn q image ≡ true
+ends-tested q image long a s =
+    standing q image (record { allowed = in-hand q .said (a .read); sized = long; paired = a .paired; below = stands-tested q image 256 s })
 
-test-ends : (r : Request) (f : ℕ) (image : List ℕ) → Shaped (r .matrix) → answeredAs r ≡ r → endsIn r f image ≡ true → Ends r image
-unfolding endsIn
-test-ends r f image h e t =
+test-ends : (r : Request) (f : ℕ) (image : List ℕ) → length (r .matrix .coefficients) ≡ 12 → answeredAs r ≡ r → standsIn (requestInFamily f r) image ≡ true → Ends r image
+test-ends r f image l e t =
     let q : Request = requestInFamily f r in
-    let u : (eqb (readOf (asBytes q) .refusal) 0 && eqb (pairFor q .refusal) 0) ≡ true = both-left _ (standsBelow (wanted q) image 256) t in
+    let h = stood q image t in
     record {
       family = f;
       answered = e;
-      acceptable = record {
-        read = said q h (eqb-true _ _ (both-left _ (eqb (pairFor q .refusal) 0) u));
-        paired = eqb-true _ _ (both-right (eqb (readOf (asBytes q) .refusal) 0) _ u);
-      };
-      stands = test-stands q image 256 (both-right (eqb (readOf (asBytes q) .refusal) 0 && eqb (pairFor q .refusal) 0) _ t);
+      acceptable = record { read = in-hand q .says l (h .allowed); paired = h .paired };
+      stands = test-stands q image 256 (h .below);
     }
 
 -- what is answered is answered as it is
@@ -129,11 +124,12 @@ module _ (image : List ℕ) (long : length image ≡ 256) where
 
   pub found-ends : someEnds image ≡ true → Ends (extract image) image
   unfolding someEnds extract
-  found-ends t = go (endsIn (extract image) 0 image) refl t
+  found-ends t = go (standsIn (requestInFamily 0 (extract image)) image) refl t
     where
-      go : (b : Bool) → endsIn (extract image) 0 image ≡ b → (b || endsIn (extract image) 1 image) ≡ true → Ends (extract image) image
-      go true e t = test-ends (extract image) 0 image shaped named-as e
-      go false e t = test-ends (extract image) 1 image shaped named-as t
+      go : (b : Bool) → standsIn (requestInFamily 0 (extract image)) image ≡ b → (b || standsIn (requestInFamily 1 (extract image)) image) ≡ true
+          → Ends (extract image) image
+      go true e t = test-ends (extract image) 0 image (twelve-there _ shaped) named-as e
+      go false e t = test-ends (extract image) 1 image (twelve-there _ shaped) named-as t
 
   is-extracted : (r : Request) → Ends r image → extract image ≡ r
   is-extracted r e =
@@ -141,15 +137,16 @@ module _ (image : List ℕ) (long : length image ≡ 256) where
 
   ends-found : (r : Request) → Ends r image → someEnds image ≡ true
   unfolding someEnds
-  ends-found r e = rw (is-extracted r e) (go (e .family) (family-small _ (acceptable-fits (requestInFamily (e .family) r) (e .acceptable) .video)) (ends-tested r (e .family) image (e .acceptable) (e .stands)))
+  ends-found r e = rw (is-extracted r e) (go (e .family) (family-small _ (acceptable-fits (requestInFamily (e .family) r) (e .acceptable) .video)) (ends-tested (requestInFamily (e .family) r) image long (e .acceptable) (e .stands)))
     where
       right : (b : Bool) → (b || true) ≡ true
       right true = refl
       right false = refl
 
-      go : (f : ℕ) → f < 2 → endsIn r f image ≡ true → (endsIn r 0 image || endsIn r 1 image) ≡ true
+      go : (f : ℕ) → f < 2 → standsIn (requestInFamily f r) image ≡ true
+          → (standsIn (requestInFamily 0 r) image || standsIn (requestInFamily 1 r) image) ≡ true
       go zero h t = rw t
-      go (suc zero) h t = rw t (right (endsIn r 0 image))
+      go (suc zero) h t = rw t (right (standsIn (requestInFamily 0 r) image))
       go (suc (suc f)) h t = absurd (omega arith)
 
   -- any request that is accepted and stands there ends there, as it is answered

@@ -8,8 +8,8 @@ use Prim.Native.Nat.{ℕ, suc, _+_, _≤_, _<_}
 use native.Mathlib.Numerals.{add-one}
 use native.Mathlib.Omega.{arith}
 use lib.Dec.{eqb, lit≤}
-use lib.ListN.{length, getD, take, drop, set, length-append}
-use lib.Seq.{sets, take-suc, take-all, take-at, length-take-le}
+use lib.ListN.{length, getD, take, set, length-append}
+use lib.Seq.{sets, take-suc, take-all, length-take-le}
 use Rattle.lists.proofs.Emit.{sets-append, sets-front}
 use Rattle.video.specs.Video.{videoBody}
 use Rattle.matrix.specs.declared.Matrix.{Matrix}
@@ -89,14 +89,3 @@ requested q d room twelve v e f g =
           ∙ ap (λ (u : List ℕ). inTurn d 0 (u ∷ a ∷ m ∷ [])) v
           ∙ emitted d 0 bs ∙ sets-front (laid bs []) d (omega arith),
     )
-
--- what stands in front
-module _ (xs d : List ℕ) {n : ℕ} {out : List ℕ} (counted : n ≡ length xs) (left : out ≡ inFront xs d) where
-  pub front-room : n ≤ length out
-  front-room = omega (arith, ap length left, length-append xs (drop (length xs) d))
-
-  pub front-sized : n ≡ length (take n out)
-  front-sized = sym (length-take-le n out front-room)
-
-  pub front-taken : take n out ≡ xs
-  front-taken = ap (take n) left ∙ take-at xs (drop (length xs) d) n (sym counted)

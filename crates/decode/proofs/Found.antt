@@ -1,64 +1,35 @@
--- What the code tests of an image is `someEnds`, and what decoding answers, row by row. Assumes nothing.
-use mathlib.Core.Path.{_≡_, refl, sym, ap, ap₂, _∙_}
+-- Which families the code tries, and what decoding answers, row by row. Assumes nothing.
+use mathlib.Core.Path.{_≡_, refl, sym, ap, _∙_}
 use mathlib.Core.Logic.{_≢_}
-use mathlib.Core.Bool.{Bool, true, false, false≢true, _&&_, _||_}
+use mathlib.Core.Bool.{Bool, true, false, false≢true}
 use mathlib.Core.List.{List}
 use Prim.Native.Nat.{ℕ, _<_, _≤_}
-use lib.Dec.{eqb}
 use lib.ListN.{length, getD}
-use borrow.Author.Tests.{eqb-true, eq-eqb, ne-eqb, lt-ltb, le-ltb}
+use borrow.Author.Tests.{eq-eqb, ne-eqb, lt-ltb, le-ltb}
 use Rattle.request.specs.declared.Request.{Request}
 use Rattle.request.specs.Sections.{longest}
-use Rattle.request.specs.Read.{readOf, pairFor}
 use Rattle.request.specs.Bytes.{asBytes, requestInFamily}
-use Rattle.request.specs.ThereAndBack.{Shaped}
 use Rattle.request.proofs.Fits.{coefficients-small}
-use Rattle.request.proofs.Said.{said}
-use Rattle.writes.specs.List.{standsBelow}
-use Rattle.plan.specs.Wanted.{wanted}
 use Rattle.plan.specs.Plan.{standsIn}
 use Rattle.decode.specs.declared.Decoded.{Decoded}
-use Rattle.decode.specs.Extract.{extract}
-use Rattle.decode.specs.Decode.{isCoherent, endsIn, someEnds, decodeRefusal, notDecoded, decodeOf, inFront, decodedBuffer}
+use Rattle.decode.specs.Extract.{matrixIn, extract}
+use Rattle.decode.specs.Decode.{isCoherent, someEnds, decodeRefusal, notDecoded, decodeOf, inFront, decodedBuffer}
 use Rattle.decode.proofs.Answers.{shaped}
 use Rattle.decode.proofs.Families.{spared}
 
--- accepted on some image, and standing in this one: on the bytes, and on the request
-stands-ends : (r : Request) (family : ℕ) (image : List ℕ) → Shaped (r .matrix) → length image ≡ 256
-    → standsIn (asBytes (requestInFamily family r)) image ≡ endsIn r family image
-unfolding standsIn endsIn
-stands-ends r family image s l = go (eqb (readOf (asBytes (requestInFamily family r)) .refusal) 0) refl
-  where
-    go : (b : Bool) → eqb (readOf (asBytes (requestInFamily family r)) .refusal) 0 ≡ b
-        → (b && eqb (length image) 256 && eqb (pairFor (readOf (asBytes (requestInFamily family r)) .request) .refusal) 0
-        && standsBelow (wanted (readOf (asBytes (requestInFamily family r)) .request)) image 256)
-        ≡ (b && eqb (pairFor (requestInFamily family r) .refusal) 0 && standsBelow (wanted (requestInFamily family r)) image 256)
-    go false e = refl
-    go true e = rw (said (requestInFamily family r) s (eqb-true _ _ e), eq-eqb (length image) 256 l)
-
 -- where the first family is not found, and the sound is not coherent, neither is the second
-pub not-second : (r : Request) (image : List ℕ) → Shaped (r .matrix) → length image ≡ 256 → isCoherent (r .sound) ≡ false
-    → standsIn (asBytes (requestInFamily 0 r)) image ≡ false → standsIn (asBytes (requestInFamily 1 r)) image ≡ false
-not-second r image s l n f = go (endsIn r 1 image) refl
+pub not-second : (r : Request) (image : List ℕ) → length (r .matrix .coefficients) ≡ 12 → isCoherent (r .sound) ≡ false → standsIn (requestInFamily 0 r) image ≡ false
+    → standsIn (requestInFamily 1 r) image ≡ false
+not-second r image l n f = go (standsIn (requestInFamily 1 r) image) refl
   where
-    go : (b : Bool) → endsIn r 1 image ≡ b → standsIn (asBytes (requestInFamily 1 r)) image ≡ false
-    go false e = stands-ends r 1 image s l ∙ e
-    go true e = absurd (false≢true (sym f ∙ stands-ends r 0 image s l ∙ spared r s image n e))
+    go : (b : Bool) → standsIn (requestInFamily 1 r) image ≡ b → standsIn (requestInFamily 1 r) image ≡ false
+    go false e = e
+    go true e = absurd (false≢true (sym f ∙ spared r l image n e))
 
-module _ (image : List ℕ) (sized : length image ≡ 256) where
-  pub matrix-shaped : Shaped (extract image .matrix)
-  unfolding extract
-  matrix-shaped = shaped image sized
-
-  pub small : (i : ℕ) → getD (extract image .matrix .coefficients) i 0 < 8192
-  small = coefficients-small (extract image .matrix) matrix-shaped
-
-  pub found-by : (standsIn (asBytes (requestInFamily 0 (extract image))) image || standsIn (asBytes (requestInFamily 1 (extract image))) image) ≡ someEnds image
-  unfolding someEnds
-  found-by = ap₂ (λ (a b : Bool). a || b) (of 0) (of 1)
-    where
-      of : (family : ℕ) → standsIn (asBytes (requestInFamily family (extract image))) image ≡ endsIn (extract image) family image
-      of family = stands-ends (extract image) family image matrix-shaped sized
+-- each field of the matrix that is read off an image has 13 bits
+pub small : (image : List ℕ) → length image ≡ 256 → (i : ℕ) → getD (extract image .matrix .coefficients) i 0 < 8192
+unfolding extract
+small image sized = coefficients-small (matrixIn image) (shaped image sized)
 
 -- ---- rows 7, 10 and 11
 

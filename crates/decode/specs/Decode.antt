@@ -1,6 +1,6 @@
 -- What decoding answers, as the code finds it: refusals 7, 10 and 11. `ExactlyWhen` and `Refusals` (Theorems) tie it to document 01.
 use mathlib.Core.Path.{_≡_}
-use mathlib.Core.Bool.{Bool, false, not, _&&_, _||_}
+use mathlib.Core.Bool.{Bool, false, not, _||_}
 use mathlib.Core.List.{List, [], _∷_, _++_}
 use Prim.Native.Nat.{ℕ}
 use lib.Dec.{eqb}
@@ -9,29 +9,20 @@ use Rattle.refusals.specs.Rows.{noRequest}
 use Rattle.refusals.specs.Tests.{Test, _if_, lowest, answer}
 use Rattle.sound.specs.declared.Sound.{Sound}
 use Rattle.sound.specs.declared.Sound.the-variants.{Off, On}
-use Rattle.request.specs.declared.Request.{Request}
 use Rattle.request.specs.Sections.{longest}
-use Rattle.request.specs.Read.{readOf, pairFor}
 use Rattle.request.specs.Bytes.{asBytes, requestInFamily}
-use Rattle.plan.specs.Wanted.{wanted}
-use Rattle.plan.specs.Plan.{sizeTests, bufferTests}
-use Rattle.writes.specs.List.{standsBelow}
+use Rattle.plan.specs.Plan.{sizeTests, bufferTests, standsIn}
 use Rattle.decode.specs.declared.Decoded.{Decoded}
 use Rattle.decode.specs.Extract.{extract}
-
--- the request in a family is acceptable, and stands in the image; and so in one of the two
-unfoldable pub endsIn : Request → ℕ → List ℕ → Bool
-endsIn r family image =
-    let q : Request = requestInFamily family r in
-    eqb (readOf (asBytes q) .refusal) 0 && eqb (pairFor q .refusal) 0 && standsBelow (wanted q) image 256
 
 -- sound that is coherent: only its N and CTS differ between the families, so the code tries the second with no other
 abbrev pub isCoherent : Sound → Bool
 isCoherent Off = false
 isCoherent (On rate channels coherent) = eqb coherent 1
 
+-- the request that is read off the image, in one of its families, is acceptable and stands there
 unfoldable pub someEnds : List ℕ → Bool
-someEnds image = endsIn (extract image) 0 image || endsIn (extract image) 1 image
+someEnds image = standsIn (requestInFamily 0 (extract image)) image || standsIn (requestInFamily 1 (extract image)) image
 
 -- the tests of rows 7, 10 and 11
 abbrev pub decodeTests : List ℕ → List ℕ → List Test

@@ -9,7 +9,6 @@ ghost use Rattle.request.specs.declared.Request.{Request};
 ghost use Rattle.sound.specs.Sound.{audioCount, audioBody};
 ghost use Rattle.request.specs.Sections.{matrixCount, longest};
 ghost use Rattle.request.specs.Bytes.{matrixBody, asBytes, requestInFamily};
-ghost use Rattle.request.specs.ThereAndBack.{Shaped};
 ghost use Rattle.plan.specs.Plan.{standsIn};
 ghost use Rattle.decode.specs.Extract.{soundIn, matrixIn, depthOf, extract};
 ghost use Rattle.decode.specs.Decode.{inFront, isCoherent, notDecoded, Decodes};
@@ -170,16 +169,6 @@ fn in_family(q: Request, family: u8) -> Request
     }
 }
 
-// Whether the request in a family is accepted on some image and stands in this one.
-fn ends_in(q: Request, family: u8, image: &[u8]) -> bool
-    requires { ⌜ ((i : ℕ) → getD (q .matrix .coefficients) i 0 < 8192) ⌝ }
-    ensures { λ r. ⌜ r ≡ standsIn (asBytes (requestInFamily family q)) (now (image .entry)) ⌝ }
-{
-    let mut bytes = [0u8; LONGEST];
-    let count = emit(in_family(q, family), &mut bytes);
-    plan::stands(&bytes[..count], image)
-}
-
 // Whether sound is coherent.
 fn is_coherent(sound: Sound) -> bool
     ensures { λ r. ⌜ r ≡ isCoherent sound ⌝ }
@@ -194,20 +183,19 @@ fn is_coherent(sound: Sound) -> bool
     }
 }
 
-// In one of its families. Where the sound is not coherent, the second wants what the first does.
+// Whether the request, in one of its families, is accepted on some image and stands in this one. Where the sound is not coherent, the second
+// family wants what the first does.
 fn ends(q: Request, image: &[u8]) -> bool
-    requires { ⌜ Shaped (q .matrix) × (length (now image) ≡ 256) ⌝ }
-    ensures { λ r. ⌜ r ≡ (standsIn (asBytes (requestInFamily 0 q)) (now (image .entry))
-        || standsIn (asBytes (requestInFamily 1 q)) (now (image .entry))) ⌝ }
+    ensures { λ r. ⌜ r ≡ (standsIn (requestInFamily 0 q) (now (image .entry)) || standsIn (requestInFamily 1 q) (now (image .entry))) ⌝ }
 {
     let sound = q.sound;
-    if ends_in(q, 0, image) {
+    if plan::stands(in_family(q, 0), image) {
         return true;
     }
     if !is_coherent(sound) {
         return false;
     }
-    ends_in(q, 1, image)
+    plan::stands(in_family(q, 1), image)
 }
 
 // A refusal: its number, and no byte.

@@ -2,12 +2,11 @@
 -- to it; `Sent` and `SaidByBytes` tie the two bytes of a coefficient to its 13 bits.
 use mathlib.Core.Path.{_≡_}
 use mathlib.Core.Logic.{_↔_}
-use mathlib.Core.Bool.{Bool, true, cond, _&&_, _||_}
+use mathlib.Core.Bool.{Bool, true, _&&_, _||_}
 use mathlib.Core.List.{List, [], _∷_}
-use Prim.Native.Nat.{ℕ, _%_}
+use Prim.Native.Nat.{ℕ, zero, suc, _%_}
 use lib.Dec.{eqb, leb, ltb}
 use lib.ListN.{getD, length, drop}
-use Rattle.lists.specs.Find.{every}
 use Rattle.lists.specs.Same.{sameList}
 use Rattle.matrix.specs.declared.Matrix.{Matrix}
 use Rattle.matrix.specs.Matrix.{noMatrix}
@@ -27,11 +26,15 @@ inRange (high ∷ low ∷ more) = within (word high low) && inRange more
 unfoldable pub isAllowed : List ℕ → Bool
 isAllowed body = eqb (length body) 25 && leb (getD body 0 0) 2 && inRange (drop 1 body)
 
--- the same of a matrix in hand: none, or on, in such a mode, and twelve fields of 13 bits
+-- the same of a matrix in hand: none, or on, in such a mode, and its twelve fields of 13 bits
+abbrev pub smallFields : List ℕ → ℕ → Bool
+smallFields fields zero = true
+smallFields fields (suc n) = smallFields fields n && ltb (getD fields n 0) 8192
+
 unfoldable pub matrixInRange : Matrix → Bool
 matrixInRange m =
-    cond (eqb (m .on) 0) (eqb (m .mode) (noMatrix .mode) && sameList (m .coefficients) (noMatrix .coefficients))
-    ((eqb (m .on) 1 && leb (m .mode) 2) && (eqb (length (m .coefficients)) 12 && every (λ c. ltb c 8192) (m .coefficients)))
+    (eqb (m .on) 0 && eqb (m .mode) (noMatrix .mode) && sameList (m .coefficients) (noMatrix .coefficients))
+    || (eqb (m .on) 1 && leb (m .mode) 2 && smallFields (m .coefficients) 12)
 
 -- what two bytes of a request say: `within` is "from -4096 to 4095", and the field stands for the number that the bytes stand for
 pub record Sent (w : ℕ) : Type 0 where

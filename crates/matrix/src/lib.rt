@@ -12,7 +12,7 @@ ghost use Rattle.matrix.specs.Tests.{Sent, SaidByBytes};
 ghost use Rattle.matrix.specs.Matrix.{noMatrix, wordAt, Bytes};
 ghost use Rattle.matrix.specs.Numbers.{Numbers};
 ghost use Rattle.matrix.specs.Body.{bodyOf, Whole, BodyBack};
-ghost use Rattle.matrix.specs.Tests.{isAllowed, matrixInRange};
+ghost use Rattle.matrix.specs.Tests.{isAllowed, smallFields, matrixInRange};
 ghost use Rattle.matrix.specs.Read.{twelveOf, allowedMatrix};
 ghost use Rattle.matrix.specs.Preview.{heldWithin, codeOf, outputOf, Previews, PreviewRefusals, RoundedDown, Clamped};
 use refusals::Refusal;
@@ -102,23 +102,34 @@ pub fn fits(body: &[u8]) -> bool
     true
 }
 
-// Whether a matrix in hand is none, or one that a request may have. All fields are looked at, which is the faster way for twelve.
+// Whether twelve fields have 13 bits each. All are looked at, which is the faster way.
+fn are_small(k: [u16; 12]) -> bool
+    ensures { λ r. ⌜ r ≡ smallFields k 12 ⌝ }
+{
+    (k[0] < 8192)
+        & (k[1] < 8192)
+        & (k[2] < 8192)
+        & (k[3] < 8192)
+        & (k[4] < 8192)
+        & (k[5] < 8192)
+        & (k[6] < 8192)
+        & (k[7] < 8192)
+        & (k[8] < 8192)
+        & (k[9] < 8192)
+        & (k[10] < 8192)
+        & (k[11] < 8192)
+}
+
+// Whether a matrix in hand is none, or one that a request may have.
 pub fn in_range(m: Matrix) -> bool
     ensures { λ r. ⌜ r ≡ matrixInRange m ⌝ }
 {
+    let nothing = none();
     let fields = m.coefficients;
-    if m.on == 0 {
-        let nothing = none();
-        let others = nothing.coefficients;
-        return (m.mode == nothing.mode) & lists::same_numbers(fields, others);
-    }
-    let mut all = (m.on == 1) & (m.mode <= 2);
-    let mut i: usize = 0;
-    while i < 12 {
-        all = all & (fields[i] < 8192);
-        i = i + 1;
-    }
-    all
+    let others = nothing.coefficients;
+    let off = (m.on == 0) & (m.mode == nothing.mode) & lists::same_numbers(fields, others);
+    let on = (m.on == 1) & (m.mode <= 2) & are_small(fields);
+    off | on
 }
 
 // The matrix of a body that fits; no matrix of one that does not.

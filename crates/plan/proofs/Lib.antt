@@ -7,3 +7,4 @@ pub mod Frame
 pub mod Answer
 pub mod Fine
 pub mod Ordered
+pub mod Stood

@@ -9,7 +9,7 @@ use lib.ListN.{length}
 use Rattle.refusals.specs.Rows.{imageLength, holdsUp, noExactPair, bufferShort}
 use Rattle.refusals.specs.Tests.{Test, _if_, lowest, answer}
 use Rattle.request.specs.declared.Request.{Request}
-use Rattle.request.specs.Read.{readOf, pairFor}
+use Rattle.request.specs.Read.{readOf, allowedOf, pairFor}
 use Rattle.writes.specs.List.{writeList, fronted, standsBelow, ready}
 use Rattle.plan.specs.declared.Planned.{Planned}
 use Rattle.plan.specs.Wanted.{wanted}
@@ -58,8 +58,6 @@ planBuffer input image buffer = answer (readOf input .refusal) (λ _. buffer) (b
 abbrev pub Plans : List ℕ → List ℕ → List ℕ → Planned → List ℕ → Type 0
 Plans input image buffer answer left = (answer ≡ planOf input image buffer) × (left ≡ planBuffer input image buffer)
 
--- an input that is accepted on some image, and whose list would leave this one as it is (decode's `ExactlyWhen` is about it)
-unfoldable pub standsIn : List ℕ → List ℕ → Bool
-standsIn input image =
-    let r : Request = readOf input .request in
-    eqb (readOf input .refusal) 0 && eqb (length image) 256 && eqb (pairFor r .refusal) 0 && standsBelow (wanted r) image 256
+-- a request that is accepted on some image, and whose list would leave this one as it is (decode's `ExactlyWhen` is about it)
+unfoldable pub standsIn : Request → List ℕ → Bool
+standsIn r image = eqb (allowedOf r) 0 && eqb (length image) 256 && eqb (pairFor r .refusal) 0 && standsBelow (wanted r) image 256

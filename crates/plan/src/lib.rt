@@ -339,18 +339,16 @@ pub fn plan(input: &[u8], image: &[u8], writes: &mut [u8]) -> Planned
     plan_with(checked.request, image, writes)
 }
 
-// Whether an input is accepted on some image, and its list would leave this image as it is.
-pub fn stands(input: &[u8], image: &[u8]) -> bool
-    ensures { λ r. ⌜ r ≡ standsIn (now (input .entry)) (now (image .entry)) ⌝ }
+// Whether a request is accepted on some image, and its list would leave this image as it is.
+pub fn stands(r: Request, image: &[u8]) -> bool
+    ensures { λ t. ⌜ t ≡ standsIn r (now (image .entry)) ⌝ }
 {
-    let checked = request::read(input);
-    if checked.refusal != Refusal::NONE {
+    if request::allowed(r) != Refusal::NONE {
         return false;
     }
     if image.len() != 256 {
         return false;
     }
-    let r = checked.request;
     let pair = request::pair_for(r);
     if pair.refusal != Refusal::NONE {
         return false;

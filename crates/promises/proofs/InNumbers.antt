@@ -20,12 +20,12 @@ use Rattle.frames.specs.Answers.{aviOf, audioOf}
 use Rattle.matrix.specs.declared.Pixel.{Pixel}
 use Rattle.matrix.specs.Coefficient.{valueOf}
 use Rattle.matrix.specs.Matrix.{fields, matrixOf, Bytes, numberAt}
-use Rattle.matrix.specs.Tests.{inRange, isAllowed}
+use Rattle.matrix.specs.Tests.{inRange, isAllowed, matrixInRange}
 use Rattle.matrix.specs.Preview.{codeOf, outputOf, above, previewOf}
 use Rattle.matrix.proofs.Numbers.{numbers}
 use Rattle.matrix.proofs.Rounding.{down, holds}
 use Rattle.request.specs.Sections.{walk, walked}
-use Rattle.request.specs.Read.{outside, combined, judged, readOf, pairFor, nctsOf}
+use Rattle.request.specs.Read.{outside, combined, judged, allowedOf, readOf, pairFor, nctsOf}
 use Rattle.request.specs.Bytes.{asBytes}
 use Rattle.line.specs.Line.{lineOf}
 use Rattle.line.specs.Words.{digits, acceptedText, refusedText}
@@ -34,13 +34,13 @@ use Rattle.registers.specs.Classes.{classAt}
 use Rattle.writes.specs.Steps.{middle}
 use Rattle.writes.specs.List.{decided, byte, written, isWritten, finished, column, flat, alreadyThere}
 use Rattle.plan.specs.Wanted.{wanted}
-use Rattle.plan.specs.Plan.{laterRefusal, planWith, bufferWith, planOf, planBuffer}
+use Rattle.plan.specs.Plan.{laterRefusal, planWith, bufferWith, planOf, planBuffer, standsIn}
 use Rattle.chip.specs.Write.{refuses, writeOf}
 use Rattle.views.specs.Entry.{enterOf, turnOf}
 use Rattle.views.specs.View.{lentRefusal, viewRefusal, muteOf}
 use Rattle.views.specs.Converter.{matrixRefusal, matrixAnswer}
 use Rattle.decode.specs.Extract.{extract}
-use Rattle.decode.specs.Decode.{endsIn, someEnds, decodeRefusal, decodeOf}
+use Rattle.decode.specs.Decode.{someEnds, decodeRefusal, decodeOf}
 use Rattle.vendor.specs.Found.{vetRefusal, vetOf}
 use Rattle.promises.specs.InNumbers.{RoundsInNumbers, formula, Calls, PairsInNumbers, Converts, LengthsInNumbers, ListsInNumbers, Landed, InNumbers}
 
@@ -129,7 +129,7 @@ converts =
     }
 
 lengths : LengthsInNumbers
-unfolding flatMap euclid divisorOf modeOf tmds clockOf reference recommendedOf nearestK nearestIn nearestOf exactly coherentOf pairOf fields inRange isAllowed codeOf previewOf walk walked videoOutside shownOutside videoCombined shownCombined outside combined judged readOf pairFor laterRefusal planWith planOf lentRefusal viewRefusal muteOf matrixRefusal matrixAnswer enterOf turnOf writeOf refuses vetRefusal vetOf asBytes extract endsIn someEnds decodeRefusal decodeOf
+unfolding flatMap euclid divisorOf modeOf tmds clockOf reference recommendedOf nearestK nearestIn nearestOf exactly coherentOf pairOf fields inRange isAllowed codeOf previewOf walk walked videoOutside shownOutside videoCombined shownCombined outside combined judged readOf pairFor laterRefusal planWith planOf lentRefusal viewRefusal muteOf matrixRefusal matrixAnswer enterOf turnOf writeOf refuses vetRefusal vetOf asBytes extract matrixInRange allowedOf standsIn someEnds decodeRefusal decodeOf
 lengths =
     record {
       planImage = refl;

@@ -29,7 +29,8 @@ use Rattle.writes.specs.Steps.{_raising_}
 use Rattle.writes.specs.List.{written, leftUp, isWritten, finished, standsBelow, pairsOf, ready}
 use Rattle.plan.specs.Wanted.{wanted}
 use Rattle.decode.specs.Extract.{extract}
-use Rattle.decode.specs.Decode.{endsIn, someEnds}
+use Rattle.plan.specs.Plan.{standsIn}
+use Rattle.decode.specs.Decode.{someEnds}
 use Rattle.cut.specs.Vsync.{waited}
 use Rattle.cut.specs.Run.{Event, write, vsync, run, InUse, allInUse}
 use Rattle.vendor.specs.declared.Verdict.{Verdict}
@@ -90,16 +91,16 @@ module _ (image other : List ℕ) (g : Agree image other) where
         same-run 0x55 13 refl,
       )
 
-  same-family : (r : Request) (f : ℕ) → endsIn r f other ≡ endsIn r f image
-  unfolding endsIn
-  same-family r f = rw (same-below (wanted (requestInFamily f r)) 256)
+  same-stands : (r : Request) → standsIn r other ≡ standsIn r image
+  unfolding standsIn
+  same-stands r = rw (g .long, same-below (wanted r) 256)
 
   same-ends : someEnds other ≡ someEnds image
   unfolding someEnds
   same-ends = λ j. family 0 j || family 1 j
     where
-      family : (f : ℕ) → endsIn (extract other) f other ≡ endsIn (extract image) f image
-      family f = ap (λ (r : Request). endsIn r f other) same-request ∙ same-family (extract image) f
+      family : (f : ℕ) → standsIn (requestInFamily f (extract other)) other ≡ standsIn (requestInFamily f (extract image)) image
+      family f = ap (λ (r : Request). standsIn (requestInFamily f r) other) same-request ∙ same-stands (requestInFamily f (extract image))
 
 -- ---- two states
 

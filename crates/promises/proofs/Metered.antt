@@ -1,18 +1,14 @@
 -- The bytes of a meter's matrix in a request, and in the preview: any matrix section that is allowed is taken. Assumes nothing.
 use mathlib.Core.Path.{_≡_, refl, sym, ap, _∙_, subst}
-use mathlib.Core.Logic.{inr}
 use mathlib.Core.Bool.{Bool, true, false, not, _&&_, _||_}
 use mathlib.Core.List.{List, _∷_}
 use Prim.Native.Nat.{ℕ, _≤_}
-use native.Mathlib.Omega.{arith}
-use lib.Dec.{eqb, ltb}
-use lib.ListN.{length, take}
+use lib.Dec.{eqb}
 use lib.Ieee.{Float}
-use borrow.Author.Tests.{le-ltb, ne-eqb}
+use borrow.Author.Tests.{le-ltb, le-leb}
 use Rattle.lists.proofs.Both.{neither-left, neither-right}
 use Rattle.refusals.specs.Tests.{lowest}
 use Rattle.refusals.proofs.Tests.{numbered}
-use Rattle.video.specs.Video.{videoIn}
 use Rattle.video.specs.Tests.{videoOutside}
 use Rattle.matrix.specs.declared.Matrix.{Matrix}
 use Rattle.matrix.specs.Coefficient.{coefficientBytes}
@@ -20,69 +16,48 @@ use Rattle.matrix.specs.Body.{bodyOf, Whole}
 use Rattle.matrix.specs.Tests.{isAllowed}
 use Rattle.matrix.specs.Preview.{noPixel, previewTests, previewOf}
 use Rattle.matrix.proofs.Body.{unmoved, body-back}
-use Rattle.matrix.proofs.Pairs.{sized}
+use Rattle.matrix.proofs.Held.{by-mode}
 use Rattle.meter.proofs.Rule.{laid-matrix}
-use Rattle.sound.specs.Sound.{soundOf}
 use Rattle.sound.specs.Tests.{soundOutside}
 use Rattle.request.specs.declared.Request.{Request}
 use Rattle.request.specs.declared.Checked.{Checked}
-use Rattle.request.specs.Sections.{Bodies}
-use Rattle.request.specs.Read.{outside, combined, judged, limited, readOf}
-use Rattle.request.specs.Bytes.{matrixBody, bodiesOf, asBytes}
-use Rattle.request.specs.ThereAndBack.{Filled, Shaped}
-use Rattle.request.proofs.Ordered.{accepted, not-refused}
-use Rattle.request.proofs.Said.{read-judged, said}
+use Rattle.request.specs.Read.{readOf, allowedOf}
+use Rattle.request.specs.Bytes.{matrixBody, asBytes}
+use Rattle.request.specs.ThereAndBack.{Shaped}
+use Rattle.request.specs.Hand.{Says}
+use Rattle.request.proofs.Hand.{passed, passing, in-hand}
 use Rattle.promises.specs.Metered.{bytesWith, askedWith, FromMeter}
-
--- ---- another matrix section in an accepted request
-module _ (b : Bodies) (n : List ℕ) (allowed : isAllowed n ≡ true) where
-  abbrev with : Bodies
-  with = record { video = b .video; audio = b .audio; matrix = n }
-
-  has : eqb (length n) 0 ≡ false
-  has = ne-eqb (length n) 0 (omega (arith, sized n allowed))
-
-  still-inside : outside b ≡ false → outside with ≡ false
-  unfolding outside
-  still-inside e =
-      let v : Bool = videoOutside (videoIn (b .video)) in
-      let o = neither-left v _ e in
-      let s = neither-left (soundOutside (soundOf (b .audio))) _ (neither-right v _ e) in
-      rw (o, s, allowed) (ap (λ (t : Bool). not t && false) has)
-
-  still-apart : combined b ≡ false → combined with ≡ false
-  unfolding combined
-  still-apart e =
-      let c : Bool = not (eqb (videoIn (b .video) .encoding) 0) in
-      rw has (last c (neither-right (c && eqb (length (b .matrix)) 0) _ e))
-    where
-      last : (b : Bool) {c : Bool} → c ≡ false → ((b && false) || c) ≡ false
-      last true e = e
-      last false e = e
-
-  another : limited (judged b) .refusal ≡ 0 → limited (judged with) .refusal ≡ 0
-  another z = let j = accepted b z in not-refused with (j .mode) (still-inside (j .inside)) (still-apart (j .apart)) (j .within)
 
 -- a whole matrix in place of a request's own
 put : Matrix → Request → Request
 put m r = record { video = r .video; sound = r .sound; matrix = m }
 
-filled : (m : Matrix) → Whole m → Filled m
-filled m w = record { on = w .on; mode = omega (arith, w .mode); twelve = w .twelve; small = w .each }
+-- no row refuses it that does not refuse the request
+another : (r : Request) (m : Matrix) → Whole m → allowedOf r ≡ 0 → allowedOf (put m r) ≡ 0
+unfolding put
+another r m w z =
+    let p = passed r z in
+    let v : Bool = videoOutside (r .video) in
+    let c : Bool = not (eqb (r .video .encoding) 0) in
+    let o = neither-left v _ (p .inside) in
+    let s = neither-left (soundOutside (r .sound)) _ (neither-right v _ (p .inside)) in
+    passing (put m r) (record {
+      mode = p .mode;
+      inside = rw (o, s, by-mode m (w .on) (w .each), le-leb (m .mode) 2 (w .mode));
+      apart = rw (w .on) (last c (neither-right (c && eqb (r .matrix .on) 0) _ (p .apart)));
+      within = p .within;
+    })
+  where
+    last : (b : Bool) {c : Bool} → c ≡ false → ((b && false) || c) ≡ false
+    last true e = e
+    last false e = e
 
 own-body : (m : Matrix) → Whole m → matrixBody m ≡ bodyOf m
 own-body m w = rw (w .on) (ap (λ (cs : List ℕ). m .mode ∷ coefficientBytes cs) (sym (unmoved (m .coefficients) (w .each))))
 
-taken : (r : Request) (m : Matrix) → Shaped (r .matrix) → Whole m → readOf (asBytes r) .refusal ≡ 0
-    → readOf (asBytes (put m r)) ≡ record { refusal = 0; request = put m r }
+taken : (r : Request) (m : Matrix) → Shaped (r .matrix) → Whole m → readOf (asBytes r) .refusal ≡ 0 → Says (put m r)
 unfolding put
-taken r m s w z =
-    let number : Checked → ℕ = λ c. c .refusal in
-    let shaped : Shaped m = inr (filled m w) in
-    let judgedWith = another (bodiesOf r) (matrixBody m) (ap isAllowed (own-body m w) ∙ body-back m w .allowed)
-    (sym (ap number (read-judged r s)) ∙ z)
-    in
-    said (put m r) shaped (ap number (read-judged (put m r) shaped) ∙ judgedWith)
+taken r m s w z = in-hand (put m r) .says (w .twelve) (another r m w (sym (in-hand r .number s) ∙ z))
 
 in-request : (r : Request) (m : Matrix) → Shaped (r .matrix) → Whole m → readOf (asBytes r) .refusal ≡ 0
     → readOf (bytesWith (bodyOf m) r) ≡ record { refusal = 0; request = askedWith (bodyOf m) r }

@@ -5,17 +5,17 @@ use Rattle.registers.specs.Classes.{classAt}
 use Rattle.matrix.specs.Matrix.{fields}
 use Rattle.video.specs.Modes.{modeOf}
 use Rattle.video.specs.Tests.{videoOutside, videoCombined}
-use Rattle.request.specs.Sections.{walk, walked}
-use Rattle.request.specs.Bytes.{asBytes}
-use Rattle.request.specs.Read.{outside, combined, judged, readOf}
+use Rattle.matrix.specs.Tests.{matrixInRange}
+use Rattle.request.specs.Read.{allowedOf}
 use Rattle.chip.specs.Machine.{inUse, coefficients, gcInUse}
 use Rattle.chip.specs.Write.{put, stored, refuses, writeOf, vsyncOf}
 use Rattle.writes.specs.List.{isWritten}
 use Rattle.decode.specs.Extract.{extract}
-use Rattle.decode.specs.Decode.{endsIn, someEnds}
+use Rattle.plan.specs.Plan.{standsIn}
+use Rattle.decode.specs.Decode.{someEnds}
 use Rattle.vendor.specs.Found.{isBetween, isTurned, vetRefusal, vetOf}
 use Rattle.promises.specs.VendorCases.{VendorCases}
 
 pub vendor-cases : VendorCases
-unfolding merge classAt fields modeOf videoOutside videoCombined walk walked asBytes outside combined judged readOf inUse coefficients gcInUse put stored refuses writeOf vsyncOf isWritten extract endsIn someEnds isBetween isTurned vetRefusal vetOf
+unfolding merge classAt fields modeOf videoOutside videoCombined matrixInRange allowedOf inUse coefficients gcInUse put stored refuses writeOf vsyncOf isWritten extract standsIn someEnds isBetween isTurned vetRefusal vetOf
 vendor-cases = refl

@@ -9,13 +9,13 @@ use Rattle.video.specs.Tests.{editionOutside, shownOutside, videoOutside, asked
 use Rattle.video.specs.Fits.{VideoFits}
 use Rattle.video.proofs.Fits as video
 use Rattle.clock.specs.Clocks.{tmds}
-use Rattle.clock.specs.Answers.{clockOf}
 use Rattle.sound.specs.Tests.{isOn}
 use Rattle.request.specs.declared.Request.{Request}
 use Rattle.request.specs.Read.{readOf, allowedOf}
 use Rattle.request.specs.Bytes.{asBytes}
 use Rattle.request.specs.ThereAndBack.{Shaped, requestInEdition}
 use Rattle.request.specs.Hand.{Says}
+use Rattle.request.proofs.Said.{said}
 use Rattle.request.proofs.Hand.{out, together, Passed, passed, passing, in-hand}
 
 module _ (r : Request) where
@@ -49,7 +49,7 @@ module _ (r : Request) where
       last false false = refl
 
   by-edition : allowedOf d ≡ 0 → allowedOf r ≡ cond (editionOutside v) 5 (cond (askedUnderD v) 6 0)
-  unfolding allowedOf clockOf tmds
+  unfolding allowedOf tmds
   by-edition z = go (editionOutside v) refl (askedUnderD v) refl
     where
       p : Passed d
@@ -63,7 +63,7 @@ module _ (r : Request) where
 
   -- what is accepted is accepted under D
   pub allowed-under-d : VideoFits v → allowedOf r ≡ 0 → allowedOf d ≡ 0
-  unfolding clockOf tmds
+  unfolding tmds
   allowed-under-d f z =
       let p = passed r z in
       let inside = refuted (video.is-edition-outside v) (video.edition-inside v f) in
@@ -72,7 +72,7 @@ module _ (r : Request) where
 
 -- of a request, by its bytes
 pub accepted-under-d : (r : Request) → Shaped (r .matrix) → VideoFits (r .video) → readOf (asBytes r) .refusal ≡ 0 → Says (requestInEdition 0x00 r)
-accepted-under-d r s f z = in-hand (requestInEdition 0x00 r) .none .0 (allowed-under-d r f (sym (in-hand r .number s) ∙ z))
+accepted-under-d r s f z = said (requestInEdition 0x00 r) s (in-hand (requestInEdition 0x00 r) .number s ∙ allowed-under-d r f (sym (in-hand r .number s) ∙ z))
 
 pub answered-by-edition : (r : Request) → Shaped (r .matrix) → readOf (asBytes (requestInEdition 0x00 r)) .refusal ≡ 0
     → readOf (asBytes r) .refusal ≡ cond (editionOutside (r .video)) 5 (cond (askedUnderD (r .video)) 6 0)

@@ -76,6 +76,10 @@ pub on-small : (m : Matrix) → Shaped m → m .on ≤ 1
 on-small m (inl e) = rw e (lit≤ tt)
 on-small m (inr f) = omega (arith, f .on)
 
+pub twelve-there : (m : Matrix) → Shaped m → length (m .coefficients) ≡ 12
+twelve-there m (inl e) = rw e
+twelve-there m (inr f) = f .twelve
+
 pub coefficients-small : (m : Matrix) → Shaped m → (i : ℕ) → getD (m .coefficients) i 0 < 8192
 coefficients-small m (inl e) i = rw e (none-small i)
 coefficients-small m (inr f) i = f .small i

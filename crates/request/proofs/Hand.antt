@@ -2,28 +2,29 @@
 --     in-hand       the theorem
 --     Passed        what is known where no row of 4 to 6 and 17 refuses a request in hand
 use mathlib.Core.Path.{_≡_, refl, sym, ap, _∙_, subst}
-use mathlib.Core.Logic.{_⊎_, inl, inr}
+use mathlib.Core.Logic.{inl, inr, ⊎-elim}
 use mathlib.Core.Bool.{Bool, true, false, cond, not, _&&_, and-true}
-use mathlib.Core.List.{List, _∷_, _++_}
+use mathlib.Core.List.{List, _∷_}
 use Prim.Native.Nat.{ℕ, _<_}
 use native.Mathlib.Omega.{arith}
 use lib.Dec.{eqb, leb}
 use lib.ListN.{length, getD}
 use borrow.Author.Tests.{ne-eqb, not-false}
-use Rattle.refusals.specs.Tests.{Test, lowest, answer}
-use Rattle.lists.proofs.Both.{neither-right}
-use Rattle.refusals.proofs.Tests.{none-at}
-use Rattle.video.specs.declared.Video.{Video}
+use Rattle.refusals.specs.Tests.{lowest, answer}
+use Rattle.lists.proofs.Both.{neither-left, neither-right}
+use Rattle.refusals.proofs.Tests.{none-at, none-in-stages}
 use Rattle.video.specs.Video.{videoIn}
 use Rattle.video.specs.Modes.{offered}
 use Rattle.video.specs.Tests.{videoOutside}
+use Rattle.video.proofs.Fits.{pixel-inside}
+use Rattle.clock.specs.Clocks.{tmds}
+use Rattle.clock.specs.Answers.{aboveLimit, clockOf}
 use Rattle.sound.specs.Tests.{soundOutside}
 use Rattle.sound.proofs.Bodies as sound
 use Rattle.matrix.specs.declared.Matrix.{Matrix}
 use Rattle.matrix.specs.Matrix.{noMatrix}
 use Rattle.matrix.specs.Coefficient.{coefficientBytes}
 use Rattle.matrix.specs.Tests.{isAllowed, matrixInRange}
-use Rattle.matrix.specs.Body.{Whole}
 use Rattle.matrix.proofs.Body.{all-within}
 use Rattle.matrix.proofs.Held.{held, by-mode}
 use Rattle.matrix.proofs.Pairs.{length-bytes}
@@ -31,7 +32,7 @@ use Rattle.request.specs.declared.Request.{Request}
 use Rattle.request.specs.declared.Checked.{Checked}
 use Rattle.request.specs.Sections.{Bodies}
 use Rattle.request.specs.Request.{present, requestIn}
-use Rattle.request.specs.Read.{emptied, outsideIn, combinedIn, outside, combined, fieldTests, fieldsTests, limitsTests, judged, limitOf, limited, readOf}
+use Rattle.request.specs.Read.{emptied, outsideIn, combinedIn, outside, combined, fieldsTests, limitsTests, judged, limitOf, limited, readOf}
 use Rattle.request.specs.Read.{handTests, allowedOf}
 use Rattle.request.specs.Bytes.{matrixBody, bodiesOf, asBytes}
 use Rattle.request.specs.ThereAndBack.{Shaped}
@@ -39,6 +40,7 @@ use Rattle.request.specs.Fits.{Fits}
 use Rattle.request.specs.Hand.{Says, InHand}
 use Rattle.request.proofs.Said.{read-judged, said}
 use Rattle.request.proofs.Fits.{fits}
+use Rattle.request.proofs.Ordered.{limit-is}
 
 -- ---- the matrix in hand and its body
 
@@ -62,28 +64,12 @@ spoiled m (inl e) = rw (e, none-spoiled)
 spoiled m (inr f) =
     let b : matrixBody m ≡ m .mode ∷ coefficientBytes (m .coefficients) = rw (f .on) in
     let p : eqb (length (m .mode ∷ coefficientBytes (m .coefficients))) 0 ≡ false = ne-eqb (length (m .mode ∷ coefficientBytes (m .coefficients))) 0 (omega arith) in
-    rw (b, p, by-body (m .mode) (m .coefficients) (f .twelve) (f .small), by-mode m (f .on) (f .twelve) (f .small))
+    rw (b, p, by-body (m .mode) (m .coefficients) (f .twelve) (f .small), by-mode m (f .on) (f .small))
 
-pub shaped : (m : Matrix) → matrixInRange m ≡ true → Shaped m
-shaped m t = go (held m t)
-  where
-    go : (m ≡ noMatrix) ⊎ Whole m → Shaped m
-    go (inl e) = inl e
-    go (inr w) = inr (record { on = w .on; mode = omega (arith, w .mode); twelve = w .twelve; small = w .each })
+shaped : (m : Matrix) → length (m .coefficients) ≡ 12 → matrixInRange m ≡ true → Shaped m
+shaped m l t = ⊎-elim (λ e. inl e) (λ w. inr (record { on = w .on; mode = omega (arith, w .mode); twelve = w .twelve; small = w .each })) (held m l t)
 
--- ---- the stages joined
-
-joined : (v : Video) (out together : Bool) (later : List Test)
-    → lowest (fieldTests v out together ++ later)
-    ≡ cond (eqb (lowest (fieldTests v out together)) 0) (lowest later) (lowest (fieldTests v out together))
-joined v out together later = go (not (offered v)) out together
-  where
-    go : (a b c : Bool) → cond a 4 (cond b 5 (cond c 6 (lowest later)))
-        ≡ cond (eqb (cond a 4 (cond b 5 (cond c 6 0))) 0) (lowest later) (cond a 4 (cond b 5 (cond c 6 0)))
-    go true b c = refl
-    go false true c = refl
-    go false false true = refl
-    go false false false = refl
+-- ---- the stages
 
 -- what is judged, by its number
 its-number : (b : Bodies) → limited (judged b) .refusal ≡ cond (eqb (lowest (fieldsTests b)) 0) (limitOf (videoIn (b .video))) (lowest (fieldsTests b))
@@ -114,17 +100,9 @@ module _ (r : Request) where
   unfolding combined
   same-combined s = rw (sound.bodies .back (r .sound), bare (r .matrix) s)
 
-  -- as the code finds it, stage by stage
-  pub in-stages : (n : ℕ) (t : Bool) → t ≡ matrixInRange (r .matrix)
-      → n ≡ lowest (fieldTests (r .video) (outsideIn (r .video) (r .sound) (not t)) together)
-      → cond (eqb n 0) (limitOf (r .video)) n ≡ allowedOf r
-  unfolding allowedOf
-  in-stages n t e f = rw (f, e) (sym (joined (r .video) out together (limitsTests (r .video))))
-
   judged-in-hand : Shaped (r .matrix) → limited (judged (bodiesOf r)) .refusal ≡ allowedOf r
   unfolding allowedOf
-  judged-in-hand s =
-      its-number (bodiesOf r) ∙ rw (same-outside s, same-combined s) (sym (joined (r .video) out together (limitsTests (r .video))))
+  judged-in-hand s = its-number (bodiesOf r) ∙ rw (same-outside s, same-combined s)
 
   number : Shaped (r .matrix) → readOf (asBytes r) .refusal ≡ allowedOf r
   number s = ap (λ (c : Checked). c .refusal) (read-judged r s) ∙ judged-in-hand s
@@ -134,27 +112,35 @@ module _ (r : Request) where
     pub mode : offered (r .video) ≡ true
     pub inside : out ≡ false
     pub apart : together ≡ false
-    pub within : limitOf (r .video) ≡ 0
+    pub within : aboveLimit (tmds (r .video)) ≡ false
+
+  limited-by : offered (r .video) ≡ true → out ≡ false → eqb (clockOf (r .video) .refusal) 17 ≡ aboveLimit (tmds (r .video))
+  limited-by o i = limit-is (r .video) o (pixel-inside (r .video) (neither-left (videoOutside (r .video)) _ i))
 
   pub passed : allowedOf r ≡ 0 → Passed
   unfolding allowedOf
   passed z =
+      let n = none-in-stages (λ n. n) (limitOf (r .video)) (λ n. n) (lowest (handTests r)) refl z in
+      let mode = not-false (offered (r .video)) (none-at (handTests r) 0 (n .0)) in
+      let inside = none-at (handTests r) 1 (n .0) in
       record {
-        mode = not-false (offered (r .video)) (none-at (handTests r) 0 z);
-        inside = none-at (handTests r) 1 z;
-        apart = none-at (handTests r) 2 z;
-        within = rw (none-at (handTests r) 3 z);
+        mode = mode;
+        inside = inside;
+        apart = none-at (handTests r) 2 (n .0);
+        within = sym (limited-by mode inside) ∙ none-at (limitsTests (r .video)) 0 (n .1);
       }
 
   pub passing : Passed → allowedOf r ≡ 0
   unfolding allowedOf
-  passing p = rw (p .mode, p .inside, p .apart) (p .within)
+  passing p = rw (p .mode, p .inside, p .apart, limited-by (p .mode) (p .inside), p .within)
 
-  its-shape : allowedOf r ≡ 0 → Shaped (r .matrix)
-  its-shape z = shaped (r .matrix) (not-false _ (neither-right (soundOutside (r .sound)) _ (neither-right (videoOutside (r .video)) _ (passed z .inside))))
+  module _ (twelve : length (r .matrix .coefficients) ≡ 12) (z : allowedOf r ≡ 0) where
+    its-shape : Shaped (r .matrix)
+    its-shape = shaped (r .matrix) twelve
+        (not-false _ (neither-right (soundOutside (r .sound)) _ (neither-right (videoOutside (r .video)) _ (passed z .inside))))
 
-  says : allowedOf r ≡ 0 → Says r
-  says z = let s = its-shape z in said r s (number s ∙ z)
+    says : Says r
+    says = said r its-shape (number its-shape ∙ z)
 
   fitting : Says r → Fits r
   fitting e = subst Fits (ap (λ (c : Checked). c .request) e) (fits (asBytes r) (ap (λ (c : Checked). c .refusal) e))
@@ -163,6 +149,7 @@ module _ (r : Request) where
   in-hand =
       record {
         number = number;
-        none = (says, λ e. sym (number (fitting e .matrix)) ∙ ap (λ (c : Checked). c .refusal) e);
-        fits = λ z. fitting (says z);
+        says = says;
+        said = λ e. sym (number (fitting e .matrix)) ∙ ap (λ (c : Checked). c .refusal) e;
+        fits = λ l z. fitting (says l z);
       }

@@ -81,7 +81,7 @@ fields-given b bytes =
     (refl, failing (offered (videoIn (b .video))), λ _. (refl, is-outside b bytes, λ _. (refl, is-combined b, λ _. tt))))
 
 -- past the fields the mode is offered and each field in range, and so the clock's own number is 17 or none
-limit-is : (v : Video) → offered v ≡ true → pixelOutside v ≡ false → eqb (clockOf v .refusal) 17 ≡ aboveLimit (tmds v)
+pub limit-is : (v : Video) → offered v ≡ true → pixelOutside v ≡ false → eqb (clockOf v .refusal) 17 ≡ aboveLimit (tmds v)
 limit-is v o p = rw (number-is v, o, p) (go (aboveLimit (tmds v)))
   where
     go : (a : Bool) → eqb (cond a 17 0) 17 ≡ a

@@ -2,7 +2,7 @@
 -- and bytes, `OnSomeImage` (promises) `pairFor` to what is accepted.
 use mathlib.Core.Path.{_≡_}
 use mathlib.Core.Bool.{Bool, true, false, not, _&&_, _||_}
-use mathlib.Core.List.{List, [], _∷_, _++_}
+use mathlib.Core.List.{List, [], _∷_}
 use Prim.Native.Nat.{ℕ}
 use lib.Dec.{eqb}
 use lib.ListN.{length}
@@ -99,10 +99,9 @@ abbrev pub handTests : Request → List Test
 handTests r =
     let video : Video = r .video in
     fieldTests video (outsideIn video (r .sound) (not (matrixInRange (r .matrix)))) (combinedIn video (r .sound) (eqb (r .matrix .on) 0))
-    ++ limitsTests video
 
 unfoldable pub allowedOf : Request → ℕ
-allowedOf r = lowest (handTests r)
+allowedOf r = answer (lowest (handTests r)) (λ n. n) (limitOf (r .video))
 
 -- and row 17 of what is known of a request, which stays known
 abbrev pub limited : Checked → Checked

@@ -1,17 +1,15 @@
 -- What the tests of a sound decide, and what they say of each field of one that is accepted. Assumes nothing.
 use mathlib.Core.Path.{_≡_, refl, sym, ap}
 use mathlib.Core.Logic.{_≢_, _⊎_, inl, inr, ⊎-elim}
-use mathlib.Core.Bool.{Bool, true, false, false≢true, cond, not}
-use mathlib.Core.List.{List}
+use mathlib.Core.Bool.{Bool, true, false, false≢true}
 use Prim.Native.Nat.{ℕ, _<_, _≤_}
 use native.Mathlib.Omega.{arith}
 use lib.Dec.{eqb, ltb}
-use lib.ListN.{getD, length}
 use borrow.Author.Tests.{eqb-true, eqb-false, ltb-true, ltb-false}
 use Rattle.lists.proofs.Decides.{Decides, equal, less, opposite, either, together}
 use Rattle.sound.specs.declared.Sound.{Sound}
 use Rattle.sound.specs.declared.Sound.the-variants.{Off, On}
-use Rattle.sound.specs.Sound.{soundOf, SoundOutside}
+use Rattle.sound.specs.Sound.{SoundOutside}
 use Rattle.sound.specs.Tests.{isOn, soundOutside}
 use Rattle.sound.specs.Fits.{SoundFits}
 use Rattle.sound.specs.Theorems.{SoundRange}
@@ -24,14 +22,6 @@ pub is-outside : (s : Sound) → Decides (soundOutside s) (SoundOutside s)
 is-outside Off = record { passes = λ t. absurd (false≢true t); fails = λ f h. h }
 is-outside (On rate channels coherent) =
     either (less 6 rate) (either (together (opposite (equal channels 2)) (opposite (equal channels 8))) (less 1 coherent))
-
--- there is sound where the section is not empty
-pub on-where : (body : List ℕ) → isOn (soundOf body) ≡ not (eqb (length body) 0)
-on-where body = go (eqb (length body) 0)
-  where
-    go : (b : Bool) → isOn (cond b Off (On (getD body 0 0) (getD body 1 0) (getD body 2 0))) ≡ not b
-    go true = refl
-    go false = refl
 
 -- not above is at most; not neither of two is one of them
 at-most : (m n : ℕ) → (m < n → ⊥) → n ≤ m

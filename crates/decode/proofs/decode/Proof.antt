@@ -5,7 +5,7 @@ use lib.ListN.{length}
 use borrow.Author.Tests.{not-true, not-false}
 use borrow.Author.Needs.{needs}
 use Rattle.decode.specs.Decode.{someEnds}
-use Rattle.decode.proofs.Found.{matrix-shaped, small, found-by, seven, ten, eleven, none, refuses, accepts}
+use Rattle.decode.proofs.Found.{small, seven, ten, eleven, none, refuses, accepts}
 use Rattle.decode.proofs.decode.Statement.{statement}
 use Rattle.decode.proofs.decode.Tie as tie
 
@@ -14,7 +14,8 @@ sized : (c : tie.Else2) → length (c .before .before .before .before .args .ima
 sized c = c .before .if1 .left
 
 tested : (c : tie.After-ends) → c .ends .result ≡ someEnds (c .before .before .before .before .before .before .args .image .now)
-tested c = rw (c .before .extract .ensures) at (c .ends .ensures) ∙ found-by _ (sized (c .before .before))
+unfolding someEnds
+tested c = rw (c .before .extract .ensures) at (c .ends .ensures)
 
 refused-requires : tie.Need-refused-requires
 refused-requires c κs = search needs
@@ -37,7 +38,7 @@ extract-requires : tie.Need-extract-requires
 extract-requires c κs = search needs
 
 ends-requires : tie.Need-ends-requires
-ends-requires c κs = rw (c .extract .ensures) (matrix-shaped _ (sized (c .before)), sized (c .before))
+ends-requires c κs = search needs
 
 refused-requires-3 : tie.Need-refused-requires-3
 refused-requires-3 c κs = search needs
