@@ -11,7 +11,7 @@
 #   make install-tools  of these the tools (bin/station-review and so on), the pages and host/i2c.c (share/doc/station) alone
 #   make archive   the archive for TARGET alone, target/archive/TARGET/libstation.a
 #   make targets   the archives for other processors, tried under emulators: installs Debian's cross compilers and qemu, some minutes
-#   make helps     writes what --help prints into programs/help, which the scripts of tools/ show before anything is built
+#   make helps     writes what --help prints into programs/help, which the scripts of tools/ and host/run show before anything is built
 #   make pages     pages of vendors' lists and of runs, into target/pages: what tests/browser looks at
 #   make clean     takes away what make has built of C; what rt has proved and built (the rest of target/) stays
 #   make help      this list
@@ -56,9 +56,9 @@ install-tools: $(addprefix target/c/,$(TOOLS))
 	install -m 644 README.md $(TO)/share/doc/station
 	install -m 644 host/i2c.c $(TO)/share/doc/station/host
 	install -m 644 programs/words.c programs/words.h $(TO)/share/doc/station/programs
-helps: $(addprefix target/c/,$(TOOLS))
+helps: $(addprefix target/c/,$(TOOLS) host)
 	mkdir -p programs/help
-	setup=$$(tools/setup) && eval "$$setup" && for tool in $(TOOLS); do $$RUN target/c/$$tool --help >programs/help/$$tool || exit 1; done
+	setup=$$(tools/setup) && eval "$$setup" && for tool in $(TOOLS) host; do $$RUN target/c/$$tool --help >programs/help/$$tool || exit 1; done
 pages: $(addprefix target/c/,listing picture request review)
 	@tests/browser --pages
 clean:

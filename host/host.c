@@ -181,7 +181,7 @@ static int run(const struct events *e, const uint8_t *list, long cut, int brief)
     }
 }
 
-int main(int count, char **words) {
+static int host(int count, char **words) {
     static struct events events;
     struct request asked = request_of_text("vic 16 ycbcr422 hdmi audio 48kHz 8 coherent matrix table39");
     uint8_t image[STATION_IMAGE], list[STATION_WRITES], back[STATION_REQUEST];
@@ -256,3 +256,6 @@ int main(int count, char **words) {
     printf("%s\n", good ? "finished, and the request reads back" : "FAILED: another request reads back");
     return good ? ACCEPTED : REFUSED;
 }
+
+/* An output that cannot be written is no answer. */
+int main(int count, char **words) { return printed(host(count, words)); }
