@@ -23,7 +23,7 @@ use Rattle.request.specs.Sections.{Bodies}
 use Rattle.request.specs.Request.{present}
 use Rattle.request.specs.Read.{emptied, outsideIn, combinedIn, outside, combined, fieldTests, fieldsTests, judged}
 
--- a body that is empty is not allowed, and one that is not allowed gives no matrix
+-- a body that is empty is not allowed
 absent : (m : List ℕ) → present m ≡ false → isAllowed m ≡ false
 unfolding isAllowed
 absent m e = go (eqb (length m) 0) refl e
@@ -31,13 +31,6 @@ absent m e = go (eqb (length m) 0) refl e
     go : (b : Bool) → eqb (length m) 0 ≡ b → not b ≡ false → isAllowed m ≡ false
     go true q f = rw (eqb-true (length m) 0 q)
     go false q f = absurd (false≢true (sym f))
-
-off : (m : List ℕ) → eqb (allowedMatrix m .on) 0 ≡ not (isAllowed m)
-off m = go (isAllowed m)
-  where
-    go : (b : Bool) → eqb (cond b (matrixOf m) noMatrix .on) 0 ≡ not b
-    go true = refl
-    go false = refl
 
 -- where row 5 does not apply, what is read of the matrix's body is what the body says
 as-present : (m : List ℕ) → (present m && not (isAllowed m)) ≡ false → allowedMatrix m ≡ cond (present m) (matrixOf m) noMatrix
@@ -54,19 +47,19 @@ matrix-read b e =
     as-present (b .matrix) (neither-right (soundOutside (soundOf (b .audio))) _ (neither-right (videoOutside (videoIn (b .video))) _ e))
 
 -- what is judged, by what the code finds of each body
-module _ (b : Bodies) (v : Video) (s : Sound) (l : List ℕ) (m : Matrix) (n : ℕ)
-    (e : v ≡ videoIn (b .video)) (f : s ≡ soundOf (b .audio)) (g : l ≡ b .matrix) (h : m ≡ allowedMatrix (b .matrix))
-    (number : n ≡ lowest (fieldTests v (outsideIn v s (not (eqb (length l) 0) && eqb (m .on) 0)) (combinedIn v s (eqb (length l) 0)))) where
+module _ (b : Bodies) (v : Video) (s : Sound) (l : List ℕ) (t : Bool) (n : ℕ)
+    (e : v ≡ videoIn (b .video)) (f : s ≡ soundOf (b .audio)) (g : l ≡ b .matrix) (h : t ≡ isAllowed l)
+    (number : n ≡ lowest (fieldTests v (outsideIn v s (not (eqb (length l) 0) && not t)) (combinedIn v s (eqb (length l) 0)))) where
   its-number : n ≡ lowest (fieldsTests b)
   unfolding outside combined
-  its-number = number ∙ rw (e, f, g, h, off (b .matrix))
+  its-number = number ∙ rw (h, e, f, g)
 
   pub refused : (n ≡ 0 → ⊥) → emptied n ≡ judged b
   unfolding judged
   refused x = rw (← its-number, ne-eqb n 0 x)
 
-  pub taken : n ≡ 0 → record { refusal = 0; request = record { video = v; sound = s; matrix = m } } ≡ judged b
+  pub taken : (m : Matrix) → n ≡ 0 → m ≡ allowedMatrix l → record { refusal = 0; request = record { video = v; sound = s; matrix = m } } ≡ judged b
   unfolding judged
-  taken x =
+  taken m x k =
       let z : lowest (fieldsTests b) ≡ 0 = sym its-number ∙ x in
-      rw (z, e, f, h, matrix-read b (none-at (fieldsTests b) 1 z))
+      rw (z, e, f, k, g, matrix-read b (none-at (fieldsTests b) 1 z))

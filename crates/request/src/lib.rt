@@ -112,7 +112,7 @@ fn body(s: &[u8], ends: [usize; SECTIONS], k: usize) -> &[u8]
     &s[count + 1..end]
 }
 
-// What the sections ask for, where a walk found them all: rows 4 to 6. A matrix section that is there and outside its range gives no matrix.
+// What the sections ask for, where a walk found them all: rows 4 to 6. The matrix is read last, straight into the answer.
 fn judge(s: &[u8], ends: [usize; SECTIONS]) -> Checked
     requires { ⌜ EndsAt (now s) ends ⌝ }
     ensures { λ r. ⌜ r ≡ judged (bodiesIn (walked (now (s .entry)))) ⌝ }
@@ -120,12 +120,12 @@ fn judge(s: &[u8], ends: [usize; SECTIONS]) -> Checked
     let video = video::video_in(body(s, ends, VIDEO));
     let sound = sound::sound_in(body(s, ends, AUDIO));
     let section = body(s, ends, MATRIX);
-    let matrix = matrix::read(section);
     let bare = section.len() == 0;
-    let number = fields(video, sound, bare, !bare & (matrix.on == 0));
+    let number = fields(video, sound, bare, !bare & !matrix::fits(section));
     if number != Refusal::NONE {
         return refused(number);
     }
+    let matrix = matrix::read(section);
     Checked {
         refusal: Refusal::NONE,
         request: Request {

@@ -3,19 +3,23 @@ use mathlib.Core.Path.{_≡_, refl, sym, ap, ap₂, _∙_}
 use mathlib.Core.Logic.{_≢_}
 use mathlib.Core.Bool.{Bool, true, false, cond, not, _&&_, _||_}
 use mathlib.Core.List.{List, _∷_, _++_}
-use Prim.Native.Nat.{ℕ, suc, _+_, _*_, _/_, _%_, _≤_, _<_}
+use Prim.Native.Nat.{ℕ, _+_, _/_, _%_, _≤_, _<_}
 use native.Mathlib.Omega.{arith}
 use lib.Dec.{eqb}
-use lib.ListN.{length, getD, set, take, drop, drop-of-length-le, length-drop}
-use lib.Seq.{sets, take-all, length-take-le}
+use lib.ListN.{length, getD, take, drop, length-drop}
+use lib.Seq.{take-all, length-take-le}
 use borrow.Author.Tests.{eq-eqb, ne-eqb, lt-ltb, le-ltb}
 use Rattle.lists.proofs.Decides.{less}
-use Rattle.lists.proofs.Emit.{sets-front}
+use Rattle.lists.specs.Over.{over}
+use Rattle.lists.proofs.Copied.{over-front}
 use Rattle.refusals.specs.Rows.{Given}
 use Rattle.refusals.proofs.Tests.{lowest-given, numbered}
-use Rattle.matrix.specs.Coefficient.{word, lowThirteen, highByte, coefficientBytes}
+use Rattle.matrix.specs.Coefficient.{coefficientBytes}
 use Rattle.matrix.specs.Matrix.{fields}
-use Rattle.matrix.proofs.Pairs.{two-left, fields-small, length-fields, length-bytes, fields-said}
+use Rattle.matrix.specs.Read.{twelveOf}
+use Rattle.matrix.specs.Body.{bodyOf}
+use Rattle.matrix.proofs.Body.{unmoved}
+use Rattle.matrix.proofs.Pairs.{fields-small, length-fields, length-bytes, fields-said}
 use Rattle.chip.specs.declared.Chip.{Chip}
 use Rattle.views.specs.declared.converter.Count.{Count}
 use Rattle.chip.specs.Machine.{matrix, converter, registersOf, up, holdsOf, inUse, coefficients, modeInUse}
@@ -25,24 +29,10 @@ use Rattle.views.specs.Refusals.{matrixRules, MatrixRefusals}
 use Rattle.bits.proofs.Laws.{two-bits-code}
 use Rattle.views.proofs.Seen.{unlike}
 
--- a turn stores one coefficient more: what is stored, and what is left to store, is the whole
-pub turn : (bytes out : List ℕ) (i h l f : ℕ) → 2 * i + 1 < length bytes → f ≡ lowThirteen (word (getD bytes (2 * i) 0) (getD bytes (2 * i + 1) 0))
-    → h ≡ highByte (lowThirteen f) → l ≡ f % 256
-    → sets (set (set out (2 * i + 1) h) (2 * i + 1 + 1) l) (2 * (i + 1) + 1) (coefficientBytes (fields (drop (2 * (i + 1)) bytes)))
-    ≡ sets out (2 * i + 1) (coefficientBytes (fields (drop (2 * i) bytes)))
-unfolding fields
-turn bytes out i h l f b e p q =
-    let n : 2 * (i + 1) + 1 ≡ suc (suc (2 * i + 1)) = omega arith in
-    let m : 2 * i + 1 + 1 ≡ suc (2 * i + 1) = omega arith in
-    let d : 2 * (i + 1) ≡ suc (suc (2 * i)) = omega arith in
-    let j : 2 * i + 1 ≡ suc (2 * i) = omega arith in
-    let s : lowThirteen f ≡ f = omega arith in
-    rw (n, m, d, p, q, s, e, j) (sym (ap (λ (s : List ℕ). sets out (suc (2 * i)) (coefficientBytes (fields s))) (two-left bytes (2 * i) (omega arith))))
-
--- after the last turn nothing is left
-pub turned : (bytes out whole : List ℕ) (i : ℕ) → length bytes ≤ 2 * i → sets out (2 * i + 1) (coefficientBytes (fields (drop (2 * i) bytes))) ≡ whole → out ≡ whole
-unfolding fields
-turned bytes out whole i h e = rw (drop-of-length-le bytes h) at e
+-- a matrix of 24 bytes, as the request has it
+pub as-sent : (mode : ℕ) (bytes : List ℕ) → length bytes ≡ 24
+    → bodyOf (record { on = 1; mode = mode; coefficients = twelveOf bytes }) ≡ mode ∷ coefficientBytes (fields bytes)
+as-sent mode bytes l = rw (l, unmoved (fields bytes) (fields-small bytes))
 
 module _ (image buffer : List ℕ) (mark : ℕ) (out : List ℕ) where
   -- the refusal, and the answer by its number
@@ -104,15 +94,15 @@ module _ (image buffer : List ℕ) (mark : ℕ) (out : List ℕ) where
         let f = length-fields bytesUsed in
         omega (arith, in-use-long, length-bytes (fields bytesUsed))
 
-    -- the mode stored first, and the coefficients of the bytes in use after it
+    -- the mode, and the coefficients of the bytes in use after it, over the lent bytes
     pub written : (bytes : List ℕ) → bytes ≡ inUse converter matrix (askedOf image buffer mark) → 25 ≤ length out
-        → {after : List ℕ} → after ≡ sets (set out 0 (getD image 0x18 0 / 32 % 4)) 1 (coefficientBytes (fields bytes))
+        → {after : List ℕ} → after ≡ over (getD image 0x18 0 / 32 % 4 ∷ coefficientBytes (fields bytes)) out
         → (record { refusal = 0; count = 25 } ≡ matrixAnswer image buffer out) × (after ≡ matrixOut image buffer mark out)
     unfolding matrixAnswer matrixOut matrixRefusal matrixBytes coefficients
     written bytes e h f = rw (eq-eqb _ _ l, eq-eqb _ _ k, le-ltb _ _ h) (
       refl,
-      f ∙ ap₂ (λ (m : ℕ) (b : List ℕ). sets out 0 (m ∷ coefficientBytes (fields b))) (sym (two-bits-code 5 (getD image 0x18 0))) e
-          ∙ sets-front (matrixBytes image buffer mark) out (rw bytes-long h) ∙ ap (λ (n : ℕ). matrixBytes image buffer mark ++ drop n out) bytes-long,
+      f ∙ ap₂ (λ (m : ℕ) (b : List ℕ). over (m ∷ coefficientBytes (fields b)) out) (sym (two-bits-code 5 (getD image 0x18 0))) e
+          ∙ over-front (matrixBytes image buffer mark) out (rw bytes-long h) ∙ ap (λ (n : ℕ). matrixBytes image buffer mark ++ drop n out) bytes-long,
     )
 
 -- what a state of the machine shows

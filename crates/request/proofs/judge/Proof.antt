@@ -3,7 +3,6 @@ use mathlib.Core.Path.{ap, _∙_}
 use borrow.Author.Needs.{needs}
 use Rattle.video.specs.Video.{videoIn}
 use Rattle.sound.specs.Sound.{soundOf}
-use Rattle.matrix.specs.Read.{allowedMatrix}
 use Rattle.request.proofs.Judged.{refused, taken}
 use Rattle.request.proofs.judge.Statement.{statement}
 use Rattle.request.proofs.judge.Tie as tie
@@ -23,8 +22,8 @@ sound-in-requires c κs = search needs
 body-requires-3 : tie.Need-body-requires-3
 body-requires-3 c κs = search needs
 
-read-requires : tie.Need-read-requires
-read-requires c κs = search needs
+fits-requires : tie.Need-fits-requires
+fits-requires c κs = search needs
 
 fields-requires : tie.Need-fields-requires
 fields-requires c κs = search needs
@@ -35,31 +34,36 @@ refused-requires c κs = search needs
 returns : tie.Need-returns
 returns c =
     let f = c .before .before in
-    let r = f .before .before in
-    let s = r .before .before in
+    let m = f .before in
+    let s = m .before .before in
     let v = s .before .before in
     c .refused .ensures
     ∙ refused _ _ _ _ _ _
     (v .video-in .ensures ∙ ap videoIn (v .before .body .ensures))
     (s .sound-in .ensures ∙ ap soundOf (s .before .body2 .ensures))
-    (r .before .body3 .ensures)
-    (r .read .ensures ∙ ap allowedMatrix (r .before .body3 .ensures))
+    (m .before .body3 .ensures)
+    (m .fits2 .ensures)
     (f .fields .ensures)
     (c .before .if1 .taken)
 
+read-requires : tie.Need-read-requires
+read-requires c κs = search needs
+
 returns-2 : tie.Need-returns-2
 returns-2 c =
-    let f = c .before in
-    let r = f .before .before in
-    let s = r .before .before in
+    let f = c .before .before in
+    let m = f .before in
+    let s = m .before .before in
     let v = s .before .before in
     taken _ _ _ _ _ _
     (v .video-in .ensures ∙ ap videoIn (v .before .body .ensures))
     (s .sound-in .ensures ∙ ap soundOf (s .before .body2 .ensures))
-    (r .before .body3 .ensures)
-    (r .read .ensures ∙ ap allowedMatrix (r .before .body3 .ensures))
+    (m .before .body3 .ensures)
+    (m .fits2 .ensures)
     (f .fields .ensures)
-    (c .if1 .left)
+    _
+    (c .before .if1 .left)
+    (c .read .ensures)
 
 pub judge-spec : {M : Type 1} → statement M
 judge-spec =
@@ -70,8 +74,9 @@ judge-spec =
     body-requires-2
     sound-in-requires
     body-requires-3
-    read-requires
+    fits-requires
     fields-requires
     refused-requires
     returns
+    read-requires
     returns-2)

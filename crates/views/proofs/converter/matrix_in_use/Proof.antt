@@ -2,7 +2,7 @@
 use mathlib.Core.Path.{_≡_, sym, ap, _∙_}
 use mathlib.Core.Bool.{Bool, true, false, _||_}
 use native.Mathlib.Omega.{arith}
-use lib.ListN.{length, getD, length-set}
+use lib.ListN.{length, getD}
 use Rattle.chip.specs.Machine.{matrix, up}
 use Rattle.views.specs.Entry.{marked}
 use Rattle.views.proofs.Seen.{both-long}
@@ -37,14 +37,11 @@ returns-2 c =
     let a = start e .args in
     refused (a .image .now) (a .coefficients .now) (a .mark) (a .out .now) 10 (omega arith) (ten _ _ (a .mark) (a .out .now) (long e .0) (long e .1) (c .if2 .taken))
 
-cast-out : tie.Need-cast-out
-cast-out c = search needs
+cast-mode : tie.Need-cast-mode
+cast-mode c = search needs
 
-shared-slice-read-out : tie.Need-shared-slice-read-out
-shared-slice-read-out c = let l = long (c .before .before) in omega arith
-
-slice-write-out : tie.Need-slice-write-out
-slice-write-out c = search needs
+shared-slice-read-mode : tie.Need-shared-slice-read-mode
+shared-slice-read-mode c = let l = long (c .before .before) in omega arith
 
 cast-is-held : tie.Need-cast-is-held
 cast-is-held c = search needs
@@ -55,11 +52,11 @@ shared-slice-read-is-held c = let l = long (c .before .before .before) in omega 
 is-held-requires : tie.Need-is-held-requires
 is-held-requires c κs = search needs
 
-store-coefficients-requires : tie.Need-store-coefficients-requires
-store-coefficients-requires c κs = let l = long (past (c .before .before)) in (l .1, simp length-set (omega arith))
+store-matrix-requires : tie.Need-store-matrix-requires
+store-matrix-requires c κs = long (past (c .before .before)) .1
 
 same-length : tie.Need-same-length
-same-length c = c .before .before .store-coefficients .kept .1 .0 ∙ simp length-set
+same-length c = c .before .before .store-matrix .kept .1 .1 .0
 
 returns-3 : tie.Need-returns-3
 returns-3 c =
@@ -68,7 +65,7 @@ returns-3 c =
     let a = start e .args in
     written (a .image .now) (a .coefficients .now) (a .mark) (a .out .now) (long e .0) (long e .1) _
     (latched _ _ (a .mark) (a .out .now) (long e .0) (long e .1) (asked (i .before) true (i .if3 .taken))) (omega arith)
-    (c .before .before .store-coefficients .ensures)
+    (c .before .before .store-matrix .ensures)
 
 cast-start : tie.Need-cast-start
 cast-start c = search needs
@@ -79,20 +76,20 @@ cast-end c = search needs
 add-end : tie.Need-add-end
 add-end c = search needs
 
-sub-store-coefficients : tie.Need-sub-store-coefficients
-sub-store-coefficients c = search needs
+sub-store-matrix : tie.Need-sub-store-matrix
+sub-store-matrix c = search needs
 
-part-store-coefficients-start : tie.Need-part-store-coefficients-start
-part-store-coefficients-start c = search needs
+part-store-matrix-start : tie.Need-part-store-matrix-start
+part-store-matrix-start c = search needs
 
-part-store-coefficients-end : tie.Need-part-store-coefficients-end
-part-store-coefficients-end c = let l = long (past (c .before)) in omega arith
+part-store-matrix-end : tie.Need-part-store-matrix-end
+part-store-matrix-end c = let l = long (past (c .before)) in omega arith
 
-store-coefficients-requires-2 : tie.Need-store-coefficients-requires-2
-store-coefficients-requires-2 c κs = search needs
+store-matrix-requires-2 : tie.Need-store-matrix-requires-2
+store-matrix-requires-2 c κs = search needs
 
 same-length-2 : tie.Need-same-length-2
-same-length-2 c = c .before .before .store-coefficients2 .kept .1 .0 ∙ simp length-set
+same-length-2 c = c .before .before .store-matrix2 .kept .1 .1 .0
 
 returns-4 : tie.Need-returns-4
 returns-4 c =
@@ -101,7 +98,7 @@ returns-4 c =
     let a = start e .args in
     written (a .image .now) (a .coefficients .now) (a .mark) (a .out .now) (long e .0) (long e .1) _
     (let-go _ _ (a .mark) (a .out .now) (long e .0) (long e .1) (asked (i .before) false (i .if3 .left))) (omega arith)
-    (c .before .before .store-coefficients2 .ensures)
+    (c .before .before .store-matrix2 .ensures)
 
 pub matrix-in-use-spec : {M : Type 1} → statement M
 matrix-in-use-spec =
@@ -109,21 +106,20 @@ matrix-in-use-spec =
     (tie.spec
     returns
     returns-2
-    cast-out
-    shared-slice-read-out
-    slice-write-out
+    cast-mode
+    shared-slice-read-mode
     cast-is-held
     shared-slice-read-is-held
     is-held-requires
-    store-coefficients-requires
+    store-matrix-requires
     same-length
     returns-3
     cast-start
     cast-end
     add-end
-    sub-store-coefficients
-    part-store-coefficients-start
-    part-store-coefficients-end
-    store-coefficients-requires-2
+    sub-store-matrix
+    part-store-matrix-start
+    part-store-matrix-end
+    store-matrix-requires-2
     same-length-2
     returns-4)
