@@ -29,7 +29,7 @@
 /* The version of this header, one for each landing; CHANGELOG.md says what came with it. */
 #define STATION_VERSION "5.4.0"
 #define STATION_MAJOR 5
-#define STATION_MINOR 3
+#define STATION_MINOR 4
 #define STATION_PATCH 0
 
 /* Lengths in bytes. */

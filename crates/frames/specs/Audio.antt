@@ -1,5 +1,5 @@
 -- Document 01, "InfoFrames": the audio frame, as the call on single fields answers it. Of the packet that is sent `AnyCut.newAudio` speaks, by
--- `audioPacket` (promises).
+-- `audioPacket` (plan).
 use mathlib.Core.Bool.{cond}
 use mathlib.Core.List.{List, [], _∷_}
 use Prim.Native.Nat.{ℕ, _-_}

@@ -1,4 +1,4 @@
--- Document 01, "InfoFrames": the checksum and the AVI frame (the audio frame: `Audio`, and `audioPacket` of promises); Q is document 02's, request 01, PR request 06's, and the
+-- Document 01, "InfoFrames": the checksum and the AVI frame (the audio frame: `Audio`, and `audioPacket` of plan); Q is document 02's, request 01, PR request 06's, and the
 -- bits above PR request 11's.
 use mathlib.Core.Bool.{cond}
 use mathlib.Core.List.{List, [], _∷_, _++_}

@@ -1,5 +1,5 @@
 -- What planning answers and leaves in the buffer, as the code makes it. `PlanRefusals` (Rules) ties the refusals to document 01's rows,
--- `Demand2.listed` (promises) the count and the buffer to the list, `ExactlyWhen` (decode) `standsIn`.
+-- `Demand2.listed` (promises) the count and the buffer to the list; `InHand` (request) and `ExactlyWhen` (decode) are about `standsIn`.
 use mathlib.Core.Path.{_≡_}
 use mathlib.Core.Bool.{Bool, not, _&&_}
 use mathlib.Core.List.{List, [], _∷_, _++_}
@@ -58,6 +58,6 @@ planBuffer input image buffer = answer (readOf input .refusal) (λ _. buffer) (b
 abbrev pub Plans : List ℕ → List ℕ → List ℕ → Planned → List ℕ → Type 0
 Plans input image buffer answer left = (answer ≡ planOf input image buffer) × (left ≡ planBuffer input image buffer)
 
--- a request that is accepted on some image, and whose list would leave this one as it is (decode's `ExactlyWhen` is about it)
+-- a request that is accepted on some image, and whose list would leave this one as it is (accepted: by `InHand` of request, where it has twelve coefficients)
 unfoldable pub standsIn : Request → List ℕ → Bool
 standsIn r image = eqb (allowedOf r) 0 && eqb (length image) 256 && eqb (pairFor r .refusal) 0 && standsBelow (wanted r) image 256

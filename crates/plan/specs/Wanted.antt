@@ -1,5 +1,6 @@
 -- The byte that a request wants in each register: what the table of named fields places there. And how the code makes these bytes, group by
--- group: bytes stored one after the other. `Demand2.fields` (promises) says that the finished image shows each row of the table.
+-- group: bytes stored one after the other. `Demand2.fields` (promises) says that the finished image shows each row of the
+-- table, `AllNamed` that the rows of a register are its named bits, each once, `Landed` where each byte of a request lands, in numbers.
 use mathlib.Core.List.{List, [], _∷_, _++_, map}
 use Prim.Native.Nat.{ℕ, suc, _+_, _*_, _^_}
 use lib.Dec.{eqb}

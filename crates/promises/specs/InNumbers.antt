@@ -321,13 +321,18 @@ landings =
     lands sounded 3 0x55 (0 ∷ 1 ∷ 2 ∷ []) (0x10 ∷ 0x30 ∷ 0x50 ∷ []) ∷
     lands sounded 3 0x56 (0 ∷ 1 ∷ 2 ∷ []) (0x18 ∷ 0x58 ∷ 0x58 ∷ []) ∷
     lands sounded 3 0x57 (0 ∷ 1 ∷ 2 ∷ []) (0x04 ∷ 0x00 ∷ 0x00 ∷ []) ∷
-    -- the link: the GC and AVI enables, HDMI/DVI; and, silent and without a matrix, the I2S inputs, the rate code, the mode
+    -- the link: the GC and AVI enables, HDMI/DVI; and, silent and without a matrix, the I2S inputs, CTS select, the rate code, the mode, the
+    -- audio packet
     lands silent 4 0x40 (0 ∷ 1 ∷ []) (0x00 ∷ 0x80 ∷ []) ∷
     lands silent 4 0x44 (0 ∷ 1 ∷ []) (0x00 ∷ 0x10 ∷ []) ∷
     lands silent 4 0xAF (0 ∷ 1 ∷ []) (0x04 ∷ 0x06 ∷ []) ∷
     lands silent 4 0x0C (0 ∷ 1 ∷ []) (0x00 ∷ 0x00 ∷ []) ∷
+    lands silent 4 0x0A (0 ∷ 1 ∷ []) (0x00 ∷ 0x00 ∷ []) ∷
     lands silent 4 0x15 (0 ∷ 1 ∷ []) (0x20 ∷ 0x20 ∷ []) ∷
     lands silent 4 0x18 (0 ∷ 1 ∷ []) (0x28 ∷ 0x28 ∷ []) ∷
+    lands silent 4 0x72 (0 ∷ 1 ∷ []) (0x71 ∷ 0x71 ∷ []) ∷
+    lands silent 4 0x73 (0 ∷ 1 ∷ []) (0x00 ∷ 0x00 ∷ []) ∷
+    lands silent 4 0x76 (0 ∷ 1 ∷ []) (0x00 ∷ 0x00 ∷ []) ∷
     -- the range: Q
     lands silent 5 0x54 (0 ∷ 1 ∷ []) (0x41 ∷ 0x3D ∷ []) ∷
     lands silent 5 0x57 (0 ∷ 1 ∷ []) (0x04 ∷ 0x08 ∷ []) ∷
@@ -347,14 +352,16 @@ landings =
     lands sounded 9 0x08 (0 ∷ 1 ∷ 2 ∷ 3 ∷ 4 ∷ 5 ∷ 6 ∷ []) (0x69 ∷ 0x75 ∷ 0x69 ∷ 0x75 ∷ 0x69 ∷ 0x75 ∷ 0x69 ∷ []) ∷
     lands sounded 9 0x09 (0 ∷ 1 ∷ 2 ∷ 3 ∷ 4 ∷ 5 ∷ 6 ∷ []) (0x93 ∷ 0x4E ∷ 0x93 ∷ 0x4E ∷ 0x93 ∷ 0x4E ∷ 0x93 ∷ []) ∷
     lands sounded 9 0x15 (0 ∷ 1 ∷ 2 ∷ 3 ∷ 4 ∷ 5 ∷ 6 ∷ []) (0x30 ∷ 0x00 ∷ 0x20 ∷ 0x80 ∷ 0xA0 ∷ 0xC0 ∷ 0xE0 ∷ []) ∷
-    -- the channels: the I2S inputs; the audio packet
+    -- the channels: the I2S inputs; the enables, whatever they are; the audio packet
     lands sounded 10 0x0C (2 ∷ 8 ∷ []) (0x04 ∷ 0x3C ∷ []) ∷
+    lands sounded 10 0x44 (2 ∷ 8 ∷ []) (0x78 ∷ 0x78 ∷ []) ∷
     lands sounded 10 0x72 (2 ∷ 8 ∷ []) (0x70 ∷ 0x57 ∷ []) ∷
     lands sounded 10 0x73 (2 ∷ 8 ∷ []) (0x01 ∷ 0x07 ∷ []) ∷
     lands sounded 10 0x76 (2 ∷ 8 ∷ []) (0x00 ∷ 0x13 ∷ []) ∷
-    -- coherent: CTS, and 0x0A[7]
+    -- coherent: CTS, and 0x0A[7]; the enables either way
     lands sounded 11 0x08 (0 ∷ 1 ∷ []) (0x00 ∷ 0x69 ∷ []) ∷
     lands sounded 11 0x0A (0 ∷ 1 ∷ []) (0x00 ∷ 0x80 ∷ []) ∷
+    lands sounded 11 0x44 (0 ∷ 1 ∷ []) (0x78 ∷ 0x78 ∷ []) ∷
     -- the mode
     lands sounded 13 0x18 (0 ∷ 1 ∷ 2 ∷ []) (0x8C ∷ 0xAC ∷ 0xCC ∷ []) ∷ []
 

@@ -1,4 +1,5 @@
--- Document 01, "The request", the rates; and section 5 of 000, 0x15[7:4], their codes: one table.
+-- Document 01, "The request", the rates; and section 5 of 000, 0x15[7:4], their codes: one table. Of 88.2 kHz 000 prints 1100 there, which is
+-- 176.4 kHz; its own list under 0x04 has 1000 (docs/DECISIONS.md, row 6).
 use mathlib.Core.List.{List, [], _∷_}
 use Prim.Native.Nat.{ℕ}
 use lib.ListN.{getD}

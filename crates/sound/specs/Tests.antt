@@ -1,4 +1,4 @@
--- The tests that decide rows 5 and 6 of the audio section, as `sound::in_range` and `request::rows` say.
+-- The tests that decide rows 5 and 6 of the audio section, as `request::rows` says.
 use mathlib.Core.Bool.{Bool, true, false, not, _&&_, _||_}
 use lib.Dec.{eqb, ltb}
 use Rattle.sound.specs.declared.Sound.{Sound}

@@ -58,7 +58,7 @@ oneOf moved old new x = not moved || (sameList x old || sameList x new)
 abbrev pub isKept : Moving → (List ℕ → List ℕ) → List ℕ → List ℕ → ℕ → List ℕ → Bool
 isKept m read old new a image = oneOf (mayMove m a) old new (read (take (m .count) (drop (m .first) image)))
 
--- the cut after a write: each group is kept, and muted. `held` is the byte of the packet holds before the write; `image`, `packet` and
+-- the cut after a write: each group is kept; and it is muted. `held` is the byte of the packet holds before the write; `image`, `packet` and
 -- `waiting` are the state after it.
 abbrev pub isWhole : InUse → InUse → ℕ → ℕ → List ℕ → Bool → Bool
 isWhole old new a held image waiting =
