@@ -257,9 +257,12 @@ static void print_findings(const struct review *v) {
     for (int f = 0; f < FAULTS; f++)
         if (!pairs_of_fault(v, f, &first)) rest += print_mends(v, (uint32_t)f);
     if (v->mend.accepted)
-        printf("<p><b>With %s the library accepts the list</b> (it was tried). The whole list with %s stands at the end of this page.</p>\n",
-               v->mend.changes == 1 ? "this change" : "these changes", v->mend.changes == 1 ? "it" : "them");
+        printf("<p><b>With %s the library accepts the list</b> (it was tried).%s The whole list with %s stands at the end of this page.</p>\n",
+               v->mend.changes == 1 ? "this change" : "these changes together", v->mend.changes == 1 ? "" : " Line numbers are those of the vendor's text.",
+               v->mend.changes == 1 ? "it" : "them");
     else printf("<p><b>No changes were found with which the library accepts the list.</b> Send the request below instead.</p>\n");
+    char text[TEXT_OF_FAULTS];
+    if (v->mend.accepted && text_of_taken_back(v, text)) printf("<p><b>%s</b></p>\n", text);
 }
 
 /* The mended list, its changes marked: + and -, not by colour alone. */

@@ -240,10 +240,28 @@ int tell_worth_knowing(const struct review *v, void (*tell)(const char *text)) {
                  "into use: some are written after the hold is lowered. No rule forbids it.", first, pairs > 1 ? " or a later one" : "");
         tell(text), told++;
     }
-    if (j->count == 1 && j->old.mute == STATION_OPEN)
+    if (j->count == 1 && j->old.mute == STATION_OPEN && !v->verdict.refusal)
         tell("the list is one pair, and the picture is open: one pair need not mute, so whoever looks sees it act. No rule forbids it."), told++;
     if (j->count == 0) tell("the list is empty: it writes nothing, and what is judged is the registers as they stand."), told++;
     return (int)told;
+}
+
+/* Holds, the mute and the sums follow from the rest, so a mend of these takes nothing back. */
+int text_of_taken_back(const struct review *v, char text[TEXT_OF_FAULTS]) {
+    int told = 0;
+    snprintf(text, TEXT_OF_FAULTS, "This changes what the list sets:");
+    for (uint32_t i = 0; i < v->mend.count; i++) {
+        const struct mended *p = &v->mend.pairs[i];
+        uint32_t named = station_class(p->address).named;
+        if (p->address == 0x1A) named &= ~0x20u;
+        if (p->address == 0x4A || p->address == 0x4B || p->address == 0x54 || p->address == 0x72 || p->change != CHANGED) continue;
+        if (!((p->was ^ p->value) & named)) continue;
+        if (told < 6) add(text, TEXT_OF_FAULTS, "%s %s (0x%02X) from %02X to %02X", told ? "," : "", name_of_register(p->address), p->address, p->was, p->value);
+        told++;
+    }
+    if (told > 6) add(text, TEXT_OF_FAULTS, ", and %d more", told - 6);
+    add(text, TEXT_OF_FAULTS, ". See that it is what the vendor means.");
+    return told;
 }
 
 int tell_notes(const struct review *v, void (*tell)(const char *text)) {
@@ -379,6 +397,8 @@ static void print_findings(const struct review *v) {
     if (v->mend.accepted)
         printf("With %s the library accepts it; --mended prints the list so.\n", v->mend.changes == 1 ? "this change" : "these changes");
     else printf("No changes were found with which the library accepts it: send the request below\ninstead.\n");
+    char taken_back[TEXT_OF_FAULTS];
+    if (v->mend.accepted && text_of_taken_back(v, taken_back)) print_wrapped(0, 0, taken_back);
     printf("\n");
 }
 

@@ -48,6 +48,9 @@ int tell_bad_end(const struct chip *c, void (*tell)(const char *text));
 /* What no rule forbids and a reviewer should know, likewise. */
 int tell_worth_knowing(const struct review *v, void (*tell)(const char *text));
 
+/* What the mends change of named bits that the list sets, in a sentence; how many registers. A mend makes a list acceptable, and not right. */
+int text_of_taken_back(const struct review *v, char text[TEXT_OF_FAULTS]);
+
 /* What was taken for what was not given, likewise. */
 int tell_notes(const struct review *v, void (*tell)(const char *text));
 
