@@ -39,9 +39,9 @@ tmds video = tmdsOf (modeOf (video .vic) .hertz) (video .family) (depth video) (
 abbrev pub limit : ℕ
 limit = 225000000
 
--- row 17, "a clock above the limit": the limits, a stage of each call on a video
+-- row 17, "a clock above the limit", of each call on a video
 abbrev pub AboveLimit : Clock → Type 0
 AboveLimit clock = limit * clock .den < clock .num
 
-abbrev pub limitsRows : Video → List Condition
-limitsRows video = clockAbove when AboveLimit (tmds video) ∷ []
+abbrev pub aboveRows : Video → List Condition
+aboveRows video = clockAbove when AboveLimit (tmds video) ∷ []

@@ -54,7 +54,7 @@ module _ (r : Request) (twelve : length (r .matrix .coefficients) ≡ 12) where
       let p = passed (requestInFamily 1 r) z in
       let i : videoOutside v ≡ false = neither-left (videoOutside v) _ (p .inside) in
       passing (requestInFamily 0 r)
-      (record { mode = first-offered v (p .mode); inside = p .inside; apart = p .apart; within = first-within v (p .mode) i (p .within) })
+      (record { mode = first-offered v (p .mode); inside = p .inside; apart = p .apart; within = first-within v (p .mode) i (p .within); room = p .room })
 
   -- ---- N and CTS
 

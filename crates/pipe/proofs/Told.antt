@@ -108,7 +108,8 @@ judged-later b = go (lowest (fieldsTests b)) (lowest-later (fieldsTests b) refl)
 
 limited-later : (c : Checked) → Later (c .refusal) → Later (limited c .refusal)
 limited-later c h =
-    either (eqb (c .refusal) 0) (limitOf (c .request .video)) (c .refusal) (lowest-later (limitsTests (c .request .video)) refl) h
+    either (eqb (c .refusal) 0) (limitOf (c .request .video) (c .request .sound)) (c .refusal)
+    (lowest-later (limitsTests (c .request .video) (c .request .sound)) refl) h
 
 -- of the number that N and CTS gives: that of the sections, or that of the pair
 abbrev numberIn : Checked → ℕ

@@ -12,6 +12,7 @@ use Rattle.clock.specs.Clocks.{tmds}
 use Rattle.clock.specs.Answers.{clockOf}
 use Rattle.clock.specs.Pairs.{reference, recommendedOf}
 use Rattle.clock.specs.Found.{nearestK, nearestIn, nearestOf, exactly, coherentOf, pairOf}
+use Rattle.blanking.specs.Found.{highestOf, beyond}
 use Rattle.request.specs.Sections.{walk, walked}
 use Rattle.request.specs.Read.{outside, combined, judged, readOf, pairFor}
 use Rattle.writes.specs.List.{ready}
@@ -20,11 +21,11 @@ use Rattle.promises.specs.Example.{IsAccepted, Example}
 use Rattle.promises.proofs.AnyCut.{accepted}
 
 read : readOf example .refusal ≡ 0
-unfolding euclid divisorOf walk walked videoOutside shownOutside videoCombined shownCombined outside combined judged readOf modeOf tmds clockOf
+unfolding euclid divisorOf walk walked videoOutside shownOutside videoCombined shownCombined outside combined judged readOf modeOf tmds clockOf highestOf beyond
 read = refl
 
 paired : eqb (pairFor (readOf example .request) .refusal) 0 ≡ true
-unfolding euclid divisorOf modeOf tmds clockOf reference recommendedOf nearestK nearestIn nearestOf exactly coherentOf pairOf walk walked videoOutside shownOutside videoCombined shownCombined outside combined judged readOf pairFor
+unfolding euclid divisorOf modeOf tmds clockOf highestOf beyond reference recommendedOf nearestK nearestIn nearestOf exactly coherentOf pairOf walk walked videoOutside shownOutside videoCombined shownCombined outside combined judged readOf pairFor
 paired = refl
 
 on : (image : List ℕ) → length image ≡ 256 → ready image ≡ true → IsAccepted image

@@ -14,6 +14,7 @@ use Rattle.clock.specs.Clocks.{tmds}
 use Rattle.clock.specs.Answers.{clockOf}
 use Rattle.clock.specs.Pairs.{reference, recommendedOf}
 use Rattle.clock.specs.Found.{nearestK, nearestIn, nearestOf, exactly, coherentOf, pairOf}
+use Rattle.blanking.specs.Found.{highestOf, beyond}
 use Rattle.frames.specs.Frames.{total, aviFrame}
 use Rattle.frames.specs.Audio.{audioFrame, audioOffFrame}
 use Rattle.frames.specs.Answers.{aviOf, audioOf}
@@ -67,7 +68,7 @@ calls =
     }
 
 pairs : PairsInNumbers
-unfolding flatMap euclid divisorOf modeOf tmds clockOf reference recommendedOf nearestK nearestIn nearestOf exactly coherentOf pairOf total aviFrame aviOf audioFrame audioOf audioOffFrame fields inRange isAllowed walk walked videoOutside shownOutside videoCombined shownCombined outside combined judged readOf pairFor nctsOf lineOf digits acceptedText refusedText
+unfolding flatMap euclid divisorOf modeOf tmds clockOf highestOf beyond reference recommendedOf nearestK nearestIn nearestOf exactly coherentOf pairOf total aviFrame aviOf audioFrame audioOf audioOffFrame fields inRange isAllowed walk walked videoOutside shownOutside videoCombined shownCombined outside combined judged readOf pairFor nctsOf lineOf digits acceptedText refusedText
 pairs =
     record {
       coherent = refl;
@@ -129,7 +130,7 @@ converts =
     }
 
 lengths : LengthsInNumbers
-unfolding flatMap euclid divisorOf modeOf tmds clockOf reference recommendedOf nearestK nearestIn nearestOf exactly coherentOf pairOf fields inRange isAllowed codeOf previewOf walk walked videoOutside shownOutside videoCombined shownCombined outside combined judged readOf pairFor laterRefusal planWith planOf lentRefusal viewRefusal muteOf matrixRefusal matrixAnswer enterOf turnOf writeOf refuses vetRefusal vetOf asBytes extract matrixInRange allowedOf standsIn someEnds decodeRefusal decodeOf
+unfolding flatMap euclid divisorOf modeOf tmds clockOf highestOf beyond reference recommendedOf nearestK nearestIn nearestOf exactly coherentOf pairOf fields inRange isAllowed codeOf previewOf walk walked videoOutside shownOutside videoCombined shownCombined outside combined judged readOf pairFor laterRefusal planWith planOf lentRefusal viewRefusal muteOf matrixRefusal matrixAnswer enterOf turnOf writeOf refuses vetRefusal vetOf asBytes extract matrixInRange allowedOf standsIn someEnds decodeRefusal decodeOf
 lengths =
     record {
       planImage = refl;
@@ -150,11 +151,11 @@ lengths =
     }
 
 lists : ListsInNumbers
-unfolding flatMap euclid divisorOf modeOf tmds clockOf reference recommendedOf nearestK nearestIn nearestOf exactly coherentOf pairOf total aviFrame audioFrame audioOffFrame fields inRange isAllowed walk walked videoOutside shownOutside videoCombined shownCombined outside combined judged readOf pairFor merge classAt decided byte written middle isWritten finished column flat alreadyThere wanted laterRefusal planWith bufferWith planOf planBuffer
+unfolding flatMap euclid divisorOf modeOf tmds clockOf highestOf beyond reference recommendedOf nearestK nearestIn nearestOf exactly coherentOf pairOf total aviFrame audioFrame audioOffFrame fields inRange isAllowed walk walked videoOutside shownOutside videoCombined shownCombined outside combined judged readOf pairFor merge classAt decided byte written middle isWritten finished column flat alreadyThere wanted laterRefusal planWith bufferWith planOf planBuffer
 lists = record { onZeros = (refl, refl); onOnes = (refl, refl) }
 
 landed : Landed
-unfolding flatMap euclid divisorOf modeOf tmds clockOf reference recommendedOf nearestK nearestIn nearestOf exactly coherentOf pairOf total aviFrame audioFrame audioOffFrame fields inRange isAllowed walk walked videoOutside shownOutside videoCombined shownCombined outside combined judged readOf pairFor merge classAt decided byte written middle isWritten finished column flat alreadyThere wanted laterRefusal planWith bufferWith planOf planBuffer
+unfolding flatMap euclid divisorOf modeOf tmds clockOf highestOf beyond reference recommendedOf nearestK nearestIn nearestOf exactly coherentOf pairOf total aviFrame audioFrame audioOffFrame fields inRange isAllowed walk walked videoOutside shownOutside videoCombined shownCombined outside combined judged readOf pairFor merge classAt decided byte written middle isWritten finished column flat alreadyThere wanted laterRefusal planWith bufferWith planOf planBuffer
 landed = refl
 
 pub in-numbers : InNumbers

@@ -1,4 +1,4 @@
--- Document 01, "Refusal numbers", and those of document 02 that have landed (03, 06, 07): the rows of the list, their numbers, their order, and
+-- Document 01, "Refusal numbers", and those of document 02 that have landed (03, 06, 07, 10): the rows of the list, their numbers, their order, and
 -- what it is to give one.
 use mathlib.Core.Path.{_≡_}
 use mathlib.Core.Logic.{_↔_, _≢_}
@@ -11,7 +11,7 @@ use lib.ListN.{length, getD}
 -- a row, named after its "When"
 pub data Row : Type 0 where
   inputEnds countNotAllowed bytesAfter modeNotOffered fieldOutOfRange combination : Row
-  imageLength holdsUp noExactPair bufferShort noRequest inputAbove twoHolds listLength badPair badEnd clockAbove notFinite noModeFits : Row
+  imageLength holdsUp noExactPair bufferShort noRequest inputAbove twoHolds listLength badPair badEnd clockAbove notFinite noModeFits soundTooMuch : Row
 
 abbrev pub number : Row → ℕ
 number inputEnds = 1
@@ -33,13 +33,14 @@ number badEnd = 16
 number clockAbove = 17
 number notFinite = 18
 number noModeFits = 19
+number soundTooMuch = 20
 
--- "Checked in this order"; 14, 15 and 16 "in that order, after 7 and 8"; 17 "after 6 and before 7"; 18 and 19 in the order in which request
+-- "Checked in this order"; 14, 15 and 16 "in that order, after 7 and 8"; 17 "after 6 and before 7", and 20 after it; 18 and 19 in the order in which request
 -- 07 names them
 abbrev pub order : List Row
 order =
-    inputEnds ∷ countNotAllowed ∷ bytesAfter ∷ modeNotOffered ∷ fieldOutOfRange ∷ combination ∷ clockAbove ∷ imageLength ∷ holdsUp ∷
-    noExactPair ∷ bufferShort ∷ noRequest ∷ inputAbove ∷ twoHolds ∷ listLength ∷ badPair ∷ badEnd ∷ notFinite ∷ noModeFits ∷ []
+    inputEnds ∷ countNotAllowed ∷ bytesAfter ∷ modeNotOffered ∷ fieldOutOfRange ∷ combination ∷ clockAbove ∷ soundTooMuch ∷ imageLength ∷
+    holdsUp ∷ noExactPair ∷ bufferShort ∷ noRequest ∷ inputAbove ∷ twoHolds ∷ listLength ∷ badPair ∷ badEnd ∷ notFinite ∷ noModeFits ∷ []
 
 -- a row that a call checks, and when it applies to the call's input
 pub record Condition : Type 1 where

@@ -47,10 +47,12 @@ impl Refusal {
     pub const NOT_FINITE: u8 = 18;
 
     pub const NO_MODE_FITS: u8 = 19;
+
+    pub const SOUND_TOO_MUCH: u8 = 20;
 }
 
 // The constants are 0 for none, and then the numbers of the rows in the list's order.
-pub fn numbers() -> [u8; 20]
+pub fn numbers() -> [u8; 21]
     ensures { λ r. ⌜ r ≡ 0 ∷ map number order ⌝ }
 {
     [
@@ -62,6 +64,7 @@ pub fn numbers() -> [u8; 20]
         Refusal::FIELD_OUT_OF_RANGE,
         Refusal::COMBINATION,
         Refusal::CLOCK_ABOVE,
+        Refusal::SOUND_TOO_MUCH,
         Refusal::IMAGE_LENGTH,
         Refusal::HOLDS_UP,
         Refusal::NO_EXACT_PAIR,

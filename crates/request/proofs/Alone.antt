@@ -59,7 +59,7 @@ module _ (r : Request) where
       go true e t h = rw (p .mode, five e)
       go false e true h = rw (p .mode, same-outside e, p .inside, six h)
       go false e false h =
-          passing r (record { mode = p .mode; inside = same-outside e ∙ p .inside; apart = same-combined h ∙ p .apart; within = p .within })
+          passing r (record { mode = p .mode; inside = same-outside e ∙ p .inside; apart = same-combined h ∙ p .apart; within = p .within; room = p .room })
 
   -- what is accepted is accepted under D
   pub allowed-under-d : VideoFits v → allowedOf r ≡ 0 → allowedOf d ≡ 0
@@ -68,7 +68,7 @@ module _ (r : Request) where
       let p = passed r z in
       let inside = refuted (video.is-edition-outside v) (video.edition-inside v f) in
       let apart = refuted (video.is-under-d v) (λ u. video.asked-under-e v f (u .1) (u .0)) in
-      passing d (record { mode = p .mode; inside = sym (same-outside inside) ∙ p .inside; apart = sym (same-combined apart) ∙ p .apart; within = p .within })
+      passing d (record { mode = p .mode; inside = sym (same-outside inside) ∙ p .inside; apart = sym (same-combined apart) ∙ p .apart; within = p .within; room = p .room })
 
 -- of a request, by its bytes
 pub accepted-under-d : (r : Request) → Shaped (r .matrix) → VideoFits (r .video) → readOf (asBytes r) .refusal ≡ 0 → Says (requestInEdition 0x00 r)

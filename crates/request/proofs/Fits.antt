@@ -11,11 +11,13 @@ use Rattle.lists.proofs.Both.{neither-left, neither-right}
 use Rattle.video.specs.declared.Video.{Video}
 use Rattle.video.specs.Video.{videoIn}
 use Rattle.video.specs.Tests.{videoOutside}
-use Rattle.video.proofs.Fits.{is-outside, is-combined, pixel-inside}
+use Rattle.video.proofs.Fits.{is-outside, is-combined, is-pixel-outside, pixel-inside}
 use Rattle.sound.specs.declared.Sound.{Sound}
 use Rattle.sound.specs.Sound.{soundOf}
 use Rattle.sound.specs.Tests.{isOn, soundOutside}
+use Rattle.sound.specs.Fits.{SoundFits}
 use Rattle.sound.proofs.Fits as sound
+use Rattle.blanking.proofs.Rule.{is-too-much}
 use Rattle.clock.proofs.Offered.{number-is}
 use Rattle.matrix.specs.declared.Matrix.{Matrix}
 use Rattle.matrix.specs.Matrix.{matrixOf, noMatrix}
@@ -54,6 +56,7 @@ in-range b c j =
     let later : Bool = present m && not (isAllowed m) in
     let x = neither-left (videoOutside v) _ (j .inside) in
     let y : (soundOutside s || later) ≡ false = neither-right (videoOutside v) _ (j .inside) in
+    let its-sound : SoundFits s = sound.in-range s .1 (sound.is-outside s .fails (neither-left (soundOutside s) later y)) in
     let f = matrix-fits m (present m) (isAllowed m) refl (neither-right (soundOutside s) _ y) in
     record {
       video = record {
@@ -62,7 +65,8 @@ in-range b c j =
         apart = is-combined v .fails (neither-right (eqb (v .link) 0 && isOn s) _ (neither-right (not (eqb (v .encoding) 0) && eqb (length m) 0) _ (j .apart)));
       };
       clock = rw (number-is v, j .mode, pixel-inside v x, j .within);
-      sound = sound.in-range s .1 (sound.is-outside s .fails (neither-left (soundOutside s) later y));
+      sound = its-sound;
+      room = is-too-much v s (j .mode) (is-pixel-outside v .fails (pixel-inside v x)) its-sound .fails (j .room);
       matrix = f .0;
       mode = f .1;
     }

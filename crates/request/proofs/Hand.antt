@@ -1,6 +1,6 @@
 -- A request in hand is judged as its bytes are. Assumes nothing.
 --     in-hand       the theorem
---     Passed        what is known where no row of 4 to 6 and 17 refuses a request in hand
+--     Passed        what is known where no row of 4 to 6, 17 and 20 refuses a request in hand
 use mathlib.Core.Path.{_≡_, refl, sym, ap, _∙_, subst}
 use mathlib.Core.Logic.{inl, inr, ⊎-elim}
 use mathlib.Core.Bool.{Bool, true, false, cond, not, _&&_, and-true}
@@ -19,6 +19,8 @@ use Rattle.video.specs.Tests.{videoOutside}
 use Rattle.video.proofs.Fits.{pixel-inside}
 use Rattle.clock.specs.Clocks.{tmds}
 use Rattle.clock.specs.Answers.{aboveLimit, clockOf}
+use Rattle.blanking.specs.Found.{tooMuch}
+use Rattle.sound.specs.Sound.{soundOf}
 use Rattle.sound.specs.Tests.{soundOutside}
 use Rattle.sound.proofs.Bodies as sound
 use Rattle.matrix.specs.declared.Matrix.{Matrix}
@@ -72,15 +74,15 @@ shaped m l t = ⊎-elim (λ e. inl e) (λ w. inr (record { on = w .on; mode = om
 -- ---- the stages
 
 -- what is judged, by its number
-its-number : (b : Bodies) → limited (judged b) .refusal ≡ cond (eqb (lowest (fieldsTests b)) 0) (limitOf (videoIn (b .video))) (lowest (fieldsTests b))
+its-number : (b : Bodies) → limited (judged b) .refusal ≡ cond (eqb (lowest (fieldsTests b)) 0) (limitOf (videoIn (b .video)) (soundOf (b .audio))) (lowest (fieldsTests b))
 unfolding judged
 its-number b = go (lowest (fieldsTests b))
   where
-    go : (n : ℕ) → limited (answer n emptied (record { refusal = 0; request = requestIn b })) .refusal ≡ cond (eqb n 0) (limitOf (videoIn (b .video))) n
+    go : (n : ℕ) → limited (answer n emptied (record { refusal = 0; request = requestIn b })) .refusal ≡ cond (eqb n 0) (limitOf (videoIn (b .video)) (soundOf (b .audio))) n
     go n = by (eqb n 0) refl
       where
         by : (t : Bool) → eqb n 0 ≡ t
-            → limited (cond t (record { refusal = 0; request = requestIn b }) (emptied n)) .refusal ≡ cond t (limitOf (videoIn (b .video))) n
+            → limited (cond t (record { refusal = 0; request = requestIn b }) (emptied n)) .refusal ≡ cond t (limitOf (videoIn (b .video)) (soundOf (b .audio))) n
         by true e = refl
         by false e = rw e
 
@@ -102,7 +104,7 @@ module _ (r : Request) where
 
   judged-in-hand : Shaped (r .matrix) → limited (judged (bodiesOf r)) .refusal ≡ allowedOf r
   unfolding allowedOf
-  judged-in-hand s = its-number (bodiesOf r) ∙ rw (same-outside s, same-combined s)
+  judged-in-hand s = its-number (bodiesOf r) ∙ rw (same-outside s, same-combined s, sound.bodies .back (r .sound))
 
   number : Shaped (r .matrix) → readOf (asBytes r) .refusal ≡ allowedOf r
   number s = ap (λ (c : Checked). c .refusal) (read-judged r s) ∙ judged-in-hand s
@@ -113,6 +115,7 @@ module _ (r : Request) where
     pub inside : out ≡ false
     pub apart : together ≡ false
     pub within : aboveLimit (tmds (r .video)) ≡ false
+    pub room : tooMuch (r .video) (r .sound) ≡ false
 
   limited-by : offered (r .video) ≡ true → out ≡ false → eqb (clockOf (r .video) .refusal) 17 ≡ aboveLimit (tmds (r .video))
   limited-by o i = limit-is (r .video) o (pixel-inside (r .video) (neither-left (videoOutside (r .video)) _ i))
@@ -120,19 +123,20 @@ module _ (r : Request) where
   pub passed : allowedOf r ≡ 0 → Passed
   unfolding allowedOf
   passed z =
-      let n = none-in-stages (λ n. n) (limitOf (r .video)) (λ n. n) (lowest (handTests r)) refl z in
+      let n = none-in-stages (λ n. n) (limitOf (r .video) (r .sound)) (λ n. n) (lowest (handTests r)) refl z in
       let mode = not-false (offered (r .video)) (none-at (handTests r) 0 (n .0)) in
       let inside = none-at (handTests r) 1 (n .0) in
       record {
         mode = mode;
         inside = inside;
         apart = none-at (handTests r) 2 (n .0);
-        within = sym (limited-by mode inside) ∙ none-at (limitsTests (r .video)) 0 (n .1);
+        within = sym (limited-by mode inside) ∙ none-at (limitsTests (r .video) (r .sound)) 0 (n .1);
+        room = none-at (limitsTests (r .video) (r .sound)) 1 (n .1);
       }
 
   pub passing : Passed → allowedOf r ≡ 0
   unfolding allowedOf
-  passing p = rw (p .mode, p .inside, p .apart, limited-by (p .mode) (p .inside), p .within)
+  passing p = rw (p .mode, p .inside, p .apart, limited-by (p .mode) (p .inside), p .within, p .room)
 
   module _ (twelve : length (r .matrix .coefficients) ≡ 12) (z : allowedOf r ≡ 0) where
     its-shape : Shaped (r .matrix)

@@ -1,7 +1,7 @@
 -- The rows of a request, tested in order, stage by stage. Assumes nothing.
 --     fields-given, limits-given    the fields' stage and the limits'
 --     asks-given, read-given        the calls
---     Asked, Judged                 what is known where rows 4 to 6, and 17 too, let a request pass
+--     Asked, Judged                 what is known where rows 4 to 6, and the limits too, let a request pass
 use mathlib.Core.Path.{_≡_, refl, sym, ap, subst, _∙_}
 use mathlib.Core.Bool.{Bool, true, false, false≢true, cond}
 use mathlib.Core.List.{List}
@@ -11,7 +11,7 @@ use lib.Dec.{eqb}
 use lib.ListN.{length}
 use Rattle.refusals.specs.Rows.{Given}
 use Rattle.refusals.specs.Tests.{lowest}
-use Rattle.lists.proofs.Both.{neither-left}
+use Rattle.lists.proofs.Both.{neither-left, neither-right}
 use Rattle.lists.proofs.Decides.{Decides, failing, itself, equal, opposite, either, together, restated}
 use Rattle.matrix.specs.Matrix.{Allowed, Bytes}
 use Rattle.matrix.specs.Tests.{isAllowed}
@@ -22,17 +22,22 @@ use Rattle.video.specs.Video.{videoIn}
 use Rattle.video.specs.Tests.{pixelOutside, videoOutside}
 use Rattle.video.specs.Modes.{offered}
 use Rattle.video.proofs.Fits as video
+use Rattle.sound.specs.declared.Sound.{Sound}
 use Rattle.sound.specs.Sound.{soundOf}
+use Rattle.sound.specs.Tests.{soundOutside}
 use Rattle.sound.proofs.Fits as sound
-use Rattle.clock.specs.Clocks.{tmds, AboveLimit, limitsRows}
+use Rattle.clock.specs.Clocks.{tmds, AboveLimit}
 use Rattle.clock.specs.Answers.{aboveLimit, clockOf}
 use Rattle.clock.proofs.Offered.{number-is}
 use Rattle.clock.proofs.Rows.{is-above}
+use Rattle.blanking.specs.Room.{TooMuch}
+use Rattle.blanking.specs.Found.{tooMuch}
+use Rattle.blanking.proofs.Rule.{is-too-much}
 use Rattle.request.specs.declared.Request.{Request}
 use Rattle.request.specs.declared.Checked.{Checked}
 use Rattle.request.specs.Sections.{Bodies, Walk, ends, notAllowed, whole, bodiesIn, restOf}
 use Rattle.request.specs.Request.{Present, present, Outside, Combined, requestIn, requestOf}
-use Rattle.request.specs.Request.{bytesRows, fieldsRows, askRules, readRules}
+use Rattle.request.specs.Request.{bytesRows, fieldsRows, limitsRows, askRules, readRules}
 use Rattle.request.specs.Read.{outside, combined, emptied, isEnds, isNotAllowed, bytesTests, fieldsTests, limitsTests}
 use Rattle.request.specs.Read.{judged, checked, limitOf, limited}
 
@@ -113,11 +118,24 @@ limit-there b z =
     let v : Video = videoIn (b .video) in
     limit-is v (j .mode) (video.pixel-inside v (neither-left (videoOutside v) _ (j .inside)))
 
-pub limits-given : (b : Bodies) → judged b .refusal ≡ 0 → Given (limitsRows (requestIn b .video)) (limitOf (videoIn (b .video)))
+-- and row 20
+room-there : (b : Bodies) → judged b .refusal ≡ 0 → Decides (tooMuch (videoIn (b .video)) (soundOf (b .audio))) (TooMuch (videoIn (b .video)) (soundOf (b .audio)))
+unfolding outside
+room-there b z =
+    let j = asked b z in
+    let v : Video = videoIn (b .video) in
+    let s : Sound = soundOf (b .audio) in
+    let x = neither-left (videoOutside v) _ (j .inside) in
+    let y = neither-left (soundOutside s) _ (neither-right (videoOutside v) _ (j .inside)) in
+    is-too-much v s (j .mode) (λ h. video.is-outside v .fails x (video.outside-too v h)) (sound.in-range s .1 (sound.is-outside s .fails y))
+
+pub limits-given : (b : Bodies) → judged b .refusal ≡ 0
+    → Given (limitsRows (requestIn b .video) (requestIn b .sound)) (limitOf (videoIn (b .video)) (soundOf (b .audio)))
 limits-given b z =
     let v : Video = videoIn (b .video) in
-    lowest-given (limitsTests v) (limitsRows (requestIn b .video)) refl
-    (refl, subst (λ (t : Bool). Decides t (AboveLimit (tmds v))) (sym (limit-there b z)) (is-above v), λ _. tt)
+    let s : Sound = soundOf (b .audio) in
+    lowest-given (limitsTests v s) (limitsRows v s) refl
+    (refl, subst (λ (t : Bool). Decides t (AboveLimit (tmds v))) (sym (limit-there b z)) (is-above v), λ _. (refl, room-there b z, λ _. tt))
 
 -- ---- the calls: stages, one after the other
 
@@ -138,13 +156,14 @@ asked-there w z =
 
 pub read-given : (w : Walk) → Bytes (bodiesIn w .matrix) → Given (readRules w) (limited (checked w) .refusal)
 read-given w bytes =
-    in-stages (λ (n : ℕ). n) (limitOf (checked w .request .video)) (λ (n : ℕ). n) (askRules w) (limitsRows (requestOf w .video)) (checked w .refusal) refl refl
+    in-stages (λ (n : ℕ). n) (limitOf (checked w .request .video) (checked w .request .sound)) (λ (n : ℕ). n) (askRules w)
+    (limitsRows (requestOf w .video) (requestOf w .sound)) (checked w .refusal) refl refl
     (asks-given w bytes)
     (λ z. rw (asked-there w z .request) (limits-given (bodiesIn w) (alone w z .1)))
 
 -- where neither the fields nor the limits refuse
-pub both : (c : Checked) → limited c .refusal ≡ 0 → (c .refusal ≡ 0) × (limitOf (c .request .video) ≡ 0)
-both c = none-in-stages (λ (n : ℕ). n) (limitOf (c .request .video)) (λ (n : ℕ). n) (c .refusal) refl
+pub both : (c : Checked) → limited c .refusal ≡ 0 → (c .refusal ≡ 0) × (limitOf (c .request .video) (c .request .sound) ≡ 0)
+both c = none-in-stages (λ (n : ℕ). n) (limitOf (c .request .video) (c .request .sound)) (λ (n : ℕ). n) (c .refusal) refl
 
 pub record Judged (b : Bodies) (c : Checked) : Type 0 where
   pub request : c .request ≡ requestIn b
@@ -152,33 +171,34 @@ pub record Judged (b : Bodies) (c : Checked) : Type 0 where
   pub inside : outside b ≡ false
   pub apart : combined b ≡ false
   pub within : aboveLimit (tmds (videoIn (b .video))) ≡ false
+  pub room : tooMuch (videoIn (b .video)) (soundOf (b .audio)) ≡ false
 
-within-limit : (b : Bodies) → judged b .refusal ≡ 0 → limitOf (videoIn (b .video)) ≡ 0 → aboveLimit (tmds (videoIn (b .video))) ≡ false
-within-limit b z l = sym (limit-there b z) ∙ none-at (limitsTests (videoIn (b .video))) 0 l
+within-limits : (b : Bodies) → judged b .refusal ≡ 0 → limitOf (videoIn (b .video)) (soundOf (b .audio)) ≡ 0
+    → (aboveLimit (tmds (videoIn (b .video))) ≡ false) × (tooMuch (videoIn (b .video)) (soundOf (b .audio)) ≡ false)
+within-limits b z l =
+    let tests = limitsTests (videoIn (b .video)) (soundOf (b .audio)) in
+    (sym (limit-there b z) ∙ none-at tests 0 l, none-at tests 1 l)
 
 pub accepted : (b : Bodies) → limited (judged b) .refusal ≡ 0 → Judged b (limited (judged b))
 accepted b z =
     let p = both (judged b) z in
     let j = asked b (p .0) in
+    let l = within-limits b (p .0) (ap (λ (r : Request). limitOf (r .video) (r .sound)) (sym (j .request)) ∙ p .1) in
     record {
       request = j .request;
       mode = j .mode;
       inside = j .inside;
       apart = j .apart;
-      within = within-limit b (p .0) (ap (λ (r : Request). limitOf (r .video)) (sym (j .request)) ∙ p .1);
+      within = l .0;
+      room = l .1;
     }
 
 -- and back: where neither stage refuses, and so where no row applies
-pub passing : (b : Bodies) → judged b .refusal ≡ 0 → limitOf (videoIn (b .video)) ≡ 0 → limited (judged b) .refusal ≡ 0
+pub passing : (b : Bodies) → judged b .refusal ≡ 0 → limitOf (videoIn (b .video)) (soundOf (b .audio)) ≡ 0 → limited (judged b) .refusal ≡ 0
 passing b z l =
-    numbered (λ (n : ℕ). n) (limitOf (judged b .request .video)) (λ (n : ℕ). n) (judged b .refusal)
-    (λ _. ap (λ (r : Request). limitOf (r .video)) (asked b z .request) ∙ l) refl
+    numbered (λ (n : ℕ). n) (limitOf (judged b .request .video) (judged b .request .sound)) (λ (n : ℕ). n) (judged b .refusal)
+    (λ _. ap (λ (r : Request). limitOf (r .video) (r .sound)) (asked b z .request) ∙ l) refl
     ∙ z
-
-pub not-refused : (b : Bodies) → offered (videoIn (b .video)) ≡ true → outside b ≡ false → combined b ≡ false → aboveLimit (tmds (videoIn (b .video))) ≡ false
-    → limited (judged b) .refusal ≡ 0
-unfolding judged
-not-refused b o x c w = let z : judged b .refusal ≡ 0 = rw (o, x, c) in passing b z (rw (limit-there b z, w))
 
 -- a walk that no row refuses: its request is what its bodies say, in a mode that is offered, with each field in range
 pub passed : (w : Walk) → limited (checked w) .refusal ≡ 0 → Judged (bodiesIn w) (limited (checked w))

@@ -4,13 +4,15 @@ use Prim.Native.Nat.{_≤_}
 use Rattle.video.specs.Fits.{VideoFits}
 use Rattle.sound.specs.Fits.{SoundFits}
 use Rattle.clock.specs.Answers.{clockOf}
+use Rattle.blanking.specs.Room.{TooMuch}
 use Rattle.request.specs.declared.Request.{Request}
 use Rattle.request.specs.ThereAndBack.{Shaped}
 
--- the clock is answered; the matrix is none, or twelve fields of 13 bits; "(matrix mode above 2)" is row 5's
+-- the clock is answered; the sound fits into the blanking; the matrix is none, or twelve fields of 13 bits; "(matrix mode above 2)" is row 5's
 pub record Fits (r : Request) : Type 0 where
   pub video : VideoFits (r .video)
   pub clock : clockOf (r .video) .refusal ≡ 0
   pub sound : SoundFits (r .sound)
+  pub room : TooMuch (r .video) (r .sound) → ⊥
   pub matrix : Shaped (r .matrix)
   pub mode : r .matrix .mode ≤ 2

@@ -1,4 +1,4 @@
--- A request in hand, which nobody need lay out as bytes: rows 4 to 6 and 17 of it are those of its bytes.
+-- A request in hand, which nobody need lay out as bytes: rows 4 to 6, 17 and 20 of it are those of its bytes.
 use mathlib.Core.Path.{_≡_}
 use lib.ListN.{length}
 use Rattle.request.specs.declared.Request.{Request}

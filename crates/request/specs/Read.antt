@@ -18,6 +18,7 @@ use Rattle.sound.specs.Tests.{isOn, soundOutside}
 use Rattle.clock.specs.Answers.{clockOf}
 use Rattle.clock.specs.Answers.{noPair, audioOff}
 use Rattle.clock.specs.Found.{pairOf}
+use Rattle.blanking.specs.Found.{tooMuch}
 use Rattle.matrix.specs.Matrix.{noMatrix}
 use Rattle.matrix.specs.Tests.{isAllowed, matrixInRange}
 use Rattle.request.specs.declared.Request.{Request}
@@ -26,7 +27,7 @@ use Rattle.request.specs.Sections.{Bodies, Walk, ends, notAllowed, whole
 use Rattle.request.specs.Request.{present, requestIn}
 use Rattle.refusals.specs.Rows.{number}
 use Rattle.refusals.specs.Tests.{Test, _if_, lowest, answer}
-use Rattle.refusals.specs.Rows.{inputEnds, countNotAllowed, bytesAfter, modeNotOffered, fieldOutOfRange, combination, clockAbove}
+use Rattle.refusals.specs.Rows.{inputEnds, countNotAllowed, bytesAfter, modeNotOffered, fieldOutOfRange, combination, clockAbove, soundTooMuch}
 
 -- a refusal of rows 1 to 6 stands beside an empty request: fields 0, audio off, no matrix
 abbrev pub emptied : ℕ → Checked
@@ -73,8 +74,10 @@ fieldTests video out together =
 abbrev pub fieldsTests : Bodies → List Test
 fieldsTests b = fieldTests (videoIn (b .video)) (outside b) (combined b)
 
-abbrev pub limitsTests : Video → List Test
-limitsTests video = clockAbove if eqb (clockOf video .refusal) (number clockAbove) ∷ []
+abbrev pub limitsTests : Video → Sound → List Test
+limitsTests video sound =
+    clockAbove if eqb (clockOf video .refusal) (number clockAbove) ∷
+    soundTooMuch if tooMuch video sound ∷ []
 
 -- rows 4 to 6 of the bodies, and rows 1 to 3 before them
 unfoldable pub judged : Bodies → Checked
@@ -90,24 +93,24 @@ askOf input = checked (walked input)
 abbrev pub Asks : List ℕ → Checked → Type 0
 Asks input given = given ≡ askOf input
 
--- refusal 17 of a video
-abbrev pub limitOf : Video → ℕ
-limitOf video = lowest (limitsTests video)
+-- refusals 17 and 20 of a video and a sound
+abbrev pub limitOf : Video → Sound → ℕ
+limitOf video sound = lowest (limitsTests video sound)
 
--- rows 4 to 6 and 17 of a request in hand: `InHand` ties them to its bytes
+-- rows 4 to 6, 17 and 20 of a request in hand: `InHand` ties them to its bytes
 abbrev pub handTests : Request → List Test
 handTests r =
     let video : Video = r .video in
     fieldTests video (outsideIn video (r .sound) (not (matrixInRange (r .matrix)))) (combinedIn video (r .sound) (eqb (r .matrix .on) 0))
 
 unfoldable pub allowedOf : Request → ℕ
-allowedOf r = answer (lowest (handTests r)) (λ n. n) (limitOf (r .video))
+allowedOf r = answer (lowest (handTests r)) (λ n. n) (limitOf (r .video) (r .sound))
 
--- and row 17 of what is known of a request, which stays known
+-- and rows 17 and 20 of what is known of a request, which stays known
 abbrev pub limited : Checked → Checked
-limited c = record { refusal = answer (c .refusal) (λ n. n) (limitOf (c .request .video)); request = c .request }
+limited c = record { refusal = answer (c .refusal) (λ n. n) (limitOf (c .request .video) (c .request .sound)); request = c .request }
 
--- a request read from an input: refusals 1 to 6 and 17
+-- a request read from an input: refusals 1 to 6, 17 and 20
 unfoldable pub readOf : List ℕ → Checked
 readOf input = limited (askOf input)
 
@@ -126,7 +129,7 @@ pairFor r = pairIn r (r .sound)
 abbrev pub Pairs : Request → Pair → Type 0
 Pairs r given = given ≡ pairFor r
 
--- N and CTS over a request slice: refusals 1 to 6, 17 and 9
+-- N and CTS over a request slice: refusals 1 to 6, 17, 20 and 9
 unfoldable pub nctsOf : List ℕ → Pair
 nctsOf input = answer (readOf input .refusal) noPair (pairFor (readOf input .request))
 

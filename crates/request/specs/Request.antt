@@ -1,5 +1,5 @@
 -- Document 01, "The request": the fields of a request, and when each row of the list of refusals applies to it. The rows come in stages, of
--- which each call checks some: bytes (1 to 3), fields (4 to 6), limits (17), pair (9); image (7, 8) and buffer (10) are planning's (plan).
+-- which each call checks some: bytes (1 to 3), fields (4 to 6), limits (17, 20), pair (9); image (7, 8) and buffer (10) are planning's (plan).
 use mathlib.Core.Path.{_≡_}
 use mathlib.Core.Logic.{_≢_, _⊎_}
 use mathlib.Core.Bool.{Bool, false, cond, not}
@@ -16,8 +16,9 @@ use Rattle.sound.specs.declared.Sound.{Sound}
 use Rattle.sound.specs.declared.Sound.the-variants.{Off, On}
 use Rattle.sound.specs.Sound.{soundOf, SoundOutside}
 use Rattle.clock.specs.Answers.{clockOf}
-use Rattle.clock.specs.Clocks.{limitsRows}
+use Rattle.clock.specs.Clocks.{aboveRows}
 use Rattle.clock.specs.Pairs.{NoExact}
+use Rattle.blanking.specs.Room.{roomRows}
 use Rattle.matrix.specs.Matrix.{Allowed, matrixOf, noMatrix}
 use Rattle.request.specs.declared.Request.{Request}
 use Rattle.request.specs.Sections.{Bodies, Walk, ends, notAllowed, bodiesIn, restOf}
@@ -55,8 +56,8 @@ abbrev pub NoPair : Video → Sound → Type 0
 NoPair video Off = ⊥
 NoPair video (On rate channels coherent) = NoExact (clockOf video) rate coherent
 
--- the stages: the bytes, by what the walk finds in the input; the fields, by the bodies; the pair, of the request. The limits are the
--- clock's (`limitsRows`)
+-- the stages: the bytes, by what the walk finds in the input; the fields, by the bodies; the limits, of the clock and of the blanking, and the
+-- pair, of the request
 abbrev pub bytesRows : Walk → List Condition
 bytesRows w =
     inputEnds when (w ≡ ends) ∷
@@ -69,10 +70,13 @@ fieldsRows b =
     fieldOutOfRange when Outside b ∷
     combination when Combined b ∷ []
 
+abbrev pub limitsRows : Video → Sound → List Condition
+limitsRows video sound = aboveRows video ++ roomRows video sound
+
 abbrev pub pairRows : Request → List Condition
 pairRows r = noExactPair when NoPair (r .video) (r .sound) ∷ []
 
--- the request that an input asks for; rows 1 to 6, where it is known; with 17, where it may be planned; with 9 too
+-- the request that an input asks for; rows 1 to 6, where it is known; with 17 and 20, where it may be planned; with 9 too
 abbrev pub requestOf : Walk → Request
 requestOf w = requestIn (bodiesIn w)
 
@@ -80,7 +84,7 @@ abbrev pub askRules : Walk → List Condition
 askRules w = bytesRows w ++ fieldsRows (bodiesIn w)
 
 abbrev pub readRules : Walk → List Condition
-readRules w = askRules w ++ limitsRows (requestOf w .video)
+readRules w = askRules w ++ limitsRows (requestOf w .video) (requestOf w .sound)
 
 abbrev pub nctsRules : Walk → List Condition
 nctsRules w = readRules w ++ pairRows (requestOf w)

@@ -2,13 +2,12 @@
 use mathlib.Core.Path.{_≡_}
 use Rattle.refusals.specs.Rows.{Given}
 use Rattle.matrix.specs.Matrix.{Bytes}
-use Rattle.clock.specs.Clocks.{limitsRows}
 use Rattle.request.specs.Sections.{Bodies}
-use Rattle.request.specs.Request.{requestIn, fieldsRows, pairRows}
+use Rattle.request.specs.Request.{requestIn, fieldsRows, limitsRows, pairRows}
 use Rattle.request.specs.Read.{judged, limitOf, pairFor}
 
 pub record Stages (b : Bodies) : Type 0 where
   pub fields : Bytes (b .matrix) → Given (fieldsRows b) (judged b .refusal)
-  pub limits : judged b .refusal ≡ 0 → Given (limitsRows (requestIn b .video)) (limitOf (requestIn b .video))
-  pub pair : Bytes (b .matrix) → judged b .refusal ≡ 0 → limitOf (requestIn b .video) ≡ 0
+  pub limits : judged b .refusal ≡ 0 → Given (limitsRows (requestIn b .video) (requestIn b .sound)) (limitOf (requestIn b .video) (requestIn b .sound))
+  pub pair : Bytes (b .matrix) → judged b .refusal ≡ 0 → limitOf (requestIn b .video) (requestIn b .sound) ≡ 0
       → Given (pairRows (requestIn b)) (pairFor (requestIn b) .refusal)

@@ -1,4 +1,4 @@
-// The request: document 01, "The request" and "Refusal numbers"; document 02, requests 01, 06 and 11.
+// The request: document 01, "The request" and "Refusal numbers"; document 02, requests 01, 06, 10 and 11.
 ghost use mathlib.Core.Path.{_≡_};
 ghost use Prim.Native.Nat.{ℕ, _<_};
 ghost use lib.ListN.{length, getD};
@@ -151,18 +151,21 @@ pub fn ask(s: &[u8]) -> Checked
     judge(s, ends)
 }
 
-// The limits of a video: row 17.
-pub fn limits(video: Video) -> u8
-    ensures { λ r. ⌜ r ≡ limitOf video ⌝ }
+// The limits of a video and a sound: rows 17 and 20.
+pub fn limits(video: Video, sound: Sound) -> u8
+    ensures { λ r. ⌜ r ≡ limitOf video sound ⌝ }
 {
     let clock = clock::clock_of(video);
     if clock.refusal == Refusal::CLOCK_ABOVE {
         return Refusal::CLOCK_ABOVE;
     }
+    if blanking::too_much(video, sound) {
+        return Refusal::SOUND_TOO_MUCH;
+    }
     Refusal::NONE
 }
 
-// A request in hand, nobody's bytes: which of rows 4 to 6 and 17 refuses it, 0 for none.
+// A request in hand, nobody's bytes: which of rows 4 to 6, 17 and 20 refuses it, 0 for none.
 pub fn allowed(r: Request) -> u8
     ensures { λ n. ⌜ n ≡ allowedOf r ⌝ }
 {
@@ -172,10 +175,10 @@ pub fn allowed(r: Request) -> u8
     if number != Refusal::NONE {
         return number;
     }
-    limits(r.video)
+    limits(r.video, sound)
 }
 
-// A request read from an input: rows 1 to 6 and 17.
+// A request read from an input: rows 1 to 6, 17 and 20.
 pub fn read(s: &[u8]) -> Checked
     ensures { λ r. ⌜ Reads (now (s .entry)) r ⌝ }
 {
@@ -184,7 +187,8 @@ pub fn read(s: &[u8]) -> Checked
         return asked;
     }
     let request = asked.request;
-    let number = limits(request.video);
+    let sound = request.sound;
+    let number = limits(request.video, sound);
     Checked {
         refusal: number,
         request: request,
@@ -206,7 +210,7 @@ pub fn pair_for(r: Request) -> Pair
     }
 }
 
-// N and CTS over a request slice: rows 1 to 6, 17 and 9.
+// N and CTS over a request slice: rows 1 to 6, 17, 20 and 9.
 pub fn ncts(s: &[u8]) -> Pair
     ensures { λ r. ⌜ PairsInput (now (s .entry)) r ⌝ }
 {

@@ -7,6 +7,7 @@ use Rattle.clock.specs.Clocks.{tmds}
 use Rattle.clock.specs.Answers.{clockOf}
 use Rattle.clock.specs.Pairs.{reference, recommendedOf}
 use Rattle.clock.specs.Found.{nearestK, nearestIn, nearestOf, exactly, coherentOf, pairOf}
+use Rattle.blanking.specs.Found.{highestOf, beyond}
 use Rattle.matrix.specs.Matrix.{fields}
 use Rattle.matrix.specs.Tests.{inRange, isAllowed}
 use Rattle.request.specs.Sections.{walk, walked}
@@ -17,7 +18,7 @@ use Rattle.pipe.proofs.pipe_cases.Statement.{statement}
 use Rattle.pipe.proofs.pipe_cases.Tie as tie
 
 cases : PipeCases
-unfolding euclid divisorOf modeOf videoOutside shownOutside videoCombined shownCombined tmds clockOf reference recommendedOf nearestK nearestIn nearestOf exactly coherentOf pairOf fields inRange isAllowed walk walked outside combined judged readOf pairFor nctsOf takeOf takePipe endPipeOf endPipe
+unfolding euclid divisorOf modeOf videoOutside shownOutside videoCombined shownCombined tmds clockOf highestOf beyond reference recommendedOf nearestK nearestIn nearestOf exactly coherentOf pairOf fields inRange isAllowed walk walked outside combined judged readOf pairFor nctsOf takeOf takePipe endPipeOf endPipe
 cases = record {
   length = refl;
   zeros = refl;

@@ -1,8 +1,6 @@
 -- `request::limits` meets its contract. Assumes nothing.
-use mathlib.Core.Path.{_≡_, ap, _∙_}
 use borrow.Author.Tests.{eq-eqb, ne-eqb}
 use borrow.Author.Needs.{needs}
-use Rattle.clock.specs.declared.Clock.{Clock}
 use Rattle.request.proofs.limits.Statement.{statement}
 use Rattle.request.proofs.limits.Tie as tie
 
@@ -12,8 +10,26 @@ clock-of-requires c κs = search needs
 returns : tie.Need-returns
 returns c = simp (← c .before .before .clock-of .ensures, eq-eqb _ _ (c .if1 .taken))
 
+too-much-requires : tie.Need-too-much-requires
+too-much-requires c κs = search needs
+
 returns-2 : tie.Need-returns-2
-returns-2 c = simp (← c .before .before .clock-of .ensures, ne-eqb _ _ (c .if1 .left))
+returns-2 c =
+    simp (
+      ← c .before .before .before .before .clock-of .ensures,
+      ne-eqb _ _ (c .before .before .if1 .left),
+      ← c .before .too-much .ensures,
+      c .if2 .taken,
+    )
+
+returns-3 : tie.Need-returns-3
+returns-3 c =
+    simp (
+      ← c .before .before .before .before .clock-of .ensures,
+      ne-eqb _ _ (c .before .before .if1 .left),
+      ← c .before .too-much .ensures,
+      c .if2 .left,
+    )
 
 pub limits-spec : {M : Type 1} → statement M
-limits-spec = tie.close (tie.spec clock-of-requires returns returns-2)
+limits-spec = tie.close (tie.spec clock-of-requires returns too-much-requires returns-2 returns-3)

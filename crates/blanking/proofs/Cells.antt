@@ -1,0 +1,51 @@
+-- A test of a VIC, a repetition, a rate and two or eight channels: where every cell of the listed modes passes it, so does each video that is
+-- offered. Assumes nothing.
+use mathlib.Core.Path.{_≡_, refl, sym, ap, _∙_}
+use mathlib.Core.Logic.{_⊎_, inl, inr}
+use mathlib.Core.Bool.{Bool, true, false, _&&_}
+use mathlib.Core.List.{List}
+use Prim.Native.Nat.{ℕ, _<_, _≤_}
+use native.Mathlib.Omega.{arith}
+use lib.Dec.{eqb, ltb}
+use borrow.Author.Tests.{ltb-true, ne-eqb}
+use Rattle.lists.specs.Among.{among}
+use Rattle.lists.specs.Find.{every}
+use Rattle.lists.proofs.Among.{stands}
+use Rattle.lists.proofs.Find.{every-at}
+use Rattle.lists.proofs.Both.{both-left, both-right}
+use Rattle.lists.proofs.Decides.{refuted}
+use Rattle.bits.proofs.Below.{below, at-below}
+use Rattle.video.specs.declared.Video.{Video}
+use Rattle.video.specs.Modes.{listed, modeOf, offered}
+use Rattle.video.specs.Video.{repetition, PixelOutside}
+use Rattle.video.proofs.Listed.{not-listed}
+use Rattle.video.proofs.Fits.{is-pixel-outside}
+use Rattle.clock.proofs.Offered.{halves}
+
+is-listed : (v : Video) → offered v ≡ true → among (v .vic) listed ≡ true
+is-listed v o = go (among (v .vic) listed) refl
+  where
+    h : v .family < modeOf (v .vic) .families
+    h = ltb-true _ _ o
+
+    go : (b : Bool) → among (v .vic) listed ≡ b → b ≡ true
+    go true e = refl
+    go false e = absurd (not-listed (v .vic) .fails (ne-eqb (modeOf (v .vic) .families) 0 (λ z. omega (arith, h, z))) e)
+
+module _ (P : ℕ → ℕ → ℕ → ℕ → Bool) where
+  abbrev pub cells : ℕ → Bool
+  cells vic = below (λ r. below (λ rate. P vic r rate 2 && P vic r rate 8) 7) 3
+
+  of-channels : (vic r rate channels : ℕ) → (channels ≡ 2) ⊎ (channels ≡ 8) → (P vic r rate 2 && P vic r rate 8) ≡ true → P vic r rate channels ≡ true
+  of-channels vic r rate channels (inl e) t = rw e (both-left _ (P vic r rate 8) t)
+  of-channels vic r rate channels (inr e) t = rw e (both-right (P vic r rate 2) _ t)
+
+  pub at-cell : every cells listed ≡ true → (v : Video) → offered v ≡ true → (PixelOutside v → ⊥)
+      → (rate channels : ℕ) → rate ≤ 6 → (channels ≡ 2) ⊎ (channels ≡ 8) → P (v .vic) (repetition v) rate channels ≡ true
+  at-cell t v o out rate channels h c =
+      let s = stands (v .vic) listed (is-listed v o) in
+      let row : cells (v .vic) ≡ true = ap cells (sym (s .there)) ∙ every-at cells listed (s .place) 0 t (s .within) in
+      let small = halves v (refuted (is-pixel-outside v) out) .1 in
+      let cell = at-below (λ r. below (λ rate. P (v .vic) r rate 2 && P (v .vic) r rate 8) 7) 3 (repetition v) row small in
+      of-channels (v .vic) (repetition v) rate channels c
+      (at-below (λ rate. P (v .vic) (repetition v) rate 2 && P (v .vic) (repetition v) rate 8) 7 rate cell (omega arith))

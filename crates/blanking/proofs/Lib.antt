@@ -1,0 +1,4 @@
+pub mod Cells
+pub mod Timed
+pub mod Standard
+pub mod Rule

@@ -1,0 +1,103 @@
+-- Row 20: what the code finds is what the blanking says, two channels always fit, and what is too much stays too much. Assumes nothing.
+use mathlib.Core.Path.{_≡_, refl, sym, _∙_}
+use mathlib.Core.Logic.{_⊎_, inl, inr, _↔_}
+use mathlib.Core.Bool.{Bool, true, false, false≢true, cond, not, _&&_, _||_, Bool·beq}
+use Prim.Native.Nat.{ℕ, _+_, _-_, _*_, _<_, _≤_}
+use native.Mathlib.Nat.{mul-le-mul-left, le-trans, lt-of-le-of-lt, lt-of-lt-of-le}
+use native.Mathlib.Omega.{arith}
+use lib.Dec.{eqb, ltb, leb, lit≤}
+use borrow.Author.Tests.{ltb-true, ltb-false, lt-ltb, leb-true, le-leb, not-true}
+use Rattle.lists.specs.Find.{every}
+use Rattle.lists.proofs.Both.{beq-true}
+use Rattle.lists.proofs.Decides.{Decides, confirmed}
+use Rattle.bits.proofs.Below.{below, at-below}
+use Rattle.video.specs.declared.Video.{Video}
+use Rattle.video.specs.Modes.{listed, offered}
+use Rattle.video.specs.Video.{repetition, PixelOutside}
+use Rattle.sound.specs.declared.Sound.{Sound}
+use Rattle.sound.specs.declared.Sound.the-variants.{Off, On}
+use Rattle.sound.specs.Rates.{hertzOf}
+use Rattle.sound.specs.Fits.{SoundFits}
+use Rattle.blanking.specs.Timings.{timingOf, linesOf}
+use Rattle.blanking.specs.Room.{overhead, periods, packetsIn, samples, room, TooMuch}
+use Rattle.blanking.specs.Found.{highestOf, mostOf, beyond, tooMuch}
+use Rattle.blanking.specs.Theorems.{others, Rule}
+use Rattle.blanking.proofs.Cells.{cells, at-cell}
+
+-- ---- the tests of a cell
+
+abbrev finds : ℕ → ℕ → ℕ → ℕ → Bool
+finds vic r rate channels = Bool·beq (eqb channels 8 && ltb (mostOf vic r) rate) (ltb (room overhead vic r channels) (hertzOf rate))
+
+abbrev spares : ℕ → ℕ → ℕ → ℕ → Bool
+spares vic r rate channels =
+    ltb (room overhead vic r channels) (hertzOf rate) || leb (1001 * (hertzOf rate + others * samples channels)) (1000 * room overhead vic r channels)
+
+abbrev two-fit : ℕ → ℕ → ℕ → ℕ → Bool
+two-fit vic r rate channels = not (ltb (room overhead vic r 2) (hertzOf rate))
+
+all-found : every (cells finds) listed ≡ true
+unfolding highestOf
+all-found = refl
+
+all-spare : every (cells spares) listed ≡ true
+all-spare = refl
+
+all-two : every (cells two-fit) listed ≡ true
+all-two = refl
+
+-- ---- and so of each video
+
+pub is-too-much : (v : Video) (s : Sound) → offered v ≡ true → (PixelOutside v → ⊥) → SoundFits s → Decides (tooMuch v s) (TooMuch v s)
+unfolding beyond
+is-too-much v Off o out f = record { passes = λ t. absurd (false≢true t); fails = λ _ h. h }
+is-too-much v (On rate channels coherent) o out f =
+    let e = beq-true _ _ (at-cell finds all-found v o out rate channels (f .0) (f .1)) in
+    record {
+      passes = λ t. ltb-true _ _ (sym e ∙ t);
+      fails = λ t h. false≢true (sym t ∙ e ∙ lt-ltb _ _ h);
+    }
+
+two : (v : Video) (rate : ℕ) → offered v ≡ true → (PixelOutside v → ⊥) → rate ≤ 6 → room overhead (v .vic) (repetition v) 2 < hertzOf rate → ⊥
+two v rate o out r h = false≢true (sym (not-true _ (at-cell two-fit all-two v o out rate 2 r (inl refl))) ∙ lt-ltb _ _ h)
+
+spare : (v : Video) (rate channels coherent : ℕ) → offered v ≡ true → (PixelOutside v → ⊥) → SoundFits (On rate channels coherent)
+    → (TooMuch v (On rate channels coherent) → ⊥)
+    → 1001 * (hertzOf rate + others * samples channels) ≤ 1000 * room overhead (v .vic) (repetition v) channels
+spare v rate channels coherent o out f n = leb-true _ _ (go _ _ refl (at-cell spares all-spare v o out rate channels (f .0) (f .1)))
+  where
+    go : (a b : Bool) → ltb (room overhead (v .vic) (repetition v) channels) (hertzOf rate) ≡ a → (a || b) ≡ true → b ≡ true
+    go true b e t = absurd (n (ltb-true _ _ e))
+    go false b e t = t
+
+-- ---- a higher rate has more samples a second, and a packet of more channels carries no more of them
+
+higher-rate : (rate higher : ℕ) → rate ≤ higher → higher ≤ 6 → hertzOf rate ≤ hertzOf higher
+higher-rate rate higher h m =
+    let f : ℕ → ℕ → Bool = λ n r. not (leb r n) || leb (hertzOf r) (hertzOf n) in
+    let t = at-below (f higher) 7 rate (at-below (λ n. below (f n) 7) 7 higher refl (omega arith)) (omega (arith, h, m)) in
+    leb-true _ _ (rw (le-leb rate higher h) at t)
+
+fewer-samples : (channels more : ℕ) → channels ≤ more → samples more ≤ samples channels
+fewer-samples channels more h = go (ltb 2 channels) refl (ltb 2 more) refl
+  where
+    go : (a : Bool) → ltb 2 channels ≡ a → (b : Bool) → ltb 2 more ≡ b → cond b 1 4 ≤ cond a 1 4
+    go true e true g = lit≤ tt
+    go true e false g = absurd (omega (arith, h, ltb-true 2 channels e, ltb-false 2 more g))
+    go false e true g = lit≤ tt
+    go false e false g = lit≤ tt
+
+lifts : (v : Video) (rate channels higher more : ℕ) → rate ≤ higher → higher ≤ 6 → channels ≤ more
+    → room overhead (v .vic) (repetition v) channels < hertzOf rate → room overhead (v .vic) (repetition v) more < hertzOf higher
+lifts v rate channels higher more r m c h =
+    let packets : ℕ = linesOf (timingOf (v .vic)) * packetsIn (periods (timingOf (v .vic)) (repetition v) - overhead) in
+    lt-of-lt-of-le (lt-of-le-of-lt (mul-le-mul-left packets (fewer-samples channels more c)) h) (higher-rate rate higher r m)
+
+pub rule : Rule
+rule =
+    record {
+      decided = λ v s o out f. let d = is-too-much v s o out f in (d .passes, λ h. confirmed d h);
+      lifts = λ v rate channels _ higher more _. lifts v rate channels higher more;
+      two = λ v rate _. two v rate;
+      spare = spare;
+    }

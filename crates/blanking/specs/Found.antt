@@ -1,0 +1,33 @@
+-- How the code finds row 20: by the modes in which eight channels do not all fit. `Rule` (Theorems) ties it to the blanking.
+use mathlib.Core.Bool.{Bool, false, cond, _&&_}
+use mathlib.Core.List.{List, [], _∷_}
+use Prim.Native.Nat.{ℕ}
+use lib.Dec.{eqb, ltb}
+use lib.ListN.{getD}
+use Rattle.video.specs.declared.Video.{Video}
+use Rattle.video.specs.Video.{repetition}
+use Rattle.sound.specs.declared.Sound.{Sound}
+use Rattle.sound.specs.declared.Sound.the-variants.{Off, On}
+use Rattle.blanking.specs.declared.Highest.{Highest}
+
+-- the highest rate of eight channels, each pixel sent once and twice; sent four times, and in the other modes, all fit
+abbrev pub highest : ℕ → ℕ → Highest
+highest once twice = record { once = once; twice = twice }
+
+unfoldable pub highestOf : ℕ → Highest
+highestOf vic =
+    cond (eqb vic 1) (highest 2 6)
+    (cond (eqb vic 2) (highest 2 5)
+    (cond (eqb vic 3) (highest 2 5)
+    (cond (eqb vic 17) (highest 2 5)
+    (cond (eqb vic 18) (highest 2 5) (highest 6 6)))))
+
+abbrev pub mostOf : ℕ → ℕ → ℕ
+mostOf vic repetition = getD (highestOf vic .once ∷ highestOf vic .twice ∷ []) repetition 6
+
+unfoldable pub beyond : ℕ → ℕ → Sound → Bool
+beyond vic repetition Off = false
+beyond vic repetition (On rate channels coherent) = eqb channels 8 && ltb (mostOf vic repetition) rate
+
+abbrev pub tooMuch : Video → Sound → Bool
+tooMuch video sound = beyond (video .vic) (repetition video) sound

@@ -1,0 +1,77 @@
+// Sound that fits into the blanking: document 02, request 10.
+ghost use mathlib.Core.Path.{_≡_};
+ghost use Rattle.blanking.specs.Found.{highest, highestOf, mostOf, tooMuch};
+ghost use Rattle.blanking.specs.Theorems.{Timed, Standard, Rule};
+use sound::Sound;
+use video::Video;
+
+// The highest rate of eight channels, each pixel sent once and twice.
+pub struct Highest {
+    pub once: u8,
+    pub twice: u8,
+}
+
+// A row of the table.
+fn row(once: u8, twice: u8) -> Highest
+    ensures { λ r. ⌜ r ≡ highest once twice ⌝ }
+{
+    Highest {
+        once: once,
+        twice: twice,
+    }
+}
+
+// The row of a VIC: in a mode that is not named all fit.
+fn highest_of(vic: u8) -> Highest
+    ensures { λ r. ⌜ r ≡ highestOf vic ⌝ }
+{
+    match vic {
+        1 => row(2, 6),
+        2 => row(2, 5),
+        3 => row(2, 5),
+        17 => row(2, 5),
+        18 => row(2, 5),
+        _ => row(6, 6),
+    }
+}
+
+// The highest rate of eight channels in a mode, by the repetition.
+fn most_of(vic: u8, repetition: u8) -> u8
+    ensures { λ r. ⌜ r ≡ mostOf vic repetition ⌝ }
+{
+    let row = highest_of(vic);
+    match repetition {
+        0 => row.once,
+        1 => row.twice,
+        _ => 6,
+    }
+}
+
+// Row 20: more sound than fits into the blanking of the mode.
+pub fn too_much(video: Video, sound: Sound) -> bool
+    ensures { λ r. ⌜ r ≡ tooMuch video sound ⌝ }
+{
+    match sound {
+        Sound::Off => false,
+        Sound::On {
+            rate,
+            channels,
+            coherent: _,
+        } => (channels == 8) & (most_of(video.vic, video.pixel / 16) < rate),
+    }
+}
+
+// Each timing makes its clock.
+pub fn timing_table()
+    ensures { λ _. ⌜ Timed ⌝ }
+{}
+
+// The rule gives the rows that the standard prints, which leave no other answer.
+pub fn standard_rows()
+    ensures { λ _. ⌜ Standard ⌝ }
+{}
+
+// What is too much stays too much.
+pub fn room_rule()
+    ensures { λ _. ⌜ Rule ⌝ }
+{}
