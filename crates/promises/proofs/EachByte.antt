@@ -1,5 +1,5 @@
 -- Each byte of a request, and what is answered for it: a test for each byte at its 256 values, and one of what goes together. Assumes nothing.
-use mathlib.Core.Path.{_≡_, refl, sym, ap, _∙_}
+use mathlib.Core.Path.{_≡_, refl, sym, ap, ap₂, _∙_}
 use mathlib.Core.Logic.{_≢_, _⊎_, inl, inr}
 use mathlib.Core.Bool.{Bool, true, false, false≢true, cond, not, _&&_, _||_, Bool·beq}
 use mathlib.Core.List.{List, [], _∷_, _++_, append-nil}
@@ -23,6 +23,7 @@ use Rattle.clock.specs.Clocks.{tmds}
 use Rattle.clock.specs.Answers.{aboveLimit, clockOf}
 use Rattle.clock.specs.Pairs.{reference, recommendedOf}
 use Rattle.clock.specs.Found.{nearestK, nearestIn, nearestOf, exactly, coherentOf, pairOf}
+use Rattle.blanking.specs.Found.{highestOf, beyond}
 use Rattle.matrix.specs.Matrix.{Bytes}
 use Rattle.matrix.specs.Tests.{within, inRange, isAllowed}
 use Rattle.sound.specs.declared.Sound.the-variants.{Off, On}
@@ -38,7 +39,7 @@ use Rattle.request.specs.Read.{outside, combined, judged, checked, limited, rea
 use Rattle.request.proofs.Walks.{walks}
 use Rattle.request.proofs.Ordered.{limit-there, accepted}
 use Rattle.promises.specs.EachByte.{inTheirs, inNone, vics, depthBytes, editionBytes, bitsUnderD, videoBytes, soundBytes}
-use Rattle.promises.specs.EachByte.{modeBytes, highBytes, highInside, matrixInside, together, tooFast, withoutPair, bytesOf, answerTo, pairTo, Answers, EachByte}
+use Rattle.promises.specs.EachByte.{modeBytes, highBytes, highInside, matrixInside, together, tooFast, noRoom, withoutPair, bytesOf, answerTo, pairTo, Answers, EachByte}
 
 -- two tests that are alike at every number below 256
 alike : (f g : ℕ → Bool) → below (λ n. Bool·beq (f n) (g n)) 256 ≡ true → (n : ℕ) → n < 256 → f n ≡ g n
@@ -214,6 +215,19 @@ all-fast : (choices (vics 0 ∷ depthBytes ∷ []) (fast 0) && choices (vics 1 �
 unfolding tmds modeOf divisorOf euclid
 all-fast = refl
 
+-- ---- 20
+
+-- channels, rate, VIC and depth byte
+abbrev full : List ℕ → Bool
+full four = Bool·beq (beyond (getD four 2 0) (getD four 3 0 / 16) (On (getD four 1 0) (getD four 0 0) 0)) (not (inNone noRoom four))
+
+abbrev fullRows : List (List ℕ)
+fullRows = (2 ∷ 8 ∷ []) ∷ (0 ∷ 1 ∷ 2 ∷ 3 ∷ 4 ∷ 5 ∷ 6 ∷ []) ∷ vics 0 ∷ depthBytes ∷ []
+
+all-full : choices fullRows full ≡ true
+unfolding highestOf beyond
+all-full = refl
+
 -- ---- 9
 
 -- VIC, depth byte, rate, coherent
@@ -296,16 +310,40 @@ module _ (vic family encoding link range pixel edition : ℕ) (sound matrix : Li
         (both-right (choices (vics 0 ∷ depthBytes ∷ []) (fast 0)) _ all-fast) (rw (o, p))))
     too-fast (suc (suc n)) e o p = absurd (false≢true o)
 
-    -- past 4 and 5: 6 by what goes together, and else 17 by the clock
+    its-vic : (f : ℕ) → among vic (vics f) ≡ true → among vic (vics 0) ≡ true
+    its-vic zero o = o
+    its-vic (suc zero) o = each-of (λ n. among n (vics 0)) (vics 1) vic refl o
+    its-vic (suc (suc n)) o = absurd (false≢true o)
+
+    too-much : (x : List ℕ) → among (length x) (0 ∷ 3 ∷ []) ≡ true → inTheirs soundBytes x ≡ true → among vic (vics family) ≡ true
+        → among pixel depthBytes ≡ true → beyond vic (pixel / 16) (soundOf x) ≡ not (inNone noRoom (getD x 1 0 ∷ getD x 0 0 ∷ vic ∷ pixel ∷ []))
+    unfolding beyond
+    too-much [] t i o p = refl
+    too-much (r ∷ []) t i o p = absurd (false≢true t)
+    too-much (r ∷ c ∷ []) t i o p = absurd (false≢true t)
+    too-much (r ∷ c ∷ k ∷ []) t i o p =
+        let rate = both-left (among r (0 ∷ 1 ∷ 2 ∷ 3 ∷ 4 ∷ 5 ∷ 6 ∷ [])) _ i in
+        let channels = both-left (among c (2 ∷ 8 ∷ [])) _ (both-right (among r (0 ∷ 1 ∷ 2 ∷ 3 ∷ 4 ∷ 5 ∷ 6 ∷ [])) _ i) in
+        beq-true _ _ (chosen fullRows full (c ∷ r ∷ vic ∷ pixel ∷ []) refl all-full (rw (channels, rate, its-vic family o, p)))
+    too-much (r ∷ c ∷ k ∷ x ∷ more) t i o p =
+        let n : ℕ = length (r ∷ c ∷ k ∷ x ∷ more) in
+        absurd (false≢true (rw (ne-eqb n 0 (omega arith), ne-eqb n 3 (omega arith)) at t))
+
+    abbrev full-up : Bool
+    full-up = not (inNone noRoom (getD sound 1 0 ∷ getD sound 0 0 ∷ vic ∷ pixel ∷ []))
+
+    -- past 4 and 5: 6 by what goes together, and else 17 by the clock and 20 by the room
     last-two : among vic (vics family) ≡ true → inside ≡ true → (c : Bool) → combined b ≡ c
-        → limited (judged b) .refusal ≡ cond c 6 (cond (not (inNone tooFast (vic ∷ pixel ∷ []))) 17 0)
+        → limited (judged b) .refusal ≡ cond c 6 (cond (not (inNone tooFast (vic ∷ pixel ∷ []))) 17 (cond full-up 20 0))
     unfolding judged
     last-two o i true k = rw (offers vic family (h 0) ∙ o, is-inside ∙ ap not i, k)
     last-two o i false k =
         let z : judged b .refusal ≡ 0 = rw (offers vic family (h 0) ∙ o, is-inside ∙ ap not i, k) in
         let v = both-left (inTheirs videoBytes five) _ i in
         let l : eqb (clockOf asked .refusal) 17 ≡ not (inNone tooFast (vic ∷ pixel ∷ [])) = limit-there b z ∙ too-fast family refl o (its-depth v) in
-        rw (offers vic family (h 0) ∙ o, is-inside ∙ ap not i, k) (ap (λ (t : Bool). cond t 17 0) l)
+        let n : beyond vic (pixel / 16) (soundOf sound) ≡ full-up =
+            too-much sound s (both-left (inTheirs soundBytes sound) _ (both-right (inTheirs videoBytes five) _ i)) o (its-depth v) in
+        rw (offers vic family (h 0) ∙ o, is-inside ∙ ap not i, k) (ap₂ (λ (t u : Bool). cond t 17 (cond u 20 0)) l n)
 
     read : readOf input .refusal ≡ answerTo vic family encoding link range pixel edition sound matrix
     unfolding judged
@@ -313,24 +351,25 @@ module _ (vic family encoding link range pixel edition : ℕ) (sound matrix : Li
       where
         go : (a : Bool) → among vic (vics family) ≡ a → (i : Bool) → inside ≡ i → limited (judged b) .refusal
             ≡ cond (not a) 4 (cond (not i) 5
-            (cond (inNone together (five ++ (length sound ∷ length matrix ∷ []))) 6 (cond (not (inNone tooFast (vic ∷ pixel ∷ []))) 17 0)))
+            (cond (inNone together (five ++ (length sound ∷ length matrix ∷ []))) 6 (cond (not (inNone tooFast (vic ∷ pixel ∷ []))) 17 (cond full-up 20 0))))
         go false o i e = rw (offers vic family (h 0) ∙ o)
         go true o false e = rw (offers vic family (h 0) ∙ o, is-inside ∙ ap not e)
         go true o true e = last-two o e (inNone together (five ++ (length sound ∷ length matrix ∷ []))) (goes-together (both-left (inTheirs videoBytes five) _ e))
 
     -- none is given: the VIC, every byte, and the clock
-    none : (a b c d : Bool) → _≡_ {A = ℕ} (cond (not a) 4 (cond (not b) 5 (cond c 6 (cond d 17 0)))) 0 → (a ≡ true) × (b ≡ true) × (d ≡ false)
-    none false b c d z = absurd (omega arith)
-    none true false c d z = absurd (omega arith)
-    none true true true d z = absurd (omega arith)
-    none true true false true z = absurd (omega arith)
-    none true true false false z = (refl, refl, refl)
+    none : (a b c d e : Bool) → _≡_ {A = ℕ} (cond (not a) 4 (cond (not b) 5 (cond c 6 (cond d 17 (cond e 20 0))))) 0 → (a ≡ true) × (b ≡ true) × (d ≡ false)
+    none false b c d e z = absurd (omega arith)
+    none true false c d e z = absurd (omega arith)
+    none true true true d e z = absurd (omega arith)
+    none true true false true e z = absurd (omega arith)
+    none true true false false true z = absurd (omega arith)
+    none true true false false false z = (refl, refl, refl)
 
     module _ (z : answerTo vic family encoding link range pixel edition sound matrix ≡ 0) where
       abbrev permitted : (among vic (vics family) ≡ true) × (inside ≡ true) × (not (inNone tooFast (vic ∷ pixel ∷ [])) ≡ false)
       permitted =
           none (among vic (vics family)) inside (inNone together (five ++ (length sound ∷ length matrix ∷ [])))
-          (not (inNone tooFast (vic ∷ pixel ∷ []))) z
+          (not (inNone tooFast (vic ∷ pixel ∷ []))) full-up z
 
       request : readOf input .request ≡ requestIn b
       request =

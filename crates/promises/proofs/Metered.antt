@@ -46,6 +46,7 @@ another r m w z =
       inside = rw (o, s, by-mode m (w .on) (w .each), le-leb (m .mode) 2 (w .mode));
       apart = rw (w .on) (last c (neither-right (c && eqb (r .matrix .on) 0) _ (p .apart)));
       within = p .within;
+      room = p .room;
     })
   where
     last : (b : Bool) {c : Bool} → c ≡ false → ((b && false) || c) ≡ false

@@ -1,4 +1,4 @@
--- Documents 01, "The request", "Refusal numbers" and "Modes and clocks", and 02, requests 01, 06 and 11, in bare numbers: for each byte of a
+-- Documents 01, "The request", "Refusal numbers" and "Modes and clocks", and 02, requests 01, 06, 10 and 11, in bare numbers: for each byte of a
 -- request, whatever else is asked, what is answered for each of its values. But for `readOf` and `nctsOf`, of which it speaks, the file has numbers alone.
 use mathlib.Core.Path.{_≡_}
 use mathlib.Core.Logic.{_≢_}
@@ -78,6 +78,12 @@ tooFast =
     ((16 ∷ 31 ∷ []) ∷ (0x10 ∷ 0x11 ∷ 0x12 ∷ 0x20 ∷ 0x21 ∷ 0x22 ∷ []) ∷ []) ∷
     ((4 ∷ 5 ∷ 19 ∷ 20 ∷ 32 ∷ 34 ∷ 60 ∷ 62 ∷ []) ∷ (0x20 ∷ 0x21 ∷ 0x22 ∷ []) ∷ []) ∷ []
 
+-- ---- 20: channels, rate, VIC and depth byte. Two channels always fit
+abbrev pub noRoom : List (List (List ℕ))
+noRoom =
+    ((8 ∷ []) ∷ (3 ∷ 4 ∷ 5 ∷ 6 ∷ []) ∷ (1 ∷ 2 ∷ 3 ∷ 17 ∷ 18 ∷ []) ∷ (0x00 ∷ 0x01 ∷ 0x02 ∷ []) ∷ []) ∷
+    ((8 ∷ []) ∷ (6 ∷ []) ∷ (2 ∷ 3 ∷ 17 ∷ 18 ∷ []) ∷ (0x10 ∷ 0x11 ∷ 0x12 ∷ []) ∷ []) ∷ []
+
 -- ---- 9: VIC, family, depth byte, rate, of sound that is coherent
 abbrev pub withoutPair : List (List (List ℕ))
 withoutPair =
@@ -88,7 +94,7 @@ withoutPair =
     ((1 ∷ 60 ∷ []) ∷ (1 ∷ []) ∷ (0x01 ∷ []) ∷ (0 ∷ []) ∷ []) ∷
     ((2 ∷ 3 ∷ []) ∷ (0 ∷ []) ∷ (0x01 ∷ []) ∷ (0 ∷ []) ∷ []) ∷ []
 
--- a request, byte by byte, and what is answered for it: by reading 4, 5, 6, 17 or none; where that is none, by N and CTS 9 or none
+-- a request, byte by byte, and what is answered for it: by reading 4, 5, 6, 17, 20 or none; where that is none, by N and CTS 9 or none
 module _ (vic family encoding link range pixel edition : ℕ) (sound matrix : List ℕ) where
   abbrev pub bytesOf : List ℕ
   bytesOf = 7 ∷ vic ∷ family ∷ encoding ∷ link ∷ range ∷ pixel ∷ edition ∷ length sound ∷ (sound ++ (length matrix ∷ matrix))
@@ -98,7 +104,8 @@ module _ (vic family encoding link range pixel edition : ℕ) (sound matrix : Li
       cond (not (among vic (vics family))) 4
       (cond (not (inTheirs videoBytes (encoding ∷ link ∷ range ∷ pixel ∷ edition ∷ []) && (inTheirs soundBytes sound && matrixInside matrix))) 5
       (cond (inNone together (encoding ∷ link ∷ range ∷ pixel ∷ edition ∷ length sound ∷ length matrix ∷ [])) 6
-      (cond (not (inNone tooFast (vic ∷ pixel ∷ []))) 17 0)))
+      (cond (not (inNone tooFast (vic ∷ pixel ∷ []))) 17
+      (cond (not (inNone noRoom (getD sound 1 0 ∷ getD sound 0 0 ∷ vic ∷ pixel ∷ []))) 20 0))))
 
   abbrev pub pairTo : ℕ
   pairTo = cond (eqb (getD sound 2 0) 1 && not (inNone withoutPair (vic ∷ family ∷ pixel ∷ getD sound 0 0 ∷ []))) 9 0

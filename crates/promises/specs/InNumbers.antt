@@ -2,8 +2,8 @@
 -- CTS, the preview, a matrix, the lengths of what is lent, two whole lists, and where each byte of a request lands.
 use mathlib.Core.Path.{_≡_}
 use mathlib.Core.Bool.{Bool, true, false, _&&_}
-use mathlib.Core.List.{List, [], _∷_, map}
-use Prim.Native.Nat.{ℕ, _+_, _*_, _^_}
+use mathlib.Core.List.{List, [], _∷_, _++_, map}
+use Prim.Native.Nat.{ℕ, _+_, _-_, _*_, _^_}
 use lib.Dec.{eqb}
 use lib.IntN.{ℤ, pos, _+ℤ_, _*ℤ_}
 use lib.Ieee.{Float}
@@ -11,6 +11,7 @@ use lib.ListN.{getD, take, set, replicate}
 use Rattle.lists.specs.Find.{every}
 use Rattle.lists.specs.Same.{sameList}
 use Rattle.refusals.specs.Rows.{number, order, Condition}
+use Rattle.refusals.specs.Tests.{answer}
 use Rattle.video.specs.declared.Video.{Video}
 use Rattle.clock.specs.declared.Clock.{Clock}
 use Rattle.clock.specs.Tables as tables
@@ -51,9 +52,9 @@ numbersIn (c ∷ cs) = number (c .row) ∷ numbersIn cs
 
 pub record Calls : Type 0 where
   -- the list of refusals
-  pub all : map number order ≡ 1 ∷ 2 ∷ 3 ∷ 4 ∷ 5 ∷ 6 ∷ 17 ∷ 7 ∷ 8 ∷ 9 ∷ 10 ∷ 11 ∷ 12 ∷ 13 ∷ 14 ∷ 15 ∷ 16 ∷ 18 ∷ 19 ∷ []
+  pub all : map number order ≡ 1 ∷ 2 ∷ 3 ∷ 4 ∷ 5 ∷ 6 ∷ 17 ∷ 20 ∷ 7 ∷ 8 ∷ 9 ∷ 10 ∷ 11 ∷ 12 ∷ 13 ∷ 14 ∷ 15 ∷ 16 ∷ 18 ∷ 19 ∷ []
   -- "Planning checks 1 to 10; decoding 7, 10 and 11; a machine write 7 and 13; a view 5, 7 and 13; the preview 5 and 12."
-  pub plan : (input image buffer : List ℕ) → numbersIn (planRules input image buffer) ≡ 1 ∷ 2 ∷ 3 ∷ 4 ∷ 5 ∷ 6 ∷ 17 ∷ 7 ∷ 8 ∷ 9 ∷ 10 ∷ []
+  pub plan : (input image buffer : List ℕ) → numbersIn (planRules input image buffer) ≡ 1 ∷ 2 ∷ 3 ∷ 4 ∷ 5 ∷ 6 ∷ 17 ∷ 20 ∷ 7 ∷ 8 ∷ 9 ∷ 10 ∷ []
   pub decode : (image buffer : List ℕ) → numbersIn (decodeRules image buffer) ≡ 7 ∷ 10 ∷ 11 ∷ []
   pub write : (l : Lent) (address value : ℕ) → numbersIn (enterRules l address value) ≡ 7 ∷ 13 ∷ []
   pub vsync : (l : Lent) → numbersIn (turnRules l) ≡ 7 ∷ []
@@ -64,8 +65,8 @@ pub record Calls : Type 0 where
   pub meter : (numbers : List Float) (buffer : List ℕ) → numbersIn (meterRules numbers buffer) ≡ 5 ∷ 10 ∷ 18 ∷ 19 ∷ []
   pub vet : (s : Chip) (list : List ℕ) → numbersIn (vetRules s list) ≡ 7 ∷ 8 ∷ 14 ∷ 15 ∷ 16 ∷ []
   -- reading, N and CTS; "A call on single fields checks those .. whose fields it takes"
-  pub read : (input : List ℕ) → numbersIn (readRules (walked input)) ≡ 1 ∷ 2 ∷ 3 ∷ 4 ∷ 5 ∷ 6 ∷ 17 ∷ []
-  pub ncts : (input : List ℕ) → numbersIn (nctsRules (walked input)) ≡ 1 ∷ 2 ∷ 3 ∷ 4 ∷ 5 ∷ 6 ∷ 17 ∷ 9 ∷ []
+  pub read : (input : List ℕ) → numbersIn (readRules (walked input)) ≡ 1 ∷ 2 ∷ 3 ∷ 4 ∷ 5 ∷ 6 ∷ 17 ∷ 20 ∷ []
+  pub ncts : (input : List ℕ) → numbersIn (nctsRules (walked input)) ≡ 1 ∷ 2 ∷ 3 ∷ 4 ∷ 5 ∷ 6 ∷ 17 ∷ 20 ∷ 9 ∷ []
   pub clock : (v : Video) → numbersIn (clockRules v) ≡ 4 ∷ 5 ∷ 17 ∷ []
   pub pair : (v : Video) (rate coherent : ℕ) → numbersIn (pairRules v rate coherent) ≡ 4 ∷ 5 ∷ 17 ∷ 9 ∷ []
   pub avi : (v : Video) → numbersIn (aviRules v) ≡ 4 ∷ 5 ∷ 6 ∷ []
@@ -78,65 +79,73 @@ abbrev pub sounding : ℕ → ℕ → ℕ → ℕ → ℕ → ℕ → List ℕ
 sounding vic family pixel rate channels coherent =
     0x07 ∷ vic ∷ family ∷ 0x00 ∷ 0x01 ∷ 0x00 ∷ pixel ∷ 0x00 ∷ 0x03 ∷ rate ∷ channels ∷ coherent ∷ 0x00 ∷ []
 
--- VICs in a family, with a depth byte; N at 32, 44.1, 48, 88.2, 96, 176.4 and 192 kHz, and CTS: 0 for both where it is refused
+-- VICs in a family, with a depth byte; N at 32, 44.1, 48, 88.2, 96, 176.4 and 192 kHz, and CTS: 0 for both where it is refused; and how many of
+-- these rates eight channels may have
 pub record ModePairs : Type 0 where
   pub vics : List ℕ
   pub family : ℕ
   pub pixel : ℕ
   pub n : List ℕ
   pub cts : List ℕ
+  pub eight : ℕ
 
-abbrev pub modeRow : List ℕ → ℕ → ℕ → List ℕ → List ℕ → ModePairs
-modeRow vics family pixel n cts = record { vics = vics; family = family; pixel = pixel; n = n; cts = cts }
+abbrev pub modeRow : List ℕ → ℕ → ℕ → List ℕ → List ℕ → ℕ → ModePairs
+modeRow vics family pixel n cts eight = record { vics = vics; family = family; pixel = pixel; n = n; cts = cts; eight = eight }
 
 abbrev pub modePairs : List ModePairs
 modePairs =
     modeRow (1 ∷ []) 0 0x00
     (4096 ∷ 6272 ∷ 6144 ∷ 12544 ∷ 12288 ∷ 25088 ∷ 24576 ∷ [])
-    (25200 ∷ 28000 ∷ 25200 ∷ 28000 ∷ 25200 ∷ 28000 ∷ 25200 ∷ []) ∷
+    (25200 ∷ 28000 ∷ 25200 ∷ 28000 ∷ 25200 ∷ 28000 ∷ 25200 ∷ []) 3 ∷
     modeRow (1 ∷ []) 1 0x00
     (4576 ∷ 7007 ∷ 6864 ∷ 14014 ∷ 13728 ∷ 28028 ∷ 27456 ∷ [])
-    (28125 ∷ 31250 ∷ 28125 ∷ 31250 ∷ 28125 ∷ 31250 ∷ 28125 ∷ []) ∷
+    (28125 ∷ 31250 ∷ 28125 ∷ 31250 ∷ 28125 ∷ 31250 ∷ 28125 ∷ []) 3 ∷
     modeRow (2 ∷ 3 ∷ []) 0 0x00
     (4096 ∷ 6272 ∷ 6144 ∷ 12544 ∷ 12288 ∷ 25088 ∷ 24576 ∷ [])
-    (27027 ∷ 30030 ∷ 27027 ∷ 30030 ∷ 27027 ∷ 30030 ∷ 27027 ∷ []) ∷
+    (27027 ∷ 30030 ∷ 27027 ∷ 30030 ∷ 27027 ∷ 30030 ∷ 27027 ∷ []) 3 ∷
     modeRow (2 ∷ 3 ∷ []) 1 0x00
     (4096 ∷ 6272 ∷ 6144 ∷ 12544 ∷ 12288 ∷ 25088 ∷ 24576 ∷ [])
-    (27000 ∷ 30000 ∷ 27000 ∷ 30000 ∷ 27000 ∷ 30000 ∷ 27000 ∷ []) ∷
+    (27000 ∷ 30000 ∷ 27000 ∷ 30000 ∷ 27000 ∷ 30000 ∷ 27000 ∷ []) 3 ∷
     modeRow (17 ∷ 18 ∷ []) 0 0x00
     (4096 ∷ 6272 ∷ 6144 ∷ 12544 ∷ 12288 ∷ 25088 ∷ 24576 ∷ [])
-    (27000 ∷ 30000 ∷ 27000 ∷ 30000 ∷ 27000 ∷ 30000 ∷ 27000 ∷ []) ∷
+    (27000 ∷ 30000 ∷ 27000 ∷ 30000 ∷ 27000 ∷ 30000 ∷ 27000 ∷ []) 3 ∷
     modeRow (4 ∷ 5 ∷ 19 ∷ 20 ∷ 32 ∷ 34 ∷ 62 ∷ []) 0 0x00
     (4096 ∷ 6272 ∷ 6144 ∷ 12544 ∷ 12288 ∷ 25088 ∷ 24576 ∷ [])
-    (74250 ∷ 82500 ∷ 74250 ∷ 82500 ∷ 74250 ∷ 82500 ∷ 74250 ∷ []) ∷
+    (74250 ∷ 82500 ∷ 74250 ∷ 82500 ∷ 74250 ∷ 82500 ∷ 74250 ∷ []) 7 ∷
     modeRow (4 ∷ 5 ∷ 32 ∷ 34 ∷ 62 ∷ []) 1 0x00
     (0 ∷ 17836 ∷ 11648 ∷ 35672 ∷ 23296 ∷ 71344 ∷ 46592 ∷ [])
-    (0 ∷ 234375 ∷ 140625 ∷ 234375 ∷ 140625 ∷ 234375 ∷ 140625 ∷ []) ∷
+    (0 ∷ 234375 ∷ 140625 ∷ 234375 ∷ 140625 ∷ 234375 ∷ 140625 ∷ []) 7 ∷
     modeRow (16 ∷ 31 ∷ []) 0 0x00
     (4096 ∷ 6272 ∷ 6144 ∷ 12544 ∷ 12288 ∷ 25088 ∷ 24576 ∷ [])
-    (148500 ∷ 165000 ∷ 148500 ∷ 165000 ∷ 148500 ∷ 165000 ∷ 148500 ∷ []) ∷
+    (148500 ∷ 165000 ∷ 148500 ∷ 165000 ∷ 148500 ∷ 165000 ∷ 148500 ∷ []) 7 ∷
     modeRow (16 ∷ []) 1 0x00
     (11648 ∷ 8918 ∷ 5824 ∷ 17836 ∷ 11648 ∷ 35672 ∷ 23296 ∷ [])
-    (421875 ∷ 234375 ∷ 140625 ∷ 234375 ∷ 140625 ∷ 234375 ∷ 140625 ∷ []) ∷
+    (421875 ∷ 234375 ∷ 140625 ∷ 234375 ∷ 140625 ∷ 234375 ∷ 140625 ∷ []) 7 ∷
     modeRow (60 ∷ []) 0 0x00
     (4096 ∷ 5488 ∷ 6144 ∷ 10976 ∷ 12288 ∷ 21952 ∷ 24576 ∷ [])
-    (59400 ∷ 57750 ∷ 59400 ∷ 57750 ∷ 59400 ∷ 57750 ∷ 59400 ∷ []) ∷
+    (59400 ∷ 57750 ∷ 59400 ∷ 57750 ∷ 59400 ∷ 57750 ∷ 59400 ∷ []) 7 ∷
     modeRow (60 ∷ []) 1 0x00
     (5824 ∷ 4459 ∷ 5824 ∷ 8918 ∷ 11648 ∷ 17836 ∷ 23296 ∷ [])
-    (84375 ∷ 46875 ∷ 56250 ∷ 46875 ∷ 56250 ∷ 46875 ∷ 56250 ∷ []) ∷
+    (84375 ∷ 46875 ∷ 56250 ∷ 46875 ∷ 56250 ∷ 46875 ∷ 56250 ∷ []) 7 ∷
     modeRow (2 ∷ 3 ∷ []) 0 0x10
     (4096 ∷ 6272 ∷ 6144 ∷ 12544 ∷ 12288 ∷ 25088 ∷ 24576 ∷ [])
-    (54054 ∷ 60060 ∷ 54054 ∷ 60060 ∷ 54054 ∷ 60060 ∷ 54054 ∷ []) ∷
+    (54054 ∷ 60060 ∷ 54054 ∷ 60060 ∷ 54054 ∷ 60060 ∷ 54054 ∷ []) 6 ∷
     modeRow (17 ∷ 18 ∷ []) 0 0x10
     (4096 ∷ 6272 ∷ 6144 ∷ 12544 ∷ 12288 ∷ 25088 ∷ 24576 ∷ [])
-    (54000 ∷ 60000 ∷ 54000 ∷ 60000 ∷ 54000 ∷ 60000 ∷ 54000 ∷ []) ∷ []
+    (54000 ∷ 60000 ∷ 54000 ∷ 60000 ∷ 54000 ∷ 60000 ∷ 54000 ∷ []) 6 ∷ []
 
--- each of them, with 2 channels and with 8, at every rate
-abbrev pub answersPairs : ModePairs → Bool
-answersPairs m =
-    every (λ channels. every (λ vic.
+-- each of them, at every rate, with 2 channels and with 8
+abbrev pub answersWith : ℕ → List ℕ → List ℕ → ModePairs → Bool
+answersWith channels n cts m =
+    every (λ vic.
     let pairs = map (λ rate. nctsOf (sounding vic (m .family) (m .pixel) rate channels 1)) (0 ∷ 1 ∷ 2 ∷ 3 ∷ 4 ∷ 5 ∷ 6 ∷ []) in
-    sameList (map (λ p. p .n) pairs) (m .n) && sameList (map (λ p. p .cts) pairs) (m .cts)) (m .vics)) (2 ∷ 8 ∷ [])
+    sameList (map (λ p. p .n) pairs) n && sameList (map (λ p. p .cts) pairs) cts) (m .vics)
+
+abbrev pub upTo : ℕ → List ℕ → List ℕ
+upTo n l = take n l ++ replicate (7 - n) 0
+
+abbrev pub answersPairs : ModePairs → Bool
+answersPairs m = answersWith 2 (m .n) (m .cts) m && answersWith 8 (upTo (m .eight) (m .n)) (upTo (m .eight) (m .cts)) m
 
 -- which of a row's recommended pairs are exact, at the rates 0 to 6
 abbrev pub exactIn : tables.Recommended → List Bool
@@ -301,9 +310,12 @@ pub record Lands : Type 0 where
 abbrev pub lands : List ℕ → ℕ → ℕ → List ℕ → List ℕ → Lands
 lands request place register values left = record { request = request; place = place; register = register; values = values; left = left }
 
--- `busy` in family 0, at 24 bits and no repetition, E that asks for nothing; and VIC 2 without sound or matrix
+-- `busy` in family 0, at 24 bits and no repetition, E that asks for nothing, with two channels; the same at 48 kHz; and VIC 2 without sound or matrix
 abbrev pub sounded : List ℕ
-sounded = set (set (set busy 2 0) 6 0x00) 7 0x01
+sounded = set (set (set (set busy 2 0) 6 0x00) 7 0x01) 10 2
+
+abbrev pub slower : List ℕ
+slower = set sounded 9 2
 
 abbrev pub silent : List ℕ
 silent = vic2 0x00 0x00
@@ -353,11 +365,11 @@ landings =
     lands sounded 9 0x09 (0 ∷ 1 ∷ 2 ∷ 3 ∷ 4 ∷ 5 ∷ 6 ∷ []) (0x93 ∷ 0x4E ∷ 0x93 ∷ 0x4E ∷ 0x93 ∷ 0x4E ∷ 0x93 ∷ []) ∷
     lands sounded 9 0x15 (0 ∷ 1 ∷ 2 ∷ 3 ∷ 4 ∷ 5 ∷ 6 ∷ []) (0x30 ∷ 0x00 ∷ 0x20 ∷ 0x80 ∷ 0xA0 ∷ 0xC0 ∷ 0xE0 ∷ []) ∷
     -- the channels: the I2S inputs; the enables, whatever they are; the audio packet
-    lands sounded 10 0x0C (2 ∷ 8 ∷ []) (0x04 ∷ 0x3C ∷ []) ∷
-    lands sounded 10 0x44 (2 ∷ 8 ∷ []) (0x78 ∷ 0x78 ∷ []) ∷
-    lands sounded 10 0x72 (2 ∷ 8 ∷ []) (0x70 ∷ 0x57 ∷ []) ∷
-    lands sounded 10 0x73 (2 ∷ 8 ∷ []) (0x01 ∷ 0x07 ∷ []) ∷
-    lands sounded 10 0x76 (2 ∷ 8 ∷ []) (0x00 ∷ 0x13 ∷ []) ∷
+    lands slower 10 0x0C (2 ∷ 8 ∷ []) (0x04 ∷ 0x3C ∷ []) ∷
+    lands slower 10 0x44 (2 ∷ 8 ∷ []) (0x78 ∷ 0x78 ∷ []) ∷
+    lands slower 10 0x72 (2 ∷ 8 ∷ []) (0x70 ∷ 0x57 ∷ []) ∷
+    lands slower 10 0x73 (2 ∷ 8 ∷ []) (0x01 ∷ 0x07 ∷ []) ∷
+    lands slower 10 0x76 (2 ∷ 8 ∷ []) (0x00 ∷ 0x13 ∷ []) ∷
     -- coherent: CTS, and 0x0A[7]; the enables either way
     lands sounded 11 0x08 (0 ∷ 1 ∷ []) (0x00 ∷ 0x69 ∷ []) ∷
     lands sounded 11 0x0A (0 ∷ 1 ∷ []) (0x00 ∷ 0x80 ∷ []) ∷
@@ -365,8 +377,11 @@ landings =
     -- the mode
     lands sounded 13 0x18 (0 ∷ 1 ∷ 2 ∷ []) (0x8C ∷ 0xAC ∷ 0xCC ∷ []) ∷ []
 
+-- what is refused leaves no byte, which 256 stands for
 abbrev pub leftBy : Lands → List ℕ
-leftBy l = map (λ value. finished (wanted (readOf (set (l .request) (l .place) value) .request)) zeros (l .register)) (l .values)
+leftBy l =
+    map (λ value. let read = readOf (set (l .request) (l .place) value) in
+    answer (read .refusal) (λ _. 256) (finished (wanted (read .request)) zeros (l .register))) (l .values)
 
 abbrev pub Landed : Type 0
 Landed = map leftBy landings ≡ map (λ l. l .left) landings
