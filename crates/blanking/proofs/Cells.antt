@@ -32,6 +32,12 @@ is-listed v o = go (among (v .vic) listed) refl
     go true e = refl
     go false e = absurd (not-listed (v .vic) .fails (ne-eqb (modeOf (v .vic) .families) 0 (λ z. omega (arith, h, z))) e)
 
+-- a test of every listed VIC
+pub at-listed : (test : ℕ → Bool) → every test listed ≡ true → (v : Video) → offered v ≡ true → test (v .vic) ≡ true
+at-listed test t v o =
+    let s = stands (v .vic) listed (is-listed v o) in
+    ap test (sym (s .there)) ∙ every-at test listed (s .place) 0 t (s .within)
+
 module _ (P : ℕ → ℕ → ℕ → ℕ → Bool) where
   abbrev pub cells : ℕ → Bool
   cells vic = below (λ r. below (λ rate. P vic r rate 2 && P vic r rate 8) 7) 3
@@ -43,8 +49,7 @@ module _ (P : ℕ → ℕ → ℕ → ℕ → Bool) where
   pub at-cell : every cells listed ≡ true → (v : Video) → offered v ≡ true → (PixelOutside v → ⊥)
       → (rate channels : ℕ) → rate ≤ 6 → (channels ≡ 2) ⊎ (channels ≡ 8) → P (v .vic) (repetition v) rate channels ≡ true
   at-cell t v o out rate channels h c =
-      let s = stands (v .vic) listed (is-listed v o) in
-      let row : cells (v .vic) ≡ true = ap cells (sym (s .there)) ∙ every-at cells listed (s .place) 0 t (s .within) in
+      let row = at-listed cells t v o in
       let small = halves v (refuted (is-pixel-outside v) out) .1 in
       let cell = at-below (λ r. below (λ rate. P (v .vic) r rate 2 && P (v .vic) r rate 8) 7) 3 (repetition v) row small in
       of-channels (v .vic) (repetition v) rate channels c

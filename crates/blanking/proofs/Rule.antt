@@ -9,20 +9,25 @@ use lib.Dec.{eqb, ltb, leb, lit≤}
 use borrow.Author.Tests.{ltb-true, ltb-false, lt-ltb, leb-true, le-leb, not-true}
 use Rattle.lists.specs.Find.{every}
 use Rattle.lists.proofs.Both.{beq-true}
-use Rattle.lists.proofs.Decides.{Decides, confirmed}
+use Rattle.lists.proofs.Decides.{Decides, confirmed, refuted}
 use Rattle.bits.proofs.Below.{below, at-below}
 use Rattle.video.specs.declared.Video.{Video}
-use Rattle.video.specs.Modes.{listed, offered}
-use Rattle.video.specs.Video.{repetition, PixelOutside}
+use Rattle.video.specs.Modes.{listed, modeOf, offered}
+use Rattle.video.specs.Video.{depth, repetition, PixelOutside}
+use Rattle.video.proofs.Fits.{is-pixel-outside}
 use Rattle.sound.specs.declared.Sound.{Sound}
 use Rattle.sound.specs.declared.Sound.the-variants.{Off, On}
 use Rattle.sound.specs.Rates.{hertzOf}
 use Rattle.sound.specs.Fits.{SoundFits}
+use Rattle.ratio.specs.Terms.{euclid, divisorOf}
+use Rattle.clock.specs.Clocks.{tmdsOf, tmds, AboveLimit}
+use Rattle.clock.specs.Answers.{aboveLimit}
+use Rattle.clock.proofs.Offered.{halves}
 use Rattle.blanking.specs.Timings.{timingOf, linesOf}
 use Rattle.blanking.specs.Room.{overhead, periods, packetsIn, samples, room, TooMuch}
 use Rattle.blanking.specs.Found.{highestOf, mostOf, beyond, tooMuch}
 use Rattle.blanking.specs.Theorems.{others, Rule}
-use Rattle.blanking.proofs.Cells.{cells, at-cell}
+use Rattle.blanking.proofs.Cells.{cells, at-listed, at-cell}
 
 -- ---- the tests of a cell
 
@@ -87,17 +92,53 @@ fewer-samples channels more h = go (ltb 2 channels) refl (ltb 2 more) refl
     go false e true g = lit≤ tt
     go false e false g = lit≤ tt
 
-lifts : (v : Video) (rate channels higher more : ℕ) → rate ≤ higher → higher ≤ 6 → channels ≤ more
-    → room overhead (v .vic) (repetition v) channels < hertzOf rate → room overhead (v .vic) (repetition v) more < hertzOf higher
-lifts v rate channels higher more r m c h =
-    let packets : ℕ = linesOf (timingOf (v .vic)) * packetsIn (periods (timingOf (v .vic)) (repetition v) - overhead) in
-    lt-of-lt-of-le (lt-of-le-of-lt (mul-le-mul-left packets (fewer-samples channels more c)) h) (higher-rate rate higher r m)
+lifts : (vic r rate channels higher more : ℕ) → rate ≤ higher → higher ≤ 6 → channels ≤ more → room overhead vic r channels < hertzOf rate
+    → room overhead vic r more < hertzOf higher
+lifts vic r rate channels higher more n m c h =
+    let packets : ℕ = linesOf (timingOf vic) * packetsIn (periods (timingOf vic) r - overhead) in
+    lt-of-lt-of-le (lt-of-le-of-lt (mul-le-mul-left packets (fewer-samples channels more c)) h) (higher-rate rate higher n m)
+
+-- ---- eight channels at 192 kHz are too much in slow modes alone
+
+abbrev slow-by : ℕ → ℕ → ℕ → ℕ → Bool
+slow-by vic r family depth = not (ltb (room overhead vic r 8) 192000) || not (aboveLimit (tmdsOf (modeOf vic .hertz) family depth r))
+
+all-slow : every (λ vic. below (λ r. below (λ f. below (slow-by vic r f) 3) (modeOf vic .families)) 3) listed ≡ true
+unfolding modeOf divisorOf euclid
+all-slow = refl
+
+-- what is too much is so at the highest rate, with eight channels
+at-most : (v : Video) (s : Sound) → SoundFits s → TooMuch v s → room overhead (v .vic) (repetition v) 8 < 192000
+at-most v Off f h = absurd h
+at-most v (On rate channels coherent) f h = lifts (v .vic) (repetition v) rate channels 6 8 (f .0) (lit≤ tt) (few (f .1)) h
+  where
+    few : (channels ≡ 2) ⊎ (channels ≡ 8) → channels ≤ 8
+    few (inl e) = omega (arith, e)
+    few (inr e) = omega (arith, e)
+
+slow-cell : (v : Video) → offered v ≡ true → (PixelOutside v → ⊥) → slow-by (v .vic) (repetition v) (v .family) (depth v) ≡ true
+slow-cell v o out =
+    let small = halves v (refuted (is-pixel-outside v) out) in
+    let row = at-listed (λ vic. below (λ r. below (λ f. below (slow-by vic r f) 3) (modeOf vic .families)) 3) all-slow v o in
+    let r = at-below (λ r. below (λ f. below (slow-by (v .vic) r f) 3) (modeOf (v .vic) .families)) 3 (repetition v) row (small .1) in
+    at-below (slow-by (v .vic) (repetition v) (v .family)) 3 (depth v)
+    (at-below (λ f. below (slow-by (v .vic) (repetition v) f) 3) (modeOf (v .vic) .families) (v .family) r (ltb-true _ _ o)) (small .0)
+
+pub slow : (v : Video) (s : Sound) → offered v ≡ true → (PixelOutside v → ⊥) → SoundFits s → TooMuch v s → AboveLimit (tmds v) → ⊥
+unfolding tmds
+slow v s o out f h a = false≢true (sym (go _ _ (lt-ltb _ _ (at-most v s f h)) (slow-cell v o out)) ∙ lt-ltb _ _ a)
+  where
+    go : (b c : Bool) → b ≡ true → (not b || not c) ≡ true → c ≡ false
+    go true true e t = absurd (false≢true t)
+    go true false e t = refl
+    go false c e t = absurd (false≢true e)
 
 pub rule : Rule
 rule =
     record {
       decided = λ v s o out f. let d = is-too-much v s o out f in (d .passes, λ h. confirmed d h);
-      lifts = λ v rate channels _ higher more _. lifts v rate channels higher more;
+      lifts = λ vic r rate channels _ higher more _. lifts vic r rate channels higher more;
+      slow = slow;
       two = λ v rate _. two v rate;
       spare = spare;
     }

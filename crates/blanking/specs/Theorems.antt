@@ -12,8 +12,9 @@ use Rattle.sound.specs.declared.Sound.{Sound}
 use Rattle.sound.specs.declared.Sound.the-variants.{On}
 use Rattle.sound.specs.Rates.{hertzOf}
 use Rattle.sound.specs.Fits.{SoundFits}
+use Rattle.clock.specs.Clocks.{tmds, AboveLimit}
 use Rattle.blanking.specs.Timings.{Timing, timings, untimed}
-use Rattle.blanking.specs.Room.{overhead, samples, room, TooMuch}
+use Rattle.blanking.specs.Room.{overhead, samples, room, Beyond, TooMuch}
 use Rattle.blanking.specs.Printed.{Most, printed, noRow}
 use Rattle.blanking.specs.Found.{tooMuch}
 
@@ -56,8 +57,10 @@ pub record Rule : Type 0 where
   -- the code's test decides it, in any mode and for any sound that is accepted otherwise
   pub decided : (v : Video) (s : Sound) → offered v ≡ true → (PixelOutside v → ⊥) → SoundFits s → (tooMuch v s ≡ true) ↔ TooMuch v s
   -- "more channels or a higher rate in the same mode never lifts this refusal"
-  pub lifts : (v : Video) (rate channels coherent higher more coherent' : ℕ) → rate ≤ higher → higher ≤ 6 → channels ≤ more
-      → TooMuch v (On rate channels coherent) → TooMuch v (On higher more coherent')
+  pub lifts : (vic repetition rate channels coherent higher more other : ℕ) → rate ≤ higher → higher ≤ 6 → channels ≤ more
+      → Beyond vic repetition (On rate channels coherent) → Beyond vic repetition (On higher more other)
+  -- no request meets row 17 too, in either family and with any depth
+  pub slow : (v : Video) (s : Sound) → offered v ≡ true → (PixelOutside v → ⊥) → SoundFits s → TooMuch v s → AboveLimit (tmds v) → ⊥
   -- two channels always fit
   pub two : (v : Video) (rate coherent : ℕ) → offered v ≡ true → (PixelOutside v → ⊥) → rate ≤ 6 → TooMuch v (On rate 2 coherent) → ⊥
   -- what fits, fits beside the other packets and in family 1, where a second has fewer lines: neither decides a cell

@@ -1,7 +1,7 @@
 -- The marked cases: each computes, but for the reason of case 9, which is a law of the clock. Assumes nothing.
 use mathlib.Core.Path.{_≡_, refl, _∙_}
 use mathlib.Core.Bool.{true, cond}
-use mathlib.Core.List.{List, [], _∷_, flatMap}
+use mathlib.Core.List.{List, [], _∷_, map, flatMap}
 use Prim.Native.Nat.{ℕ, zero, suc, _*_, _<_, _≤_, _∣_}
 use native.Mathlib.Omega.{arith}
 use lib.Dec.{eqb, ltb, lit<}
@@ -15,6 +15,7 @@ use Rattle.ratio.specs.Terms.{euclid, divisorOf}
 use Rattle.video.specs.Modes.{modeOf}
 use Rattle.video.specs.Video.{noVideo, inEdition}
 use Rattle.video.specs.Tests.{editionOutside, askedUnderD, shownOutside, videoOutside, shownCombined, videoCombined}
+use Rattle.sound.specs.Coded.{rateOf}
 use Rattle.clock.specs.Clocks.{tmds}
 use Rattle.clock.specs.Answers.{clockOf}
 use Rattle.clock.specs.Pairs.{reference, recommendedOf}
@@ -26,25 +27,27 @@ use Rattle.frames.specs.Audio.{audioFrame, audioOffFrame}
 use Rattle.frames.specs.Answers.{aviOf, audioOf}
 use Rattle.frames.proofs.Refused.{avi-by-edition}
 use Rattle.matrix.specs.Matrix.{fields, Bytes}
-use Rattle.matrix.specs.Tests.{inRange, isAllowed}
+use Rattle.matrix.specs.Tests.{inRange, isAllowed, matrixInRange}
 use Rattle.matrix.specs.Preview.{codeOf, previewOf}
 use Rattle.request.specs.Sections.{walk, walked}
-use Rattle.request.specs.Read.{outside, combined, judged, readOf, pairFor, nctsOf}
+use Rattle.request.specs.Read.{outside, combined, judged, readOf, allowedOf, pairFor, nctsOf}
 use Rattle.line.specs.Line.{lineOf}
 use Rattle.line.specs.Words.{digits, acceptedText, refusedText}
 use Rattle.bits.specs.Merge.{merge}
 use Rattle.registers.specs.Classes.{classAt}
 use Rattle.writes.specs.Steps.{middle}
-use Rattle.writes.specs.List.{decided, byte, written, isWritten, finished, column, flat, alreadyThere}
+use Rattle.writes.specs.List.{decided, byte, written, isWritten, finished, finishedImage, standsBelow, column, flat, alreadyThere}
 use Rattle.plan.specs.Wanted.{wanted}
-use Rattle.plan.specs.Plan.{laterRefusal, planWith, bufferWith, planOf, planBuffer}
-use Rattle.request.specs.Bytes.{asReadBack}
+use Rattle.plan.specs.Plan.{laterRefusal, planWith, bufferWith, planOf, planBuffer, standsIn}
+use Rattle.request.specs.Bytes.{asBytes, asReadBack}
 use Rattle.writes.proofs.Image.{image-length, image-at}
+use Rattle.decode.specs.Extract.{extract}
+use Rattle.decode.specs.Decode.{someEnds, decodeRefusal, decodeOf}
 use Rattle.decode.specs.Theorems.{Answered}
 use Rattle.decode.proofs.Answers.{read-back}
 use Rattle.promises.specs.Rules.{asked}
 use Rattle.promises.specs.Worked.{zeros, Few, FewDeep, FewEditions}
-use Rattle.promises.specs.Cases.{rgbOverHdmi, asked16, withEdition, editionRefusal, done16, MarkedCases}
+use Rattle.promises.specs.Cases.{rgbOverHdmi, asked16, withEdition, editionRefusal, done16, eight, MarkedCases}
 
 multiple : (n cts : ℕ) → reference 0 * cts * clockOf (rgbOverHdmi 4 1) .den ≡ clockOf (rgbOverHdmi 4 1) .num * n → 23296 ∣ n
 unfolding reference tmds clockOf modeOf divisorOf euclid
@@ -57,6 +60,16 @@ few = (refl, refl)
 few-deep : FewDeep
 unfolding flatMap euclid divisorOf modeOf tmds clockOf highestOf beyond reference recommendedOf nearestK nearestIn nearestOf exactly coherentOf pairOf total aviFrame audioFrame audioOffFrame fields inRange isAllowed walk walked videoOutside shownOutside videoCombined shownCombined outside combined judged readOf pairFor merge classAt decided byte written middle isWritten finished column flat alreadyThere wanted laterRefusal planWith bufferWith planOf planBuffer
 few-deep = (refl, refl)
+
+sound : map (λ input. planOf input zeros zeros .refusal)
+    (eight 2 0x00 2 ∷ eight 2 0x00 3 ∷ eight 1 0x00 2 ∷ eight 1 0x00 3 ∷ eight 17 0x00 2 ∷ eight 17 0x00 3 ∷ eight 5 0x00 6 ∷ eight 20 0x00 6 ∷
+    eight 2 0x10 5 ∷ eight 2 0x10 6 ∷ []) ≡ 0 ∷ 20 ∷ 0 ∷ 20 ∷ 0 ∷ 20 ∷ 0 ∷ 0 ∷ 0 ∷ 20 ∷ []
+unfolding euclid divisorOf modeOf tmds clockOf highestOf beyond pairOf isAllowed walk walked videoOutside shownOutside videoCombined shownCombined outside combined judged readOf pairFor laterRefusal planWith planOf
+sound = refl
+
+sound-decoded : map (λ rate. decodeOf (finishedImage (asked (eight 2 0x00 rate)) zeros) zeros .refusal) (2 ∷ 3 ∷ []) ≡ 0 ∷ 11 ∷ []
+unfolding flatMap euclid divisorOf modeOf tmds clockOf highestOf beyond reference recommendedOf nearestK nearestIn nearestOf exactly coherentOf pairOf total aviFrame audioFrame audioOffFrame fields inRange isAllowed walk walked videoOutside shownOutside videoCombined shownCombined outside combined judged readOf pairFor merge classAt decided byte written middle isWritten finished column flat alreadyThere wanted asBytes extract matrixInRange allowedOf standsBelow standsIn rateOf someEnds decodeRefusal decodeOf
+sound-decoded = refl
 
 few-editions : FewEditions
 unfolding flatMap euclid divisorOf modeOf tmds clockOf highestOf beyond reference recommendedOf nearestK nearestIn nearestOf exactly coherentOf pairOf total aviFrame audioFrame audioOffFrame fields inRange isAllowed walk walked videoOutside shownOutside videoCombined shownCombined outside combined judged readOf pairFor merge classAt decided byte written middle isWritten finished column flat alreadyThere wanted laterRefusal planWith bufferWith planOf planBuffer
@@ -144,6 +157,10 @@ cases =
       readsAsD = reads 0x01 refl refl refl;
       readsAsE = reads 0x11 refl refl refl;
       withMeter = refl;
+      sound = sound;
+      soundFirst = refl;
+      soundLine = refl;
+      soundDecoded = sound-decoded;
       few = few;
       fullWithYCbCrAvi = refl;
       fullOverDvi = refl;

@@ -342,7 +342,7 @@ module _ (vic family encoding link range pixel edition : ℕ) (sound matrix : Li
         let v = both-left (inTheirs videoBytes five) _ i in
         let l : eqb (clockOf asked .refusal) 17 ≡ not (inNone tooFast (vic ∷ pixel ∷ [])) = limit-there b z ∙ too-fast family refl o (its-depth v) in
         let n : beyond vic (pixel / 16) (soundOf sound) ≡ full-up =
-            too-much sound s (both-left (inTheirs soundBytes sound) _ (both-right (inTheirs videoBytes five) _ i)) o (its-depth v) in
+        too-much sound s (both-left (inTheirs soundBytes sound) _ (both-right (inTheirs videoBytes five) _ i)) o (its-depth v) in
         rw (offers vic family (h 0) ∙ o, is-inside ∙ ap not i, k) (ap₂ (λ (t u : Bool). cond t 17 (cond u 20 0)) l n)
 
     read : readOf input .refusal ≡ answerTo vic family encoding link range pixel edition sound matrix

@@ -16,3 +16,4 @@ pub mod Vendors
 pub mod VendorCases
 pub mod Looked
 pub mod LookedVet
+pub mod Fitting

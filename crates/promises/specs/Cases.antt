@@ -1,6 +1,6 @@
 -- Document 01, "Marked cases, proved together as one table", the worked example of "What the station's library does", and the lengths that
--- "The request" says in numbers; with request 01 in: "Count 4 is no longer allowed, cases and example follow"; those of requests 06 and
--- 11, and two of request 09. What each byte of a request is answered stands in `EachByte`, other numbers in `InNumbers`.
+-- "The request" says in numbers; with request 01 in: "Count 4 is no longer allowed, cases and example follow"; those of requests 06, 10
+-- and 11, and two of request 09. What each byte of a request is answered stands in `EachByte`, other numbers in `InNumbers`.
 use mathlib.Core.Path.{_≡_}
 use mathlib.Core.Bool.{true, false, cond}
 use mathlib.Core.List.{List, [], _∷_, map}
@@ -28,6 +28,7 @@ use Rattle.request.specs.Lengths.{lengths}
 use Rattle.request.specs.Read.{readOf}
 use Rattle.writes.specs.List.{finishedImage}
 use Rattle.plan.specs.Plan.{planOf}
+use Rattle.decode.specs.Decode.{decodeOf}
 use Rattle.decode.specs.Theorems.{Answered}
 use Rattle.line.specs.Words.{ascii, lineText}
 use Rattle.promises.specs.EachByte.{editionBytes, bitsUnderD}
@@ -63,6 +64,11 @@ editionRefusal edition = cond (among edition editionBytes) 0 (cond (among editio
 -- the image that it ends in, from zeros
 abbrev pub done16 : ℕ → List ℕ
 done16 edition = finishedImage (asked (withEdition edition (asked16 0 1 0x00))) zeros
+
+-- VIC, depth byte and rate, with eight channels: RGB over HDMI
+abbrev pub eight : ℕ → ℕ → ℕ → List ℕ
+eight vic pixel rate =
+    0x07 ∷ vic ∷ 0x00 ∷ 0x00 ∷ 0x01 ∷ 0x00 ∷ pixel ∷ 0x00 ∷ 0x03 ∷ rate ∷ 0x08 ∷ 0x00 ∷ 0x00 ∷ []
 
 -- a clock of so many Hz
 abbrev hertz : ℕ → Clock
@@ -179,6 +185,17 @@ pub record MarkedCases : Type 0 where
   -- request 07: a meter's bytes stand behind the example's sound, and their count, 25, in front of them
   pub withMeter : bytesWith table39 (readOf (0x07 ∷ 0x10 ∷ 0x00 ∷ 0x00 ∷ 0x01 ∷ 0x00 ∷ 0x00 ∷ 0x00 ∷ 0x03 ∷ 0x02 ∷ 0x02 ∷ 0x01 ∷ 0x00 ∷ []) .request)
       ≡ 0x07 ∷ 0x10 ∷ 0x00 ∷ 0x00 ∷ 0x01 ∷ 0x00 ∷ 0x00 ∷ 0x00 ∷ 0x03 ∷ 0x02 ∷ 0x02 ∷ 0x01 ∷ 0x19 ∷ table39
+  -- request 10, of eight channels: in 480p 48 kHz is accepted and 88.2 kHz is not, and so in VGA and 576p; 192 kHz in 1080i; in 480p with each
+  -- pixel twice 176.4 kHz and not 192 kHz
+  pub sound : map (λ input. planOf input zeros zeros .refusal)
+      (eight 2 0x00 2 ∷ eight 2 0x00 3 ∷ eight 1 0x00 2 ∷ eight 1 0x00 3 ∷ eight 17 0x00 2 ∷ eight 17 0x00 3 ∷ eight 5 0x00 6 ∷ eight 20 0x00 6 ∷
+      eight 2 0x10 5 ∷ eight 2 0x10 6 ∷ []) ≡ 0 ∷ 20 ∷ 0 ∷ 20 ∷ 0 ∷ 20 ∷ 0 ∷ 0 ∷ 0 ∷ 20 ∷ []
+  -- "so it wins over 8", and over 7 and 10; beside it stands a count of 0
+  pub soundFirst : map (λ image. planOf (eight 2 0x00 6) image []) ([] ∷ set zeros 0x4A 0x10 ∷ zeros ∷ [])
+      ≡ record { refusal = 20; count = 0 } ∷ record { refusal = 20; count = 0 } ∷ record { refusal = 20; count = 0 } ∷ []
+  pub soundLine : lineText (eight 2 0x00 6) ≡ ascii "refused 20\n"
+  -- an image that was finished with such a sound decodes to nothing
+  pub soundDecoded : map (λ rate. decodeOf (finishedImage (asked (eight 2 0x00 rate)) zeros) zeros .refusal) (2 ∷ 3 ∷ []) ≡ 0 ∷ 11 ∷ []
   -- request 09
   pub few : Few
   -- Lengths follow from the counts: document 01 had 7, 10, 32, 35, and each has three bytes more

@@ -20,3 +20,4 @@ pub mod Piped
 pub mod Vendors
 pub mod VendorCases
 pub mod Looked
+pub mod Fitting

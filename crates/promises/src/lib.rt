@@ -11,6 +11,7 @@ ghost use Rattle.promises.specs.Cases.{MarkedCases};
 ghost use Rattle.promises.specs.EachByte.{EachByte};
 ghost use Rattle.promises.specs.Example.{Example};
 ghost use Rattle.promises.specs.Finished.{AllNamed};
+ghost use Rattle.promises.specs.Fitting.{Fitting};
 ghost use Rattle.promises.specs.InNumbers.{InNumbers};
 ghost use Rattle.promises.specs.Looked.{Looked};
 ghost use Rattle.promises.specs.Metered.{FromMeter};
@@ -86,6 +87,13 @@ pub fn always_right()
 pub fn two_readers()
     ensures { λ _. ⌜ Readers ⌝ }
 {}
+
+// Document 02, request 10: sound that does not fit is refused whatever is lent, and more of it too.
+pub fn sound_fits()
+    ensures { λ _. ⌜ Fitting ⌝ }
+{
+    request::never_lifted();
+}
 
 // Document 02, request 07: what a meter's matrix is to a request and to the preview.
 pub fn from_meter()

@@ -9,6 +9,7 @@ pub mod Coherent
 pub mod Cut
 pub mod Fits
 pub mod Hand
+pub mod Lifted
 pub mod Said
 pub mod Back
 pub mod Alone

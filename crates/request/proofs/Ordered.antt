@@ -18,13 +18,14 @@ use Rattle.matrix.specs.Tests.{isAllowed}
 use Rattle.matrix.proofs.Numbers.{numbers}
 use Rattle.refusals.proofs.Tests.{lowest-given, answer-given, in-stages, none-in-stages, none-at, answer-none, numbered}
 use Rattle.video.specs.declared.Video.{Video}
-use Rattle.video.specs.Video.{videoIn}
+use Rattle.video.specs.Video.{videoIn, PixelOutside}
 use Rattle.video.specs.Tests.{pixelOutside, videoOutside}
 use Rattle.video.specs.Modes.{offered}
 use Rattle.video.proofs.Fits as video
 use Rattle.sound.specs.declared.Sound.{Sound}
 use Rattle.sound.specs.Sound.{soundOf}
 use Rattle.sound.specs.Tests.{soundOutside}
+use Rattle.sound.specs.Fits.{SoundFits}
 use Rattle.sound.proofs.Fits as sound
 use Rattle.clock.specs.Clocks.{tmds, AboveLimit}
 use Rattle.clock.specs.Answers.{aboveLimit, clockOf}
@@ -118,16 +119,23 @@ limit-there b z =
     let v : Video = videoIn (b .video) in
     limit-is v (j .mode) (video.pixel-inside v (neither-left (videoOutside v) _ (j .inside)))
 
--- and row 20
-room-there : (b : Bodies) → judged b .refusal ≡ 0 → Decides (tooMuch (videoIn (b .video)) (soundOf (b .audio))) (TooMuch (videoIn (b .video)) (soundOf (b .audio)))
+-- and row 20, where the other fields are in range
+pub pixel-there : (b : Bodies) → judged b .refusal ≡ 0 → PixelOutside (videoIn (b .video)) → ⊥
 unfolding outside
-room-there b z =
-    let j = asked b z in
+pixel-there b z h =
     let v : Video = videoIn (b .video) in
+    video.is-outside v .fails (neither-left (videoOutside v) _ (asked b z .inside)) (video.outside-too v h)
+
+pub sound-there : (b : Bodies) → judged b .refusal ≡ 0 → SoundFits (soundOf (b .audio))
+unfolding outside
+sound-there b z =
     let s : Sound = soundOf (b .audio) in
-    let x = neither-left (videoOutside v) _ (j .inside) in
-    let y = neither-left (soundOutside s) _ (neither-right (videoOutside v) _ (j .inside)) in
-    is-too-much v s (j .mode) (λ h. video.is-outside v .fails x (video.outside-too v h)) (sound.in-range s .1 (sound.is-outside s .fails y))
+    let y = neither-left (soundOutside s) _ (neither-right (videoOutside (videoIn (b .video))) _ (asked b z .inside)) in
+    sound.in-range s .1 (sound.is-outside s .fails y)
+
+pub room-there : (b : Bodies) → judged b .refusal ≡ 0
+    → Decides (tooMuch (videoIn (b .video)) (soundOf (b .audio))) (TooMuch (videoIn (b .video)) (soundOf (b .audio)))
+room-there b z = is-too-much (videoIn (b .video)) (soundOf (b .audio)) (asked b z .mode) (pixel-there b z) (sound-there b z)
 
 pub limits-given : (b : Bodies) → judged b .refusal ≡ 0
     → Given (limitsRows (requestIn b .video) (requestIn b .sound)) (limitOf (videoIn (b .video)) (soundOf (b .audio)))

@@ -10,3 +10,4 @@ pub mod ThereAndBack
 pub mod Stages
 pub mod Fits
 pub mod Hand
+pub mod Lifted

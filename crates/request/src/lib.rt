@@ -14,6 +14,7 @@ ghost use Rattle.request.specs.ThereAndBack.{ThereAndBack};
 ghost use Rattle.request.specs.Stages.{Stages};
 ghost use Rattle.request.specs.Fits.{Fits};
 ghost use Rattle.request.specs.Hand.{InHand};
+ghost use Rattle.request.specs.Lifted.{NeverLifted};
 ghost use Rattle.request.specs.declared.Request.{Request};
 ghost use mathlib.Core.List.{List, [], _∷_};
 use clock::Pair;
@@ -250,6 +251,11 @@ pub fn stages()
 // A request in hand is judged as its bytes are.
 pub fn in_hand()
     ensures { λ _. ⌜ ((r : Request) → InHand r) ⌝ }
+{}
+
+// More channels or a higher rate never lift refusal 20.
+pub fn never_lifted()
+    ensures { λ _. ⌜ ((input : List ℕ) (other : List ℕ) → NeverLifted input other) ⌝ }
 {}
 
 // What is known of an accepted request.
