@@ -24,22 +24,22 @@ use Rattle.clock.specs.Clocks.{tmdsOf, tmds, AboveLimit}
 use Rattle.clock.specs.Answers.{aboveLimit}
 use Rattle.clock.proofs.Offered.{halves}
 use Rattle.blanking.specs.Timings.{timingOf, linesOf}
-use Rattle.blanking.specs.Room.{overhead, periods, packetsIn, samples, room, TooMuch}
+use Rattle.blanking.specs.Room.{overhead, periods, packetsIn, samples, roomFor, TooMuch}
 use Rattle.blanking.specs.Found.{highestOf, mostOf, beyond, tooMuch}
-use Rattle.blanking.specs.Theorems.{others, Rule}
+use Rattle.blanking.specs.Theorems.{otherPackets, RoomRule}
 use Rattle.blanking.proofs.Cells.{cells, at-listed, at-cell}
 
 -- ---- the tests of a cell
 
 abbrev finds : ℕ → ℕ → ℕ → ℕ → Bool
-finds vic r rate channels = Bool·beq (eqb channels 8 && ltb (mostOf vic r) rate) (ltb (room overhead vic r channels) (hertzOf rate))
+finds vic r rate channels = Bool·beq (eqb channels 8 && ltb (mostOf vic r) rate) (ltb (roomFor overhead vic r channels) (hertzOf rate))
 
 abbrev spares : ℕ → ℕ → ℕ → ℕ → Bool
 spares vic r rate channels =
-    ltb (room overhead vic r channels) (hertzOf rate) || leb (1001 * (hertzOf rate + others * samples channels)) (1000 * room overhead vic r channels)
+    ltb (roomFor overhead vic r channels) (hertzOf rate) || leb (1001 * (hertzOf rate + otherPackets * samples channels)) (1000 * roomFor overhead vic r channels)
 
 abbrev two-fit : ℕ → ℕ → ℕ → ℕ → Bool
-two-fit vic r rate channels = not (ltb (room overhead vic r 2) (hertzOf rate))
+two-fit vic r rate channels = not (ltb (roomFor overhead vic r 2) (hertzOf rate))
 
 all-found : every (cells finds) listed ≡ true
 unfolding highestOf
@@ -63,15 +63,15 @@ is-too-much v (On rate channels coherent) o out f =
       fails = λ t h. false≢true (sym t ∙ e ∙ lt-ltb _ _ h);
     }
 
-two : (v : Video) (rate : ℕ) → offered v ≡ true → (PixelOutside v → ⊥) → rate ≤ 6 → room overhead (v .vic) (repetition v) 2 < hertzOf rate → ⊥
+two : (v : Video) (rate : ℕ) → offered v ≡ true → (PixelOutside v → ⊥) → rate ≤ 6 → roomFor overhead (v .vic) (repetition v) 2 < hertzOf rate → ⊥
 two v rate o out r h = false≢true (sym (not-true _ (at-cell two-fit all-two v o out rate 2 r (inl refl))) ∙ lt-ltb _ _ h)
 
 spare : (v : Video) (rate channels coherent : ℕ) → offered v ≡ true → (PixelOutside v → ⊥) → SoundFits (On rate channels coherent)
     → (TooMuch v (On rate channels coherent) → ⊥)
-    → 1001 * (hertzOf rate + others * samples channels) ≤ 1000 * room overhead (v .vic) (repetition v) channels
+    → 1001 * (hertzOf rate + otherPackets * samples channels) ≤ 1000 * roomFor overhead (v .vic) (repetition v) channels
 spare v rate channels coherent o out f n = leb-true _ _ (go _ _ refl (at-cell spares all-spare v o out rate channels (f .0) (f .1)))
   where
-    go : (a b : Bool) → ltb (room overhead (v .vic) (repetition v) channels) (hertzOf rate) ≡ a → (a || b) ≡ true → b ≡ true
+    go : (a b : Bool) → ltb (roomFor overhead (v .vic) (repetition v) channels) (hertzOf rate) ≡ a → (a || b) ≡ true → b ≡ true
     go true b e t = absurd (n (ltb-true _ _ e))
     go false b e t = t
 
@@ -92,8 +92,8 @@ fewer-samples channels more h = go (ltb 2 channels) refl (ltb 2 more) refl
     go false e true g = lit≤ tt
     go false e false g = lit≤ tt
 
-lifts : (vic r rate channels higher more : ℕ) → rate ≤ higher → higher ≤ 6 → channels ≤ more → room overhead vic r channels < hertzOf rate
-    → room overhead vic r more < hertzOf higher
+lifts : (vic r rate channels higher more : ℕ) → rate ≤ higher → higher ≤ 6 → channels ≤ more → roomFor overhead vic r channels < hertzOf rate
+    → roomFor overhead vic r more < hertzOf higher
 lifts vic r rate channels higher more n m c h =
     let packets : ℕ = linesOf (timingOf vic) * packetsIn (periods (timingOf vic) r - overhead) in
     lt-of-lt-of-le (lt-of-le-of-lt (mul-le-mul-left packets (fewer-samples channels more c)) h) (higher-rate rate higher n m)
@@ -101,14 +101,14 @@ lifts vic r rate channels higher more n m c h =
 -- ---- eight channels at 192 kHz are too much in slow modes alone
 
 abbrev slow-by : ℕ → ℕ → ℕ → ℕ → Bool
-slow-by vic r family depth = not (ltb (room overhead vic r 8) 192000) || not (aboveLimit (tmdsOf (modeOf vic .hertz) family depth r))
+slow-by vic r family depth = not (ltb (roomFor overhead vic r 8) 192000) || not (aboveLimit (tmdsOf (modeOf vic .hertz) family depth r))
 
 all-slow : every (λ vic. below (λ r. below (λ f. below (slow-by vic r f) 3) (modeOf vic .families)) 3) listed ≡ true
 unfolding modeOf divisorOf euclid
 all-slow = refl
 
 -- what is too much is so at the highest rate, with eight channels
-at-most : (v : Video) (s : Sound) → SoundFits s → TooMuch v s → room overhead (v .vic) (repetition v) 8 < 192000
+at-most : (v : Video) (s : Sound) → SoundFits s → TooMuch v s → roomFor overhead (v .vic) (repetition v) 8 < 192000
 at-most v Off f h = absurd h
 at-most v (On rate channels coherent) f h = lifts (v .vic) (repetition v) rate channels 6 8 (f .0) (lit≤ tt) (few (f .1)) h
   where
@@ -133,7 +133,7 @@ slow v s o out f h a = false≢true (sym (go _ _ (lt-ltb _ _ (at-most v s f h)) 
     go true false e t = refl
     go false c e t = absurd (false≢true e)
 
-pub rule : Rule
+pub rule : RoomRule
 rule =
     record {
       decided = λ v s o out f. let d = is-too-much v s o out f in (d .passes, λ h. confirmed d h);

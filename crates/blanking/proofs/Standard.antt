@@ -15,8 +15,8 @@ use Rattle.video.specs.declared.Video.{Video}
 use Rattle.video.specs.Modes.{listed, offered}
 use Rattle.video.specs.Video.{repetition, PixelOutside}
 use Rattle.sound.specs.Rates.{hertzOf}
-use Rattle.blanking.specs.Room.{overhead, room}
-use Rattle.blanking.specs.Printed.{Most, printed, noRow}
+use Rattle.blanking.specs.Room.{overhead, roomFor}
+use Rattle.blanking.specs.Printed.{Most, printedRows, noRow}
 use Rattle.blanking.specs.Theorems.{Gives, GivesAll, Standard}
 use Rattle.blanking.proofs.Cells.{cells, at-cell}
 
@@ -29,19 +29,19 @@ alike a b c d t =
 -- ---- the rows, by each of ten overheads
 
 abbrev gives : ℕ → Most → ℕ → Bool
-gives apart row rate = Bool·beq (ltb (room apart (row .vic) (row .repetition) 8) (hertzOf rate)) (ltb (row .rate) rate)
+gives apart row rate = Bool·beq (ltb (roomFor apart (row .vic) (row .repetition) 8) (hertzOf rate)) (ltb (row .rate) rate)
 
 abbrev gives-row : Most → Bool
 gives-row row = below (λ k. below (gives (65 + k) row) 7) 10
 
-all-rows : every gives-row printed ≡ true
+all-rows : every gives-row printedRows ≡ true
 all-rows = refl
 
 within-by : (k : ℕ) → k < 10 → GivesAll (65 + k)
 within-by k n i h rate r =
-    let row : Most = getD printed i noRow in
-    let t = at-below (λ k. below (gives (65 + k) row) 7) 10 k (every-at gives-row printed i noRow all-rows h) n in
-    alike (room (65 + k) (row .vic) (row .repetition) 8) (hertzOf rate) (row .rate) rate (at-below (gives (65 + k) row) 7 rate t (omega arith))
+    let row : Most = getD printedRows i noRow in
+    let t = at-below (λ k. below (gives (65 + k) row) 7) 10 k (every-at gives-row printedRows i noRow all-rows h) n in
+    alike (roomFor (65 + k) (row .vic) (row .repetition) 8) (hertzOf rate) (row .rate) rate (at-below (gives (65 + k) row) 7 rate t (omega arith))
 
 -- one of the ten
 module _ (apart : ℕ) (l : 65 ≤ apart) (h : apart ≤ 74) where
@@ -56,15 +56,15 @@ module _ (apart : ℕ) (l : 65 ≤ apart) (h : apart ≤ 74) where
 
 -- ---- and by no other: VGA has room for three packets a line by a lower one, 480p for one by a higher
 
-low : (apart : ℕ) → room apart 1 0 8 < 88200 → 65 ≤ apart
+low : (apart : ℕ) → roomFor apart 1 0 8 < 88200 → 65 ≤ apart
 low apart h = go (ltb apart 65) refl
   where
     go : (b : Bool) → ltb apart 65 ≡ b → 65 ≤ apart
     go true e =
-        absurd (false≢true (sym (not-true _ (at-below (λ a. not (ltb (room a 1 0 8) 88200)) 65 apart refl (ltb-true apart 65 e))) ∙ lt-ltb _ _ h))
+        absurd (false≢true (sym (not-true _ (at-below (λ a. not (ltb (roomFor a 1 0 8) 88200)) 65 apart refl (ltb-true apart 65 e))) ∙ lt-ltb _ _ h))
     go false e = ltb-false apart 65 e
 
-high : (apart : ℕ) → (room apart 2 0 8 < 48000 → ⊥) → apart ≤ 74
+high : (apart : ℕ) → (roomFor apart 2 0 8 < 48000 → ⊥) → apart ≤ 74
 high apart h = go (ltb 74 apart) refl
   where
     go : (b : Bool) → ltb 74 apart ≡ b → apart ≤ 74
@@ -80,20 +80,20 @@ beyond apart g = (low apart (g 0 (lit≤ tt) 3 (lit≤ tt) .1 (lit≤ tt)), high
 -- ---- each of the ten gives the same
 
 abbrev agrees : ℕ → ℕ → ℕ → ℕ → Bool
-agrees vic r rate channels = below (λ k. Bool·beq (ltb (room (65 + k) vic r channels) (hertzOf rate)) (ltb (room overhead vic r channels) (hertzOf rate))) 10
+agrees vic r rate channels = below (λ k. Bool·beq (ltb (roomFor (65 + k) vic r channels) (hertzOf rate)) (ltb (roomFor overhead vic r channels) (hertzOf rate))) 10
 
 all-agree : every (cells agrees) listed ≡ true
 all-agree = refl
 
 module _ (v : Video) (o : offered v ≡ true) (out : PixelOutside v → ⊥) (rate channels : ℕ) (r : rate ≤ 6) (c : (channels ≡ 2) ⊎ (channels ≡ 8)) where
   abbrev Same : ℕ → Type 0
-  Same apart = (room apart (v .vic) (repetition v) channels < hertzOf rate) ↔ (room overhead (v .vic) (repetition v) channels < hertzOf rate)
+  Same apart = (roomFor apart (v .vic) (repetition v) channels < hertzOf rate) ↔ (roomFor overhead (v .vic) (repetition v) channels < hertzOf rate)
 
   same-by : (k : ℕ) → k < 10 → Same (65 + k)
   same-by k n =
       let f : ℕ → Bool = λ k.
-      Bool·beq (ltb (room (65 + k) (v .vic) (repetition v) channels) (hertzOf rate)) (ltb (room overhead (v .vic) (repetition v) channels) (hertzOf rate)) in
-      alike (room (65 + k) (v .vic) (repetition v) channels) (hertzOf rate) (room overhead (v .vic) (repetition v) channels) (hertzOf rate)
+      Bool·beq (ltb (roomFor (65 + k) (v .vic) (repetition v) channels) (hertzOf rate)) (ltb (roomFor overhead (v .vic) (repetition v) channels) (hertzOf rate)) in
+      alike (roomFor (65 + k) (v .vic) (repetition v) channels) (hertzOf rate) (roomFor overhead (v .vic) (repetition v) channels) (hertzOf rate)
       (at-below f 10 k (at-cell agrees all-agree v o out rate channels r c) n)
 
   same : (apart : ℕ) → 65 ≤ apart → apart ≤ 74 → Same apart

@@ -1,4 +1,4 @@
--- How the code finds row 20: by the modes in which eight channels do not all fit. `Rule` (Theorems) ties it to the blanking.
+-- How the code finds row 20: by the modes in which eight channels do not all fit. `RoomRule` (Theorems) ties it to the blanking.
 use mathlib.Core.Bool.{Bool, false, cond, _&&_}
 use mathlib.Core.List.{List, [], _∷_}
 use Prim.Native.Nat.{ℕ}

@@ -12,8 +12,8 @@ pub record Most : Type 0 where
 abbrev pub most : ℕ → ℕ → ℕ → Most
 most vic repetition rate = record { vic = vic; repetition = repetition; rate = rate }
 
-abbrev pub printed : List Most
-printed =
+abbrev pub printedRows : List Most
+printedRows =
     most 1 0 2 ∷
     most 2 0 2 ∷ most 2 1 5 ∷ most 2 2 6 ∷
     most 3 0 2 ∷ most 3 1 5 ∷ most 3 2 6 ∷

@@ -1,6 +1,6 @@
 -- Document 02, request 10: "the audio that fits into its blanking", as HDMI 1.4's table counts it. Each line carries in its horizontal blanking
 -- one island of packets, whether it belongs to the picture or not; sound cannot wait for the vertical blanking. The standard stands in no
--- source: what of this is from memory, and how tightly the rows that it prints fix it, say docs/DECISIONS.md and `Rule` (Theorems).
+-- source: what of this is from memory, and how tightly the rows that it prints fix it, say docs/DECISIONS.md and `Standard` (Theorems).
 use mathlib.Core.Bool.{cond}
 use mathlib.Core.List.{List, [], _∷_}
 use Prim.Native.Nat.{ℕ, _+_, _-_, _*_, _/_, _<_, min}
@@ -32,13 +32,13 @@ abbrev pub samples : ℕ → ℕ
 samples channels = cond (ltb 2 channels) 1 4
 
 -- how many samples a second there is room for, by the periods of a line that carry no packet
-abbrev pub room : ℕ → ℕ → ℕ → ℕ → ℕ
-room apart vic repetition channels = linesOf (timingOf vic) * packetsIn (periods (timingOf vic) repetition - apart) * samples channels
+abbrev pub roomFor : ℕ → ℕ → ℕ → ℕ → ℕ
+roomFor apart vic repetition channels = linesOf (timingOf vic) * packetsIn (periods (timingOf vic) repetition - apart) * samples channels
 
 -- row 20, "a request beyond that must go": over the mode and the repetition, whatever the family and the depth
 abbrev pub Beyond : ℕ → ℕ → Sound → Type 0
 Beyond vic repetition Off = ⊥
-Beyond vic repetition (On rate channels coherent) = room overhead vic repetition channels < hertzOf rate
+Beyond vic repetition (On rate channels coherent) = roomFor overhead vic repetition channels < hertzOf rate
 
 abbrev pub TooMuch : Video → Sound → Type 0
 TooMuch video sound = Beyond (video .vic) (repetition video) sound

@@ -14,8 +14,8 @@ use Rattle.sound.specs.Rates.{hertzOf}
 use Rattle.sound.specs.Fits.{SoundFits}
 use Rattle.clock.specs.Clocks.{tmds, AboveLimit}
 use Rattle.blanking.specs.Timings.{Timing, timings, untimed}
-use Rattle.blanking.specs.Room.{overhead, samples, room, Beyond, TooMuch}
-use Rattle.blanking.specs.Printed.{Most, printed, noRow}
+use Rattle.blanking.specs.Room.{overhead, samples, roomFor, Beyond, TooMuch}
+use Rattle.blanking.specs.Printed.{Most, printedRows, noRow}
 use Rattle.blanking.specs.Found.{tooMuch}
 
 -- a timing makes the clock of its mode exactly; and where pixels are square, in all pictures that are not 720 wide, its aspect, 4:3 or 16:9
@@ -34,10 +34,10 @@ pub record Timed : Type 0 where
 
 -- by so many periods of a line that carry no packet: a row of the standard is what the rule gives, whichever the rate
 abbrev pub Gives : ℕ → Most → Type 0
-Gives apart row = (rate : ℕ) → rate ≤ 6 → (room apart (row .vic) (row .repetition) 8 < hertzOf rate) ↔ (row .rate < rate)
+Gives apart row = (rate : ℕ) → rate ≤ 6 → (roomFor apart (row .vic) (row .repetition) 8 < hertzOf rate) ↔ (row .rate < rate)
 
 abbrev pub GivesAll : ℕ → Type 0
-GivesAll apart = (i : ℕ) → i < length printed → Gives apart (getD printed i noRow)
+GivesAll apart = (i : ℕ) → i < length printedRows → Gives apart (getD printedRows i noRow)
 
 -- the rule against the standard: it gives each row that is printed; those rows leave its overhead from 65 to 74; and which of these it is
 -- decides nothing, in any mode, with any repetition, for any sound
@@ -46,14 +46,14 @@ pub record Standard : Type 0 where
   pub fixed : (apart : ℕ) → GivesAll apart ↔ ((65 ≤ apart) × (apart ≤ 74))
   pub same : (apart : ℕ) → GivesAll apart → (v : Video) → offered v ≡ true → (PixelOutside v → ⊥)
       → (rate channels : ℕ) → rate ≤ 6 → (channels ≡ 2) ⊎ (channels ≡ 8)
-      → (room apart (v .vic) (repetition v) channels < hertzOf rate) ↔ (room overhead (v .vic) (repetition v) channels < hertzOf rate)
+      → (roomFor apart (v .vic) (repetition v) channels < hertzOf rate) ↔ (roomFor overhead (v .vic) (repetition v) channels < hertzOf rate)
 
 -- other packets, which may come in a second: N and CTS at most 1,500 times, InfoFrames and general control a few times a field
-abbrev pub others : ℕ
-others = 10000
+abbrev pub otherPackets : ℕ
+otherPackets = 10000
 
 -- row 20
-pub record Rule : Type 0 where
+pub record RoomRule : Type 0 where
   -- the code's test decides it, in any mode and for any sound that is accepted otherwise
   pub decided : (v : Video) (s : Sound) → offered v ≡ true → (PixelOutside v → ⊥) → SoundFits s → (tooMuch v s ≡ true) ↔ TooMuch v s
   -- "more channels or a higher rate in the same mode never lifts this refusal"
@@ -66,4 +66,4 @@ pub record Rule : Type 0 where
   -- what fits, fits beside the other packets and in family 1, where a second has fewer lines: neither decides a cell
   pub spare : (v : Video) (rate channels coherent : ℕ) → offered v ≡ true → (PixelOutside v → ⊥) → SoundFits (On rate channels coherent)
       → (TooMuch v (On rate channels coherent) → ⊥)
-      → 1001 * (hertzOf rate + others * samples channels) ≤ 1000 * room overhead (v .vic) (repetition v) channels
+      → 1001 * (hertzOf rate + otherPackets * samples channels) ≤ 1000 * roomFor overhead (v .vic) (repetition v) channels

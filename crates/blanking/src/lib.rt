@@ -1,7 +1,7 @@
 // Sound that fits into the blanking: document 02, request 10.
 ghost use mathlib.Core.Path.{_≡_};
 ghost use Rattle.blanking.specs.Found.{highest, highestOf, mostOf, tooMuch};
-ghost use Rattle.blanking.specs.Theorems.{Timed, Standard, Rule};
+ghost use Rattle.blanking.specs.Theorems.{Timed, Standard, RoomRule};
 use sound::Sound;
 use video::Video;
 
@@ -73,5 +73,5 @@ pub fn standard_rows()
 
 // What is too much stays too much.
 pub fn room_rule()
-    ensures { λ _. ⌜ Rule ⌝ }
+    ensures { λ _. ⌜ RoomRule ⌝ }
 {}

@@ -39,7 +39,7 @@ use Rattle.request.specs.Read.{outside, combined, judged, checked, limited, rea
 use Rattle.request.proofs.Walks.{walks}
 use Rattle.request.proofs.Ordered.{limit-there, accepted}
 use Rattle.promises.specs.EachByte.{inTheirs, inNone, vics, depthBytes, editionBytes, bitsUnderD, videoBytes, soundBytes}
-use Rattle.promises.specs.EachByte.{modeBytes, highBytes, highInside, matrixInside, together, tooFast, noRoom, withoutPair, bytesOf, answerTo, pairTo, Answers, EachByte}
+use Rattle.promises.specs.EachByte.{modeBytes, highBytes, highInside, matrixInside, together, tooFast, willNotFit, withoutPair, bytesOf, answerTo, pairTo, Answers, EachByte}
 
 -- two tests that are alike at every number below 256
 alike : (f g : ℕ → Bool) → below (λ n. Bool·beq (f n) (g n)) 256 ≡ true → (n : ℕ) → n < 256 → f n ≡ g n
@@ -219,7 +219,7 @@ all-fast = refl
 
 -- channels, rate, VIC and depth byte
 abbrev full : List ℕ → Bool
-full four = Bool·beq (beyond (getD four 2 0) (getD four 3 0 / 16) (On (getD four 1 0) (getD four 0 0) 0)) (not (inNone noRoom four))
+full four = Bool·beq (beyond (getD four 2 0) (getD four 3 0 / 16) (On (getD four 1 0) (getD four 0 0) 0)) (not (inNone willNotFit four))
 
 abbrev fullRows : List (List ℕ)
 fullRows = (2 ∷ 8 ∷ []) ∷ (0 ∷ 1 ∷ 2 ∷ 3 ∷ 4 ∷ 5 ∷ 6 ∷ []) ∷ vics 0 ∷ depthBytes ∷ []
@@ -316,7 +316,7 @@ module _ (vic family encoding link range pixel edition : ℕ) (sound matrix : Li
     its-vic (suc (suc n)) o = absurd (false≢true o)
 
     too-much : (x : List ℕ) → among (length x) (0 ∷ 3 ∷ []) ≡ true → inTheirs soundBytes x ≡ true → among vic (vics family) ≡ true
-        → among pixel depthBytes ≡ true → beyond vic (pixel / 16) (soundOf x) ≡ not (inNone noRoom (getD x 1 0 ∷ getD x 0 0 ∷ vic ∷ pixel ∷ []))
+        → among pixel depthBytes ≡ true → beyond vic (pixel / 16) (soundOf x) ≡ not (inNone willNotFit (getD x 1 0 ∷ getD x 0 0 ∷ vic ∷ pixel ∷ []))
     unfolding beyond
     too-much [] t i o p = refl
     too-much (r ∷ []) t i o p = absurd (false≢true t)
@@ -330,7 +330,7 @@ module _ (vic family encoding link range pixel edition : ℕ) (sound matrix : Li
         absurd (false≢true (rw (ne-eqb n 0 (omega arith), ne-eqb n 3 (omega arith)) at t))
 
     abbrev full-up : Bool
-    full-up = not (inNone noRoom (getD sound 1 0 ∷ getD sound 0 0 ∷ vic ∷ pixel ∷ []))
+    full-up = not (inNone willNotFit (getD sound 1 0 ∷ getD sound 0 0 ∷ vic ∷ pixel ∷ []))
 
     -- past 4 and 5: 6 by what goes together, and else 17 by the clock and 20 by the room
     last-two : among vic (vics family) ≡ true → inside ≡ true → (c : Bool) → combined b ≡ c

@@ -79,8 +79,8 @@ tooFast =
     ((4 ∷ 5 ∷ 19 ∷ 20 ∷ 32 ∷ 34 ∷ 60 ∷ 62 ∷ []) ∷ (0x20 ∷ 0x21 ∷ 0x22 ∷ []) ∷ []) ∷ []
 
 -- ---- 20: channels, rate, VIC and depth byte. Two channels always fit
-abbrev pub noRoom : List (List (List ℕ))
-noRoom =
+abbrev pub willNotFit : List (List (List ℕ))
+willNotFit =
     ((8 ∷ []) ∷ (3 ∷ 4 ∷ 5 ∷ 6 ∷ []) ∷ (1 ∷ 2 ∷ 3 ∷ 17 ∷ 18 ∷ []) ∷ (0x00 ∷ 0x01 ∷ 0x02 ∷ []) ∷ []) ∷
     ((8 ∷ []) ∷ (6 ∷ []) ∷ (2 ∷ 3 ∷ 17 ∷ 18 ∷ []) ∷ (0x10 ∷ 0x11 ∷ 0x12 ∷ []) ∷ []) ∷ []
 
@@ -105,7 +105,7 @@ module _ (vic family encoding link range pixel edition : ℕ) (sound matrix : Li
       (cond (not (inTheirs videoBytes (encoding ∷ link ∷ range ∷ pixel ∷ edition ∷ []) && (inTheirs soundBytes sound && matrixInside matrix))) 5
       (cond (inNone together (encoding ∷ link ∷ range ∷ pixel ∷ edition ∷ length sound ∷ length matrix ∷ [])) 6
       (cond (not (inNone tooFast (vic ∷ pixel ∷ []))) 17
-      (cond (not (inNone noRoom (getD sound 1 0 ∷ getD sound 0 0 ∷ vic ∷ pixel ∷ []))) 20 0))))
+      (cond (not (inNone willNotFit (getD sound 1 0 ∷ getD sound 0 0 ∷ vic ∷ pixel ∷ []))) 20 0))))
 
   abbrev pub pairTo : ℕ
   pairTo = cond (eqb (getD sound 2 0) 1 && not (inNone withoutPair (vic ∷ family ∷ pixel ∷ getD sound 0 0 ∷ []))) 9 0
