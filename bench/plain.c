@@ -10,14 +10,18 @@
 enum { VIC = 1, FAMILY, ENCODING, LINK, RANGE, DEPTH, EDITION, NEXT };
 enum { VIDEO = NEXT - 1, SOUND = 3, MATRIX = STATION_MATRIX, LONGEST = 3 + VIDEO + SOUND + MATRIX, VICS = 64, RATES = 7, DEPTHS = 3 };
 
-/* For each VIC: its pixel clock, a row of `rows`, at family 0 and 1 (0 where it is not offered), 4:3, ITU-R 601, the clock at family 0 in
- * Hz. */
-static const struct { uint8_t clock[2], narrow, itu601; uint32_t hertz; } modes[VICS] = {
-    [1] = { { 1, 2 }, 1, 1, 25200000 },   [2] = { { 3, 4 }, 1, 1, 27027000 },   [3] = { { 3, 4 }, 0, 1, 27027000 },
-    [4] = { { 5, 6 }, 0, 0, 74250000 },   [5] = { { 5, 6 }, 0, 0, 74250000 },   [16] = { { 7, 8 }, 0, 0, 148500000 },
-    [17] = { { 4, 0 }, 1, 1, 27000000 },  [18] = { { 4, 0 }, 0, 1, 27000000 },  [19] = { { 5, 0 }, 0, 0, 74250000 },
-    [20] = { { 5, 0 }, 0, 0, 74250000 },  [31] = { { 7, 0 }, 0, 0, 148500000 }, [32] = { { 5, 6 }, 0, 0, 74250000 },
-    [34] = { { 5, 6 }, 0, 0, 74250000 },  [60] = { { 9, 10 }, 0, 0, 59400000 }, [62] = { { 5, 6 }, 0, 0, 74250000 },
+/* For each VIC: its pixel clock, a row of `rows`, at family 0 and 1 (0 where it is not offered), 4:3, ITU-R 601, the rates that fit with
+ * eight channels, by repetition, from the lowest on, and the clock at family 0 in Hz. */
+#define ALL_FIT { 7, 7, 7 }
+static const struct { uint8_t clock[2], narrow, itu601, fit[3]; uint32_t hertz; } modes[VICS] = {
+    [1] = { { 1, 2 }, 1, 1, { 3, 7, 7 }, 25200000 },  [2] = { { 3, 4 }, 1, 1, { 3, 6, 7 }, 27027000 },
+    [3] = { { 3, 4 }, 0, 1, { 3, 6, 7 }, 27027000 },  [4] = { { 5, 6 }, 0, 0, ALL_FIT, 74250000 },
+    [5] = { { 5, 6 }, 0, 0, ALL_FIT, 74250000 },      [16] = { { 7, 8 }, 0, 0, ALL_FIT, 148500000 },
+    [17] = { { 4, 0 }, 1, 1, { 3, 6, 7 }, 27000000 }, [18] = { { 4, 0 }, 0, 1, { 3, 6, 7 }, 27000000 },
+    [19] = { { 5, 0 }, 0, 0, ALL_FIT, 74250000 },     [20] = { { 5, 0 }, 0, 0, ALL_FIT, 74250000 },
+    [31] = { { 7, 0 }, 0, 0, ALL_FIT, 148500000 },    [32] = { { 5, 6 }, 0, 0, ALL_FIT, 74250000 },
+    [34] = { { 5, 6 }, 0, 0, ALL_FIT, 74250000 },     [60] = { { 9, 10 }, 0, 0, ALL_FIT, 59400000 },
+    [62] = { { 5, 6 }, 0, 0, ALL_FIT, 74250000 },
 };
 
 /* The row of `pairs` for the TMDS clock, by pixel clock, depth and repetition; 0 above 225 MHz, in both families alike. */
@@ -190,7 +194,8 @@ static uint32_t read(const uint8_t *r, size_t length, struct asked *q) {
     if ((q->encoding && (!q->matrix || q->range)) || (!q->link && (q->sound || q->encoding))) return 6;
     if ((q->depth && (q->encoding == 1 || !q->link)) || (q->of_e && !(r[EDITION] & IS_E))) return 6;
     q->row = row_of(q);
-    return q->row ? 0 : 17;
+    if (!q->row) return 17;
+    return q->sound && q->sound[1] == 8 && q->sound[0] >= modes[q->vic].fit[q->repetition] ? 20 : 0;
 }
 
 /* N and CTS of a request with sound; 0 where no exact pair exists. */

@@ -103,10 +103,10 @@ static const struct { const char *of, *what; } situations[SITUATIONS] = {
     [TORN_CARRIED] = { "links", "begun with torn coefficients in use" },
     [MENDED] = { "links", "finished, and torn coefficients whole again" },
 };
-static uint32_t situations_met[SITUATIONS], refusals_met[18];
+static uint32_t situations_met[SITUATIONS], refusals_met[STATION_SOUND_TOO_MUCH + 1];
 static void meets(int s, int met) { situations_met[s] += met != 0; }
 
-static const uint32_t own_numbers[] = { 1, 2, 3, 4, 5, 6, 17, 9, 10 };
+static const uint32_t own_numbers[] = { 1, 2, 3, 4, 5, 6, 17, 20, 9, 10 };
 enum { OWN_NUMBERS = sizeof own_numbers / sizeof own_numbers[0] };
 
 static void every_situation_met(void) {
@@ -179,7 +179,7 @@ static uint32_t any_cut(const struct link *k) {
 
 /* What a point must show. ----------------------------------------------------------------------------------------------------------- */
 
-/* Refusals 1 to 6, 17, 9 and 10 by the request and the room for the list alone. */
+/* Refusals 1 to 6, 17, 20, 9 and 10 by the request and the room for the list alone. */
 static uint32_t own_refusal(const uint8_t *bytes, size_t length, size_t room) {
     struct fields f;
     uint32_t refusal = model_read(bytes, length, &f);
@@ -510,7 +510,7 @@ static void any_beginning(struct chain *c, const struct fields *last) {
     meets(QUIET, c->quiet);
 }
 
-/* With the GC hold up, or with two holds, a state is no beginning: every request is refused 8 there, if not by 1 to 6 or 17. */
+/* With the GC hold up, or with two holds, a state is no beginning: every request is refused 8 there, if not by 1 to 6, 17 or 20. */
 static void no_beginning(const struct chain *c, const struct fields *last) {
     static const uint8_t up[] = { 0x10, 0x10, 0x60, 0x70, 0x50, 0x30 };
     uint8_t image[256], bytes[LONGEST], list[256];

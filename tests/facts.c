@@ -345,7 +345,7 @@ static void names(void) {
 #define VET(length) station_vet(STATE(STATION_PACKET, STATION_COEFFICIENTS), chip.mark, l.bytes, length).refusal
     tell(VET(STATION_LIST) == STATION_ACCEPTED, "a list of STATION_LIST bytes passes");
     tell(VET(STATION_LIST + 2) == STATION_LIST_LENGTH, "STATION_LIST is the longest list");
-    tell(strcmp(station_text(STATION_NO_MODE_FITS), station_text(STATION_NO_MODE_FITS + 1)) != 0, "station_text knows its last number");
+    tell(strcmp(station_text(STATION_SOUND_TOO_MUCH), station_text(STATION_SOUND_TOO_MUCH + 1)) != 0, "station_text knows its last number");
     names_of_a_meter();
     names_of_a_pipe();
 }

@@ -79,6 +79,14 @@ static void loose_fields(struct fields *f) {
     }
 }
 
+/* Often more sound than fits: a mode of few clocks a line, and eight channels at a high rate. */
+static void more_sound(struct fields *f) {
+    static const int few_clocks[] = { 1, 2, 3, 17, 18 };
+    f->vic = few_clocks[any(5)], f->repetition = any(3) == 0;
+    f->sound = 1, f->rate = any(4) ? 3 + (int)any(4) : (int)any(RATES), f->channels = any(4) ? 8 : 2, f->coherent = (int)any(2);
+    if (any(8)) f->link = 1;
+}
+
 size_t any_request(uint8_t *bytes, size_t room) {
     struct fields f;
     size_t length;
@@ -92,6 +100,7 @@ size_t any_request(uint8_t *bytes, size_t room) {
     if (how <= 4) loose_fields(&f);
     else any_fields(&f);
     if (how == 10) f.depth = (int)any(DEPTHS), f.repetition = 1 + (int)any(2);      /* often a clock above the limit */
+    if (how == 11) more_sound(&f);
     length = model_bytes(&f, bytes);
     if (how == 5) return any((uint32_t)length);         /* cut */
     if (how == 6) {                                     /* bytes after the last section, few or very many */
@@ -156,7 +165,10 @@ void any_image(uint8_t *image) {
     switch (any(8)) {
     case 0: any_holds(image); break;
     case 1: any_holds(image); cut(image, &f); break;
-    case 2: case 3: finish(image, &f); break;
+    case 2: case 3:
+        if (any(8) == 0) more_sound(&f);
+        finish(image, &f);
+        break;
     case 4:
         finish(image, &f);
         for (uint32_t n = 1 + any(3); n > 0; n--) image[any(256)] ^= (uint8_t)(1u << any(8));

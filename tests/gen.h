@@ -13,7 +13,7 @@ void     seed(uint64_t s);
 uint32_t any(uint32_t below);                           /* 0 .. below - 1 */
 void     any_bytes(uint8_t *bytes, size_t length);
 uint8_t  any_written(void);                             /* a register that a list may write */
-void     any_fields(struct fields *f);                  /* fields of a request that 1 to 6 and 17 let pass (9 may apply) */
+void     any_fields(struct fields *f);                  /* fields of a request that 1 to 6, 17 and 20 let pass (9 may apply) */
 size_t   any_request(uint8_t *bytes, size_t room);      /* valid, damaged, cut, too long, or plain noise; `room` is LEAST_ROOM or more */
 void     any_image(uint8_t *image);                     /* noise, finished, cut, damaged, bare; holds of every kind */
 uint8_t  any_mark(void);                                /* none, 1, or another number that waits as well */
@@ -24,8 +24,8 @@ void     other_part(struct fields *f);                  /* another one, accepted
 void     near_image(uint8_t *image, const struct fields *f);    /* one that planning accepts, and that needs few writes for this request */
 
 /* Every kind of request: each value of each field of the video and the audio section, sound and matrix on or off; where these are too many,
- * a part of them by chance. A kind has a number below `kinds()`; many numbers are of requests that 1 to 6 or 17 refuse, and for these the
- * answer is 0. The matrix is any. */
+ * a part of them by chance. A kind has a number below `kinds()`; many numbers are of requests that 1 to 6, 17 or 20 refuse, and for these
+ * the answer is 0. The matrix is any. */
 enum { MOST_KINDS = 40000 };
 uint32_t kinds(void);
 int      kind_of_request(uint32_t kind, struct fields *f);

@@ -1227,6 +1227,7 @@ static const struct { const char *name; void (*run)(void); } sections[SECTIONS] 
     { "range and Q", ranges },
     { "depth and repetition", depths },
     { "editions of the InfoFrame", editions },
+    { "sound that fits", sounds },
     { "the model's search", search },
     { "machine writes", writes },
     { "Vsync and the mark", turns },

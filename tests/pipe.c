@@ -26,7 +26,8 @@ enum { VARIANTS = 4 };
 static const struct { uint32_t number; const char *what; int is[VARIANTS]; } numbers[] = {
     { 0, "accepted", { 1, 1, 1, 1 } },  { 1, "refused 1", { 1, 1, 1, 0 } },   { 2, "refused 2", { 1, 1, 1, 0 } },
     { 3, "refused 3", { 1, 1, 1, 1 } }, { 4, "refused 4", { 1, 1, 1, 1 } },   { 5, "refused 5", { 1, 1, 1, 1 } },
-    { 6, "refused 6", { 1, 1, 1, 1 } }, { 17, "refused 17", { 1, 1, 1, 1 } }, { 9, "refused 9", { 0, 1, 0, 1 } },
+    { 6, "refused 6", { 1, 1, 1, 1 } }, { 17, "refused 17", { 1, 1, 1, 1 } }, { 20, "refused 20", { 0, 1, 0, 1 } },
+    { 9, "refused 9", { 0, 1, 0, 1 } },
 };
 enum { NUMBERS_OF = sizeof numbers / sizeof numbers[0] };
 static int answer_of(uint32_t number) { return number ? (int)number : YES; }
@@ -156,6 +157,8 @@ static const struct { const char *bytes; int answer; } whole[] = {
     { "07 10 00 00 00 00 00 00 " SOUND "00", 6 },       /* DVI with sound */
     { "07 10 00 00 01 00 10 00 00 00", 17 },            /* 297 MHz */
     { "07 10 00 00 01 00 02 00 " SOUND MATRIX_39, YES },    /* 222.75 MHz */
+    { "07 02 00 00 01 00 00 00 03 06 08 00 00", 20 },   /* eight channels at 192 kHz over 480p */
+    { "07 02 00 00 01 00 10 00 03 05 08 00 " MATRIX_39, YES },     /* at 176.4 kHz, each pixel twice */
     { "07 04 01 00 01 00 00 00 03 00 02 01 00", 9 },    /* no exact pair */
 };
 
@@ -574,7 +577,7 @@ static void several(void) {
 
 /* "A refusal that no later byte can change is given at once", by the library's own N and CTS: after each number of bytes of a request, with
  * its rest, one byte, zeros, another request and noise behind them. Where a part is answered, all have its number; else one has another. */
-enum { HIGHEST = STATION_CLOCK_ABOVE };
+enum { HIGHEST = STATION_SOUND_TOO_MUCH };
 static uint32_t changed[HIGHEST + 1][HIGHEST + 1];
 
 static void later_bytes(const struct request *r) {

@@ -412,13 +412,14 @@ static void on_states(void) {
     struct request family_1 = request_of_text("vic 16 /1.001 rgb hdmi audio 48kHz 2 coherent");
     struct request asks_nothing = request_of_text("vic 16 rgb hdmi 861-e audio 48kHz 2 coherent");
     struct request newer = request_of_text("vic 16 rgb hdmi 861-e ycc-full photo audio 48kHz 2 coherent");
-    struct request under_d = request_of_text("vic 16 rgb hdmi 861-d photo");
+    struct request under_d = request_of_text("vic 16 rgb hdmi 861-d photo"), too_much = request_of_text("vic 2 rgb hdmi audio 192kHz 8");
     uint8_t back[STATION_REQUEST], other[STATION_WRITES];
     heal();
     chip = start;
     chip.image[0x4A] |= 0x10;
-    const struct request refused[] = { bad, none, above, under_d };
-    for (long k = 0; k < 4; k++) tell(again(refused[k]) == REFUSED && bus.opened == 0, "a refused request, and the bus opened", k);
+    const struct request refused[] = { bad, none, above, under_d, too_much };
+    for (size_t k = 0; k < sizeof refused / sizeof refused[0]; k++)
+        tell(again(refused[k]) == REFUSED && bus.opened == 0, "a refused request, and the bus opened", (long)k);
     tell(again(asked) == ACCEPTED && bus.sent == writes + 1 && ended(), "the GC hold left up", 0);
     for (int holds = 0x30; holds <= 0x70; holds += 0x10) {
         if (holds == 0x40) continue;

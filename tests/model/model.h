@@ -39,7 +39,7 @@ int  model_asks_of_e(const struct fields *f);            /* for bits of data byt
 /* As decoding answers: what no register names is 0, and an E that asks for nothing is D. */
 void model_answer(struct fields *f, const uint8_t *image);
 
-/* request.c: refusals 1 to 6 and 17, 0 for none; and the bytes of a request. The counts of the sections, each byte counted at the row of
+/* request.c: refusals 1 to 6, 17 and 20, 0 for none; and the bytes of a request. The counts of the sections, each byte counted at the row of
  * its lowest bit, and with these counts the longest request. */
 #define MODEL_VIDEO(section, byte, low, ...) + (section == OF_VIDEO && low == 0)
 #define MODEL_SOUND(section, byte, low, ...) + (section == OF_SOUND && low == 0)
@@ -52,7 +52,7 @@ enum {
     LONGEST = PARTS + VIDEO_BYTES + SOUND_BYTES + MATRIX_BYTES
 };
 extern const int model_counts[PARTS];
-uint32_t model_read(const uint8_t *request, size_t length, struct fields *f);   /* also sets `f` where it answers 4, 5, 6 or 17 */
+uint32_t model_read(const uint8_t *request, size_t length, struct fields *f);   /* also sets `f` where it answers 4 or more */
 size_t   model_bytes(const struct fields *f, uint8_t *request);
 int      model_coefficient(const uint8_t *two);     /* two's complement, high byte first */
 
@@ -69,6 +69,13 @@ struct clock { uint64_t top, bottom; };
 struct clock model_clock(int vic, int family, int depth, int repetition);
 int          model_above_limit(struct clock c);
 struct pair  model_coherent(struct clock c, int rate);      /* for coherent audio, by the clock alone; slow */
+
+/* sound.c: the timing of a mode, in clocks of a line and of its picture, lines of a frame, fields a second and fields of a frame; the
+ * packets of sound that a line's blanking has room for; and whether sound of a rate in Hz fits, else refusal 20. */
+struct timing { uint64_t total, active, lines, vertical, fields; };
+struct timing model_timing(int vic);
+uint64_t      model_packets(struct timing t, int repetition);
+int           model_fits(struct timing t, int repetition, uint64_t rate, int channels);
 
 /* frames.c: the registers of a packet, from its version to its last data byte. */
 enum { AVI_BYTES = 16, AUDIO_BYTES = 13, PACKET_BYTES = 32, COEFFICIENT_BYTES = 24, IMAGE_BYTES = 256, MARK_BYTES = 1 };

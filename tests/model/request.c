@@ -1,4 +1,4 @@
-/* The request: three sections, each after a one-byte count, and refusals 1 to 6 and 17. */
+/* The request: three sections, each after a one-byte count, and refusals 1 to 6, 17 and 20. */
 #include "model.h"
 
 const int model_counts[PARTS] = { VIDEO_BYTES, SOUND_BYTES, MATRIX_BYTES };
@@ -46,6 +46,7 @@ uint32_t model_read(const uint8_t *request, size_t length, struct fields *f) {
     if (f->edition == 0 && model_asks_of_e(f)) return 6;
 
     if (model_above_limit(model_clock(f->vic, f->family, f->depth, f->repetition))) return 17;      /* after 6, before 7 */
+    if (f->sound && !model_fits(model_timing(f->vic), f->repetition, model_rate(f->rate), f->channels)) return 20;
     return 0;
 }
 

@@ -27,16 +27,10 @@ PUT(decode, muted_is_open)
 /* By a shorter list: what the request that the image shows, without a matrix, leaves out of its list on zeros is not tested. */
 DECODE(by_shorter_list) {
     uint8_t other[256], bytes[LONGEST], zeros[256] = { 0 };
-    struct fields f = { 0 };
+    struct fields f;
     struct list full;
-    if (il != 256 || i[0x18] >> 7) return RIGHT;
+    if (il != 256 || i[0x18] >> 7 || !shown_by(i, &f)) return RIGHT;
     memcpy(other, i, 256);
-    f.sound = i[0x44] >> 5 & 1;
-    for (const struct field *row = model_fields; row < model_fields + FIELDS; row++) {
-        if (!model_has(&f, row->section) || row->shown(i) == NO_REGISTER) continue;
-        if (row->shown(i) == NO_VALUE) return RIGHT;
-        *model_field(&f, row) = row->shown(i);
-    }
     size_t length = model_bytes(&f, bytes);
     if (answered(bytes, length, zeros, 256, 256).refusal) return RIGHT;
     full_list_of(bytes, length, zeros, &full);

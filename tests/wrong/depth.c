@@ -98,13 +98,7 @@
 #define NUMBER(name, on_cuts, words) name##_fault,
 enum fault { right_fault, FAULTS(NUMBER) };     /* the first is no fault */
 
-/* Reading: refusals 1 to 6 and 17. -------------------------------------------------------------------------------------------------- */
-
-static uint32_t refusal_of(const struct fields *f) {
-    uint8_t bytes[LONGEST];
-    struct fields again;
-    return model_read(bytes, model_bytes(f, bytes), &again);
-}
+/* Reading: refusals 1 to 6, 17 and 20. -------------------------------------------------------------------------------------------------- */
 
 /* The depth byte as it is taken. */
 static void take(enum fault fault, struct fields *f) {
@@ -378,17 +372,7 @@ static void ignore(enum fault fault, uint8_t *image) {
 
 /* A request that its own rules refuse by depth and clock alone, and that would end in the image in one of its families. */
 static int ends_all_the_same(enum fault fault, const uint8_t *image, struct fields *f) {
-    uint8_t wanted[256];
-    *f = (struct fields){ .sound = image[0x44] >> 5 & 1, .matrix = image[0x18] >> 7 };
-    for (const struct field *row = model_fields; row < model_fields + FIELDS; row++) {
-        if (!model_has(f, row->section) || row->shown(image) == NO_REGISTER) continue;
-        *model_field(f, row) = row->shown(image);
-        if (!model_allows(row, row->shown(image))) return 0;
-    }
-    for (int k = 0; f->matrix && k < 12; k++) {
-        int field = (image[0x18 + 2 * k] & 0x1F) * 256 + image[0x19 + 2 * k];
-        f->coefficient[k] = field < 4096 ? field : field - 8192;
-    }
+    if (!shown_by(image, f)) return 0;
     struct fields plain = *f;
     plain.depth = 0;
     uint32_t refusal = refusal_of(f);
@@ -396,15 +380,7 @@ static int ends_all_the_same(enum fault fault, const uint8_t *image, struct fiel
     if (!(fault == above_decoded_fault && refusal == 17) && !(fault == deep_422_decoded_fault && by_depth && f->encoding == 1) &&
         !(fault == deep_dvi_decoded_fault && by_depth && f->link == 0))
         return 0;
-    for (f->family = 0; f->family < 2; f->family++) {
-        struct pair p = model_pair(f);
-        model_wanted(f, p, wanted);
-        if (model_offers(f->vic, f->family) && p.exists && model_stands(wanted, image)) {
-            f->family = 0;
-            return 1;
-        }
-    }
-    return 0;
+    return ends_in_any(image, f);
 }
 
 /* Does the image have N and CTS by the pixel clock of its request, in one of its families? */

@@ -106,13 +106,7 @@ enum fault { right_fault, FAULTS(NUMBER) };     /* the first is no fault */
 
 static int e_for_nothing_planned;               /* what a library may not remember: whether the last list was for such an E */
 
-/* Reading: refusals 1 to 6 and 17. -------------------------------------------------------------------------------------------------- */
-
-static uint32_t refusal_of(const struct fields *f) {
-    uint8_t bytes[LONGEST];
-    struct fields again;
-    return model_read(bytes, model_bytes(f, bytes), &again);
-}
+/* Reading: refusals 1 to 6, 17 and 20. -------------------------------------------------------------------------------------------------- */
 
 static int under_d(const struct fields *f) { return f->edition == 0 && model_asks_of_e(f); }
 static int outside(const struct fields *f) { return f->edition > 1 || f->quantisation > 1 || f->bits_7_6; }

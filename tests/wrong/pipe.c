@@ -53,6 +53,7 @@
     FAULT(five_at_once, "5 at once, where the request is whole", CUT) \
     FAULT(six_at_once, "6 at once, where the request is whole", CUT) \
     FAULT(seventeen_at_once, "17 at once, where the request is whole", CUT) \
+    FAULT(twenty_at_once, "20 at once, where the request is whole", CUT) \
     FAULT(nine_at_once, "9 at once, where the request is whole", CUT) \
     FAULT(accepted_at_once, "accepted at once, where the request is whole", CUT) \
     FAULT(longest_at_once, "the longest request accepted at once", CUT) \
@@ -165,6 +166,7 @@
     FAULT(six_last, "refusals up to 6 alone at the end", CUT) \
     FAULT(nine_not_given, "accepted without an exact pair", CUT) \
     FAULT(seventeen_not_given, "accepted with a clock above the limit", CUT) \
+    FAULT(twenty_not_given, "accepted with more sound than fits", CUT) \
     FAULT(one_is_2, "2 for a section that is cut at the end", CUT) \
     FAULT(so_far_trusted, "another hand's bytes not judged by a part", ANY) \
     FAULT(so_far_trusted_at_end, "another hand's bytes too many not seen at the end", ANY) \
@@ -199,7 +201,8 @@ static struct { uint8_t bytes[LONGEST]; size_t count, last; const uint8_t *answe
 
 /* Is an answer's byte one that a pipe's calls give? */
 static int is_ours(int answer) {
-    return answer <= STATION_COMBINATION || answer == STATION_CLOCK_ABOVE || answer == STATION_NO_EXACT_PAIR || answer == PIPE_ACCEPTED;
+    return answer <= STATION_COMBINATION || answer == STATION_CLOCK_ABOVE || answer == STATION_SOUND_TOO_MUCH ||
+           answer == STATION_NO_EXACT_PAIR || answer == PIPE_ACCEPTED;
 }
 
 static struct station_piped none(void) { return (struct station_piped){ 0, 0, 0 }; }
@@ -273,6 +276,7 @@ static uint32_t at_once(enum fault fault, const struct joined *j) {
     case five_at_once_fault: return !number && whole == 5 ? 5 : number;
     case six_at_once_fault: return !number && whole == 6 ? 6 : number;
     case seventeen_at_once_fault: return !number && whole == 17 ? 17 : number;
+    case twenty_at_once_fault: return !number && whole == 20 ? 20 : number;
     case nine_at_once_fault: return !number && whole == 9 ? 9 : number;
     case accepted_at_once_fault: return !number && whole == 0 ? PIPE_ACCEPTED : number;
     case longest_at_once_fault: return !number && whole == 0 && j->length == LONGEST ? PIPE_ACCEPTED : number;
@@ -295,6 +299,7 @@ static uint32_t at_the_end(enum fault fault, const uint8_t *bytes, size_t count)
     case six_last_fault: return number > 6 ? 0 : number;
     case nine_not_given_fault: return number == 9 ? 0 : number;
     case seventeen_not_given_fault: return number == 17 ? 0 : number;
+    case twenty_not_given_fault: return number == 20 ? 0 : number;
     case one_is_2_fault: return number == 1 && count ? 2 : number;
     case old_count_fault: return model_number(bytes, count);
     case so_far_trusted_at_end_fault: return number == 3 ? 0 : number;
@@ -330,7 +335,7 @@ static int wrong_count(enum fault fault, int ends, const uint8_t *pipe) {
         for (int i = count; i < LONGEST && !above; i++) above = pipe[i] != 0;
         return above;
     case other_7_fault: return above || !is_ours(pipe[ANSWER_AT]);
-    case unlisted_7_fault: return above || (pipe[ANSWER_AT] > STATION_NO_MODE_FITS && pipe[ANSWER_AT] != PIPE_ACCEPTED);
+    case unlisted_7_fault: return above || (pipe[ANSWER_AT] > STATION_SOUND_TOO_MUCH && pipe[ANSWER_AT] != PIPE_ACCEPTED);
     default: return above;
     }
 }

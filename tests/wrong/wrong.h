@@ -11,17 +11,18 @@
 struct wrong { const char *fault; void (*put)(struct face *); int alone; };
 enum { BY_CUTS = 1, BY_CHAINS = 2, NOT_BY_CUTS = 4, BY_PARTS = 8, BY_REST = 16, BY_CHAINS_ALONE = BY_CHAINS | NOT_BY_CUTS };
 extern const struct wrong wrong_plans[], wrong_fewer[], wrong_numbers[], wrong_decodes[], wrong_machines[], wrong_marks[], wrong_views[],
-    wrong_vets[], wrong_chains[], wrong_depths[], wrong_editions[], wrong_meters[], wrong_pipes[], wrong_looks[];
+    wrong_vets[], wrong_chains[], wrong_depths[], wrong_editions[], wrong_sounds[], wrong_meters[], wrong_pipes[], wrong_looks[];
 /* The sets, the last without rows; `first` is the section of the harness to begin with. */
 extern const struct wrong_set { const struct wrong *rows; int first; } wrong_sets[];
-/* The planner of wrong/fewer.c, the machine of wrong/mark.c, the judge of wrong/vet.c, the libraries of wrong/chain.c, wrong/depth.c and
- * wrong/edition.c, the matrices of wrong/meter.c and the pipe of wrong/pipe.c, without a fault: they must not be caught. */
+/* The planner of wrong/fewer.c, the machine of wrong/mark.c, the judge of wrong/vet.c, the libraries of wrong/chain.c, wrong/depth.c,
+ * wrong/edition.c and wrong/sound.c, the matrices of wrong/meter.c and the pipe of wrong/pipe.c, without a fault: they must not be caught. */
 void put_right_planner(struct face *f);
 void put_right_machine(struct face *f);
 void put_right_judge(struct face *f);
 void put_right_library(struct face *f);
 void put_right_depths(struct face *f);
 void put_right_editions(struct face *f);
+void put_right_sounds(struct face *f);
 void put_right_meter(struct face *f);
 void put_right_pipe(struct face *f);
 
@@ -38,6 +39,41 @@ static inline struct fields asked(const uint8_t *r, size_t rl) {
     struct fields f = { 0 };
     model_read(r, rl, &f);
     return f;
+}
+
+/* The request that an image shows, in family 0, whether it is accepted or not; 0 where a field shows no value that is allowed. */
+static inline int shown_by(const uint8_t *image, struct fields *f) {
+    *f = (struct fields){ .sound = image[0x44] >> 5 & 1, .matrix = image[0x18] >> 7 };
+    for (const struct field *row = model_fields; row < model_fields + FIELDS; row++) {
+        if (!model_has(f, row->section) || row->shown(image) == NO_REGISTER) continue;
+        *model_field(f, row) = row->shown(image);
+        if (!model_allows(row, row->shown(image))) return 0;
+    }
+    for (int k = 0; f->matrix && k < 12; k++) {
+        int field = (image[0x18 + 2 * k] & 0x1F) * 256 + image[0x19 + 2 * k];
+        f->coefficient[k] = field < 4096 ? field : field - 8192;
+    }
+    return 1;
+}
+
+/* Would it end in the image, in one of its families, whatever refuses it? The family becomes 0. */
+static inline int ends_in_any(const uint8_t *image, struct fields *f) {
+    uint8_t wanted[256];
+    int ends = 0;
+    for (f->family = 0; f->family < 2 && !ends; f->family++) {
+        struct pair p = model_pair(f);
+        model_wanted(f, p, wanted);
+        ends = model_offers(f->vic, f->family) && p.exists && model_stands(wanted, image);
+    }
+    f->family = 0;
+    return ends;
+}
+
+/* The number of a request's own rules, 1 to 6, 17 and 20. */
+static inline uint32_t refusal_of(const struct fields *f) {
+    uint8_t bytes[LONGEST];
+    struct fields again;
+    return model_read(bytes, model_bytes(f, bytes), &again);
 }
 
 /* Planning's answer alone, with no lent byte changed; and the list with nothing left out, where it is accepted. */
