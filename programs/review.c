@@ -264,6 +264,9 @@ int tell_worth_knowing(const struct review *v, void (*tell)(const char *text)) {
     if (j->count == 1 && j->old.mute == STATION_OPEN && !v->verdict.refusal)
         tell("the list is one pair, and the picture is open: one pair need not mute, so whoever looks sees it act. No rule forbids it."), told++;
     if (j->count == 0) tell("the list is empty: it writes nothing, and what is judged is the registers as they stand."), told++;
+    struct request q;
+    if (!v->begins && is_too_much(v->chip.image, &q))
+        tell("it begins in no request, for the sound there does not fit; versions before 5.5.0 planned such sound."), told++;
     return (int)told;
 }
 
