@@ -71,12 +71,12 @@ target/c/agree: programs/agree.c programs/judge.c programs/fields.c programs/fac
 target/c/image: programs/image.c programs/words.c
 target/c/listing: programs/listing.c programs/table.c programs/registers.c programs/chip.c programs/words.c
 target/c/meter: programs/meter.c programs/factors.c programs/words.c
-target/c/modes: programs/modes.c programs/clocks.c programs/fields.c programs/factors.c programs/words.c
+target/c/modes: programs/modes.c programs/clocks.c programs/fits.c programs/fields.c programs/factors.c programs/words.c
 target/c/picture: programs/picture.c programs/draw.c programs/chain.c programs/events.c programs/registers.c \
   programs/fields.c programs/factors.c programs/chip.c programs/words.c
-target/c/request: programs/request.c programs/clocks.c programs/fields.c programs/factors.c programs/words.c
+target/c/request: programs/request.c programs/clocks.c programs/fits.c programs/fields.c programs/factors.c programs/words.c
 target/c/review: programs/review.c programs/page.c programs/draw.c programs/chain.c programs/events.c programs/mend.c programs/list.c programs/sha256.c programs/judge.c programs/table.c \
-  programs/registers.c programs/fields.c programs/factors.c programs/chip.c programs/words.c
+  programs/registers.c programs/fits.c programs/fields.c programs/factors.c programs/chip.c programs/words.c
 target/c/vectors: programs/vectors.c programs/clocks.c programs/fields.c programs/factors.c programs/words.c
 target/c/example: host/example.c
 target/c/host: host/host.c host/chain.c host/plugin.c programs/chain.c programs/events.c programs/fields.c programs/factors.c \

@@ -19,6 +19,8 @@
  * stereo at 48 kHz, no matrix.
  * N and CTS rest on the TMDS clock: the pixel clock times 1, 5/4 or 3/2 by the depth, times 1, 2 or 4 by the repetition. It is 225,000,000 Hz
  * at the most.
+ * Sound travels in the picture's blanking. Two channels fit at every rate, in every mode; eight channels fit up to a rate that the mode and the
+ * repetition decide, the family and the depth do not (docs/REQUEST.md, "Sound that fits").
  */
 #ifndef STATION_H
 #define STATION_H
@@ -27,9 +29,9 @@
 #include <stdint.h>
 
 /* The version of this header, one for each landing; CHANGELOG.md says what came with it. */
-#define STATION_VERSION "5.4.0"
+#define STATION_VERSION "5.5.0"
 #define STATION_MAJOR 5
-#define STATION_MINOR 4
+#define STATION_MINOR 5
 #define STATION_PATCH 0
 
 /* Lengths in bytes. */
@@ -57,9 +59,9 @@
 extern "C" {
 #endif
 
-/* Why a call refuses. Of those that a call gives, the first that applies, in the order of their numbers, is given; but 17 is checked after 6
- * and before 7. Then every other field of the answer is 0 (but for the place beside 15), and no lent byte is changed. A pipe alone says
- * beside a request's number that it is answered, and remembers it. station_text.h has these lines as strings. */
+/* Why a call refuses. Of those that a call gives, the first that applies, in the order of their numbers, is given; but 17 and after it 20 are
+ * checked after 6 and before 7. Then every other field of the answer is 0 (but for the place beside 15), and no lent byte is changed. A pipe
+ * alone says beside a request's number that it is answered, and remembers it. station_text.h has these lines as strings. */
 enum station_refusal {
     STATION_ACCEPTED = 0,           /* none */
     STATION_INPUT_ENDS = 1,         /* input ends before a count or inside a section */
@@ -80,7 +82,8 @@ enum station_refusal {
     STATION_BAD_END = 16,           /* a list that ends in an image in which no request ends */
     STATION_CLOCK_ABOVE = 17,       /* a TMDS clock above 225,000,000 Hz */
     STATION_NOT_FINITE = 18,        /* a meter's number that is not a number, or infinite */
-    STATION_NO_MODE_FITS = 19       /* a meter's numbers for which there is no mode: with each factor below 2^mode in size, and every rounded field from -4096 to 4095 */
+    STATION_NO_MODE_FITS = 19,      /* a meter's numbers for which there is no mode: with each factor below 2^mode in size, and every rounded field from -4096 to 4095 */
+    STATION_SOUND_TOO_MUCH = 20     /* sound that does not fit into the blanking of its mode with its repetition: too high a rate for eight channels */
 };
 
 struct station_count { uint32_t refusal, count; };
@@ -94,7 +97,7 @@ struct station_piped { uint32_t refusal, answered, count; };
 
 /* The write list of a request on a register image of 256 bytes: `count` pairs of address and value at the front of `writes`, which has at
  * least 256 bytes; the bytes after them stay. A register whose byte in the image is right already is left out, so lend the registers as
- * the chip holds them now; nine writes always stay, to 0x4B, 0x4A and 0x1A. Refusals 1 to 6, 17, 7 to 10.
+ * the chip holds them now; nine writes always stay, to 0x4B, 0x4A and 0x1A. Refusals 1 to 6, 17, 20, 7 to 10.
  * Send the pairs in order, and wait for one rising edge of Vsync just before the last pair. The last pair to 0x1A lowers the coefficient
  * hold, and the chip takes the new coefficients at the first Vsync after it; the last pair of the list opens the picture. Any place between
  * these two will do, and just before the last pair is always such a place. Without that Vsync the picture opens on the old coefficients. */
@@ -103,11 +106,11 @@ struct station_count station_plan(const uint8_t *request, size_t request_length,
 
 /* The request that ends in a register image of 256 bytes: `count` bytes at the front of `request`, which has at least STATION_REQUEST; the
  * bytes after them stay. Its family is answered as 0, for no register names it; where the request was finished in family 1, the one that is
- * answered may itself be refused 9. The edition is answered as D where no bit of E is set, so E that asks for nothing reads back as D.
- * Refusals 7, 10 and 11. */
+ * answered may itself be refused 9. The edition is answered as D where no bit of E is set, so E that asks for nothing reads back as D. Of
+ * registers whose sound does not fit (20) it is 11. Refusals 7, 10 and 11. */
 struct station_count station_decode(const uint8_t *image, size_t image_length, uint8_t *request, size_t request_length);
 
-/* N and CTS for a request. Refusals 1 to 6, 17 and 9. */
+/* N and CTS for a request. Refusals 1 to 6, 17, 20 and 9. */
 struct station_pair station_ncts(const uint8_t *request, size_t length);
 
 /* Three 12-bit codes through a colour matrix: its mode and twelve coefficients as a request has them, 25 bytes. Refusals 5 (also a

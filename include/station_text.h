@@ -29,7 +29,8 @@ static inline const char *station_text(uint32_t refusal) {
         "a list that ends in an image in which no request ends",
         "a TMDS clock above 225,000,000 Hz",
         "a meter's number that is not a number, or infinite",
-        "a meter's numbers for which there is no mode: with each factor below 2^mode in size, and every rounded field from -4096 to 4095"
+        "a meter's numbers for which there is no mode: with each factor below 2^mode in size, and every rounded field from -4096 to 4095",
+        "sound that does not fit into the blanking of its mode with its repetition: too high a rate for eight channels"
     };
     return refusal < sizeof texts / sizeof texts[0] ? texts[refusal] : "a number that this header does not know";
 }

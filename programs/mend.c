@@ -43,13 +43,16 @@ static void look_at(struct search *s, const struct request *q) {
     memcpy(s->best->image, image, STATION_IMAGE);
 }
 
-/* Every rate, number of channels and coherence; where there is no sound, the request as it is. */
+/* Every rate, number of channels and coherence; where there is no sound, the request as it is. The highest rate comes first: of two that are
+ * as near it is the one to keep, where sound that does not fit (20) must be lowered. */
 static void look_at_sounds(struct search *s, const struct request *q) {
+    int rates = 0;
     if (value_of_field(q, "rate") < 0) {
         look_at(s, q);
         return;
     }
-    for (int rate = 0; word_of_value("rate", rate); rate++)
+    while (word_of_value("rate", rates)) rates++;
+    for (int rate = rates; rate-- > 0; )
         for (int coherent = 0; coherent < 2; coherent++) {
             struct request r = with_field(with_field(*q, "rate", rate), "coherent", coherent);
             for (int channels = 2; channels <= 8; channels += 6) {

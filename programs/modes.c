@@ -1,7 +1,8 @@
-/* The modes that a request may name: names from the table, families, clocks, N and CTS as the library answers for a request made for each.
- * What it prints is compared with modes.out. */
+/* The modes that a request may name: names from the table, families, clocks, N and CTS, the sound that fits, as the library answers for a
+ * request made for each. What it prints is compared with modes.out. */
 #include "clocks.h"
 #include "fields.h"
+#include "fits.h"
 #include "guide.h"
 #include "words.h"
 #include <string.h>
@@ -16,8 +17,10 @@ static const char help[] =
     "4 by the repetition; the clock as an exact fraction and in MHz. Then for each\n"
     "pixel clock the TMDS clock at every depth and repetition, '-' where it is above\n"
     "225 MHz (refusal 17); and for each clock of the list N and CTS of coherent audio\n"
-    "at each rate, '-' where no pair is exact (refusal 9). What it says of families,\n"
-    "refusals, N and CTS is the library's answer.\n"
+    "at each rate, '-' where no pair is exact (refusal 9). Last, for each mode and\n"
+    "repetition the highest rate that fits into its blanking (above that: refusal 20)\n"
+    "with two and with eight channels, '-' where the clock is above. What it says of\n"
+    "families, refusals, N, CTS and what fits is the library's answer.\n"
     "\n"
     "DEPTH is 24bit, 30bit or 36bit, REPETITION once, twice or four-times, as in\n"
     "tools/request; where none is given, 24bit and once: the pixel clock.\n"
@@ -89,6 +92,28 @@ static void print_pairs(const char *lead, const char *of, const struct row_of_cl
     printf("\n");
 }
 
+/* The family and the depth do not count. */
+static void print_sounds(void) {
+    static const int channels[] = { FEW_CHANNELS, MANY_CHANNELS };
+    printf("\nThe highest rate in kHz that fits, by channels, mode and repetition:\n%29d channels%19d channels\n", FEW_CHANNELS, MANY_CHANNELS);
+    printf("%3s  %-16s", "VIC", "mode");
+    for (size_t c = 0; c < sizeof channels / sizeof channels[0]; c++)
+        for (int r = 0; r < REPETITIONS; r++) printf(r + 1 < REPETITIONS ? "%8s" : "%12s", word_of_value("repetition", r));
+    printf("\n");
+    for (const struct mode *m = modes; m < modes + number_of_modes; m++) {
+        char lead[48];
+        snprintf(lead, sizeof lead, "%s %s", m->lines, m->aspect);
+        printf("%3u  %-16s", m->vic, lead);
+        for (size_t c = 0; c < sizeof channels / sizeof channels[0]; c++)
+            for (int r = 0; r < REPETITIONS; r++) {
+                int width = r + 1 < REPETITIONS ? 8 : 12, rate = highest_rate(m->vic, r, channels[c]);
+                if (rate < 0) printf("%*s", width, "-");
+                else printf("%*g", width, hertz[rate] / 1000.0);
+            }
+        printf("\n");
+    }
+}
+
 static void take(char *word) {
     static int given[2];
     int d = value_of_word("depth", word), r = d < 0 ? value_of_word("repetition", word) : -1;
@@ -127,6 +152,7 @@ int main(int count, char **words) {
     }
     print_pairs("not coherent", "N", &clocks[0], 0, 0);
     printf("%-18s%-4s%s\n", "", "CTS", " 0: the chip measures it");
+    print_sounds();
     if (wrong) fprintf(stderr, "%s: WHAT THE LIBRARY ANSWERS DOES NOT REST ON THESE CLOCKS\n", program);
     return printed(wrong ? REFUSED : ACCEPTED);
 }

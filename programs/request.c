@@ -1,6 +1,7 @@
 /* A request from words to bytes, and from bytes to words. Whether it is accepted, and by which rule not, the library says. */
 #include "clocks.h"
 #include "fields.h"
+#include "fits.h"
 #include "station_text.h"
 #include "words.h"
 #include <stdlib.h>
@@ -30,11 +31,11 @@ static const char help[] =
     "1080p59.94 (with /1.001). 'stereo' is 2 channels.\n"
     "Quantisation and content are of edition E: 861-e stands beside their words.\n"
     "'graphics', for which CEA-861-E has 0, is the same as no-type. NAME=NUMBER gives\n"
-    "a field any number, also one that is refused. tools/modes lists the VICs, and\n"
-    "their clocks by depth and repetition. The status is 0 for a request that is\n"
-    "accepted, 1 for one that is refused (its bytes are printed, the rule is said on\n"
-    "the error stream) and for factors that are refused (18, 19; there are no bytes\n"
-    "then), 2 for a command that is not as above.\n"
+    "a field any number, also one that is refused. tools/modes lists the VICs, their\n"
+    "clocks by depth and repetition, and the sound that fits. The status is 0 for a\n"
+    "request that is accepted, 1 for one that is refused (its bytes are printed, the\n"
+    "rule is said on the error stream) and for factors that are refused (18, 19;\n"
+    "there are no bytes then), 2 for a command that is not as above.\n"
     "\n"
     "  tools/request vic 16 rgb hdmi audio 48kHz 2 coherent\n"
     "  tools/request 1080p60 rgb hdmi audio 48kHz stereo coherent\n"
@@ -95,20 +96,25 @@ static void tell_rates(FILE *to, const struct request *q) {
     uint8_t vic = (uint8_t)value_of_field(q, "vic"), family = (uint8_t)value_of_field(q, "family");
     int depth = value_of_field(q, "depth"), repetition = value_of_field(q, "repetition"), some = 0;
     double clock = megahertz(tmds_clock(vic, family, depth, repetition));
+    struct request other;
     fprintf(to, "%g kHz has no exact pair at %.9g%s MHz;", hertz[value_of_field(q, "rate")] / 1000.0, family ? clock * 1.001 : clock,
             family ? "/1.001" : "");
-    for (int rate = 0; word_of_value("rate", rate); rate++)
-        if (!ask(vic, family, depth, repetition, rate, 1).refusal) fprintf(to, "%s %g", some++ ? "," : "", hertz[rate] / 1000.0);
+    for (int rate = 0; word_of_value("rate", rate); rate++) {
+        other = with_field(*q, "rate", rate);
+        if (!station_ncts(other.bytes, other.length).refusal) fprintf(to, "%s %g", some++ ? "," : "", hertz[rate] / 1000.0);
+    }
     fprintf(to, some ? " kHz %s. Or leave 'coherent' out: the chip then measures CTS\n" : " no rate has. Leave 'coherent' out: the chip then measures CTS\n",
             some == 1 ? "has" : "have");
 }
 
 static void tell_clause(FILE *to, const uint8_t *bytes, size_t length, uint32_t refusal) {
     struct request q = { { 0 }, length };
+    char text[TEXT_OF_A_FIT];
     if (length > STATION_REQUEST) return;
     if (length) memcpy(q.bytes, bytes, length);
     if (refusal == STATION_MODE_NOT_OFFERED) tell_mode(to, &q);
     if (refusal == STATION_COMBINATION) tell_combination(to, &q);
+    if (refusal == STATION_SOUND_TOO_MUCH) fprintf(to, "%s\n", text_of_fit(&q, text));
     if (refusal == STATION_NO_EXACT_PAIR) tell_rates(to, &q);
 }
 
@@ -143,7 +149,7 @@ int main(int count, char **words) {
         if (words_of_request(request, length, text)) printf("%s\n", text);
         explain_request(stdout, request, length);
         struct station_pair p = station_ncts(request, length);
-        if (p.refusal == 0 || p.refusal == STATION_CLOCK_ABOVE || p.refusal == STATION_NO_EXACT_PAIR) {
+        if (p.refusal == 0 || p.refusal == STATION_CLOCK_ABOVE || p.refusal == STATION_SOUND_TOO_MUCH || p.refusal == STATION_NO_EXACT_PAIR) {
             struct request q = { { 0 }, length };
             memcpy(q.bytes, request, length);
             tell_colours(&q);

@@ -2,6 +2,7 @@
  * ours, what it begins and ends in. The list and the registers may be a stranger's. What it prints of the lists in lists/ is compared with
  * the files there. */
 #include "review.h"
+#include "fits.h"
 #include "registers.h"
 #include "station_text.h"
 #include "table.h"
@@ -191,7 +192,24 @@ const char *text_of_change(const struct review *v, const struct mended *p, char 
     return text;
 }
 
-enum { GC = 0x4B, OPEN = 0x80, MUTE_BITS = 0xC0, REPETITION = 0x3B, AVI_BYTE_5 = 0x59, COLOUR_DEPTH = 0x4C };
+enum { GC = 0x4B, OPEN = 0x80, MUTE_BITS = 0xC0, REPETITION = 0x3B, AVI_BYTE_4 = 0x58, AVI_BYTE_5 = 0x59, COLOUR_DEPTH = 0x4C,
+       RATE = 0x15, RATE_BITS = 0xF0, AUDIO_BYTE_1 = 0x73, CHANNEL_BITS = 0x07 };
+
+/* Registers that have the mode, the repetition, the channels and the rate of a request that is refused 20: that request. The codes of rate and
+ * channels are those that the library plans for VIC 16, where all sound fits. */
+static int is_too_much(const uint8_t image[STATION_IMAGE], struct request *q) {
+    uint8_t writes[STATION_WRITES];
+    for (int rate = 0; word_of_value("rate", rate); rate++) {
+        struct chip c = { { 0 }, { 0 }, { 0 }, { 0 } };
+        *q = request_of_text("vic 16 rgb hdmi audio rate=%d channels=%d", rate, MANY_CHANNELS);
+        chip_run(&c, writes, station_plan(q->bytes, q->length, c.image, STATION_IMAGE, writes, STATION_WRITES).count);
+        if (((c.image[RATE] ^ image[RATE]) & RATE_BITS) || ((c.image[AUDIO_BYTE_1] ^ image[AUDIO_BYTE_1]) & CHANNEL_BITS)) continue;
+        *q = with_field(with_field(*q, "vic", image[AVI_BYTE_4] & 0x7F), "repetition", image[REPETITION] >> 1 & 3);
+        return station_ncts(q->bytes, q->length).refusal == STATION_SOUND_TOO_MUCH;
+    }
+    return 0;
+}
+
 int tell_bad_end(const struct chip *c, void (*tell)(const char *text)) {
     static const struct { uint8_t address, mask; const char *name; } holds[] = {
         { 0x4A, 0x40, "the AVI hold, 0x4A[6]" }, { 0x4A, 0x20, "the audio hold, 0x4A[5]" }, { 0x1A, 0x20, "the coefficient hold, 0x1A[5]" },
@@ -226,6 +244,9 @@ int tell_bad_end(const struct chip *c, void (*tell)(const char *text)) {
     if (c->image[AVI_BYTE_5] >> 6 > 1) tell("YQ (0x59[7:6]), the YCC quantisation, is none of 00 and 01"), told++;
     uint8_t depth = c->image[COLOUR_DEPTH] & 0x0F;
     if (depth != 0 && depth != 5 && depth != 6) tell("0x4C[3:0], the colour depth, is none of 0000, 0101 and 0110"), told++;
+    struct request q;
+    char fit[TEXT_OF_A_FIT];
+    if (is_too_much(c->image, &q)) tell(text_of_fit(&q, fit)), told++;
     return told;
 }
 
@@ -243,6 +264,9 @@ int tell_worth_knowing(const struct review *v, void (*tell)(const char *text)) {
     if (j->count == 1 && j->old.mute == STATION_OPEN && !v->verdict.refusal)
         tell("the list is one pair, and the picture is open: one pair need not mute, so whoever looks sees it act. No rule forbids it."), told++;
     if (j->count == 0) tell("the list is empty: it writes nothing, and what is judged is the registers as they stand."), told++;
+    struct request q;
+    if (!v->begins && is_too_much(v->chip.image, &q))
+        tell("it begins in no request, for the sound there does not fit; versions before 5.5.0 planned such sound."), told++;
     return (int)told;
 }
 
