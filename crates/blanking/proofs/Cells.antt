@@ -13,14 +13,16 @@ use Rattle.lists.specs.Find.{every}
 use Rattle.lists.proofs.Among.{stands}
 use Rattle.lists.proofs.Find.{every-at}
 use Rattle.lists.proofs.Both.{both-left, both-right}
-use Rattle.lists.proofs.Decides.{refuted}
+use Rattle.lists.proofs.Decides.{Decides, refuted, less, together}
 use Rattle.bits.proofs.Below.{below, at-below}
 use Rattle.video.specs.declared.Video.{Video}
 use Rattle.video.specs.Modes.{listed, modeOf, offered}
 use Rattle.video.specs.Video.{repetition, PixelOutside}
 use Rattle.video.proofs.Listed.{not-listed}
 use Rattle.video.proofs.Fits.{is-pixel-outside}
+use Rattle.sound.specs.declared.Sound.the-variants.{On}
 use Rattle.clock.proofs.Offered.{halves}
+use Rattle.blanking.specs.Table.{highestRate, TooMuch}
 
 is-listed : (v : Video) → offered v ≡ true → among (v .vic) listed ≡ true
 is-listed v o = go (among (v .vic) listed) refl
@@ -54,3 +56,8 @@ module _ (P : ℕ → ℕ → ℕ → ℕ → Bool) where
       let cell = at-below (λ r. below (λ rate. P (v .vic) r rate 2 && P (v .vic) r rate 8) 7) 3 (repetition v) row small in
       of-channels (v .vic) (repetition v) rate channels c
       (at-below (λ rate. P (v .vic) (repetition v) rate 2 && P (v .vic) (repetition v) rate 8) 7 rate cell (omega arith))
+
+-- row 20, by its two tests
+pub decides : (v : Video) (rate channels coherent : ℕ)
+    → Decides (ltb 2 channels && ltb (highestRate (v .vic) (repetition v)) rate) (TooMuch v (On rate channels coherent))
+decides v rate channels coherent = together (less 2 channels) (less (highestRate (v .vic) (repetition v)) rate)

@@ -24,22 +24,20 @@ use Rattle.clock.specs.Clocks.{tmdsOf, tmds, AboveLimit}
 use Rattle.clock.specs.Answers.{aboveLimit}
 use Rattle.clock.proofs.Offered.{halves}
 use Rattle.blanking.specs.Timings.{timingOf, linesOf}
-use Rattle.blanking.specs.Room.{overhead, periods, packetsIn, samples, roomFor, TooMuch}
+use Rattle.blanking.specs.Table.{highestRate, TooMuch}
+use Rattle.blanking.specs.Room.{overhead, periods, packetsIn, samples, samplesIn}
 use Rattle.blanking.specs.Found.{highestOf, mostOf, beyond, tooMuch}
-use Rattle.blanking.specs.Theorems.{otherPackets, RoomRule}
-use Rattle.blanking.proofs.Cells.{cells, at-listed, at-cell}
+use Rattle.blanking.specs.Theorems.{SameMode, NoLess, otherPackets, RoomRule}
+use Rattle.blanking.proofs.Cells.{cells, at-listed, at-cell, decides}
 
 -- ---- the tests of a cell
 
 abbrev finds : ℕ → ℕ → ℕ → ℕ → Bool
-finds vic r rate channels = Bool·beq (eqb channels 8 && ltb (mostOf vic r) rate) (ltb (roomFor overhead vic r channels) (hertzOf rate))
+finds vic r rate channels = Bool·beq (eqb channels 8 && ltb (mostOf vic r) rate) (ltb 2 channels && ltb (highestRate vic r) rate)
 
 abbrev spares : ℕ → ℕ → ℕ → ℕ → Bool
 spares vic r rate channels =
-    ltb (roomFor overhead vic r channels) (hertzOf rate) || leb (1001 * (hertzOf rate + otherPackets * samples channels)) (1000 * roomFor overhead vic r channels)
-
-abbrev two-fit : ℕ → ℕ → ℕ → ℕ → Bool
-two-fit vic r rate channels = not (ltb (roomFor overhead vic r 2) (hertzOf rate))
+    (ltb 2 channels && ltb (highestRate vic r) rate) || leb (1001 * (hertzOf rate + otherPackets * samples channels)) (1000 * samplesIn overhead vic r channels)
 
 all-found : every (cells finds) listed ≡ true
 unfolding highestOf
@@ -48,9 +46,6 @@ all-found = refl
 all-spare : every (cells spares) listed ≡ true
 all-spare = refl
 
-all-two : every (cells two-fit) listed ≡ true
-all-two = refl
-
 -- ---- and so of each video
 
 pub is-too-much : (v : Video) (s : Sound) → offered v ≡ true → (PixelOutside v → ⊥) → SoundFits s → Decides (tooMuch v s) (TooMuch v s)
@@ -58,21 +53,16 @@ unfolding beyond
 is-too-much v Off o out f = record { passes = λ t. absurd (false≢true t); fails = λ _ h. h }
 is-too-much v (On rate channels coherent) o out f =
     let e = beq-true _ _ (at-cell finds all-found v o out rate channels (f .0) (f .1)) in
-    record {
-      passes = λ t. ltb-true _ _ (sym e ∙ t);
-      fails = λ t h. false≢true (sym t ∙ e ∙ lt-ltb _ _ h);
-    }
-
-two : (v : Video) (rate : ℕ) → offered v ≡ true → (PixelOutside v → ⊥) → rate ≤ 6 → roomFor overhead (v .vic) (repetition v) 2 < hertzOf rate → ⊥
-two v rate o out r h = false≢true (sym (not-true _ (at-cell two-fit all-two v o out rate 2 r (inl refl))) ∙ lt-ltb _ _ h)
+    let d = decides v rate channels coherent in
+    record { passes = λ t. d .passes (sym e ∙ t); fails = λ t. d .fails (sym e ∙ t) }
 
 spare : (v : Video) (rate channels coherent : ℕ) → offered v ≡ true → (PixelOutside v → ⊥) → SoundFits (On rate channels coherent)
     → (TooMuch v (On rate channels coherent) → ⊥)
-    → 1001 * (hertzOf rate + otherPackets * samples channels) ≤ 1000 * roomFor overhead (v .vic) (repetition v) channels
+    → 1001 * (hertzOf rate + otherPackets * samples channels) ≤ 1000 * samplesIn overhead (v .vic) (repetition v) channels
 spare v rate channels coherent o out f n = leb-true _ _ (go _ _ refl (at-cell spares all-spare v o out rate channels (f .0) (f .1)))
   where
-    go : (a b : Bool) → ltb (roomFor overhead (v .vic) (repetition v) channels) (hertzOf rate) ≡ a → (a || b) ≡ true → b ≡ true
-    go true b e t = absurd (n (ltb-true _ _ e))
+    go : (a b : Bool) → (ltb 2 channels && ltb (highestRate (v .vic) (repetition v)) rate) ≡ a → (a || b) ≡ true → b ≡ true
+    go true b e t = absurd (n (decides v rate channels coherent .passes e))
     go false b e t = t
 
 -- ---- a higher rate has more samples a second, and a packet of more channels carries no more of them
@@ -92,29 +82,33 @@ fewer-samples channels more h = go (ltb 2 channels) refl (ltb 2 more) refl
     go false e true g = lit≤ tt
     go false e false g = lit≤ tt
 
-lifts : (vic r rate channels higher more : ℕ) → rate ≤ higher → higher ≤ 6 → channels ≤ more → roomFor overhead vic r channels < hertzOf rate
-    → roomFor overhead vic r more < hertzOf higher
-lifts vic r rate channels higher more n m c h =
-    let packets : ℕ = linesOf (timingOf vic) * packetsIn (periods (timingOf vic) r - overhead) in
+wants : (apart vic r rate channels higher more : ℕ) → rate ≤ higher → higher ≤ 6 → channels ≤ more → samplesIn apart vic r channels < hertzOf rate
+    → samplesIn apart vic r more < hertzOf higher
+wants apart vic r rate channels higher more n m c h =
+    let packets : ℕ = linesOf (timingOf vic) * packetsIn (periods (timingOf vic) r - apart) in
     lt-of-lt-of-le (lt-of-le-of-lt (mul-le-mul-left packets (fewer-samples channels more c)) h) (higher-rate rate higher n m)
 
--- ---- eight channels at 192 kHz are too much in slow modes alone
+-- by the table
+
+pub lifts : (v w : Video) (s t : Sound) → SameMode v w → NoLess s t → TooMuch v s → TooMuch w t
+lifts v w Off t m n h = absurd h
+lifts v w (On rate channels coherent) Off m n h = absurd n
+lifts v w (On rate channels coherent) (On higher more other) m n h =
+    let most : highestRate (w .vic) (repetition w) ≡ highestRate (v .vic) (repetition v) = rw (m .0, m .1) in
+    (lt-of-lt-of-le (h .0) (n .1), rw most (lt-of-lt-of-le (h .1) (n .0)))
+
+-- ---- eight channels do not have every rate in slow modes alone
 
 abbrev slow-by : ℕ → ℕ → ℕ → ℕ → Bool
-slow-by vic r family depth = not (ltb (roomFor overhead vic r 8) 192000) || not (aboveLimit (tmdsOf (modeOf vic .hertz) family depth r))
+slow-by vic r family depth = not (ltb (highestRate vic r) 6) || not (aboveLimit (tmdsOf (modeOf vic .hertz) family depth r))
 
 all-slow : every (λ vic. below (λ r. below (λ f. below (slow-by vic r f) 3) (modeOf vic .families)) 3) listed ≡ true
 unfolding modeOf divisorOf euclid
 all-slow = refl
 
--- what is too much is so at the highest rate, with eight channels
-at-most : (v : Video) (s : Sound) → SoundFits s → TooMuch v s → roomFor overhead (v .vic) (repetition v) 8 < 192000
-at-most v Off f h = absurd h
-at-most v (On rate channels coherent) f h = lifts (v .vic) (repetition v) rate channels 6 8 (f .0) (lit≤ tt) (few (f .1)) h
-  where
-    few : (channels ≡ 2) ⊎ (channels ≡ 8) → channels ≤ 8
-    few (inl e) = omega (arith, e)
-    few (inr e) = omega (arith, e)
+below-six : (v : Video) (s : Sound) → SoundFits s → TooMuch v s → highestRate (v .vic) (repetition v) < 6
+below-six v Off f h = absurd h
+below-six v (On rate channels coherent) f h = lt-of-lt-of-le (h .1) (f .0)
 
 slow-cell : (v : Video) → offered v ≡ true → (PixelOutside v → ⊥) → slow-by (v .vic) (repetition v) (v .family) (depth v) ≡ true
 slow-cell v o out =
@@ -126,7 +120,7 @@ slow-cell v o out =
 
 pub slow : (v : Video) (s : Sound) → offered v ≡ true → (PixelOutside v → ⊥) → SoundFits s → TooMuch v s → AboveLimit (tmds v) → ⊥
 unfolding tmds
-slow v s o out f h a = false≢true (sym (go _ _ (lt-ltb _ _ (at-most v s f h)) (slow-cell v o out)) ∙ lt-ltb _ _ a)
+slow v s o out f h a = false≢true (sym (go _ _ (lt-ltb _ _ (below-six v s f h)) (slow-cell v o out)) ∙ lt-ltb _ _ a)
   where
     go : (b c : Bool) → b ≡ true → (not b || not c) ≡ true → c ≡ false
     go true true e t = absurd (false≢true t)
@@ -137,8 +131,12 @@ pub rule : RoomRule
 rule =
     record {
       decided = λ v s o out f. let d = is-too-much v s o out f in (d .passes, λ h. confirmed d h);
-      lifts = λ vic r rate channels _ higher more _. lifts vic r rate channels higher more;
+      lifts = lifts;
+      wants = wants;
       slow = slow;
-      two = λ v rate _. two v rate;
+      two = λ v rate coherent h. none (h .0);
       spare = spare;
     }
+  where
+    none : 2 < 2 → ⊥
+    none h = omega (arith, h)

@@ -35,6 +35,7 @@ pub timed : Timed
 timed =
     record {
       modes = refl;
+      rows = refl;
       clocks = λ i h. eqb-true _ _ (every-at makes-clock timings i untimed all-clocks h);
       aspects = λ i h. of-aspect (getD timings i untimed) (every-at makes-aspect timings i untimed all-aspects h);
     }

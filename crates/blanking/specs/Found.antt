@@ -1,4 +1,4 @@
--- How the code finds row 20: by the modes in which eight channels do not all fit. `RoomRule` (Theorems) ties it to the blanking.
+-- How the code finds row 20: by the modes in which eight channels do not have every rate. `RoomRule` (Theorems) ties it to the table.
 use mathlib.Core.Bool.{Bool, false, cond, _&&_}
 use mathlib.Core.List.{List, [], _∷_}
 use Prim.Native.Nat.{ℕ}
@@ -10,17 +10,17 @@ use Rattle.sound.specs.declared.Sound.{Sound}
 use Rattle.sound.specs.declared.Sound.the-variants.{Off, On}
 use Rattle.blanking.specs.declared.Highest.{Highest}
 
--- the highest rate of eight channels, each pixel sent once and twice; sent four times, and in the other modes, all fit
-abbrev pub highest : ℕ → ℕ → Highest
-highest once twice = record { once = once; twice = twice }
+-- the highest rate of eight channels, each pixel sent once and twice; sent four times, and in the other modes, it is 6
+abbrev pub upTo : ℕ → ℕ → Highest
+upTo once twice = record { once = once; twice = twice }
 
 unfoldable pub highestOf : ℕ → Highest
 highestOf vic =
-    cond (eqb vic 1) (highest 2 6)
-    (cond (eqb vic 2) (highest 2 5)
-    (cond (eqb vic 3) (highest 2 5)
-    (cond (eqb vic 17) (highest 2 5)
-    (cond (eqb vic 18) (highest 2 5) (highest 6 6)))))
+    cond (eqb vic 1) (upTo 2 6)
+    (cond (eqb vic 2) (upTo 2 5)
+    (cond (eqb vic 3) (upTo 2 5)
+    (cond (eqb vic 17) (upTo 2 5)
+    (cond (eqb vic 18) (upTo 2 5) (upTo 6 6)))))
 
 abbrev pub mostOf : ℕ → ℕ → ℕ
 mostOf vic repetition = getD (highestOf vic .once ∷ highestOf vic .twice ∷ []) repetition 6

@@ -1,5 +1,5 @@
+pub mod Table
 pub mod Timings
 pub mod Room
-pub mod Printed
 pub mod Found
 pub mod Theorems

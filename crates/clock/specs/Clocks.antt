@@ -4,7 +4,6 @@ use mathlib.Core.List.{List, [], _∷_}
 use Prim.Native.Nat.{ℕ, _*_, _<_}
 use lib.Dec.{eqb}
 use lib.ListN.{getD}
-use Rattle.refusals.specs.Rows.{clockAbove, Condition, _when_}
 use Rattle.ratio.specs.Terms.{topOf, bottomOf}
 use Rattle.video.specs.declared.Video.{Video}
 use Rattle.video.specs.Modes.{modeOf}
@@ -42,6 +41,3 @@ limit = 225000000
 -- row 17, "a clock above the limit", of each call on a video
 abbrev pub AboveLimit : Clock → Type 0
 AboveLimit clock = limit * clock .den < clock .num
-
-abbrev pub aboveRows : Video → List Condition
-aboveRows video = clockAbove when AboveLimit (tmds video) ∷ []

@@ -5,14 +5,14 @@ use mathlib.Core.Logic.{_↔_, _⊎_, _≢_}
 use mathlib.Core.Bool.{true, false}
 use mathlib.Core.List.{List, [], _∷_, _++_}
 use Prim.Native.Nat.{ℕ, _*_, _<_, _≤_}
-use Rattle.refusals.specs.Rows.{modeNotOffered, fieldOutOfRange, noExactPair, Condition, _when_, Given}
+use Rattle.refusals.specs.Rows.{modeNotOffered, fieldOutOfRange, clockAbove, noExactPair, Condition, _when_, Given}
 use Rattle.ratio.specs.Lowest.{Lowest}
 use Rattle.video.specs.declared.Video.{Video}
 use Rattle.video.specs.Modes.{modeOf, offered}
 use Rattle.video.specs.Video.{depth, repetition, inFamily, PixelOutside}
 use Rattle.clock.specs.declared.Clock.{Clock}
 use Rattle.clock.specs.declared.Pair.{Pair}
-use Rattle.clock.specs.Clocks.{tmdsTop, tmdsBottom, tmds, limit, AboveLimit, aboveRows}
+use Rattle.clock.specs.Clocks.{tmdsTop, tmdsBottom, tmds, limit, AboveLimit}
 use Rattle.clock.specs.Answers.{clockOf}
 use Rattle.clock.specs.Pairs.{NoExact, Coherent}
 use Rattle.clock.specs.Answers.{other}
@@ -46,14 +46,15 @@ abbrev pub clockRules : Video → List Condition
 clockRules video =
     modeNotOffered when (offered video ≡ false) ∷
     fieldOutOfRange when PixelOutside video ∷
-    aboveRows video
+    clockAbove when AboveLimit (tmds video) ∷ []
 
 -- rows 4, 5, 17 and 9 for N/CTS: "any other field outside its range", and "coherent audio, and no exact pair exists"
 abbrev pub pairRules : Video → ℕ → ℕ → List Condition
 pairRules video rate coherent =
     modeNotOffered when (offered video ≡ false) ∷
     fieldOutOfRange when (PixelOutside video ⊎ (6 < rate) ⊎ (1 < coherent)) ∷
-    aboveRows video ++ noExactPair when NoExact (clockOf video) rate coherent ∷ []
+    clockAbove when AboveLimit (tmds video) ∷
+    noExactPair when NoExact (clockOf video) rate coherent ∷ []
 
 -- the refusals of the two calls, and zeros beside them
 pub record ClockRefusals : Type 0 where

@@ -6,7 +6,7 @@ use Prim.Native.Nat.{ℕ}
 use Rattle.refusals.specs.Rows.{number, soundTooMuch}
 use Rattle.clock.specs.Answers.{noPair}
 use Rattle.request.specs.Read.{askOf, readOf, nctsOf}
-use Rattle.request.specs.Lifted.{SameMode, NoLess}
+use Rattle.blanking.specs.Theorems.{SameMode, NoLess}
 use Rattle.plan.specs.Plan.{planOf, nothing}
 
 pub record Fitting : Type 0 where

@@ -12,23 +12,22 @@ use Rattle.lists.proofs.Decides.{confirmed, refuted}
 use Rattle.refusals.specs.Rows.{number}
 use Rattle.refusals.specs.Tests.{Test, lowest, answer}
 use Rattle.video.specs.declared.Video.{Video}
-use Rattle.video.specs.Video.{videoIn, repetition}
+use Rattle.video.specs.Video.{videoIn}
 use Rattle.sound.specs.declared.Sound.{Sound}
-use Rattle.sound.specs.declared.Sound.the-variants.{Off, On}
 use Rattle.sound.specs.Sound.{soundOf}
-use Rattle.sound.specs.Fits.{SoundFits}
 use Rattle.clock.specs.Clocks.{tmds}
 use Rattle.clock.specs.Answers.{clockOf}
 use Rattle.clock.proofs.Rows.{is-above}
-use Rattle.blanking.specs.Room.{Beyond, TooMuch}
+use Rattle.blanking.specs.Table.{TooMuch}
 use Rattle.blanking.specs.Found.{tooMuch}
-use Rattle.blanking.proofs.Rule.{rule, slow}
+use Rattle.blanking.specs.Theorems.{SameMode, NoLess}
+use Rattle.blanking.proofs.Rule.{lifts, slow}
 use Rattle.request.specs.declared.Request.{Request}
 use Rattle.request.specs.declared.Checked.{Checked}
 use Rattle.request.specs.Sections.{Bodies, Walk, bodiesIn, walked}
 use Rattle.request.specs.Request.{requestIn}
 use Rattle.request.specs.Read.{emptied, bytesTests, fieldsTests, judged, checked, limitOf, limited, readOf}
-use Rattle.request.specs.Lifted.{SameMode, NoLess, NeverLifted}
+use Rattle.request.specs.Lifted.{NeverLifted}
 use Rattle.request.proofs.Ordered.{limit-there, pixel-there, sound-there, room-there, alone, asked-there}
 
 -- ---- rows 1 to 6 give no number above 6
@@ -71,12 +70,6 @@ of-room true t e = absurd (omega (arith, e))
 of-room false true e = refl
 of-room false false e = absurd (omega (arith, e))
 
-louder : (vic r : ℕ) (s t : Sound) → NoLess s t → SoundFits t → Beyond vic r s → Beyond vic r t
-louder vic r Off t n f h = absurd h
-louder vic r (On rate channels coherent) Off n f h = absurd n
-louder vic r (On rate channels coherent) (On higher more other) n f h =
-    rule .lifts vic r rate channels coherent higher more other (n .0) (f .0) (n .1) h
-
 module _ (w o : Walk) (e : limited (checked w) .refusal ≡ 20) (z : checked o .refusal ≡ 0) where
   abbrev b : Bodies
   b = bodiesIn w
@@ -102,11 +95,9 @@ module _ (w o : Walk) (e : limited (checked w) .refusal ≡ 20) (z : checked o .
   module _ (m : SameMode (checked w .request .video) (checked o .request .video)) (n : NoLess (checked w .request .sound) (checked o .request .sound)) where
     too-much-too : TooMuch (videoIn (c .video)) (soundOf (c .audio))
     too-much-too =
-        let m = subst₂ (λ (x y : Request). SameMode (x .video) (y .video)) first second m in
-        let n = subst₂ (λ (x y : Request). NoLess (x .sound) (y .sound)) first second n in
-        let v : Video = videoIn (c .video) in
-        louder (v .vic) (repetition v) (soundOf (b .audio)) (soundOf (c .audio)) n (sound-there c (alone o z .1))
-        (subst₂ (λ (vic r : ℕ). Beyond vic r (soundOf (b .audio))) (m .0) (m .1) too-much)
+        lifts (videoIn (b .video)) (videoIn (c .video)) (soundOf (b .audio)) (soundOf (c .audio))
+        (subst₂ (λ (x y : Request). SameMode (x .video) (y .video)) first second m)
+        (subst₂ (λ (x y : Request). NoLess (x .sound) (y .sound)) first second n) too-much
 
     lifted : limited (checked o) .refusal ≡ 20
     lifted =

@@ -31,7 +31,7 @@ use Rattle.clock.specs.Clocks.{tmds, AboveLimit}
 use Rattle.clock.specs.Answers.{aboveLimit, clockOf}
 use Rattle.clock.proofs.Offered.{number-is}
 use Rattle.clock.proofs.Rows.{is-above}
-use Rattle.blanking.specs.Room.{TooMuch}
+use Rattle.blanking.specs.Table.{TooMuch}
 use Rattle.blanking.specs.Found.{tooMuch}
 use Rattle.blanking.proofs.Rule.{is-too-much}
 use Rattle.request.specs.declared.Request.{Request}

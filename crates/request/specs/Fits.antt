@@ -4,7 +4,7 @@ use Prim.Native.Nat.{_≤_}
 use Rattle.video.specs.Fits.{VideoFits}
 use Rattle.sound.specs.Fits.{SoundFits}
 use Rattle.clock.specs.Answers.{clockOf}
-use Rattle.blanking.specs.Room.{TooMuch}
+use Rattle.blanking.specs.Table.{TooMuch}
 use Rattle.request.specs.declared.Request.{Request}
 use Rattle.request.specs.ThereAndBack.{Shaped}
 

@@ -8,7 +8,7 @@ use Prim.Native.Nat.{ℕ}
 use lib.Dec.{eqb}
 use lib.ListN.{length}
 use Rattle.refusals.specs.Rows.{Condition, _when_}
-use Rattle.refusals.specs.Rows.{inputEnds, countNotAllowed, bytesAfter, modeNotOffered, fieldOutOfRange, combination, noExactPair}
+use Rattle.refusals.specs.Rows.{inputEnds, countNotAllowed, bytesAfter, modeNotOffered, fieldOutOfRange, combination, clockAbove, soundTooMuch, noExactPair}
 use Rattle.video.specs.declared.Video.{Video}
 use Rattle.video.specs.Video.{videoIn, VideoOutside, VideoCombined}
 use Rattle.video.specs.Modes.{offered}
@@ -16,9 +16,9 @@ use Rattle.sound.specs.declared.Sound.{Sound}
 use Rattle.sound.specs.declared.Sound.the-variants.{Off, On}
 use Rattle.sound.specs.Sound.{soundOf, SoundOutside}
 use Rattle.clock.specs.Answers.{clockOf}
-use Rattle.clock.specs.Clocks.{aboveRows}
+use Rattle.clock.specs.Clocks.{tmds, AboveLimit}
 use Rattle.clock.specs.Pairs.{NoExact}
-use Rattle.blanking.specs.Room.{roomRows}
+use Rattle.blanking.specs.Table.{TooMuch}
 use Rattle.matrix.specs.Matrix.{Allowed, matrixOf, noMatrix}
 use Rattle.request.specs.declared.Request.{Request}
 use Rattle.request.specs.Sections.{Bodies, Walk, ends, notAllowed, bodiesIn, restOf}
@@ -32,12 +32,7 @@ present body = not (eqb (length body) 0)
 
 -- what the sections say, a line for each: the converter is off where the matrix section is empty
 abbrev pub requestIn : Bodies → Request
-requestIn b =
-    record {
-      video = videoIn (b .video);
-      sound = soundOf (b .audio);
-      matrix = cond (present (b .matrix)) (matrixOf (b .matrix)) noMatrix;
-    }
+requestIn b = record { video = videoIn (b .video); sound = soundOf (b .audio); matrix = cond (present (b .matrix)) (matrixOf (b .matrix)) noMatrix }
 
 -- row 5, "any other field outside its range (matrix mode above 2)": of each section
 abbrev pub Outside : Bodies → Type 0
@@ -56,7 +51,7 @@ abbrev pub NoPair : Video → Sound → Type 0
 NoPair video Off = ⊥
 NoPair video (On rate channels coherent) = NoExact (clockOf video) rate coherent
 
--- the stages: the bytes, by what the walk finds in the input; the fields, by the bodies; the limits, of the clock and of the blanking, and the
+-- the stages: the bytes, by what the walk finds in the input; the fields, by the bodies; the limits, of the clock and of the sound, and the
 -- pair, of the request
 abbrev pub bytesRows : Walk → List Condition
 bytesRows w =
@@ -71,7 +66,7 @@ fieldsRows b =
     combination when Combined b ∷ []
 
 abbrev pub limitsRows : Video → Sound → List Condition
-limitsRows video sound = aboveRows video ++ roomRows video sound
+limitsRows video sound = clockAbove when AboveLimit (tmds video) ∷ soundTooMuch when TooMuch video sound ∷ []
 
 abbrev pub pairRows : Request → List Condition
 pairRows r = noExactPair when NoPair (r .video) (r .sound) ∷ []
