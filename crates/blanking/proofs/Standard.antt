@@ -20,7 +20,7 @@ use Rattle.sound.specs.declared.Sound.the-variants.{On}
 use Rattle.sound.specs.Fits.{SoundFits}
 use Rattle.blanking.specs.Table.{highestRate, TooMuch}
 use Rattle.blanking.specs.Room.{overhead, samplesIn}
-use Rattle.blanking.specs.Theorems.{printed, GivesPrinted, Standard}
+use Rattle.blanking.specs.Theorems.{printedCells, GivesPrinted, Standard}
 use Rattle.blanking.proofs.Cells.{cells, at-cell, decides}
 
 -- two tests that agree decide the same
@@ -37,13 +37,13 @@ gives apart cell rate = Bool·beq (ltb (samplesIn apart (cell .0) (cell .1) 8) (
 abbrev gives-cell : ℕ × ℕ → Bool
 gives-cell cell = below (λ k. below (gives (65 + k) cell) 7) 10
 
-all-rows : every gives-cell printed ≡ true
+all-rows : every gives-cell printedCells ≡ true
 all-rows = refl
 
 within-by : (k : ℕ) → k < 10 → GivesPrinted (65 + k)
 within-by k n i h rate r =
-    let cell : ℕ × ℕ = getD printed i (0, 0) in
-    let t = at-below (λ k. below (gives (65 + k) cell) 7) 10 k (every-at gives-cell printed i (0, 0) all-rows h) n in
+    let cell : ℕ × ℕ = getD printedCells i (0, 0) in
+    let t = at-below (λ k. below (gives (65 + k) cell) 7) 10 k (every-at gives-cell printedCells i (0, 0) all-rows h) n in
     alike (samplesIn (65 + k) (cell .0) (cell .1) 8) (hertzOf rate) (highestRate (cell .0) (cell .1)) rate (at-below (gives (65 + k) cell) 7 rate t (omega arith))
 
 -- one of the ten

@@ -11,16 +11,16 @@ use Rattle.sound.specs.declared.Sound.the-variants.{Off, On}
 use Rattle.blanking.specs.declared.Highest.{Highest}
 
 -- the highest rate of eight channels, each pixel sent once and twice; sent four times, and in the other modes, it is 6
-abbrev pub upTo : ℕ → ℕ → Highest
-upTo once twice = record { once = once; twice = twice }
+abbrev pub oneRow : ℕ → ℕ → Highest
+oneRow once twice = record { once = once; twice = twice }
 
 unfoldable pub highestOf : ℕ → Highest
 highestOf vic =
-    cond (eqb vic 1) (upTo 2 6)
-    (cond (eqb vic 2) (upTo 2 5)
-    (cond (eqb vic 3) (upTo 2 5)
-    (cond (eqb vic 17) (upTo 2 5)
-    (cond (eqb vic 18) (upTo 2 5) (upTo 6 6)))))
+    cond (eqb vic 1) (oneRow 2 6)
+    (cond (eqb vic 2) (oneRow 2 5)
+    (cond (eqb vic 3) (oneRow 2 5)
+    (cond (eqb vic 17) (oneRow 2 5)
+    (cond (eqb vic 18) (oneRow 2 5) (oneRow 6 6)))))
 
 abbrev pub mostOf : ℕ → ℕ → ℕ
 mostOf vic repetition = getD (highestOf vic .once ∷ highestOf vic .twice ∷ []) repetition 6

@@ -36,8 +36,8 @@ pub record Timed : Type 0 where
 
 -- "The team writes the table from the standard": VIC and repetition of the cells that HDMI 1.4 prints, from memory. 480p and 576p with each pixel
 -- twice and four times are its rows 1440x480p, 2880x480p, 1440x576p and 2880x576p. VIC 60 and 62 it lacks
-abbrev pub printed : List (ℕ × ℕ)
-printed =
+abbrev pub printedCells : List (ℕ × ℕ)
+printedCells =
     (1, 0) ∷ (2, 0) ∷ (2, 1) ∷ (2, 2) ∷ (3, 0) ∷ (3, 1) ∷ (3, 2) ∷ (4, 0) ∷ (5, 0) ∷ (16, 0) ∷ (17, 0) ∷ (17, 1) ∷ (17, 2) ∷ (18, 0) ∷
     (18, 1) ∷ (18, 2) ∷ (19, 0) ∷ (20, 0) ∷ (31, 0) ∷ (32, 0) ∷ (34, 0) ∷ []
 
@@ -46,7 +46,7 @@ abbrev pub Gives : ℕ → ℕ × ℕ → Type 0
 Gives apart cell = (rate : ℕ) → rate ≤ 6 → (samplesIn apart (cell .0) (cell .1) 8 < hertzOf rate) ↔ (highestRate (cell .0) (cell .1) < rate)
 
 abbrev pub GivesPrinted : ℕ → Type 0
-GivesPrinted apart = (i : ℕ) → i < length printed → Gives apart (getD printed i (0, 0))
+GivesPrinted apart = (i : ℕ) → i < length printedCells → Gives apart (getD printedCells i (0, 0))
 
 -- "works out by its blanking rule the modes it lacks": the rule gives what is printed; that leaves its overhead from 65 to 74; and whichever of
 -- these it is, the rule gives the table whole, for each mode, repetition, rate and number of channels

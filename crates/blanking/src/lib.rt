@@ -1,6 +1,6 @@
 // Sound that fits into the blanking: document 02, request 10.
 ghost use mathlib.Core.Path.{_≡_};
-ghost use Rattle.blanking.specs.Found.{upTo, highestOf, mostOf, tooMuch};
+ghost use Rattle.blanking.specs.Found.{oneRow, highestOf, mostOf, tooMuch};
 ghost use Rattle.blanking.specs.Theorems.{Timed, Standard, RoomRule};
 use sound::Sound;
 use video::Video;
@@ -13,7 +13,7 @@ pub struct Highest {
 
 // A row of the table.
 fn row(once: u8, twice: u8) -> Highest
-    ensures { λ r. ⌜ r ≡ upTo once twice ⌝ }
+    ensures { λ r. ⌜ r ≡ oneRow once twice ⌝ }
 {
     Highest {
         once: once,

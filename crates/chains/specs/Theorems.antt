@@ -60,7 +60,7 @@ pub record AnyChain (s : Chip) : Type 0 where
 
 -- ---- "At every point"
 
--- the rows that a request meets by itself and by its buffer, on any image: 1 to 6, 17, 9 and 10
+-- the rows that a request meets by itself and by its buffer, on any image: 1 to 6, 17, 20, 9 and 10
 abbrev pub ownRules : List ℕ → List ℕ → List Condition
 ownRules input room = nctsRules (walked input) ++ bufferShort when (length room < 256) ∷ []
 

@@ -34,7 +34,7 @@ use Rattle.plan.specs.Plan.{standsIn}
 use Rattle.plan.proofs.Stood.{stood, standing}
 use Rattle.decode.specs.Decode.{isCoherent}
 
--- ---- rows 4 to 6 and 17
+-- ---- rows 4 to 6, 17 and 20
 
 first-offered : (v : Video) → offered (video.inFamily 1 v) ≡ true → offered (video.inFamily 0 v) ≡ true
 first-offered v o = lt-ltb 0 (modeOf (v .vic) .families) (omega (arith, ltb-true 1 (modeOf (v .vic) .families) o))

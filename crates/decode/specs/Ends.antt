@@ -9,7 +9,7 @@ use Rattle.request.specs.Bytes.{asBytes, requestInFamily, answeredAs}
 use Rattle.plan.specs.Wanted.{wanted}
 use Rattle.writes.specs.List.{finished}
 
--- a request that is accepted on some image: no row of 1 to 6, 17 and 9 refuses its bytes, and they say it: that this is so is
+-- a request that is accepted on some image: no row of 1 to 6, 17, 20 and 9 refuses its bytes, and they say it: that this is so is
 -- `OnSomeImage` (promises)
 pub record Acceptable (r : Request) : Type 0 where
   pub read : readOf (asBytes r) ≡ record { refusal = 0; request = r }

@@ -23,7 +23,7 @@ abbrev pub audioChecksum : Sound → ℕ
 audioChecksum Off = getD audioOffFrame 3 0
 audioChecksum (On rate channels coherent) = getD (audioOf channels .bytes) 3 0
 
--- "accepted vic .. n .. cts .. avi .. audio ..", or "refused" with its number: refusals 1 to 6, 17 and 9
+-- "accepted vic .. n .. cts .. avi .. audio ..", or "refused" with its number: refusals 1 to 6, 17, 20 and 9
 abbrev pub acceptedLine : Request → Pair → Line
 acceptedLine r p =
     record {

@@ -12,10 +12,12 @@ use Rattle.pipe.specs.Found.{takeOf, takePipe, endPipeOf, endPipe}
 abbrev pub pipeExample : List ℕ
 pipeExample = 0x07 ∷ 0x10 ∷ 0x00 ∷ 0x00 ∷ 0x01 ∷ 0x00 ∷ 0x00 ∷ 0x00 ∷ 0x03 ∷ 0x02 ∷ 0x02 ∷ 0x01 ∷ 0x00 ∷ []
 
--- whole requests that are refused 4, 5, 6, 17 and 9: VIC 0; range 2; DVI with audio; VIC 16 in 36 bits, twice; VIC 4 in family 1 with coherent
--- sound at 32 kHz
+-- whole requests that are refused 4, 5, 6, 17, 20 and 9: VIC 0; range 2; DVI with audio; VIC 16 in 36 bits, twice; VIC 2 with eight channels at
+-- 192 kHz; VIC 4 in family 1 with coherent sound at 32 kHz
 abbrev pub bad : List (List ℕ)
-bad = set pipeExample 1 0 ∷ set pipeExample 5 2 ∷ set pipeExample 4 0 ∷ set pipeExample 6 0x12 ∷ set (set (set pipeExample 1 4) 2 1) 9 0 ∷ []
+bad =
+    set pipeExample 1 0 ∷ set pipeExample 5 2 ∷ set pipeExample 4 0 ∷ set pipeExample 6 0x12 ∷ set (set (set pipeExample 1 2) 9 6) 10 8 ∷
+    set (set (set pipeExample 1 4) 2 1) 9 0 ∷ []
 
 -- an answer's three numbers: the refusal, whether it is answered, the count
 abbrev pub numbers : Piped → List ℕ
@@ -62,10 +64,10 @@ pub record PipeCases : Type 0 where
   pub mended : (refusalOf (take 12 pipeExample) ≡ 1) × (refusalOf pipeExample ≡ 0)
   pub others : map (λ (request : List ℕ). refusalOf request ∷ refusalOf (request ++ (0x00 ∷ [])) ∷ [])
       (pipeExample ∷ bad)
-      ≡ (0 ∷ 3 ∷ []) ∷ (4 ∷ 3 ∷ []) ∷ (5 ∷ 3 ∷ []) ∷ (6 ∷ 3 ∷ []) ∷ (17 ∷ 3 ∷ []) ∷ (9 ∷ 3 ∷ []) ∷ []
+      ≡ (0 ∷ 3 ∷ []) ∷ (4 ∷ 3 ∷ []) ∷ (5 ∷ 3 ∷ []) ∷ (6 ∷ 3 ∷ []) ∷ (17 ∷ 3 ∷ []) ∷ (20 ∷ 3 ∷ []) ∷ (9 ∷ 3 ∷ []) ∷ []
   -- and what the end says of each, with the byte that remembers it: 1 inside a section, and the others
   pub inside : runParts fresh (take 12 pipeExample ∷ []) ≡ (0 ∷ 0 ∷ 0 ∷ []) ∷ (1 ∷ 1 ∷ 0 ∷ []) ∷ holding (take 12 pipeExample) 12 1 ∷ []
-  pub atEnd : map (λ (request : List ℕ). runParts fresh (request ∷ [])) bad ≡ remembered bad (4 ∷ 5 ∷ 6 ∷ 17 ∷ 9 ∷ [])
+  pub atEnd : map (λ (request : List ℕ). runParts fresh (request ∷ [])) bad ≡ remembered bad (4 ∷ 5 ∷ 6 ∷ 17 ∷ 20 ∷ 9 ∷ [])
   -- bytes that are no pipe: 39, 41 and none, and a count of 39, beside an answer too
   pub short : pipeOutcome (replicate 39 0) pipeExample ≡ (7 ∷ 0 ∷ 0 ∷ []) ∷ replicate 39 0 ∷ (7 ∷ 0 ∷ 0 ∷ []) ∷ replicate 39 0 ∷ []
   pub long : pipeOutcome (replicate 41 0) pipeExample ≡ (7 ∷ 0 ∷ 0 ∷ []) ∷ replicate 41 0 ∷ (7 ∷ 0 ∷ 0 ∷ []) ∷ replicate 41 0 ∷ []

@@ -12,7 +12,7 @@ use Rattle.request.specs.Bytes.{laid}
 use Rattle.request.specs.Walks.{fits}
 use Rattle.request.specs.Read.{nctsOf}
 
--- "the answer .. for the joined bytes": the number that N and CTS gives them, rows 1 to 6, 17 and 9, or 0 (`Rows`, request)
+-- "the answer .. for the joined bytes": the number that N and CTS gives them, rows 1 to 6, 17, 20 and 9, or 0 (`Rows`, request)
 abbrev pub refusalOf : List ℕ → ℕ
 refusalOf input = nctsOf input .refusal
 

@@ -15,7 +15,7 @@ use Rattle.plan.specs.Plan.{planOf}
 pub record OnAnother (input room image : List ℕ) : Type 0 where
   -- what is accepted on some other image is accepted on this one
   pub accepted : (other : List ℕ) → planOf input other room .refusal ≡ 0 → planOf input image room .refusal ≡ 0
-  -- and what is refused is refused by the request's own rows, 1 to 6, 17 and 9, or by the buffer's
+  -- and what is refused is refused by the request's own rows, 1 to 6, 17, 20 and 9, or by the buffer's
   pub refused : Bytes input → Given (nctsRules (walked input) ++ bufferShort when (length room < 256) ∷ []) (planOf input image room .refusal)
 
 abbrev pub AnyOther : Type 0

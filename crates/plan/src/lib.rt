@@ -328,7 +328,7 @@ fn plan_with(r: Request, image: &[u8], writes: &mut [u8]) -> Planned
     }
 }
 
-// The write list of a request on an image, as pairs of address and value in a lent buffer: refusals 1 to 6, 17 and 7 to 10.
+// The write list of a request on an image, as pairs of address and value in a lent buffer: refusals 1 to 6, 17, 20 and 7 to 10.
 pub fn plan(input: &[u8], image: &[u8], writes: &mut [u8]) -> Planned
     ensures { λ r. ⌜ Plans (now (input .entry)) (now (image .entry)) (now (writes .entry)) r (now (writes .exit)) ⌝ }
 {

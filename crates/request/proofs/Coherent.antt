@@ -36,7 +36,7 @@ in-range v rate channels coherent o p (inl h) = o (outside-too v h)
 in-range v rate channels coherent o p (inr (inl h)) = p (inl h)
 in-range v rate channels coherent o p (inr (inr h)) = p (inr (inr h))
 
--- the pair's stage, past rows 4 to 6 and 17: row 9 of the call on single fields
+-- the pair's stage, past rows 4 to 6, 17 and 20: row 9 of the call on single fields
 pub nine : (b : Bodies) (c : Checked) → Bytes (b .matrix) → Judged b c → Given (pairRows (requestIn b)) (pairFor (requestIn b) .refusal)
 unfolding pairFor
 nine b c bytes j = go (soundOf (b .audio)) (λ o. inside (inr (inl o)))

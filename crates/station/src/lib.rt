@@ -37,7 +37,7 @@ pub struct PipedOut {
     pub count: u32,
 }
 
-// The write list of a request on an image, as pairs of address and value: refusals 1 to 6, 17 and 7 to 10.
+// The write list of a request on an image, as pairs of address and value: refusals 1 to 6, 17, 20 and 7 to 10.
 #[no_mangle]
 pub extern "C" fn station_plan(request: &[u8], image: &[u8], writes: &mut [u8]) -> CountOut
     ensures { λ r. ⌜ StationPlan (now (request .entry)) (now (image .entry)) (now (writes .entry)) r (now (writes .exit)) ⌝ }
@@ -61,7 +61,7 @@ pub extern "C" fn station_decode(image: &[u8], request: &mut [u8]) -> CountOut
     }
 }
 
-// N and CTS over a request: refusals 1 to 6, 17 and 9.
+// N and CTS over a request: refusals 1 to 6, 17, 20 and 9.
 #[no_mangle]
 pub extern "C" fn station_ncts(request: &[u8]) -> PairOut
     ensures { λ r. ⌜ StationNcts (now (request .entry)) r ⌝ }
@@ -113,7 +113,7 @@ pub extern "C" fn station_pipe_take(pipe: &mut [u8], part: &[u8]) -> PipedOut
     }
 }
 
-// The end of the input: refusals 1 to 6, 17 and 9, and 7 of bytes that are no pipe.
+// The end of the input: refusals 1 to 6, 17, 20 and 9, and 7 of bytes that are no pipe.
 #[no_mangle]
 pub extern "C" fn station_pipe_end(pipe: &mut [u8]) -> PipedOut
     ensures { λ r. ⌜ StationPipeEnd (now (pipe .entry)) r (now (pipe .exit)) ⌝ }
