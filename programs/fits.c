@@ -27,14 +27,20 @@ static int is_mended(const struct request *q, const char *name, int value) {
     return !answer(&r);
 }
 
-const char *text_of_fit(const struct request *q, char text[TEXT_OF_A_FIT]) {
+const char *text_of_room(const struct request *q, char text[TEXT_OF_A_FIT]) {
     uint8_t vic = (uint8_t)value_of_field(q, "vic");
-    int repetition = value_of_field(q, "repetition"), channels = value_of_field(q, "channels"), rate = value_of_field(q, "rate"), named = 0;
+    int repetition = value_of_field(q, "repetition"), channels = value_of_field(q, "channels"), rate = value_of_field(q, "rate");
     *text = 0;
     add(text, "%d channels at %s do not fit into the blanking of vic %u with each pixel %s: there %d channels go up to %s, %d to %s.", channels,
         word_of_value("rate", rate), vic, word_of_value("repetition", repetition), MANY_CHANNELS,
         word_of_value("rate", highest_rate(vic, repetition, MANY_CHANNELS)), FEW_CHANNELS,
         word_of_value("rate", highest_rate(vic, repetition, FEW_CHANNELS)));
+    return text;
+}
+
+const char *text_of_fit(const struct request *q, char text[TEXT_OF_A_FIT]) {
+    int rate = value_of_field(q, "rate"), named = 0;
+    text_of_room(q, text);
     add(text, " It fits with");
     while (rate >= 0 && !is_mended(q, "rate", rate)) rate--;
     const char *between = "";

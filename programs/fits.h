@@ -11,9 +11,10 @@ enum { FEW_CHANNELS = 2, MANY_CHANNELS = 8 };
  * depth counts. */
 int highest_rate(uint8_t vic, int repetition, int channels);
 
-/* Of a request that is refused 20: what would fit in its mode with its repetition, and each change of one field with which the library
- * accepts it. */
+/* Of a request that is refused 20: what would fit in its mode with its repetition; and then each change of one field with which the library
+ * accepts it, of lower rates the highest. */
 enum { TEXT_OF_A_FIT = 400 };
+const char *text_of_room(const struct request *q, char text[TEXT_OF_A_FIT]);
 const char *text_of_fit(const struct request *q, char text[TEXT_OF_A_FIT]);
 
 #endif

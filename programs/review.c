@@ -192,18 +192,26 @@ const char *text_of_change(const struct review *v, const struct mended *p, char 
     return text;
 }
 
-enum { GC = 0x4B, OPEN = 0x80, MUTE_BITS = 0xC0, REPETITION = 0x3B, AVI_BYTE_4 = 0x58, AVI_BYTE_5 = 0x59, COLOUR_DEPTH = 0x4C,
-       RATE = 0x15, RATE_BITS = 0xF0, AUDIO_BYTE_1 = 0x73, CHANNEL_BITS = 0x07 };
+enum { GC = 0x4B, OPEN = 0x80, MUTE_BITS = 0xC0, REPETITION = 0x3B, AVI_BYTE_4 = 0x58, AVI_BYTE_5 = 0x59, COLOUR_DEPTH = 0x4C };
 
-/* Registers that have the mode, the repetition, the channels and the rate of a request that is refused 20: that request. The codes of rate and
- * channels are those that the library plans for VIC 16, where all sound fits. */
+/* Where registers say what sound there is: the rate's code, the channels, the inputs, the enables, HDMI. */
+static const struct { uint8_t address, bits; } sounding[] = { { 0x15, 0xF0 }, { 0x73, 0x07 }, { 0x0C, 0x3C }, { 0x44, 0x68 }, { 0xAF, 0x02 } };
+
+static int sounds_alike(const uint8_t *one, const uint8_t *other) {
+    for (size_t i = 0; i < sizeof sounding / sizeof sounding[0]; i++)
+        if ((one[sounding[i].address] ^ other[sounding[i].address]) & sounding[i].bits) return 0;
+    return 1;
+}
+
+/* Registers that have the mode, the repetition and the sound of requests that are refused 20: one of these. What sound they have is told by what
+ * the library plans for VIC 16, where all sound fits. */
 static int is_too_much(const uint8_t image[STATION_IMAGE], struct request *q) {
     uint8_t writes[STATION_WRITES];
     for (int rate = 0; word_of_value("rate", rate); rate++) {
         struct chip c = { { 0 }, { 0 }, { 0 }, { 0 } };
         *q = request_of_text("vic 16 rgb hdmi audio rate=%d channels=%d", rate, MANY_CHANNELS);
         chip_run(&c, writes, station_plan(q->bytes, q->length, c.image, STATION_IMAGE, writes, STATION_WRITES).count);
-        if (((c.image[RATE] ^ image[RATE]) & RATE_BITS) || ((c.image[AUDIO_BYTE_1] ^ image[AUDIO_BYTE_1]) & CHANNEL_BITS)) continue;
+        if (!sounds_alike(c.image, image)) continue;
         *q = with_field(with_field(*q, "vic", image[AVI_BYTE_4] & 0x7F), "repetition", image[REPETITION] >> 1 & 3);
         return station_ncts(q->bytes, q->length).refusal == STATION_SOUND_TOO_MUCH;
     }
@@ -246,7 +254,7 @@ int tell_bad_end(const struct chip *c, void (*tell)(const char *text)) {
     if (depth != 0 && depth != 5 && depth != 6) tell("0x4C[3:0], the colour depth, is none of 0000, 0101 and 0110"), told++;
     struct request q;
     char fit[TEXT_OF_A_FIT];
-    if (is_too_much(c->image, &q)) tell(text_of_fit(&q, fit)), told++;
+    if (is_too_much(c->image, &q)) tell(text_of_room(&q, fit)), told++;
     return told;
 }
 
@@ -266,7 +274,7 @@ int tell_worth_knowing(const struct review *v, void (*tell)(const char *text)) {
     if (j->count == 0) tell("the list is empty: it writes nothing, and what is judged is the registers as they stand."), told++;
     struct request q;
     if (!v->begins && is_too_much(v->chip.image, &q))
-        tell("it begins in no request, for the sound there does not fit; versions before 5.5.0 planned such sound."), told++;
+        tell("the sound in the registers at the beginning does not fit, so they are those of no request; versions before 5.5.0 planned such sound."), told++;
     return (int)told;
 }
 
@@ -314,6 +322,7 @@ static int decode(const uint8_t image[STATION_IMAGE], struct request *q) {
 /* The verdict in a line that fits a mail's subject. */
 static void set_subject(struct review *v) {
     char *text = v->subject;
+    struct request q;
     uint32_t i = v->verdict.place;
     *text = 0;
     if (!v->is_read) add(text, TEXT_OF_A_SUBJECT, "not read: line %lu: %s", v->list.wrong_line, v->list.wrong);
@@ -325,8 +334,8 @@ static void set_subject(struct review *v) {
         for (int f = 0, some = 0; f < FAULTS; f++)
             if (v->j.pairs[i].broken[f]) add(text, TEXT_OF_A_SUBJECT, "%s%s", some++ ? ", " : "", fault_words[f]);
     } else if (v->verdict.refusal == STATION_BAD_END)
-        add(text, TEXT_OF_A_SUBJECT, "refused %u: ends in no request; nearest: %u register%s differ%s", (unsigned)v->verdict.refusal,
-            v->mend.nearest.registers, v->mend.nearest.registers == 1 ? "" : "s", v->mend.nearest.registers == 1 ? "s" : "");
+        add(text, TEXT_OF_A_SUBJECT, "refused %u: ends in %s; nearest: %u register%s differ%s", (unsigned)v->verdict.refusal,
+            v->list.all && is_too_much(v->j.last.image, &q) ? "sound that does not fit" : "no request", v->mend.nearest.registers, v->mend.nearest.registers == 1 ? "" : "s", v->mend.nearest.registers == 1 ? "s" : "");
     else if (v->verdict.refusal == STATION_LIST_LENGTH)
         add(text, TEXT_OF_A_SUBJECT, "refused %u: %lu pairs, more than %u", (unsigned)v->verdict.refusal, (unsigned long)v->list.all / 2, LIST_PAIRS);
     else add(text, TEXT_OF_A_SUBJECT, "refused %u: %s", (unsigned)v->verdict.refusal, station_text(v->verdict.refusal));
