@@ -21,8 +21,7 @@ static void add(char *text, const char *format, ...) {
     va_end(list);
 }
 
-/* Is it accepted with this value in place of its own? */
-static int is_mended(const struct request *q, const char *name, int value) {
+int is_mended(const struct request *q, const char *name, int value) {
     struct request r = with_field(*q, name, value);
     return !answer(&r);
 }

@@ -11,6 +11,9 @@ enum { FEW_CHANNELS = 2, MANY_CHANNELS = 8 };
  * depth counts. */
 int highest_rate(uint8_t vic, int repetition, int channels);
 
+/* Is a request accepted with this value in place of its own? */
+int is_mended(const struct request *q, const char *name, int value);
+
 /* Of a request that is refused 20: what would fit in its mode with its repetition; and then each change of one field with which the library
  * accepts it, of lower rates the highest. */
 enum { TEXT_OF_A_FIT = 400 };

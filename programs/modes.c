@@ -95,7 +95,8 @@ static void print_pairs(const char *lead, const char *of, const struct row_of_cl
 /* The family and the depth do not count. */
 static void print_sounds(void) {
     static const int channels[] = { FEW_CHANNELS, MANY_CHANNELS };
-    printf("\nThe highest rate in kHz that fits, by channels, mode and repetition:\n%29d channels%19d channels\n", FEW_CHANNELS, MANY_CHANNELS);
+    printf("\nThe highest rate in kHz that fits (above it: 20), by channels, mode and\nrepetition; - where the clock is above %d MHz (17):\n%29d channels%19d channels\n",
+           HIGHEST_CLOCK / 1000000, FEW_CHANNELS, MANY_CHANNELS);
     printf("%3s  %-16s", "VIC", "mode");
     for (size_t c = 0; c < sizeof channels / sizeof channels[0]; c++)
         for (int r = 0; r < REPETITIONS; r++) printf(r + 1 < REPETITIONS ? "%8s" : "%12s", word_of_value("repetition", r));

@@ -96,15 +96,28 @@ static void tell_rates(FILE *to, const struct request *q) {
     uint8_t vic = (uint8_t)value_of_field(q, "vic"), family = (uint8_t)value_of_field(q, "family");
     int depth = value_of_field(q, "depth"), repetition = value_of_field(q, "repetition"), some = 0;
     double clock = megahertz(tmds_clock(vic, family, depth, repetition));
-    struct request other;
     fprintf(to, "%g kHz has no exact pair at %.9g%s MHz;", hertz[value_of_field(q, "rate")] / 1000.0, family ? clock * 1.001 : clock,
             family ? "/1.001" : "");
     for (int rate = 0; word_of_value("rate", rate); rate++) {
-        other = with_field(*q, "rate", rate);
-        if (!station_ncts(other.bytes, other.length).refusal) fprintf(to, "%s %g", some++ ? "," : "", hertz[rate] / 1000.0);
+        if (is_mended(q, "rate", rate)) fprintf(to, "%s %g", some++ ? "," : "", hertz[rate] / 1000.0);
     }
     fprintf(to, some ? " kHz %s. Or leave 'coherent' out: the chip then measures CTS\n" : " no rate has. Leave 'coherent' out: the chip then measures CTS\n",
             some == 1 ? "has" : "have");
+}
+
+/* Each repetition, from the highest down, and each mode with which the library accepts it. */
+static void tell_clock_above(FILE *to, const struct request *q) {
+    uint8_t vic = (uint8_t)value_of_field(q, "vic"), family = (uint8_t)value_of_field(q, "family");
+    int depth = value_of_field(q, "depth"), repetition = value_of_field(q, "repetition"), some = 0;
+    fprintf(to, "the TMDS clock would be %.9g MHz, and the highest is %d:", megahertz(tmds_clock(vic, family, depth, repetition)), HIGHEST_CLOCK / 1000000);
+    for (int r = repetition - 1; r >= 0; r--)
+        if (is_mended(q, "repetition", r)) fprintf(to, "%s each pixel %s", some++ ? ", or" : "", word_of_value("repetition", r));
+    for (size_t m = 0, named = 0; m < number_of_modes; m++) {
+        if (!is_mended(q, "vic", modes[m].vic)) continue;
+        if (named++) fprintf(to, ", %u", modes[m].vic);
+        else fprintf(to, "%s vic %u", some++ ? ", or" : "", modes[m].vic);
+    }
+    fprintf(to, some ? "\n" : " no change of one field is accepted\n");
 }
 
 static void tell_clause(FILE *to, const uint8_t *bytes, size_t length, uint32_t refusal) {
@@ -114,6 +127,7 @@ static void tell_clause(FILE *to, const uint8_t *bytes, size_t length, uint32_t 
     if (length) memcpy(q.bytes, bytes, length);
     if (refusal == STATION_MODE_NOT_OFFERED) tell_mode(to, &q);
     if (refusal == STATION_COMBINATION) tell_combination(to, &q);
+    if (refusal == STATION_CLOCK_ABOVE) tell_clock_above(to, &q);
     if (refusal == STATION_SOUND_TOO_MUCH) fprintf(to, "%s\n", text_of_fit(&q, text));
     if (refusal == STATION_NO_EXACT_PAIR) tell_rates(to, &q);
 }

@@ -3,10 +3,9 @@
 use mathlib.Core.Path.{_≡_, refl, sym, ap, _∙_}
 use mathlib.Core.Logic.{_⊎_, inl, inr}
 use mathlib.Core.Bool.{Bool, true, false, _&&_}
-use mathlib.Core.List.{List}
 use Prim.Native.Nat.{ℕ, _<_, _≤_}
 use native.Mathlib.Omega.{arith}
-use lib.Dec.{eqb, ltb}
+use lib.Dec.{ltb}
 use borrow.Author.Tests.{ltb-true, ne-eqb}
 use Rattle.lists.specs.Among.{among}
 use Rattle.lists.specs.Find.{every}
@@ -58,6 +57,8 @@ module _ (P : ℕ → ℕ → ℕ → ℕ → Bool) where
       (at-below (λ rate. P (v .vic) (repetition v) rate 2 && P (v .vic) (repetition v) rate 8) 7 rate cell (omega arith))
 
 -- row 20, by its two tests
-pub decides : (v : Video) (rate channels coherent : ℕ)
-    → Decides (ltb 2 channels && ltb (highestRate (v .vic) (repetition v)) rate) (TooMuch v (On rate channels coherent))
+abbrev pub more : ℕ → ℕ → ℕ → ℕ → Bool
+more vic r rate channels = ltb 2 channels && ltb (highestRate vic r) rate
+
+pub decides : (v : Video) (rate channels coherent : ℕ) → Decides (more (v .vic) (repetition v) rate channels) (TooMuch v (On rate channels coherent))
 decides v rate channels coherent = together (less 2 channels) (less (highestRate (v .vic) (repetition v)) rate)

@@ -1,12 +1,11 @@
--- Row 20: what the code finds is what the blanking says, two channels always fit, and what is too much stays too much. Assumes nothing.
+-- Row 20: what the code finds is what the table says, and what is too much stays too much. Assumes nothing.
 use mathlib.Core.Path.{_≡_, refl, sym, _∙_}
-use mathlib.Core.Logic.{_⊎_, inl, inr, _↔_}
 use mathlib.Core.Bool.{Bool, true, false, false≢true, cond, not, _&&_, _||_, Bool·beq}
 use Prim.Native.Nat.{ℕ, _+_, _-_, _*_, _<_, _≤_}
-use native.Mathlib.Nat.{mul-le-mul-left, le-trans, lt-of-le-of-lt, lt-of-lt-of-le}
+use native.Mathlib.Nat.{mul-le-mul-left, lt-of-le-of-lt, lt-of-lt-of-le}
 use native.Mathlib.Omega.{arith}
 use lib.Dec.{eqb, ltb, leb, lit≤}
-use borrow.Author.Tests.{ltb-true, ltb-false, lt-ltb, leb-true, le-leb, not-true}
+use borrow.Author.Tests.{ltb-true, ltb-false, lt-ltb, leb-true, le-leb}
 use Rattle.lists.specs.Find.{every}
 use Rattle.lists.proofs.Both.{beq-true}
 use Rattle.lists.proofs.Decides.{Decides, confirmed, refuted}
@@ -28,16 +27,16 @@ use Rattle.blanking.specs.Table.{highestRate, TooMuch}
 use Rattle.blanking.specs.Room.{overhead, periods, packetsIn, samples, samplesIn}
 use Rattle.blanking.specs.Found.{highestOf, mostOf, beyond, tooMuch}
 use Rattle.blanking.specs.Theorems.{SameMode, NoLess, otherPackets, RoomRule}
-use Rattle.blanking.proofs.Cells.{cells, at-listed, at-cell, decides}
+use Rattle.blanking.proofs.Cells.{cells, at-listed, at-cell, more, decides}
 
 -- ---- the tests of a cell
 
 abbrev finds : ℕ → ℕ → ℕ → ℕ → Bool
-finds vic r rate channels = Bool·beq (eqb channels 8 && ltb (mostOf vic r) rate) (ltb 2 channels && ltb (highestRate vic r) rate)
+finds vic r rate channels = Bool·beq (eqb channels 8 && ltb (mostOf vic r) rate) (more vic r rate channels)
 
 abbrev spares : ℕ → ℕ → ℕ → ℕ → Bool
 spares vic r rate channels =
-    (ltb 2 channels && ltb (highestRate vic r) rate) || leb (1001 * (hertzOf rate + otherPackets * samples channels)) (1000 * samplesIn overhead vic r channels)
+    more vic r rate channels || leb (1001 * (hertzOf rate + otherPackets * samples channels)) (1000 * samplesIn overhead vic r channels)
 
 all-found : every (cells finds) listed ≡ true
 unfolding highestOf
@@ -61,7 +60,7 @@ spare : (v : Video) (rate channels coherent : ℕ) → offered v ≡ true → (P
     → 1001 * (hertzOf rate + otherPackets * samples channels) ≤ 1000 * samplesIn overhead (v .vic) (repetition v) channels
 spare v rate channels coherent o out f n = leb-true _ _ (go _ _ refl (at-cell spares all-spare v o out rate channels (f .0) (f .1)))
   where
-    go : (a b : Bool) → (ltb 2 channels && ltb (highestRate (v .vic) (repetition v)) rate) ≡ a → (a || b) ≡ true → b ≡ true
+    go : (a b : Bool) → more (v .vic) (repetition v) rate channels ≡ a → (a || b) ≡ true → b ≡ true
     go true b e t = absurd (n (decides v rate channels coherent .passes e))
     go false b e t = t
 
@@ -102,7 +101,10 @@ lifts v w (On rate channels coherent) (On higher more other) m n h =
 abbrev slow-by : ℕ → ℕ → ℕ → ℕ → Bool
 slow-by vic r family depth = not (ltb (highestRate vic r) 6) || not (aboveLimit (tmdsOf (modeOf vic .hertz) family depth r))
 
-all-slow : every (λ vic. below (λ r. below (λ f. below (slow-by vic r f) 3) (modeOf vic .families)) 3) listed ≡ true
+abbrev slow-once : ℕ → ℕ → Bool
+slow-once vic r = below (λ f. below (slow-by vic r f) 3) (modeOf vic .families)
+
+all-slow : every (λ vic. below (slow-once vic) 3) listed ≡ true
 unfolding modeOf divisorOf euclid
 all-slow = refl
 
@@ -113,8 +115,7 @@ below-six v (On rate channels coherent) f h = lt-of-lt-of-le (h .1) (f .0)
 slow-cell : (v : Video) → offered v ≡ true → (PixelOutside v → ⊥) → slow-by (v .vic) (repetition v) (v .family) (depth v) ≡ true
 slow-cell v o out =
     let small = halves v (refuted (is-pixel-outside v) out) in
-    let row = at-listed (λ vic. below (λ r. below (λ f. below (slow-by vic r f) 3) (modeOf vic .families)) 3) all-slow v o in
-    let r = at-below (λ r. below (λ f. below (slow-by (v .vic) r f) 3) (modeOf (v .vic) .families)) 3 (repetition v) row (small .1) in
+    let r = at-below (slow-once (v .vic)) 3 (repetition v) (at-listed (λ vic. below (slow-once vic) 3) all-slow v o) (small .1) in
     at-below (slow-by (v .vic) (repetition v) (v .family)) 3 (depth v)
     (at-below (λ f. below (slow-by (v .vic) (repetition v) f) 3) (modeOf (v .vic) .families) (v .family) r (ltb-true _ _ o)) (small .0)
 

@@ -1,11 +1,11 @@
 -- The rule against the cells that the standard prints, and against the table: one test each. Assumes nothing.
 use mathlib.Core.Path.{_≡_, refl, sym, _∙_, subst}
-use mathlib.Core.Logic.{_⊎_, _↔_}
-use mathlib.Core.Bool.{Bool, true, false, false≢true, not, _&&_, Bool·beq}
+use mathlib.Core.Logic.{_↔_}
+use mathlib.Core.Bool.{Bool, true, false, false≢true, not, Bool·beq}
 use Prim.Native.Nat.{ℕ, _+_, _-_, _<_, _≤_}
 use native.Mathlib.Omega.{arith}
-use lib.Dec.{eqb, ltb, lit≤}
-use lib.ListN.{length, getD}
+use lib.Dec.{ltb, lit≤}
+use lib.ListN.{getD}
 use borrow.Author.Tests.{ltb-true, ltb-false, lt-ltb, not-true}
 use Rattle.lists.specs.Find.{every}
 use Rattle.lists.proofs.Find.{every-at}
@@ -21,10 +21,10 @@ use Rattle.sound.specs.Fits.{SoundFits}
 use Rattle.blanking.specs.Table.{highestRate, TooMuch}
 use Rattle.blanking.specs.Room.{overhead, samplesIn}
 use Rattle.blanking.specs.Theorems.{printedCells, GivesPrinted, Standard}
-use Rattle.blanking.proofs.Cells.{cells, at-cell, decides}
+use Rattle.blanking.proofs.Cells.{cells, at-cell, more, decides}
 
 -- two tests that agree decide the same
-pub alike : (a b c d : ℕ) → Bool·beq (ltb a b) (ltb c d) ≡ true → (a < b) ↔ (c < d)
+alike : (a b c d : ℕ) → Bool·beq (ltb a b) (ltb c d) ≡ true → (a < b) ↔ (c < d)
 alike a b c d t =
     let e = beq-true _ _ t in
     ((λ h. ltb-true c d (sym e ∙ lt-ltb a b h)), (λ h. ltb-true a b (e ∙ lt-ltb c d h)))
@@ -82,8 +82,11 @@ beyond apart g = (low apart (g 0 (lit≤ tt) 3 (lit≤ tt) .1 (lit≤ tt)), high
 
 -- ---- each of the ten gives the table
 
+abbrev agrees-by : ℕ → ℕ → ℕ → ℕ → ℕ → Bool
+agrees-by vic r rate channels k = Bool·beq (ltb (samplesIn (65 + k) vic r channels) (hertzOf rate)) (more vic r rate channels)
+
 abbrev agrees : ℕ → ℕ → ℕ → ℕ → Bool
-agrees vic r rate channels = below (λ k. Bool·beq (ltb (samplesIn (65 + k) vic r channels) (hertzOf rate)) (ltb 2 channels && ltb (highestRate vic r) rate)) 10
+agrees vic r rate channels = below (agrees-by vic r rate channels) 10
 
 all-agree : every (cells agrees) listed ≡ true
 all-agree = refl
@@ -94,9 +97,8 @@ module _ (v : Video) (o : offered v ≡ true) (out : PixelOutside v → ⊥) (ra
 
   told-by : (k : ℕ) → k < 10 → Told (65 + k)
   told-by k n =
-      let test : ℕ → Bool = λ k. Bool·beq (ltb (samplesIn (65 + k) (v .vic) (repetition v) channels) (hertzOf rate))
-      (ltb 2 channels && ltb (highestRate (v .vic) (repetition v)) rate) in
-      let e = beq-true _ _ (at-below test 10 k (at-cell agrees all-agree v o out rate channels (f .0) (f .1)) n) in
+      let cell = at-cell agrees all-agree v o out rate channels (f .0) (f .1) in
+      let e = beq-true _ _ (at-below (agrees-by (v .vic) (repetition v) rate channels) 10 k cell n) in
       let d = decides v rate channels coherent in
       ((λ h. d .passes (sym e ∙ lt-ltb _ _ h)), (λ h. ltb-true _ _ (e ∙ confirmed d h)))
 
@@ -106,6 +108,7 @@ module _ (v : Video) (o : offered v ≡ true) (out : PixelOutside v → ⊥) (ra
 pub standard : Standard
 standard =
     record {
+      count = refl;
       rows = within overhead (lit≤ tt) (lit≤ tt);
       fixed = λ apart. (beyond apart, λ p. within apart (p .0) (p .1));
       table = λ apart g v rate channels coherent o out f. let p = beyond apart g in told v o out rate channels coherent f apart (p .0) (p .1);

@@ -1,11 +1,12 @@
--- Each timing makes its clock: one test over the table. Assumes nothing.
-use mathlib.Core.Path.{_≡_, refl, sym}
-use mathlib.Core.Bool.{Bool, true, not, _||_}
+-- Each timing makes its clock and its aspect: one test each over the table. Assumes nothing.
+use mathlib.Core.Path.{_≡_, refl}
+use mathlib.Core.Bool.{Bool, true, false, cond}
 use mathlib.Core.List.{[], _∷_}
-use Prim.Native.Nat.{ℕ, _*_, _<_}
+use Prim.Native.Nat.{ℕ, _*_}
 use lib.Dec.{eqb}
-use lib.ListN.{length, getD}
-use borrow.Author.Tests.{eqb-true, ne-eqb}
+use lib.ListN.{getD}
+use borrow.Author.Tests.{eqb-true}
+use Rattle.lists.specs.Among.{among}
 use Rattle.lists.specs.Find.{every}
 use Rattle.lists.proofs.Find.{every-at}
 use Rattle.video.specs.Modes.{modeOf}
@@ -18,7 +19,8 @@ makes-clock t = eqb (t .pixels * t .lines * t .rate) (modeOf (t .vic) .hertz * t
 abbrev makes-aspect : Timing → Bool
 makes-aspect t =
     let aspect : ℕ = modeOf (t .vic) .aspect in
-    eqb (t .activePixels) 720 || eqb (t .activePixels * getD (0 ∷ 3 ∷ 9 ∷ []) aspect 0) (t .activeLines * getD (0 ∷ 4 ∷ 16 ∷ []) aspect 0)
+    cond (among (t .vic) (2 ∷ 3 ∷ 17 ∷ 18 ∷ [])) (eqb (t .activePixels) 720)
+    (eqb (t .activePixels * getD (0 ∷ 3 ∷ 9 ∷ []) aspect 0) (t .activeLines * getD (0 ∷ 4 ∷ 16 ∷ []) aspect 0))
 
 all-clocks : every makes-clock timings ≡ true
 unfolding modeOf
@@ -29,7 +31,11 @@ unfolding modeOf
 all-aspects = refl
 
 of-aspect : (t : Timing) → makes-aspect t ≡ true → MakesAspect t
-of-aspect t e n = eqb-true _ _ (rw (ne-eqb _ _ n) at e)
+of-aspect t e = go (among (t .vic) (2 ∷ 3 ∷ 17 ∷ 18 ∷ [])) _ _ _ _ e
+  where
+    go : (b : Bool) (x y z w : ℕ) → cond b (eqb x y) (eqb z w) ≡ true → cond b (x ≡ y) (z ≡ w)
+    go true x y z w e = eqb-true x y e
+    go false x y z w e = eqb-true z w e
 
 pub timed : Timed
 timed =

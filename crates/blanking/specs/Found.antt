@@ -1,6 +1,6 @@
 -- How the code finds row 20: by the modes in which eight channels do not have every rate. `RoomRule` (Theorems) ties it to the table.
 use mathlib.Core.Bool.{Bool, false, cond, _&&_}
-use mathlib.Core.List.{List, [], _∷_}
+use mathlib.Core.List.{[], _∷_}
 use Prim.Native.Nat.{ℕ}
 use lib.Dec.{eqb, ltb}
 use lib.ListN.{getD}

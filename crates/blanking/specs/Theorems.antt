@@ -1,10 +1,11 @@
 -- What is proved of the timings, of the rule and of the table.
 use mathlib.Core.Path.{_≡_}
-use mathlib.Core.Logic.{_↔_, _≢_}
-use mathlib.Core.Bool.{true}
+use mathlib.Core.Logic.{_↔_}
+use mathlib.Core.Bool.{true, cond}
 use mathlib.Core.List.{List, [], _∷_, map}
 use Prim.Native.Nat.{ℕ, _+_, _*_, _<_, _≤_}
 use lib.ListN.{length, getD}
+use Rattle.lists.specs.Among.{among}
 use Rattle.video.specs.declared.Video.{Video}
 use Rattle.video.specs.Modes.{modeOf, listed, offered}
 use Rattle.video.specs.Video.{repetition, PixelOutside}
@@ -18,14 +19,15 @@ use Rattle.blanking.specs.Timings.{Timing, timings, untimed}
 use Rattle.blanking.specs.Room.{overhead, samples, samplesIn}
 use Rattle.blanking.specs.Found.{tooMuch}
 
--- a timing makes the clock of its mode exactly; and where pixels are square, in all pictures that are not 720 wide, its aspect, 4:3 or 16:9
+-- a timing makes the clock of its mode exactly; and its aspect, 4:3 or 16:9, where pixels are square: in all but 480p and 576p, which are 720 wide
 abbrev pub MakesClock : Timing → Type 0
 MakesClock t = t .pixels * t .lines * t .rate ≡ modeOf (t .vic) .hertz * t .fields
 
 abbrev pub MakesAspect : Timing → Type 0
 MakesAspect t =
     let aspect : ℕ = modeOf (t .vic) .aspect in
-    t .activePixels ≢ 720 → t .activePixels * getD (0 ∷ 3 ∷ 9 ∷ []) aspect 0 ≡ t .activeLines * getD (0 ∷ 4 ∷ 16 ∷ []) aspect 0
+    cond (among (t .vic) (2 ∷ 3 ∷ 17 ∷ 18 ∷ [])) (t .activePixels ≡ 720)
+    (t .activePixels * getD (0 ∷ 3 ∷ 9 ∷ []) aspect 0 ≡ t .activeLines * getD (0 ∷ 4 ∷ 16 ∷ []) aspect 0)
 
 -- the timings, and the rows of the table, are those of the listed modes
 pub record Timed : Type 0 where
@@ -51,6 +53,7 @@ GivesPrinted apart = (i : ℕ) → i < length printedCells → Gives apart (getD
 -- "works out by its blanking rule the modes it lacks": the rule gives what is printed; that leaves its overhead from 65 to 74; and whichever of
 -- these it is, the rule gives the table whole, for each mode, repetition, rate and number of channels
 pub record Standard : Type 0 where
+  pub count : length printedCells ≡ 21
   pub rows : GivesPrinted overhead
   pub fixed : (apart : ℕ) → GivesPrinted apart ↔ ((65 ≤ apart) × (apart ≤ 74))
   pub table : (apart : ℕ) → GivesPrinted apart → (v : Video) (rate channels coherent : ℕ) → offered v ≡ true → (PixelOutside v → ⊥)

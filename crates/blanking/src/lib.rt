@@ -61,7 +61,7 @@ pub fn too_much(video: Video, sound: Sound) -> bool
     }
 }
 
-// Each timing makes its clock.
+// The timings and the table have the listed modes, and each timing makes its clock and its aspect.
 pub fn timing_table()
     ensures { λ _. ⌜ Timed ⌝ }
 {}

@@ -27,7 +27,7 @@ imageRows image = sizeRows image ++ holdsUp when HoldsUp image ∷ []
 abbrev pub bufferRows : ℕ → List ℕ → List Condition
 bufferRows least buffer = bufferShort when (length buffer < least) ∷ []
 
--- "Planning checks 1 to 10", with 17 "after 6 and before 7", on the request, the image and the buffer as they are lent
+-- "Planning checks 1 to 10", with 17 and 20 "after 6 and before 7", on the request, the image and the buffer as they are lent
 abbrev pub planRules : List ℕ → List ℕ → List ℕ → List Condition
 planRules input image buffer =
     readRules (walked input) ++ imageRows image ++ pairRows (requestOf (walked input)) ++ bufferRows 256 buffer

@@ -1,11 +1,11 @@
 -- The marked cases: each computes, but for the reason of case 9, which is a law of the clock. Assumes nothing.
 use mathlib.Core.Path.{_≡_, refl, _∙_}
-use mathlib.Core.Bool.{true, cond}
+use mathlib.Core.Bool.{true, false, cond}
 use mathlib.Core.List.{List, [], _∷_, map, flatMap}
 use Prim.Native.Nat.{ℕ, zero, suc, _*_, _<_, _≤_, _∣_}
 use native.Mathlib.Omega.{arith}
-use lib.Dec.{eqb, ltb, lit<}
-use lib.ListN.{length}
+use lib.Dec.{eqb, ltb, lit<, lit≤}
+use lib.ListN.{length, replicate}
 use borrow.Author.Tests.{eqb-true, ltb-true}
 use Rattle.lists.specs.Find.{every}
 use Rattle.lists.proofs.Both.{both-left, both-right}
@@ -45,6 +45,8 @@ use Rattle.decode.specs.Extract.{extract}
 use Rattle.decode.specs.Decode.{someEnds, decodeRefusal, decodeOf}
 use Rattle.decode.specs.Theorems.{Answered}
 use Rattle.decode.proofs.Answers.{read-back}
+use Rattle.chip.specs.Write.{lentAs}
+use Rattle.vendor.specs.Found.{vetRefusal, vetOf}
 use Rattle.promises.specs.Rules.{asked}
 use Rattle.promises.specs.Worked.{zeros, Few, FewDeep, FewEditions}
 use Rattle.promises.specs.Cases.{rgbOverHdmi, asked16, withEdition, editionRefusal, done16, eight, MarkedCases}
@@ -70,6 +72,11 @@ sound = refl
 sound-decoded : map (λ rate. decodeOf (finishedImage (asked (eight 2 0x00 rate)) zeros) zeros .refusal) (2 ∷ 3 ∷ []) ≡ 0 ∷ 11 ∷ []
 unfolding flatMap euclid divisorOf modeOf tmds clockOf highestOf beyond reference recommendedOf nearestK nearestIn nearestOf exactly coherentOf pairOf total aviFrame audioFrame audioOffFrame fields inRange isAllowed walk walked videoOutside shownOutside videoCombined shownCombined outside combined judged readOf pairFor merge classAt decided byte written middle isWritten finished column flat alreadyThere wanted asBytes extract matrixInRange allowedOf standsBelow standsIn rateOf someEnds decodeRefusal decodeOf
 sound-decoded = refl
+
+sound-vetted : map (λ rate. vetOf (lentAs (finishedImage (asked (eight 2 0x00 rate)) zeros) (replicate 32 0) (replicate 24 0) false) [] .refusal)
+    (2 ∷ 3 ∷ []) ≡ 0 ∷ 16 ∷ []
+unfolding flatMap euclid divisorOf modeOf tmds clockOf highestOf beyond reference recommendedOf nearestK nearestIn nearestOf exactly coherentOf pairOf total aviFrame audioFrame audioOffFrame fields inRange isAllowed walk walked videoOutside shownOutside videoCombined shownCombined outside combined judged readOf pairFor merge classAt decided byte written middle isWritten finished column flat alreadyThere wanted asBytes extract matrixInRange allowedOf standsBelow standsIn rateOf someEnds decodeRefusal decodeOf vetRefusal vetOf
+sound-vetted = refl
 
 few-editions : FewEditions
 unfolding flatMap euclid divisorOf modeOf tmds clockOf highestOf beyond reference recommendedOf nearestK nearestIn nearestOf exactly coherentOf pairOf total aviFrame audioFrame audioOffFrame fields inRange isAllowed walk walked videoOutside shownOutside videoCombined shownCombined outside combined judged readOf pairFor merge classAt decided byte written middle isWritten finished column flat alreadyThere wanted laterRefusal planWith bufferWith planOf planBuffer
@@ -160,7 +167,10 @@ cases =
       sound = sound;
       soundFirst = refl;
       soundLine = refl;
+      soundMore = λ rate higher h. ((h, lit≤ tt), (h, lit≤ tt));
+      soundMode = (refl, refl);
       soundDecoded = sound-decoded;
+      soundVetted = sound-vetted;
       few = few;
       fullWithYCbCrAvi = refl;
       fullOverDvi = refl;

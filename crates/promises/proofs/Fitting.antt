@@ -1,12 +1,11 @@
 -- Refusal 20 by what planning and N/CTS answer. Assumes nothing.
-use mathlib.Core.Path.{_≡_, refl, sym, ap, _∙_}
+use mathlib.Core.Path.{_≡_, ap}
 use mathlib.Core.Bool.{Bool, true, false, cond, not}
 use mathlib.Core.List.{List}
 use Prim.Native.Nat.{ℕ}
 use native.Mathlib.Omega.{arith}
 use lib.Dec.{eqb, ltb}
 use lib.ListN.{length}
-use borrow.Author.Tests.{ne-eqb}
 use Rattle.refusals.specs.Tests.{answer}
 use Rattle.clock.specs.Answers.{noPair}
 use Rattle.request.specs.declared.Request.{Request}

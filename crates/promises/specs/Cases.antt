@@ -7,7 +7,7 @@ use mathlib.Core.List.{List, [], _∷_, map}
 use Prim.Native.Nat.{ℕ, _*_, _<_, _≤_, _∣_}
 use lib.Dec.{eqb}
 use lib.IntN.{negsuc}
-use lib.ListN.{getD, length, set}
+use lib.ListN.{getD, length, replicate, set}
 use Rattle.lists.specs.Among.{among}
 use Rattle.lists.specs.Find.{every}
 use Rattle.video.specs.declared.Video.{Video}
@@ -23,12 +23,16 @@ use Rattle.frames.specs.Answers.{aviOf, audioOf}
 use Rattle.frames.specs.Editions.{readByE, underD}
 use Rattle.matrix.specs.Coefficient.{word, lowThirteen, valueOf}
 use Rattle.matrix.specs.Preview.{previewOf}
+use Rattle.sound.specs.declared.Sound.the-variants.{On}
+use Rattle.blanking.specs.Theorems.{SameMode, NoLess}
+use Rattle.chip.specs.Write.{lentAs}
 use Rattle.request.specs.Sections.{longest}
 use Rattle.request.specs.Lengths.{lengths}
 use Rattle.request.specs.Read.{readOf}
 use Rattle.writes.specs.List.{finishedImage}
 use Rattle.plan.specs.Plan.{planOf}
 use Rattle.decode.specs.Decode.{decodeOf}
+use Rattle.vendor.specs.Found.{vetOf}
 use Rattle.decode.specs.Theorems.{Answered}
 use Rattle.line.specs.Words.{ascii, lineText}
 use Rattle.promises.specs.EachByte.{editionBytes, bitsUnderD}
@@ -194,8 +198,13 @@ pub record MarkedCases : Type 0 where
   pub soundFirst : map (λ image. planOf (eight 2 0x00 6) image []) ([] ∷ set zeros 0x4A 0x10 ∷ zeros ∷ [])
       ≡ record { refusal = 20; count = 0 } ∷ record { refusal = 20; count = 0 } ∷ record { refusal = 20; count = 0 } ∷ []
   pub soundLine : lineText (eight 2 0x00 6) ≡ ascii "refused 20\n"
-  -- an image that was finished with such a sound decodes to nothing
+  -- "more channels or a higher rate in the same mode", of any two rates, whatever the family, the depth, the encoding and the edition are
+  pub soundMore : (rate higher : ℕ) → rate ≤ higher → NoLess (On rate 2 0) (On higher 8 1) × NoLess (On rate 8 1) (On higher 8 0)
+  pub soundMode : SameMode (videoIn (0x02 ∷ 0x00 ∷ 0x00 ∷ 0x01 ∷ 0x00 ∷ 0x11 ∷ 0x00 ∷ [])) (videoIn (0x02 ∷ 0x01 ∷ 0x02 ∷ 0x01 ∷ 0x00 ∷ 0x12 ∷ 0x35 ∷ []))
+  -- an image that was finished with such a sound decodes to nothing, and an empty list on it is refused 16
   pub soundDecoded : map (λ rate. decodeOf (finishedImage (asked (eight 2 0x00 rate)) zeros) zeros .refusal) (2 ∷ 3 ∷ []) ≡ 0 ∷ 11 ∷ []
+  pub soundVetted : map (λ rate. vetOf (lentAs (finishedImage (asked (eight 2 0x00 rate)) zeros) (replicate 32 0) (replicate 24 0) false) [] .refusal)
+      (2 ∷ 3 ∷ []) ≡ 0 ∷ 16 ∷ []
   -- request 09
   pub few : Few
   -- Lengths follow from the counts: document 01 had 7, 10, 32, 35, and each has three bytes more

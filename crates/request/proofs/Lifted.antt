@@ -15,7 +15,6 @@ use Rattle.video.specs.declared.Video.{Video}
 use Rattle.video.specs.Video.{videoIn}
 use Rattle.sound.specs.declared.Sound.{Sound}
 use Rattle.sound.specs.Sound.{soundOf}
-use Rattle.clock.specs.Clocks.{tmds}
 use Rattle.clock.specs.Answers.{clockOf}
 use Rattle.clock.proofs.Rows.{is-above}
 use Rattle.blanking.specs.Table.{TooMuch}
