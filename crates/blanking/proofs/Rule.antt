@@ -1,10 +1,10 @@
 -- Row 20: what the code finds is what the table says, and what is too much stays too much. Assumes nothing.
 use mathlib.Core.Path.{_≡_, refl, sym, _∙_}
-use mathlib.Core.Bool.{Bool, true, false, false≢true, cond, not, _&&_, _||_, Bool·beq}
+use mathlib.Core.Bool.{Bool, true, false, false≢true, cond, not, _||_, Bool·beq}
 use Prim.Native.Nat.{ℕ, _+_, _-_, _*_, _<_, _≤_}
 use native.Mathlib.Nat.{mul-le-mul-left, lt-of-le-of-lt, lt-of-lt-of-le}
 use native.Mathlib.Omega.{arith}
-use lib.Dec.{eqb, ltb, leb, lit≤}
+use lib.Dec.{ltb, leb, lit≤}
 use borrow.Author.Tests.{ltb-true, ltb-false, lt-ltb, leb-true, le-leb}
 use Rattle.lists.specs.Find.{every}
 use Rattle.lists.proofs.Both.{beq-true}
@@ -25,14 +25,14 @@ use Rattle.clock.proofs.Offered.{halves}
 use Rattle.blanking.specs.Timings.{timingOf, linesOf}
 use Rattle.blanking.specs.Table.{highestRate, TooMuch}
 use Rattle.blanking.specs.Room.{overhead, periods, packetsIn, samples, samplesIn}
-use Rattle.blanking.specs.Found.{highestOf, mostOf, beyond, tooMuch}
+use Rattle.blanking.specs.Found.{highestOf, isBeyond, beyond, tooMuch}
 use Rattle.blanking.specs.Theorems.{SameMode, NoLess, otherPackets, RoomRule}
 use Rattle.blanking.proofs.Cells.{cells, at-listed, at-cell, more, decides}
 
 -- ---- the tests of a cell
 
 abbrev finds : ℕ → ℕ → ℕ → ℕ → Bool
-finds vic r rate channels = Bool·beq (eqb channels 8 && ltb (mostOf vic r) rate) (more vic r rate channels)
+finds vic r rate channels = Bool·beq (isBeyond vic r rate channels) (more vic r rate channels)
 
 abbrev spares : ℕ → ℕ → ℕ → ℕ → Bool
 spares vic r rate channels =

@@ -25,9 +25,12 @@ highestOf vic =
 abbrev pub mostOf : ℕ → ℕ → ℕ
 mostOf vic repetition = getD (highestOf vic .once ∷ highestOf vic .twice ∷ []) repetition 6
 
+abbrev pub isBeyond : ℕ → ℕ → ℕ → ℕ → Bool
+isBeyond vic repetition rate channels = eqb channels 8 && ltb (mostOf vic repetition) rate
+
 unfoldable pub beyond : ℕ → ℕ → Sound → Bool
 beyond vic repetition Off = false
-beyond vic repetition (On rate channels coherent) = eqb channels 8 && ltb (mostOf vic repetition) rate
+beyond vic repetition (On rate channels coherent) = isBeyond vic repetition rate channels
 
 abbrev pub tooMuch : Video → Sound → Bool
 tooMuch video sound = beyond (video .vic) (repetition video) sound

@@ -1,6 +1,7 @@
 // Sound that fits into the blanking: document 02, request 10.
 ghost use mathlib.Core.Path.{_≡_};
-ghost use Rattle.blanking.specs.Found.{oneRow, highestOf, mostOf, tooMuch};
+ghost use Rattle.video.specs.Video.{repetition};
+ghost use Rattle.blanking.specs.Found.{oneRow, highestOf, mostOf, isBeyond, tooMuch};
 ghost use Rattle.blanking.specs.Theorems.{Timed, Standard, RoomRule};
 use sound::Sound;
 use video::Video;
@@ -47,6 +48,16 @@ fn most_of(vic: u8, repetition: u8) -> u8
     }
 }
 
+// Row 20 of a rate and channels: the table is looked at for eight channels alone.
+fn is_beyond(video: Video, rate: u8, channels: u8) -> bool
+    ensures { λ r. ⌜ r ≡ isBeyond (video .vic) (repetition video) rate channels ⌝ }
+{
+    if channels != 8 {
+        return false;
+    }
+    most_of(video.vic, video.pixel / 16) < rate
+}
+
 // Row 20: more sound than fits into the blanking of the mode.
 pub fn too_much(video: Video, sound: Sound) -> bool
     ensures { λ r. ⌜ r ≡ tooMuch video sound ⌝ }
@@ -57,7 +68,7 @@ pub fn too_much(video: Video, sound: Sound) -> bool
             rate,
             channels,
             coherent: _,
-        } => (channels == 8) & (most_of(video.vic, video.pixel / 16) < rate),
+        } => is_beyond(video, rate, channels),
     }
 }
 

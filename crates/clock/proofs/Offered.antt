@@ -1,6 +1,6 @@
 -- The clock that is found is the one that is asked for, and what is known of it: by one test each over modes, families, depths and
 -- repetitions. Assumes nothing.
-use mathlib.Core.Path.{_≡_, refl, sym, _∙_}
+use mathlib.Core.Path.{_≡_, refl, sym, ap, _∙_}
 use mathlib.Core.Logic.{_↔_, inl, inr}
 use mathlib.Core.Bool.{Bool, true, false, false≢true, cond, not, _&&_, _||_, Bool·beq}
 use Prim.Native.Nat.{ℕ, _*_, _<_, _≤_}
@@ -145,6 +145,16 @@ number c = c .refusal
 pub number-is : (video : Video) → clockOf video .refusal ≡ lowest (clockTests video)
 unfolding clockOf
 number-is video = numbered noClock (tmds video) number (lowest (clockTests video)) (λ _. no-number video) refl
+
+-- where each pixel is sent once, it is not 17
+pub once-within : (video : Video) → repetition video ≡ 0 → eqb (clockOf video .refusal) 17 ≡ false
+once-within video e = ap (λ (n : ℕ). eqb n 17) (number-is video) ∙ go (offered video) refl (pixelOutside video) refl
+  where
+    go : (o : Bool) → offered video ≡ o → (p : Bool) → pixelOutside video ≡ p
+        → eqb (cond (not o) 4 (cond p 5 (cond (aboveLimit (tmds video)) 17 0))) 17 ≡ false
+    go false o p q = refl
+    go true o true q = refl
+    go true o false q = rw (deep-alone video o q e)
 
 -- a clock that is answered
 pub record Taken (video : Video) : Type 0 where

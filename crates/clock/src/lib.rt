@@ -2,7 +2,9 @@
 ghost use mathlib.Core.Path.{_≡_};
 ghost use Prim.Native.Nat.{_<_, _≤_, _+_, _-_, _*_, min};
 ghost use Rattle.clock.specs.Clocks.{quarters, times};
-ghost use Rattle.clock.specs.Answers.{noClock, GivesClock};
+ghost use lib.Dec.{eqb};
+ghost use Rattle.refusals.specs.Rows.{number, clockAbove};
+ghost use Rattle.clock.specs.Answers.{noClock, clockOf, GivesClock};
 ghost use Rattle.clock.specs.Bounds.{WithinBounds, numMost, referenceMost, partsMost, stepMost};
 ghost use Rattle.clock.specs.Pairs.{reference, recommendedOf};
 ghost use Rattle.clock.specs.Answers.{thePair, noPair, audioOff};
@@ -163,6 +165,17 @@ pub fn clock_of(video: Video) -> Clock
         num: num,
         den: den,
     }
+}
+
+// Row 17 of a video alone: where each pixel is sent once no clock is above the limit, and none need be made.
+pub fn is_above(video: Video) -> bool
+    ensures { λ r. ⌜ r ≡ eqb (clockOf video .refusal) (number clockAbove) ⌝ }
+{
+    if video.pixel < 16 {
+        return false;
+    }
+    let clock = clock_of(video);
+    clock.refusal == Refusal::CLOCK_ABOVE
 }
 
 // 128·fs

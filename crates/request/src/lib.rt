@@ -156,8 +156,7 @@ pub fn ask(s: &[u8]) -> Checked
 pub fn limits(video: Video, sound: Sound) -> u8
     ensures { λ r. ⌜ r ≡ limitOf video sound ⌝ }
 {
-    let clock = clock::clock_of(video);
-    if clock.refusal == Refusal::CLOCK_ABOVE {
+    if clock::is_above(video) {
         return Refusal::CLOCK_ABOVE;
     }
     if blanking::too_much(video, sound) {

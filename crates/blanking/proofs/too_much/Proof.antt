@@ -10,8 +10,8 @@ enum-told c = search needs
 enum-known-sound : tie.Need-enum-known-sound
 enum-known-sound c = search needs
 
-most-of-requires : tie.Need-most-of-requires
-most-of-requires c κs = search needs
+is-beyond-requires : tie.Need-is-beyond-requires
+is-beyond-requires c κs = search needs
 
 returns : tie.Need-returns
 unfolding beyond
@@ -19,7 +19,7 @@ returns c = search needs
 
 returns-2 : tie.Need-returns-2
 unfolding beyond
-returns-2 c = simp (c .before .before .before .sound .given .1, c .most-of .ensures)
+returns-2 c = simp (c .before .before .sound .given .1, c .is-beyond .ensures)
 
 pub too-much-spec : {M : Type 1} → statement M
-too-much-spec = tie.close (tie.spec enum-told enum-known-sound most-of-requires returns returns-2)
+too-much-spec = tie.close (tie.spec enum-told enum-known-sound is-beyond-requires returns returns-2)
