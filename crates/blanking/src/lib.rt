@@ -77,7 +77,7 @@ pub fn timing_table()
     ensures { λ _. ⌜ Timed ⌝ }
 {}
 
-// The rule gives the rows that the standard prints, which leave no other answer.
+// The rule gives the rows that the standard prints; these leave some overheads, and each of them gives the whole table.
 pub fn standard_rows()
     ensures { λ _. ⌜ Standard ⌝ }
 {}
