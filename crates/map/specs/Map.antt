@@ -93,15 +93,24 @@ i2sSamplingFrequencyShift = 4
 abbrev pub inputIdMask : ℕ
 inputIdMask = 0x0F
 
-abbrev pub inputIdDefault : ℕ
-inputIdDefault = 0x00
-
--- 0x16: Output Format
+-- 0x16: Output Format, Input Color Depth, Input Style
 abbrev pub videoInputCfg1 : ℕ
 videoInputCfg1 = 0x16
 
 abbrev pub outputFormatMask : ℕ
 outputFormatMask = 0x80
+
+abbrev pub inputColorDepthMask : ℕ
+inputColorDepthMask = 0x30
+
+abbrev pub inputColorDepthShift : ℕ
+inputColorDepthShift = 4
+
+abbrev pub inputStyleMask : ℕ
+inputStyleMask = 0x0C
+
+abbrev pub inputStyleShift : ℕ
+inputStyleShift = 2
 
 -- 0x18: CSC Enable, CSC Scaling Factor, A1 to C4: the first of 24 registers, two for each coefficient, its high five bits first
 abbrev pub csc : ℕ
@@ -131,6 +140,14 @@ coefficientUpdate = 0x1A
 
 abbrev pub coefficientUpdateMask : ℕ
 coefficientUpdateMask = 0x20
+
+-- 0x30: Hsync Placement, Hsync Duration, Vsync Placement, Vsync Duration of the embedded sync decoder: the first of five registers, ten
+-- bits for each, one after the other
+abbrev pub syncGeneration : ℕ
+syncGeneration = 0x30
+
+abbrev pub syncGenerationCount : ℕ
+syncGenerationCount = 5
 
 -- 0x3B: PR Mode, PR PLL Manual, PR Value Manual
 abbrev pub pixelRepetition : ℕ
@@ -183,6 +200,16 @@ aviInfoframeEnableMask = 0x10
 
 abbrev pub audioInfoframeEnableMask : ℕ
 audioInfoframeEnableMask = 0x08
+
+-- 0x48: Video Input Justification
+abbrev pub videoInputCfg2 : ℕ
+videoInputCfg2 = 0x48
+
+abbrev pub videoInputJustificationMask : ℕ
+videoInputJustificationMask = 0x18
+
+abbrev pub videoInputJustificationShift : ℕ
+videoInputJustificationShift = 3
 
 -- 0x4A: Auto Checksum Enable, and the packet holds: AVI, Audio InfoFrame and GC Packet Update
 abbrev pub infoframeUpdate : ℕ

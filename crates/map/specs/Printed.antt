@@ -45,14 +45,18 @@ rows =
     mask 1 0 reg.i2sFormatMask ∷ default 1 0 0b00 reg.i2sFormatDefault ∷
     register 0x15 reg.i2sFreqIdCfg ∷
     mask 7 4 reg.i2sSamplingFrequencyMask ∷ shift 7 4 reg.i2sSamplingFrequencyShift ∷
-    mask 3 0 reg.inputIdMask ∷ default 3 0 0b0000 reg.inputIdDefault ∷
+    mask 3 0 reg.inputIdMask ∷
     register 0x16 reg.videoInputCfg1 ∷ mask 7 7 reg.outputFormatMask ∷
+    mask 5 4 reg.inputColorDepthMask ∷ shift 5 4 reg.inputColorDepthShift ∷
+    mask 3 2 reg.inputStyleMask ∷ shift 3 2 reg.inputStyleShift ∷
     register 0x18 reg.csc ∷
     count 0x18 0x2F reg.cscCount ∷
     mask 7 7 reg.cscEnableMask ∷ shift 7 7 reg.cscEnableShift ∷
     mask 6 5 reg.cscScalingFactorMask ∷ shift 6 5 reg.cscScalingFactorShift ∷
     mask 4 0 reg.cscHighMask ∷
     register 0x1A reg.coefficientUpdate ∷ mask 5 5 reg.coefficientUpdateMask ∷
+    register 0x30 reg.syncGeneration ∷
+    count 0x30 0x34 reg.syncGenerationCount ∷
     register 0x3B reg.pixelRepetition ∷
     mask 6 5 reg.prModeMask ∷ shift 6 5 reg.prModeShift ∷
     mask 4 3 reg.prPllManualMask ∷ shift 4 3 reg.prPllManualShift ∷
@@ -64,6 +68,8 @@ rows =
     mask 5 5 reg.audioSamplePacketEnableMask ∷
     mask 4 4 reg.aviInfoframeEnableMask ∷
     mask 3 3 reg.audioInfoframeEnableMask ∷
+    register 0x48 reg.videoInputCfg2 ∷
+    mask 4 3 reg.videoInputJustificationMask ∷ shift 4 3 reg.videoInputJustificationShift ∷
     register 0x4A reg.infoframeUpdate ∷
     mask 7 7 reg.autoChecksumEnableMask ∷
     mask 6 6 reg.aviPacketUpdateMask ∷

@@ -71,12 +71,18 @@ impl Map {
 
     pub const INPUT_ID_MASK: u8 = 0x0F;
 
-    pub const INPUT_ID_DEFAULT: u8 = 0x00;
-
-    // 0x16: Output Format
+    // 0x16: Output Format, Input Color Depth, Input Style
     pub const VIDEO_INPUT_CFG1: u8 = 0x16;
 
     pub const OUTPUT_FORMAT_MASK: u8 = 0x80;
+
+    pub const INPUT_COLOR_DEPTH_MASK: u8 = 0x30;
+
+    pub const INPUT_COLOR_DEPTH_SHIFT: u8 = 4;
+
+    pub const INPUT_STYLE_MASK: u8 = 0x0C;
+
+    pub const INPUT_STYLE_SHIFT: u8 = 2;
 
     // 0x18: CSC Enable, CSC Scaling Factor, A1 to C4: the first of 24 registers, two for each coefficient, its high five bits first
     pub const CSC: u8 = 0x18;
@@ -97,6 +103,12 @@ impl Map {
     pub const COEFFICIENT_UPDATE: u8 = 0x1A;
 
     pub const COEFFICIENT_UPDATE_MASK: u8 = 0x20;
+
+    // 0x30: Hsync Placement, Hsync Duration, Vsync Placement, Vsync Duration of the embedded sync decoder: the first of five registers, ten
+    // bits for each, one after the other
+    pub const SYNC_GENERATION: u8 = 0x30;
+
+    pub const SYNC_GENERATION_COUNT: u8 = 5;
 
     // 0x3B: PR Mode, PR PLL Manual, PR Value Manual
     pub const PIXEL_REPETITION: u8 = 0x3B;
@@ -133,6 +145,13 @@ impl Map {
     pub const AVI_INFOFRAME_ENABLE_MASK: u8 = 0x10;
 
     pub const AUDIO_INFOFRAME_ENABLE_MASK: u8 = 0x08;
+
+    // 0x48: Video Input Justification
+    pub const VIDEO_INPUT_CFG2: u8 = 0x48;
+
+    pub const VIDEO_INPUT_JUSTIFICATION_MASK: u8 = 0x18;
+
+    pub const VIDEO_INPUT_JUSTIFICATION_SHIFT: u8 = 3;
 
     // 0x4A: Auto Checksum Enable, and the packet holds: AVI, Audio InfoFrame and GC Packet Update
     pub const INFOFRAME_UPDATE: u8 = 0x4A;
@@ -224,7 +243,7 @@ impl Map {
 }
 
 // Every constant of the map: it is its twin, and what is printed.
-pub fn constants() -> [u8; 89]
+pub fn constants() -> [u8; 97]
     ensures { λ r. ⌜ r ≡ twins ⌝ }
     ensures { λ r. ⌜ r ≡ printed ⌝ }
 {
@@ -256,9 +275,12 @@ pub fn constants() -> [u8; 89]
         Map::I2S_SAMPLING_FREQUENCY_MASK,
         Map::I2S_SAMPLING_FREQUENCY_SHIFT,
         Map::INPUT_ID_MASK,
-        Map::INPUT_ID_DEFAULT,
         Map::VIDEO_INPUT_CFG1,
         Map::OUTPUT_FORMAT_MASK,
+        Map::INPUT_COLOR_DEPTH_MASK,
+        Map::INPUT_COLOR_DEPTH_SHIFT,
+        Map::INPUT_STYLE_MASK,
+        Map::INPUT_STYLE_SHIFT,
         Map::CSC,
         Map::CSC_COUNT,
         Map::CSC_ENABLE_MASK,
@@ -268,6 +290,8 @@ pub fn constants() -> [u8; 89]
         Map::CSC_HIGH_MASK,
         Map::COEFFICIENT_UPDATE,
         Map::COEFFICIENT_UPDATE_MASK,
+        Map::SYNC_GENERATION,
+        Map::SYNC_GENERATION_COUNT,
         Map::PIXEL_REPETITION,
         Map::PR_MODE_MASK,
         Map::PR_MODE_SHIFT,
@@ -284,6 +308,9 @@ pub fn constants() -> [u8; 89]
         Map::AUDIO_SAMPLE_PACKET_ENABLE_MASK,
         Map::AVI_INFOFRAME_ENABLE_MASK,
         Map::AUDIO_INFOFRAME_ENABLE_MASK,
+        Map::VIDEO_INPUT_CFG2,
+        Map::VIDEO_INPUT_JUSTIFICATION_MASK,
+        Map::VIDEO_INPUT_JUSTIFICATION_SHIFT,
         Map::INFOFRAME_UPDATE,
         Map::AUTO_CHECKSUM_ENABLE_MASK,
         Map::AVI_PACKET_UPDATE_MASK,
