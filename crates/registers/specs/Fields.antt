@@ -1,12 +1,14 @@
 -- Document 01, "Register classes": the fields that are named, in the order of its sentence "Named: N, CTS, ..". `registers::fields` says
--- that the class table names their bits, and `AllNamed` (promises) that the document's places cover these and no others. Document 02, request
--- 06, adds the depth.
+-- that the class table names their bits, and `AllNamed` (promises) that the document's places cover these and no others. Document 02 adds
+-- the depth that is sent (request 06) and the input's wiring (request 02).
 use mathlib.Core.List.{List, [], _∷_, _++_}
 use Prim.Native.Nat.{ℕ, zero, suc, _+_}
 use Rattle.map.specs.Map.{n0, n0Mask, n1, n2, ctsManual0, ctsManual0Mask, ctsManual1, ctsManual2}
 use Rattle.map.specs.Map.{audioSource, ctsSelectMask, audioSelectMask, audioModeMask}
 use Rattle.map.specs.Map.{i2sConfig, i2s3EnableMask, i2s2EnableMask, i2s1EnableMask, i2s0EnableMask, i2sFormatMask}
 use Rattle.map.specs.Map.{i2sFreqIdCfg, i2sSamplingFrequencyMask, inputIdMask, videoInputCfg1, outputFormatMask}
+use Rattle.map.specs.Map.{inputColorDepthMask, inputStyleMask, videoInputCfg2, videoInputJustificationMask}
+use Rattle.map.specs.Map.{syncGeneration, syncGenerationCount}
 use Rattle.map.specs.Map.{csc, cscEnableMask, cscScalingFactorMask, cscHighMask, coefficientUpdate, coefficientUpdateMask}
 use Rattle.map.specs.Map.{pixelRepetition, prModeMask, prPllManualMask, prValueManualMask, vicManual, vicManualMask}
 use Rattle.map.specs.Map.{packetEnable0, gcPacketEnableMask, packetEnable1, nCtsPacketEnableMask, audioSamplePacketEnableMask}
@@ -24,9 +26,14 @@ abbrev pub coefficientFields : ℕ → ℕ → List Field
 coefficientFields first zero = []
 coefficientFields first (suc count) = field first cscHighMask ∷ field (first + 1) whole ∷ coefficientFields (first + 2) count
 
--- request 06: "The general control fields for depth become named"
 abbrev pub becomeNamed : List Field
-becomeNamed = field gcDepth colorDepthMask ∷ []
+becomeNamed =
+    -- request 06: "The general control fields for depth become named"
+    field gcDepth colorDepthMask ∷
+    -- request 02: "Add input IDs 1 to 8 with depth, style and justification .., and for embedded syncs the sync generation fields 0x30 to 0x34"
+    field videoInputCfg1 inputColorDepthMask ∷ field videoInputCfg1 inputStyleMask ∷
+    field videoInputCfg2 videoInputJustificationMask ∷
+    bytes syncGeneration syncGenerationCount
 
 abbrev pub namedFields : List Field
 namedFields =

@@ -1,6 +1,7 @@
 -- Document 01, "Register classes": how the table is filled. "A bit typed read-only is read-only. Of the rest, Table 14's bits are mandated;
 -- then the fields listed below are named; then bits the map marks fixed or must-be-set are mandated; all others are free."
--- Before these, document 02, request 06: fields that "become named" are named, though the map types them read-only.
+-- Before these, document 02: fields that "become named" (request 06) are named, though the map types them read-only; so are those that
+-- request 02 adds, of which the map types none so.
 use mathlib.Core.List.{List, _++_}
 use Prim.Native.Nat.{ℕ, _+_, _-_}
 use lib.Bits.{bitAnd}

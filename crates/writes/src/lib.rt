@@ -43,7 +43,7 @@ fn table14() -> [u8; 8]
     steps::TABLE14
 }
 
-fn others() -> [u8; 16]
+fn others() -> [u8; 22]
     ensures { λ r. ⌜ r ≡ others ⌝ }
 {
     steps::OTHERS
