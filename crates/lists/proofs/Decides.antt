@@ -1,8 +1,8 @@
 -- A test and the statement that it decides. A test made of tests decides the statement made of theirs. Assumes nothing.
 use mathlib.Core.Path.{_≡_, refl, sym, _∙_}
-use mathlib.Core.Logic.{_⊎_, inl, inr, ⊎-elim}
+use mathlib.Core.Logic.{_≢_, _⊎_, inl, inr, ⊎-elim}
 use mathlib.Core.Bool.{Bool, true, false, false≢true, not, _&&_, _||_}
-use Prim.Native.Nat.{ℕ, _<_}
+use Prim.Native.Nat.{ℕ, _<_, _≤_}
 use native.Mathlib.Omega.{arith}
 use lib.Dec.{eqb, ltb}
 use borrow.Author.Tests.{eqb-true, eqb-false, ltb-true, ltb-false, not-true, not-false}
@@ -71,3 +71,18 @@ confirmed {b} {P} d p = go b d
     go : (b : Bool) → Decides b P → b ≡ true
     go true d = refl
     go false d = absurd (d .fails refl p)
+
+-- not above is at most; not different is equal
+pub at-most : (m n : ℕ) → (m < n → ⊥) → n ≤ m
+at-most m n h = go (ltb m n) refl
+  where
+    go : (b : Bool) → ltb m n ≡ b → n ≤ m
+    go true e = absurd (h (ltb-true m n e))
+    go false e = ltb-false m n e
+
+pub is-equal : (m n : ℕ) → (m ≢ n → ⊥) → m ≡ n
+is-equal m n h = go (eqb m n) refl
+  where
+    go : (b : Bool) → eqb m n ≡ b → m ≡ n
+    go true e = eqb-true m n e
+    go false e = absurd (h (eqb-false m n e))

@@ -6,3 +6,4 @@ pub mod Copied
 pub mod Emit
 pub mod Compared
 pub mod Those
+pub mod Place

@@ -7,6 +7,11 @@ use Prim.Native.Nat.{ℕ}
 use lib.Dec.{eqb}
 use lib.ListN.{length}
 use Rattle.clock.specs.declared.Pair.{Pair}
+use Rattle.wiring.specs.declared.Wiring.{Wiring}
+use Rattle.wiring.specs.declared.Wiring.the-variants.{Board}
+use Rattle.wiring.specs.Kinds.{rgbIn}
+use Rattle.wiring.specs.Wiring.{wiringIn, wiresOf}
+use Rattle.wiring.specs.Tests.{wiringOutside}
 use Rattle.video.specs.declared.Video.{Video}
 use Rattle.video.specs.Video.{noVideo, videoIn}
 use Rattle.video.specs.Tests.{videoOutside, videoCombined}
@@ -24,29 +29,33 @@ use Rattle.matrix.specs.Tests.{isAllowed, matrixInRange}
 use Rattle.request.specs.declared.Request.{Request}
 use Rattle.request.specs.declared.Checked.{Checked}
 use Rattle.request.specs.Sections.{Bodies, Walk, ends, notAllowed, whole, walked, bodiesIn, restOf}
-use Rattle.request.specs.Request.{present, requestIn}
+use Rattle.request.specs.Request.{present, requestIn, rgbOut}
 use Rattle.refusals.specs.Rows.{number}
 use Rattle.refusals.specs.Tests.{Test, _if_, lowest, answer}
 use Rattle.refusals.specs.Rows.{inputEnds, countNotAllowed, bytesAfter, modeNotOffered, fieldOutOfRange, combination, clockAbove, soundTooMuch}
 
--- a refusal of rows 1 to 6 stands beside an empty request: fields 0, audio off, no matrix
+-- a refusal of rows 1 to 6 stands beside an empty request: today's board, fields 0, audio off, no matrix
 abbrev pub emptied : ℕ → Checked
-emptied number = record { refusal = number; request = record { video = noVideo; sound = Off; matrix = noMatrix } }
+emptied number = record { refusal = number; request = record { wiring = Board; video = noVideo; sound = Off; matrix = noMatrix } }
 
--- the tests of row 5 and row 6 of a request in hand: its video, its sound, and of its matrix whether it is outside its range and whether
--- there is none
-abbrev pub outsideIn : Video → Sound → Bool → Bool
-outsideIn video sound spoiled = videoOutside video || (soundOutside sound || spoiled)
+-- the tests of row 5 and row 6 of a request in hand: its wiring, its video, its sound, and of its matrix whether it is outside its range and
+-- whether there is none
+abbrev pub outsideIn : Wiring → Video → Sound → Bool → Bool
+outsideIn wiring video sound spoiled = wiringOutside wiring || (videoOutside video || (soundOutside sound || spoiled))
 
-abbrev pub combinedIn : Video → Sound → Bool → Bool
-combinedIn video sound bare = (not (eqb (video .encoding) 0) && bare) || ((eqb (video .link) 0 && isOn sound) || videoCombined video)
+abbrev pub convertsIn : Bool → Bool → Bool
+convertsIn into out = (into && not out) || (not into && out)
+
+abbrev pub combinedIn : Wiring → Video → Sound → Bool → Bool
+combinedIn wiring video sound bare =
+    (convertsIn (rgbIn (wiresOf wiring .input)) (rgbOut video) && bare) || ((eqb (video .link) 0 && isOn sound) || videoCombined video)
 
 -- and so of the bodies
 unfoldable pub outside : Bodies → Bool
-outside b = outsideIn (videoIn (b .video)) (soundOf (b .audio)) (present (b .matrix) && not (isAllowed (b .matrix)))
+outside b = outsideIn (wiringIn (b .wiring)) (videoIn (b .video)) (soundOf (b .audio)) (present (b .matrix) && not (isAllowed (b .matrix)))
 
 unfoldable pub combined : Bodies → Bool
-combined b = combinedIn (videoIn (b .video)) (soundOf (b .audio)) (eqb (length (b .matrix)) 0)
+combined b = combinedIn (wiringIn (b .wiring)) (videoIn (b .video)) (soundOf (b .audio)) (eqb (length (b .matrix)) 0)
 
 abbrev pub isEnds : Walk → Bool
 isEnds ends = true
@@ -101,7 +110,8 @@ limitOf video sound = lowest (limitsTests video sound)
 abbrev pub handTests : Request → List Test
 handTests r =
     let video : Video = r .video in
-    fieldTests video (outsideIn video (r .sound) (not (matrixInRange (r .matrix)))) (combinedIn video (r .sound) (eqb (r .matrix .on) 0))
+    fieldTests video (outsideIn (r .wiring) video (r .sound) (not (matrixInRange (r .matrix))))
+    (combinedIn (r .wiring) video (r .sound) (eqb (r .matrix .on) 0))
 
 unfoldable pub allowedOf : Request → ℕ
 allowedOf r = answer (lowest (handTests r)) (λ n. n) (limitOf (r .video) (r .sound))

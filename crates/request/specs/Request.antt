@@ -9,6 +9,9 @@ use lib.Dec.{eqb}
 use lib.ListN.{length}
 use Rattle.refusals.specs.Rows.{Condition, _when_}
 use Rattle.refusals.specs.Rows.{inputEnds, countNotAllowed, bytesAfter, modeNotOffered, fieldOutOfRange, combination, clockAbove, soundTooMuch, noExactPair}
+use Rattle.wiring.specs.declared.Wiring.{Wiring}
+use Rattle.wiring.specs.Kinds.{rgbIn}
+use Rattle.wiring.specs.Wiring.{wiringIn, wiresOf, WiringOutside}
 use Rattle.video.specs.declared.Video.{Video}
 use Rattle.video.specs.Video.{videoIn, VideoOutside, VideoCombined}
 use Rattle.video.specs.Modes.{offered}
@@ -32,19 +35,33 @@ present body = not (eqb (length body) 0)
 
 -- what the sections say, a line for each: the converter is off where the matrix section is empty
 abbrev pub requestIn : Bodies → Request
-requestIn b = record { video = videoIn (b .video); sound = soundOf (b .audio); matrix = cond (present (b .matrix)) (matrixOf (b .matrix)) noMatrix }
+requestIn b =
+    record {
+      wiring = wiringIn (b .wiring);
+      video = videoIn (b .video);
+      sound = soundOf (b .audio);
+      matrix = cond (present (b .matrix)) (matrixOf (b .matrix)) noMatrix;
+    }
 
 -- row 5, "any other field outside its range (matrix mode above 2)": of each section
 abbrev pub Outside : Bodies → Type 0
 Outside b =
-    VideoOutside (videoIn (b .video)) ⊎ SoundOutside (soundOf (b .audio)) ⊎ (Present (b .matrix) × (Allowed (b .matrix) → ⊥))
+    WiringOutside (wiringIn (b .wiring))
+    ⊎ VideoOutside (videoIn (b .video)) ⊎ SoundOutside (soundOf (b .audio)) ⊎ (Present (b .matrix) × (Allowed (b .matrix) → ⊥))
 
 -- row 6, "encoding not 0 without a matrix; DVI with audio or with encoding not 0": the last is the video section's,
--- and so is what concerns the range, the depth and the edition
+-- and so is what concerns the range, the depth and the edition. Of the first request 02 says: "IDs 0 and 5 count as RGB; YCbCr input needs a
+-- matrix only for RGB output". So one is needed where input and output are of different colour kinds
+abbrev pub rgbOut : Video → Bool
+rgbOut video = eqb (video .encoding) 0
+
+abbrev pub Converts : Wiring → Video → Type 0
+Converts wiring video = rgbIn (wiresOf wiring .input) ≢ rgbOut video
+
 abbrev pub Combined : Bodies → Type 0
 Combined b =
     let video : Video = videoIn (b .video) in
-    ((video .encoding ≢ 0) × (length (b .matrix) ≡ 0)) ⊎ ((video .link ≡ 0) × (soundOf (b .audio) ≢ Off)) ⊎ VideoCombined video
+    (Converts (wiringIn (b .wiring)) video × (length (b .matrix) ≡ 0)) ⊎ ((video .link ≡ 0) × (soundOf (b .audio) ≢ Off)) ⊎ VideoCombined video
 
 -- row 9, "coherent audio, and no exact pair exists": without audio it does not apply
 abbrev pub NoPair : Video → Sound → Type 0

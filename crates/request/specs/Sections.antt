@@ -1,4 +1,4 @@
--- Document 01, "The request": three sections in this order, each after a one-byte count; and "Refusal numbers": how they are walked. `Walks`
+-- Document 01, "The request": sections "in this order, each after a one-byte count"; document 02, request 02, puts one before them; and "Refusal numbers": how they are walked. `Walks`
 -- (Walks) says of each thing that a walk finds what then stands in the input.
 use mathlib.Core.Bool.{cond}
 use mathlib.Core.List.{List, [], _∷_}
@@ -6,6 +6,7 @@ use Prim.Native.Nat.{ℕ, suc, _+_, max}
 use lib.Dec.{leb}
 use lib.ListN.{getD, length, take, drop}
 use Rattle.lists.specs.Among.{among}
+use Rattle.wiring.specs.Kinds.{fourCount, twelveCount}
 use Rattle.video.specs.Video.{videoCount}
 use Rattle.sound.specs.Sound.{audioCount}
 
@@ -13,20 +14,22 @@ use Rattle.sound.specs.Sound.{audioCount}
 abbrev pub matrixCount : ℕ
 matrixCount = 25
 
--- the table: the counts that each section allows, "in this order"; the sections' bodies by name; and these in that order
+-- the table: the counts that each section allows, "in this order"; the sections' bodies by name; and these in that order. "A wiring section
+-- goes before the video section"
 abbrev pub sections : List (List ℕ)
-sections = (videoCount ∷ []) ∷ (0 ∷ audioCount ∷ []) ∷ (0 ∷ matrixCount ∷ []) ∷ []
+sections = (0 ∷ fourCount ∷ twelveCount ∷ []) ∷ (videoCount ∷ []) ∷ (0 ∷ audioCount ∷ []) ∷ (0 ∷ matrixCount ∷ []) ∷ []
 
 pub record Bodies : Type 0 where
+  pub wiring : List ℕ
   pub video : List ℕ
   pub audio : List ℕ
   pub matrix : List ℕ
 
 abbrev pub inTurn : Bodies → List (List ℕ)
-inTurn b = b .video ∷ b .audio ∷ b .matrix ∷ []
+inTurn b = b .wiring ∷ b .video ∷ b .audio ∷ b .matrix ∷ []
 
 abbrev pub byName : List (List ℕ) → Bodies
-byName bodies = record { video = getD bodies 0 []; audio = getD bodies 1 []; matrix = getD bodies 2 [] }
+byName bodies = record { wiring = getD bodies 0 []; video = getD bodies 1 []; audio = getD bodies 2 []; matrix = getD bodies 3 [] }
 
 -- what a walk finds: the input ends before a count or inside a section; a count that the section does not allow; or the bodies of the
 -- sections, and the bytes after the last

@@ -4,6 +4,7 @@ use mathlib.Core.Logic.{_≢_}
 use mathlib.Core.List.{List}
 use Prim.Native.Nat.{ℕ}
 use Rattle.refusals.specs.Rows.{Given}
+use Rattle.wiring.specs.declared.Wiring.the-variants.{Board}
 use Rattle.video.specs.Video.{noVideo}
 use Rattle.sound.specs.declared.Sound.the-variants.{Off}
 use Rattle.matrix.specs.Matrix.{noMatrix, Bytes}
@@ -20,4 +21,4 @@ pub record Rows (input : List ℕ) : Type 0 where
   pub said : askOf input .refusal ≡ 0 → askOf input .request ≡ requestOf (walked input)
   pub known : readOf input .request ≡ askOf input .request
   -- beside one of these stands an empty one
-  pub none : askOf input .refusal ≢ 0 → askOf input .request ≡ record { video = noVideo; sound = Off; matrix = noMatrix }
+  pub none : askOf input .refusal ≢ 0 → askOf input .request ≡ record { wiring = Board; video = noVideo; sound = Off; matrix = noMatrix }

@@ -1,4 +1,4 @@
--- What a walk finds, in the words of what stands in the input: over any sections, and of the three of a request (`request::in_sections`). No
+-- What a walk finds, in the words of what stands in the input: over any sections, and of those of a request (`request::in_sections`). No
 -- reader needs it who believes `walk` (Sections).
 use mathlib.Core.Path.{_≡_}
 use mathlib.Core.Logic.{_↔_, _⊎_}
@@ -7,6 +7,7 @@ use mathlib.Core.List.{List, [], _∷_, _++_}
 use Prim.Native.Nat.{ℕ, _≤_, _<_}
 use lib.ListN.{getD, length, take}
 use Rattle.lists.specs.Among.{among}
+use Rattle.wiring.specs.Theorems.{WiringCounted}
 use Rattle.video.specs.Video.{videoCount}
 use Rattle.sound.specs.Sound.{audioCount}
 use Rattle.request.specs.Sections.{matrixCount, Bodies, inTurn, byName, Walk, ends, notAllowed, whole, walk, walked}
@@ -51,6 +52,7 @@ pub record Walks (table : List (List ℕ)) (input : List ℕ) : Type 0 where
 
 -- the same of a request, section by section; a walk finds a body for each
 pub record Sectioned (input : List ℕ) (b : Bodies) (rest : List ℕ) : Type 0 where
+  pub wiringCounted : WiringCounted (b .wiring)
   pub videoCounted : length (b .video) ≡ videoCount
   pub audioCounted : (length (b .audio) ≡ 0) ⊎ (length (b .audio) ≡ audioCount)
   pub matrixCounted : (length (b .matrix) ≡ 0) ⊎ (length (b .matrix) ≡ matrixCount)

@@ -1,4 +1,4 @@
-// The request: document 01, "The request" and "Refusal numbers"; document 02, requests 01, 06, 10 and 11.
+// The request: document 01, "The request" and "Refusal numbers"; document 02, requests 01, 02, 06, 10 and 11.
 ghost use mathlib.Core.Path.{_≡_};
 ghost use Prim.Native.Nat.{ℕ, _<_};
 ghost use lib.ListN.{length, getD};
@@ -6,7 +6,10 @@ ghost use Rattle.refusals.specs.Tests.{lowest};
 ghost use Rattle.request.specs.Sections.{sections, Bodies, inTurn, walked, bodiesIn};
 ghost use Rattle.request.specs.Walks.{Walks, RequestWalks};
 ghost use Rattle.request.specs.Places.{EndsAt};
-ghost use Rattle.request.specs.Read.{outsideIn, combinedIn, fieldTests, emptied, judged, limitOf, allowedOf};
+ghost use Rattle.wiring.specs.Kinds.{rgbIn};
+ghost use Rattle.wiring.specs.Wiring.{wiresOf};
+ghost use Rattle.request.specs.Request.{rgbOut};
+ghost use Rattle.request.specs.Read.{outsideIn, convertsIn, combinedIn, fieldTests, emptied, judged, limitOf, allowedOf};
 ghost use Rattle.request.specs.Read.{Asks, readOf, Reads, Pairs, PairsInput};
 ghost use Rattle.request.specs.Theorems.{Rows};
 ghost use Rattle.request.specs.Lengths.{Lengths};
@@ -25,14 +28,17 @@ use sections::LAST;
 use sections::MATRIX;
 use sections::SECTIONS;
 use sections::VIDEO;
+use sections::WIRING;
 use sections::walk;
 use sound::Sound;
 use video::Video;
+use wiring::Wiring;
 
 pub mod sections;
 
-// What the three sections ask for.
+// What the sections ask for.
 pub struct Request {
+    pub wiring: Wiring,
     pub video: Video,
     pub sound: Sound,
     pub matrix: Matrix,
@@ -53,6 +59,7 @@ fn refused(number: u8) -> Checked
     Checked {
         refusal: number,
         request: Request {
+            wiring: Wiring::Board,
             video: video,
             sound: Sound::Off,
             matrix: matrix,
@@ -61,32 +68,41 @@ fn refused(number: u8) -> Checked
 }
 
 // Row 5 of a request in hand, where `spoiled` says that its matrix is outside its range.
-fn is_outside(video: Video, sound: Sound, spoiled: bool) -> bool
-    ensures { λ r. ⌜ r ≡ outsideIn video sound spoiled ⌝ }
+fn is_outside(wiring: Wiring, video: Video, sound: Sound, spoiled: bool) -> bool
+    ensures { λ r. ⌜ r ≡ outsideIn wiring video sound spoiled ⌝ }
 {
-    video::outside(video) | (sound::outside(sound) | spoiled)
+    wiring::outside(wiring) | (video::outside(video) | (sound::outside(sound) | spoiled))
+}
+
+// Whether input and output are of different colour kinds.
+fn converts(wiring: Wiring, video: Video) -> bool
+    ensures { λ r. ⌜ r ≡ convertsIn (rgbIn (wiresOf wiring .input)) (rgbOut video) ⌝ }
+{
+    let into = wiring::rgb_in(wiring);
+    let out = video.encoding == 0;
+    (into & !out) | (!into & out)
 }
 
 // Row 6, where `bare` says that it has no matrix.
-fn is_combined(video: Video, sound: Sound, bare: bool) -> bool
-    ensures { λ r. ⌜ r ≡ combinedIn video sound bare ⌝ }
+fn is_combined(wiring: Wiring, video: Video, sound: Sound, bare: bool) -> bool
+    ensures { λ r. ⌜ r ≡ combinedIn wiring video sound bare ⌝ }
 {
-    ((video.encoding != 0) & bare)
+    (converts(wiring, video) & bare)
         | (((video.link == 0) & sound::is_on(sound)) | video::combined(video))
 }
 
 // Rows 4 to 6 of a request in hand.
-fn fields(video: Video, sound: Sound, bare: bool, spoiled: bool) -> u8
-    ensures { λ r. ⌜ r ≡ lowest (fieldTests video (outsideIn video sound spoiled) (combinedIn video sound bare)) ⌝ }
+fn fields(wiring: Wiring, video: Video, sound: Sound, bare: bool, spoiled: bool) -> u8
+    ensures { λ r. ⌜ r ≡ lowest (fieldTests video (outsideIn wiring video sound spoiled) (combinedIn wiring video sound bare)) ⌝ }
 {
     let mode = video::mode_of(video.vic);
     if mode.families <= video.family {
         return Refusal::MODE_NOT_OFFERED;
     }
-    if is_outside(video, sound, spoiled) {
+    if is_outside(wiring, video, sound, spoiled) {
         return Refusal::FIELD_OUT_OF_RANGE;
     }
-    if is_combined(video, sound, bare) {
+    if is_combined(wiring, video, sound, bare) {
         return Refusal::COMBINATION;
     }
     Refusal::NONE
@@ -118,11 +134,12 @@ fn judge(s: &[u8], ends: [usize; SECTIONS]) -> Checked
     requires { ⌜ EndsAt (now s) ends ⌝ }
     ensures { λ r. ⌜ r ≡ judged (bodiesIn (walked (now (s .entry)))) ⌝ }
 {
+    let wiring = wiring::wiring_in(body(s, ends, WIRING));
     let video = video::video_in(body(s, ends, VIDEO));
     let sound = sound::sound_in(body(s, ends, AUDIO));
     let section = body(s, ends, MATRIX);
     let bare = section.len() == 0;
-    let number = fields(video, sound, bare, !bare & !matrix::fits(section));
+    let number = fields(wiring, video, sound, bare, !bare & !matrix::fits(section));
     if number != Refusal::NONE {
         return refused(number);
     }
@@ -130,6 +147,7 @@ fn judge(s: &[u8], ends: [usize; SECTIONS]) -> Checked
     Checked {
         refusal: Refusal::NONE,
         request: Request {
+            wiring: wiring,
             video: video,
             sound: sound,
             matrix: matrix,
@@ -169,9 +187,10 @@ pub fn limits(video: Video, sound: Sound) -> u8
 pub fn allowed(r: Request) -> u8
     ensures { λ n. ⌜ n ≡ allowedOf r ⌝ }
 {
+    let wiring = r.wiring;
     let sound = r.sound;
     let matrix = r.matrix;
-    let number = fields(r.video, sound, matrix.on == 0, !matrix::in_range(matrix));
+    let number = fields(wiring, r.video, sound, matrix.on == 0, !matrix::in_range(matrix));
     if number != Refusal::NONE {
         return number;
     }
@@ -226,7 +245,7 @@ pub fn ncts(s: &[u8]) -> Pair
     pair_for(request)
 }
 
-// The sections as they stand in an input: over any sections, and the three of a request.
+// The sections as they stand in an input: over any sections, and those of a request.
 pub fn in_sections()
     ensures { λ _. ⌜ ((table : List (List ℕ)) (input : List ℕ) → Walks table input) ⌝ }
     ensures { λ _. ⌜ ((input : List ℕ) → RequestWalks input) ⌝ }

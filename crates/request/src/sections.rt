@@ -8,23 +8,28 @@ ghost use Rattle.request.specs.Places.{placesOf};
 use refusals::Refusal;
 use sound::AUDIO_COUNT;
 use video::VIDEO_COUNT;
+use wiring::FOUR_COUNT;
+use wiring::TWELVE_COUNT;
 
 // How many sections there are, and the place of each in the order.
-pub const SECTIONS: usize = 3;
+pub const SECTIONS: usize = 4;
 
-pub const VIDEO: usize = 0;
+pub const WIRING: usize = 0;
 
-pub const AUDIO: usize = 1;
+pub const VIDEO: usize = 1;
 
-pub const MATRIX: usize = 2;
+pub const AUDIO: usize = 2;
+
+pub const MATRIX: usize = 3;
 
 pub const LAST: usize = SECTIONS - 1;
 
-// The count of the matrix section where it is not empty; the others' are `video::VIDEO_COUNT` and `sound::AUDIO_COUNT`.
+// The count of the matrix section where it is not empty; the others' are their own crates'.
 pub const MATRIX_COUNT: u8 = 25;
 
 // "the longest request": of each section its count, and a body of its largest count.
 pub const LONGEST: usize = SECTIONS
+    + TWELVE_COUNT as usize
     + VIDEO_COUNT as usize
     + AUDIO_COUNT as usize
     + MATRIX_COUNT as usize;
@@ -40,6 +45,9 @@ pub struct Places {
 pub fn allows(k: usize, count: u8) -> bool
     ensures { λ r. ⌜ r ≡ among count (getD sections k []) ⌝ }
 {
+    if k == WIRING {
+        return (count == 0) | ((count == FOUR_COUNT) | (count == TWELVE_COUNT));
+    }
     if k == VIDEO {
         return count == VIDEO_COUNT;
     }

@@ -6,7 +6,7 @@ use Prim.Native.Nat.{ℕ, _<_, _≤_}
 use native.Mathlib.Omega.{arith}
 use lib.Dec.{eqb, ltb}
 use borrow.Author.Tests.{eqb-true, eqb-false, ltb-true, ltb-false}
-use Rattle.lists.proofs.Decides.{Decides, equal, less, opposite, either, together}
+use Rattle.lists.proofs.Decides.{Decides, equal, less, opposite, either, together, at-most}
 use Rattle.sound.specs.declared.Sound.{Sound}
 use Rattle.sound.specs.declared.Sound.the-variants.{Off, On}
 use Rattle.sound.specs.Sound.{SoundOutside}
@@ -23,14 +23,7 @@ is-outside Off = record { passes = λ t. absurd (false≢true t); fails = λ f h
 is-outside (On rate channels coherent) =
     either (less 6 rate) (either (together (opposite (equal channels 2)) (opposite (equal channels 8))) (less 1 coherent))
 
--- not above is at most; not neither of two is one of them
-at-most : (m n : ℕ) → (m < n → ⊥) → n ≤ m
-at-most m n h = go (ltb m n) refl
-  where
-    go : (b : Bool) → ltb m n ≡ b → n ≤ m
-    go true e = absurd (h (ltb-true m n e))
-    go false e = ltb-false m n e
-
+-- not neither of two is one of them
 one-of : (k m n : ℕ) → ((k ≢ m) × (k ≢ n) → ⊥) → (k ≡ m) ⊎ (k ≡ n)
 one-of k m n h = go (eqb k m) refl (eqb k n) refl
   where

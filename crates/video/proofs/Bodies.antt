@@ -1,26 +1,14 @@
 -- A body and what it asks for say the same. Assumes nothing.
-use mathlib.Core.Path.{_≡_, refl, sym, ap, _∙_}
-use mathlib.Core.List.{List, [], _∷_}
-use Prim.Native.Nat.{ℕ, zero, suc}
-use lib.ListN.{length, getD}
+use mathlib.Core.Path.{_≡_, refl}
+use mathlib.Core.List.{List}
+use Prim.Native.Nat.{ℕ}
+use lib.ListN.{length}
+use Rattle.lists.proofs.Place.{by-place}
 use Rattle.video.specs.Video.{videoCount, videoIn, videoBody}
 use Rattle.video.specs.Body.{Body}
 
--- so many bytes from the i-th on, each by its place
-abbrev byPlace : ℕ → ℕ → List ℕ → List ℕ
-byPlace i zero body = []
-byPlace i (suc count) body = getD body i 0 ∷ byPlace (suc i) count body
-
-later : (i count b : ℕ) (body : List ℕ) → byPlace (suc i) count (b ∷ body) ≡ byPlace i count body
-later i zero b body = refl
-later i (suc count) b body = ap (λ (l : List ℕ). getD body i 0 ∷ l) (later (suc i) count b body)
-
-all : (body : List ℕ) → byPlace 0 (length body) body ≡ body
-all [] = refl
-all (b ∷ body) = ap (λ (l : List ℕ). b ∷ l) (later 0 (length body) b body ∙ all body)
-
-whole : (body : List ℕ) → length body ≡ videoCount → byPlace 0 videoCount body ≡ body
-whole body h = ap (λ (count : ℕ). byPlace 0 count body) (sym h) ∙ all body
+whole : (body : List ℕ) → length body ≡ videoCount → videoBody (videoIn body) ≡ body
+whole = by-place videoCount
 
 pub bodies : Body
 bodies = record { counted = λ v. refl; back = λ v. refl; whole = whole }

@@ -9,7 +9,7 @@ use lib.Dec.{eqb, ltb, leb}
 use borrow.Author.Tests.{eqb-true, eqb-false, ltb-true, ltb-false, leb-true}
 use Rattle.lists.specs.Find.{every}
 use Rattle.lists.proofs.Both.{both-left, both-right}
-use Rattle.lists.proofs.Decides.{Decides, equal, less, opposite, either, together, refuted}
+use Rattle.lists.proofs.Decides.{Decides, equal, less, opposite, either, together, refuted, at-most}
 use Rattle.video.specs.declared.Mode.{Mode}
 use Rattle.video.specs.declared.Video.{Video}
 use Rattle.video.specs.Modes.{modes, rowOf, modeOf, offered}
@@ -76,14 +76,6 @@ row-small vic family (m ∷ ms) t h =
         let q : m .vic ≡ vic = eqb-true _ _ e in
         (omega arith, omega arith)
     go false e s l ih = ih l
-
--- not above is at most
-pub at-most : (m n : ℕ) → (m < n → ⊥) → n ≤ m
-at-most m n h = go (ltb m n) refl
-  where
-    go : (b : Bool) → ltb m n ≡ b → n ≤ m
-    go true e = absurd (h (ltb-true m n e))
-    go false e = ltb-false m n e
 
 module _ (v : Video) (f : VideoFits v) where
   in-table : (v .vic < 64) × (v .family < 2)

@@ -2,7 +2,8 @@
 use mathlib.Core.Logic.{inl}
 use Prim.Native.Nat.{_≤_}
 use native.Mathlib.Omega.{arith}
-use Rattle.video.proofs.Fits.{at-most, is-shown-outside}
+use Rattle.lists.proofs.Decides.{at-most}
+use Rattle.video.proofs.Fits.{is-shown-outside}
 use Rattle.frames.specs.Frames.{aviHeader, aviPayload, aviFrame}
 use Rattle.frames.proofs.Total.{kept}
 use Rattle.frames.proofs.Small.{Small, mode-small, colour-small, quantisation-small, repeats-small}

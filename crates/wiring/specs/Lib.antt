@@ -1,0 +1,5 @@
+pub mod Kinds
+pub mod Wiring
+pub mod Tests
+pub mod Named
+pub mod Theorems
