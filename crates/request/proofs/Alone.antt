@@ -4,6 +4,9 @@ use mathlib.Core.Logic.{inr}
 use mathlib.Core.Bool.{Bool, true, false, cond, not, _&&_, _||_}
 use lib.Dec.{eqb}
 use Rattle.lists.proofs.Decides.{refuted, confirmed}
+use Rattle.wiring.specs.Kinds.{rgbIn}
+use Rattle.wiring.specs.Wiring.{wiresOf}
+use Rattle.wiring.specs.Tests.{wiringOutside}
 use Rattle.video.specs.declared.Video.{Video}
 use Rattle.video.specs.Tests.{editionOutside, shownOutside, videoOutside, askedUnderD, shownCombined, videoCombined}
 use Rattle.video.specs.Fits.{VideoFits}
@@ -11,7 +14,8 @@ use Rattle.video.proofs.Fits as video
 use Rattle.clock.specs.Clocks.{tmds}
 use Rattle.sound.specs.Tests.{isOn}
 use Rattle.request.specs.declared.Request.{Request}
-use Rattle.request.specs.Read.{readOf, allowedOf}
+use Rattle.request.specs.Read.{convertsIn, readOf, allowedOf}
+use Rattle.request.specs.Request.{rgbOut}
 use Rattle.request.specs.Bytes.{asBytes}
 use Rattle.request.specs.ThereAndBack.{Shaped, requestInEdition}
 use Rattle.request.specs.Hand.{Says}
@@ -36,12 +40,18 @@ module _ (r : Request) where
 
   -- where one of them does not, it applies
   five : editionOutside v ≡ true → out r ≡ true
-  five e = rw (confirmed (video.is-outside v) (inr (inr (inr (inr (inr (video.is-edition-outside v .passes e)))))))
+  five e =
+      let o : videoOutside v ≡ true = confirmed (video.is-outside v) (inr (inr (inr (inr (inr (video.is-edition-outside v .passes e)))))) in
+      rw o (second (wiringOutside (r .wiring)))
+    where
+      second : (b : Bool) → (b || true) ≡ true
+      second true = refl
+      second false = refl
 
   six : askedUnderD v ≡ true → together r ≡ true
   six e =
       let o : videoCombined v ≡ true = confirmed (video.is-combined v) (inr (inr (inr (video.is-under-d v .passes e)))) in
-      rw o (last (not (eqb (v .encoding) 0) && eqb (r .matrix .on) 0) (eqb (v .link) 0 && isOn (r .sound)))
+      rw o (last (convertsIn (rgbIn (wiresOf (r .wiring) .input)) (rgbOut v) && eqb (r .matrix .on) 0) (eqb (v .link) 0 && isOn (r .sound)))
     where
       last : (b c : Bool) → (b || (c || true)) ≡ true
       last true c = refl

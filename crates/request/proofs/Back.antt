@@ -9,18 +9,18 @@ use lib.Dec.{eqb, leb, ltb, lit<}
 use lib.ListN.{length, drop, length-drop}
 use lib.Seq.{getD-append-add, getD-drop, drop-cons}
 use borrow.Author.Tests.{eqb-true, leb-true, ltb-true, lt-ltb, le-ltb, not-false}
-use Rattle.lists.proofs.Both.{both-left, both-right, neither-right}
+use Rattle.lists.proofs.Both.{both-left, both-right}
 use Rattle.matrix.specs.Coefficient.{word, lowThirteen, highByte, coefficientBytes}
 use Rattle.matrix.specs.Tests.{within}
 use Rattle.matrix.specs.Matrix.{fields, matrixOf, noMatrix, Bytes}
 use Rattle.matrix.specs.Tests.{inRange, isAllowed}
 use Rattle.matrix.proofs.Pairs.{ranged}
 use Rattle.refusals.specs.Tests.{answer}
+use Rattle.wiring.specs.Wiring.{wiringIn, wiringBody}
+use Rattle.wiring.proofs.Bodies as wiring
 use Rattle.video.specs.Video.{videoIn, videoBody, answered}
-use Rattle.video.specs.Tests.{videoOutside}
 use Rattle.video.proofs.Bodies as video
-use Rattle.sound.specs.Sound.{soundOf}
-use Rattle.sound.specs.Tests.{soundOutside}
+use Rattle.sound.specs.Sound.{soundOf, audioBody}
 use Rattle.sound.proofs.Bodies as sound
 use Rattle.request.specs.declared.Request.{Request}
 use Rattle.request.specs.declared.Checked.{Checked}
@@ -30,6 +30,7 @@ use Rattle.request.specs.Walks.{Sectioned}
 use Rattle.request.specs.Request.{present, requestIn}
 use Rattle.request.specs.Read.{outside, emptied, judged, checked, readOf}
 use Rattle.request.specs.ThereAndBack.{Shaped, ThereAndBack}
+use Rattle.request.proofs.Inside.{bodies-inside}
 use Rattle.request.proofs.Opened.{sectioned, request-walks}
 use Rattle.request.proofs.Ordered.{both, passed}
 use Rattle.request.proofs.Said.{new-video, said}
@@ -97,16 +98,19 @@ nothing-after rest c = go (eqb (length rest) 0) refl
 
 module _ (input : List ℕ) (bytes : Bytes input) where
   bodies : (b : Bodies) (rest : List ℕ) → Sectioned input b rest → rest ≡ [] → outside b ≡ false → asBytes (requestIn b) ≡ input
-  unfolding asBytes outside
+  unfolding asBytes
   bodies b rest s n o =
+      let w : List ℕ = b .wiring in
       let v : List ℕ = b .video in
       let a : List ℕ = b .audio in
       let m : List ℕ = b .matrix in
-      let x : (present m && not (isAllowed m)) ≡ false = neither-right (soundOutside (soundOf a)) _ (neither-right (videoOutside (videoIn v)) _ o) in
-      let end : Bytes m = front (length m) m rest (past (length a) a _ (past (length v) v _ (subst Bytes (s .made) bytes))) in
-      let made : matrixBody (cond (present m) (matrixOf m) noMatrix) ≡ m = matrix-back m end (s .matrixCounted) x in
-      ap₂ (λ (x y : List ℕ). laid (x ∷ y ∷ matrixBody (cond (present m) (matrixOf m) noMatrix) ∷ []) []) (video.bodies .whole v (s .videoCounted)) (sound.bodies .whole a (s .audioCounted))
-      ∙ ap₂ (λ (z r : List ℕ). laid (v ∷ a ∷ z ∷ []) r) made (sym n) ∙ sym (s .made)
+      let all : Bytes (laid (inTurn b) rest) = subst Bytes (s .made) bytes in
+      let end : Bytes m = front (length m) m rest (past (length a) a _ (past (length v) v _ (past (length w) w _ all))) in
+      let its-wiring : wiringBody (wiringIn w) ≡ w = wiring.bodies .whole w (front (length w) w _ all) (s .wiringCounted) in
+      let its-matrix : matrixBody (cond (present m) (matrixOf m) noMatrix) ≡ m = matrix-back m end (s .matrixCounted) (bodies-inside b o .matrix) in
+      ap₂ (λ (x y : List ℕ). laid (x ∷ y ∷ audioBody (soundOf a) ∷ matrixBody (cond (present m) (matrixOf m) noMatrix) ∷ []) []) its-wiring (video.bodies .whole v (s .videoCounted))
+      ∙ ap₂ (λ (x y : List ℕ). laid (w ∷ v ∷ x ∷ y ∷ []) []) (sound.bodies .whole a (s .audioCounted)) its-matrix
+      ∙ ap (λ (r : List ℕ). laid (w ∷ v ∷ a ∷ m ∷ []) r) (sym n) ∙ sym (s .made)
 
   found : (w : Walk) → walked input ≡ w → checked w .refusal ≡ 0 → outside (bodiesIn w) ≡ false → asBytes (requestIn (bodiesIn w)) ≡ input
   found ends e z o = absurd (omega arith)

@@ -12,6 +12,7 @@ use Rattle.refusals.specs.Rows.{noExactPair, _when_, Given}
 use Rattle.refusals.specs.Tests.{_if_, lowest}
 use Rattle.refusals.proofs.Tests.{lowest-given, answer-beside, in-stages, later}
 use Rattle.clock.specs.declared.Pair.{Pair}
+use Rattle.wiring.specs.declared.Wiring.the-variants.{Board}
 use Rattle.video.specs.declared.Video.{Video}
 use Rattle.video.specs.Video.{noVideo, videoIn, PixelOutside, VideoOutside}
 use Rattle.video.proofs.Fits.{outside-too}
@@ -39,7 +40,7 @@ in-range v rate channels coherent o p (inr (inr h)) = p (inr (inr h))
 -- the pair's stage, past rows 4 to 6, 17 and 20: row 9 of the call on single fields
 pub nine : (b : Bodies) (c : Checked) → Bytes (b .matrix) → Judged b c → Given (pairRows (requestIn b)) (pairFor (requestIn b) .refusal)
 unfolding pairFor
-nine b c bytes j = go (soundOf (b .audio)) (λ o. inside (inr (inl o)))
+nine b c bytes j = go (soundOf (b .audio)) (λ o. inside (inr (inr (inl o))))
   where
     inside : Outside b → ⊥
     inside = is-outside b bytes .fails (j .inside)
@@ -48,7 +49,7 @@ nine b c bytes j = go (soundOf (b .audio)) (λ o. inside (inr (inl o)))
     go (On rate channels coherent) o =
         let v : Video = videoIn (b .video) in
         let past4 = later _ _ _ (refusals .pair v rate coherent) refl (λ f. false≢true (sym f ∙ j .mode)) in
-        let past5 = later _ _ _ past4 refl (in-range v rate channels coherent (λ h. inside (inl h)) o) in
+        let past5 = later _ _ _ past4 refl (in-range v rate channels coherent (λ h. inside (inr (inl h))) o) in
         later _ _ _ past5 refl (is-above v .fails (j .within))
     go Off o =
         lowest-given (noExactPair if false ∷ []) (noExactPair when ⊥ ∷ []) refl
@@ -103,14 +104,14 @@ parts (c ∷ cs) (n ∷ s) b k = go (among n c) (leb n (length s)) (joined (take
 matrix-bytes : (w : Walk) → ((k : ℕ) → Bytes (bodyOf k w)) → Bytes (bodiesIn w .matrix)
 matrix-bytes ends f = none-there
 matrix-bytes notAllowed f = none-there
-matrix-bytes (whole bodies rest) f = f 2
+matrix-bytes (whole bodies rest) f = f 3
 
 pub matrix-there : (input : List ℕ) → Bytes input → Bytes (bodiesIn (walked input) .matrix)
 unfolding walked
 matrix-there input b = matrix-bytes (walk sections input) (parts sections input b)
 
 -- beside a refusal, of the walk or of the bodies
-beside : (w : Walk) → checked w .refusal ≢ 0 → checked w .request ≡ record { video = noVideo; sound = Off; matrix = noMatrix }
+beside : (w : Walk) → checked w .refusal ≢ 0 → checked w .request ≡ record { wiring = Board; video = noVideo; sound = Off; matrix = noMatrix }
 unfolding judged
 beside w = go (eqb (lowest (bytesTests w)) 0)
   where
@@ -118,7 +119,7 @@ beside w = go (eqb (lowest (bytesTests w)) 0)
     bodies = judged (bodiesIn w)
 
     go : (b : Bool) → cond b bodies (emptied (lowest (bytesTests w))) .refusal ≢ 0
-        → cond b bodies (emptied (lowest (bytesTests w))) .request ≡ record { video = noVideo; sound = Off; matrix = noMatrix }
+        → cond b bodies (emptied (lowest (bytesTests w))) .request ≡ record { wiring = Board; video = noVideo; sound = Off; matrix = noMatrix }
     go true h = ap (λ (c : Checked). c .request) (answer-beside emptied _ (λ (c : Checked). c .refusal) (lowest (fieldsTests (bodiesIn w))) (λ _. refl) h)
     go false h = refl
 

@@ -1,20 +1,23 @@
 -- What is known of an accepted request, by the tests that it passed. Assumes nothing.
 use mathlib.Core.Path.{_≡_, refl, sym, subst}
 use mathlib.Core.Logic.{inl, inr}
-use mathlib.Core.Bool.{Bool, true, false, false≢true, cond, not, _&&_, _||_}
+use mathlib.Core.Bool.{Bool, true, false, false≢true, cond, not, _&&_}
 use mathlib.Core.List.{List}
 use Prim.Native.Nat.{ℕ, _<_, _≤_}
 use native.Mathlib.Omega.{arith}
 use lib.Dec.{eqb, lit≤}
 use lib.ListN.{length, getD, drop, length-drop}
-use Rattle.lists.proofs.Both.{neither-left, neither-right}
+use Rattle.lists.proofs.Both.{neither-right}
+use Rattle.wiring.specs.declared.Wiring.{Wiring}
+use Rattle.wiring.specs.Kinds.{rgbIn}
+use Rattle.wiring.specs.Wiring.{wiringIn, wiresOf}
+use Rattle.wiring.proofs.Fits as wiring
 use Rattle.video.specs.declared.Video.{Video}
 use Rattle.video.specs.Video.{videoIn}
-use Rattle.video.specs.Tests.{videoOutside}
 use Rattle.video.proofs.Fits.{is-outside, is-combined, is-pixel-outside, pixel-inside}
 use Rattle.sound.specs.declared.Sound.{Sound}
 use Rattle.sound.specs.Sound.{soundOf}
-use Rattle.sound.specs.Tests.{isOn, soundOutside}
+use Rattle.sound.specs.Tests.{isOn}
 use Rattle.sound.specs.Fits.{SoundFits}
 use Rattle.sound.proofs.Fits as sound
 use Rattle.blanking.proofs.Rule.{is-too-much}
@@ -25,10 +28,11 @@ use Rattle.matrix.specs.Tests.{isAllowed}
 use Rattle.matrix.proofs.Pairs.{sized, mode-small, fields-small, none-small, length-fields}
 use Rattle.request.specs.declared.Checked.{Checked}
 use Rattle.request.specs.Sections.{Bodies, walked, bodiesIn}
-use Rattle.request.specs.Request.{present, requestIn}
-use Rattle.request.specs.Read.{outside, combined, readOf}
+use Rattle.request.specs.Request.{present, rgbOut, requestIn}
+use Rattle.request.specs.Read.{convertsIn, combined, readOf}
 use Rattle.request.specs.ThereAndBack.{Filled, Shaped}
 use Rattle.request.specs.Fits.{Fits}
+use Rattle.request.proofs.Inside.{bodies-inside}
 use Rattle.request.proofs.Ordered.{Judged, passed}
 
 filled : (body : List ℕ) → isAllowed body ≡ true → Filled (matrixOf body)
@@ -48,25 +52,26 @@ matrix-fits m true true e f = (inr (filled m e), mode-small m e)
 matrix-fits m true false e f = absurd (false≢true (sym f))
 
 in-range : (b : Bodies) (c : Checked) → Judged b c → Fits (requestIn b)
-unfolding outside combined
+unfolding combined
 in-range b c j =
+    let w : Wiring = wiringIn (b .wiring) in
     let v : Video = videoIn (b .video) in
     let s : Sound = soundOf (b .audio) in
     let m : List ℕ = b .matrix in
-    let later : Bool = present m && not (isAllowed m) in
-    let x = neither-left (videoOutside v) _ (j .inside) in
-    let y : (soundOutside s || later) ≡ false = neither-right (videoOutside v) _ (j .inside) in
-    let its-sound : SoundFits s = sound.in-range s .1 (sound.is-outside s .fails (neither-left (soundOutside s) later y)) in
-    let f = matrix-fits m (present m) (isAllowed m) refl (neither-right (soundOutside s) _ y) in
+    let i = bodies-inside b (j .inside) in
+    let its-sound : SoundFits s = sound.in-range s .1 (sound.is-outside s .fails (i .sound)) in
+    let f = matrix-fits m (present m) (isAllowed m) refl (i .matrix) in
+    let past-matrix = neither-right (convertsIn (rgbIn (wiresOf w .input)) (rgbOut v) && eqb (length m) 0) _ (j .apart) in
     record {
+      wiring = wiring.is-outside w .fails (i .wiring);
       video = record {
         offered = j .mode;
-        inside = is-outside v .fails x;
-        apart = is-combined v .fails (neither-right (eqb (v .link) 0 && isOn s) _ (neither-right (not (eqb (v .encoding) 0) && eqb (length m) 0) _ (j .apart)));
+        inside = is-outside v .fails (i .video);
+        apart = is-combined v .fails (neither-right (eqb (v .link) 0 && isOn s) _ past-matrix);
       };
-      clock = rw (number-is v, j .mode, pixel-inside v x, j .within);
+      clock = rw (number-is v, j .mode, pixel-inside v (i .video), j .within);
       sound = its-sound;
-      room = is-too-much v s (j .mode) (is-pixel-outside v .fails (pixel-inside v x)) its-sound .fails (j .room);
+      room = is-too-much v s (j .mode) (is-pixel-outside v .fails (pixel-inside v (i .video))) its-sound .fails (j .room);
       matrix = f .0;
       mode = f .1;
     }

@@ -11,18 +11,16 @@ use lib.Dec.{eqb, leb}
 use lib.ListN.{length, getD}
 use borrow.Author.Tests.{ne-eqb, not-false}
 use Rattle.refusals.specs.Tests.{lowest, answer}
-use Rattle.lists.proofs.Both.{neither-left, neither-right}
 use Rattle.refusals.proofs.Tests.{none-at, none-in-stages}
 use Rattle.video.specs.Video.{videoIn}
 use Rattle.video.specs.Modes.{offered}
-use Rattle.video.specs.Tests.{videoOutside}
 use Rattle.video.proofs.Fits.{pixel-inside}
 use Rattle.clock.specs.Clocks.{tmds}
 use Rattle.clock.specs.Answers.{aboveLimit, clockOf}
 use Rattle.blanking.specs.Found.{tooMuch}
 use Rattle.sound.specs.Sound.{soundOf}
-use Rattle.sound.specs.Tests.{soundOutside}
 use Rattle.sound.proofs.Bodies as sound
+use Rattle.wiring.proofs.Bodies as wiring
 use Rattle.matrix.specs.declared.Matrix.{Matrix}
 use Rattle.matrix.specs.Matrix.{noMatrix}
 use Rattle.matrix.specs.Coefficient.{coefficientBytes}
@@ -40,6 +38,7 @@ use Rattle.request.specs.Bytes.{matrixBody, bodiesOf, asBytes}
 use Rattle.request.specs.ThereAndBack.{Shaped}
 use Rattle.request.specs.Fits.{Fits}
 use Rattle.request.specs.Hand.{Says, InHand}
+use Rattle.request.proofs.Inside.{Inside, each-inside}
 use Rattle.request.proofs.Said.{read-judged, said}
 use Rattle.request.proofs.Fits.{fits}
 use Rattle.request.proofs.Ordered.{limit-is}
@@ -88,19 +87,19 @@ its-number b = go (lowest (fieldsTests b))
 
 module _ (r : Request) where
   abbrev pub out : Bool
-  out = outsideIn (r .video) (r .sound) (not (matrixInRange (r .matrix)))
+  out = outsideIn (r .wiring) (r .video) (r .sound) (not (matrixInRange (r .matrix)))
 
   abbrev pub together : Bool
-  together = combinedIn (r .video) (r .sound) (eqb (r .matrix .on) 0)
+  together = combinedIn (r .wiring) (r .video) (r .sound) (eqb (r .matrix .on) 0)
 
   -- the rows of the bodies are those of the record
   same-outside : Shaped (r .matrix) → outside (bodiesOf r) ≡ out
   unfolding outside
-  same-outside s = rw (sound.bodies .back (r .sound), spoiled (r .matrix) s)
+  same-outside s = rw (wiring.bodies .back (r .wiring), sound.bodies .back (r .sound), spoiled (r .matrix) s)
 
   same-combined : Shaped (r .matrix) → combined (bodiesOf r) ≡ together
   unfolding combined
-  same-combined s = rw (sound.bodies .back (r .sound), bare (r .matrix) s)
+  same-combined s = rw (wiring.bodies .back (r .wiring), sound.bodies .back (r .sound), bare (r .matrix) s)
 
   judged-in-hand : Shaped (r .matrix) → limited (judged (bodiesOf r)) .refusal ≡ allowedOf r
   unfolding allowedOf
@@ -117,8 +116,11 @@ module _ (r : Request) where
     pub within : aboveLimit (tmds (r .video)) ≡ false
     pub room : tooMuch (r .video) (r .sound) ≡ false
 
+  inside-each : out ≡ false → Inside (r .wiring) (r .video) (r .sound) (not (matrixInRange (r .matrix)))
+  inside-each = each-inside (r .wiring) (r .video) (r .sound) (not (matrixInRange (r .matrix)))
+
   limited-by : offered (r .video) ≡ true → out ≡ false → eqb (clockOf (r .video) .refusal) 17 ≡ aboveLimit (tmds (r .video))
-  limited-by o i = limit-is (r .video) o (pixel-inside (r .video) (neither-left (videoOutside (r .video)) _ i))
+  limited-by o i = limit-is (r .video) o (pixel-inside (r .video) (inside-each i .video))
 
   pub passed : allowedOf r ≡ 0 → Passed
   unfolding allowedOf
@@ -141,7 +143,7 @@ module _ (r : Request) where
   module _ (twelve : length (r .matrix .coefficients) ≡ 12) (z : allowedOf r ≡ 0) where
     its-shape : Shaped (r .matrix)
     its-shape = shaped (r .matrix) twelve
-        (not-false _ (neither-right (soundOutside (r .sound)) _ (neither-right (videoOutside (r .video)) _ (passed z .inside))))
+        (not-false _ (inside-each (passed z .inside) .matrix))
 
     says : Says r
     says = said r its-shape (number its-shape ∙ z)

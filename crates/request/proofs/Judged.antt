@@ -6,15 +6,14 @@ use Prim.Native.Nat.{ℕ}
 use lib.Dec.{eqb}
 use lib.ListN.{length}
 use borrow.Author.Tests.{ne-eqb, eqb-true}
-use Rattle.lists.proofs.Both.{neither-right}
 use Rattle.refusals.specs.Tests.{lowest}
 use Rattle.refusals.proofs.Tests.{none-at}
+use Rattle.wiring.specs.declared.Wiring.{Wiring}
+use Rattle.wiring.specs.Wiring.{wiringIn}
 use Rattle.video.specs.declared.Video.{Video}
 use Rattle.video.specs.Video.{videoIn}
-use Rattle.video.specs.Tests.{videoOutside}
 use Rattle.sound.specs.declared.Sound.{Sound}
 use Rattle.sound.specs.Sound.{soundOf}
-use Rattle.sound.specs.Tests.{soundOutside}
 use Rattle.matrix.specs.declared.Matrix.{Matrix}
 use Rattle.matrix.specs.Matrix.{matrixOf, noMatrix}
 use Rattle.matrix.specs.Tests.{isAllowed}
@@ -22,6 +21,7 @@ use Rattle.matrix.specs.Read.{allowedMatrix}
 use Rattle.request.specs.Sections.{Bodies}
 use Rattle.request.specs.Request.{present}
 use Rattle.request.specs.Read.{emptied, outsideIn, combinedIn, outside, combined, fieldTests, fieldsTests, judged}
+use Rattle.request.proofs.Inside.{bodies-inside}
 
 -- a body that is empty is not allowed
 absent : (m : List ℕ) → present m ≡ false → isAllowed m ≡ false
@@ -42,24 +42,22 @@ as-present m e = go (present m) refl (isAllowed m) refl e
     go false x q y f = rw (sym y ∙ absent m x)
 
 matrix-read : (b : Bodies) → outside b ≡ false → allowedMatrix (b .matrix) ≡ cond (present (b .matrix)) (matrixOf (b .matrix)) noMatrix
-unfolding outside
-matrix-read b e =
-    as-present (b .matrix) (neither-right (soundOutside (soundOf (b .audio))) _ (neither-right (videoOutside (videoIn (b .video))) _ e))
+matrix-read b e = as-present (b .matrix) (bodies-inside b e .matrix)
 
 -- what is judged, by what the code finds of each body
-module _ (b : Bodies) (v : Video) (s : Sound) (l : List ℕ) (t : Bool) (n : ℕ)
-    (e : v ≡ videoIn (b .video)) (f : s ≡ soundOf (b .audio)) (g : l ≡ b .matrix) (h : t ≡ isAllowed l)
-    (number : n ≡ lowest (fieldTests v (outsideIn v s (not (eqb (length l) 0) && not t)) (combinedIn v s (eqb (length l) 0)))) where
+module _ (b : Bodies) (w : Wiring) (v : Video) (s : Sound) (l : List ℕ) (t : Bool) (n : ℕ)
+    (d : w ≡ wiringIn (b .wiring)) (e : v ≡ videoIn (b .video)) (f : s ≡ soundOf (b .audio)) (g : l ≡ b .matrix) (h : t ≡ isAllowed l)
+    (number : n ≡ lowest (fieldTests v (outsideIn w v s (not (eqb (length l) 0) && not t)) (combinedIn w v s (eqb (length l) 0)))) where
   its-number : n ≡ lowest (fieldsTests b)
   unfolding outside combined
-  its-number = number ∙ rw (h, e, f, g)
+  its-number = number ∙ rw (h, d, e, f, g)
 
   pub refused : (n ≡ 0 → ⊥) → emptied n ≡ judged b
   unfolding judged
   refused x = rw (← its-number, ne-eqb n 0 x)
 
-  pub taken : (m : Matrix) → n ≡ 0 → m ≡ allowedMatrix l → record { refusal = 0; request = record { video = v; sound = s; matrix = m } } ≡ judged b
+  pub taken : (m : Matrix) → n ≡ 0 → m ≡ allowedMatrix l → record { refusal = 0; request = record { wiring = w; video = v; sound = s; matrix = m } } ≡ judged b
   unfolding judged
   taken m x k =
       let z : lowest (fieldsTests b) ≡ 0 = sym its-number ∙ x in
-      rw (z, e, f, k, g, matrix-read b (none-at (fieldsTests b) 1 z))
+      rw (z, d, e, f, k, g, matrix-read b (none-at (fieldsTests b) 1 z))

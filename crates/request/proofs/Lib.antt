@@ -4,6 +4,7 @@ pub mod Turns
 pub mod Kth
 pub mod Opened
 pub mod Judged
+pub mod Inside
 pub mod Ordered
 pub mod Coherent
 pub mod Cut

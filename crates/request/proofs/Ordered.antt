@@ -3,6 +3,7 @@
 --     asks-given, read-given        the calls
 --     Asked, Judged                 what is known where rows 4 to 6, and the limits too, let a request pass
 use mathlib.Core.Path.{_≡_, refl, sym, ap, subst, _∙_}
+use mathlib.Core.Logic.{_≢_}
 use mathlib.Core.Bool.{Bool, true, false, false≢true, cond}
 use mathlib.Core.List.{List}
 use Prim.Native.Nat.{ℕ}
@@ -11,20 +12,21 @@ use lib.Dec.{eqb}
 use lib.ListN.{length}
 use Rattle.refusals.specs.Rows.{Given}
 use Rattle.refusals.specs.Tests.{lowest}
-use Rattle.lists.proofs.Both.{neither-left, neither-right}
 use Rattle.lists.proofs.Decides.{Decides, failing, itself, equal, opposite, either, together, restated}
 use Rattle.matrix.specs.Matrix.{Allowed, Bytes}
 use Rattle.matrix.specs.Tests.{isAllowed}
 use Rattle.matrix.proofs.Numbers.{numbers}
 use Rattle.refusals.proofs.Tests.{lowest-given, answer-given, in-stages, none-in-stages, none-at, answer-none, numbered}
+use Rattle.wiring.specs.Kinds.{rgbIn}
+use Rattle.wiring.specs.Wiring.{wiringIn, wiresOf}
+use Rattle.wiring.proofs.Fits as wiring
 use Rattle.video.specs.declared.Video.{Video}
 use Rattle.video.specs.Video.{videoIn, PixelOutside}
-use Rattle.video.specs.Tests.{pixelOutside, videoOutside}
+use Rattle.video.specs.Tests.{pixelOutside}
 use Rattle.video.specs.Modes.{offered}
 use Rattle.video.proofs.Fits as video
 use Rattle.sound.specs.declared.Sound.{Sound}
 use Rattle.sound.specs.Sound.{soundOf}
-use Rattle.sound.specs.Tests.{soundOutside}
 use Rattle.sound.specs.Fits.{SoundFits}
 use Rattle.sound.proofs.Fits as sound
 use Rattle.clock.specs.Clocks.{tmds, AboveLimit}
@@ -37,10 +39,11 @@ use Rattle.blanking.proofs.Rule.{is-too-much}
 use Rattle.request.specs.declared.Request.{Request}
 use Rattle.request.specs.declared.Checked.{Checked}
 use Rattle.request.specs.Sections.{Bodies, Walk, ends, notAllowed, whole, bodiesIn, restOf}
-use Rattle.request.specs.Request.{Present, present, Outside, Combined, requestIn, requestOf}
+use Rattle.request.specs.Request.{Present, present, Outside, rgbOut, Combined, requestIn, requestOf}
 use Rattle.request.specs.Request.{bytesRows, fieldsRows, limitsRows, askRules, readRules}
-use Rattle.request.specs.Read.{outside, combined, emptied, isEnds, isNotAllowed, bytesTests, fieldsTests, limitsTests}
+use Rattle.request.specs.Read.{convertsIn, outside, combined, emptied, isEnds, isNotAllowed, bytesTests, fieldsTests, limitsTests}
 use Rattle.request.specs.Read.{judged, checked, limitOf, limited}
+use Rattle.request.proofs.Inside.{bodies-inside}
 
 -- what the tests of rows 1 and 2 decide
 ends-decided : (w : Walk) → Decides (isEnds w) (w ≡ ends)
@@ -62,13 +65,22 @@ unfolding outside
 is-outside b bytes =
     let m : List ℕ = b .matrix in
     let allowed : Decides (isAllowed m) (Allowed m) = restated (numbers m bytes .rule .0) (numbers m bytes .rule .1) (itself (isAllowed m)) in
-    either (video.is-outside (videoIn (b .video))) (either (sound.is-outside (soundOf (b .audio))) (together (full m) (opposite allowed)))
+    either (wiring.is-outside (wiringIn (b .wiring)))
+    (either (video.is-outside (videoIn (b .video))) (either (sound.is-outside (soundOf (b .audio))) (together (full m) (opposite allowed))))
+
+-- two answers are different
+differ : (a b : Bool) → Decides (convertsIn a b) (a ≢ b)
+differ true true = record { passes = λ t. absurd (false≢true t); fails = λ f n. n refl }
+differ true false = record { passes = λ t e. false≢true (sym e); fails = λ f n. false≢true (sym f) }
+differ false true = record { passes = λ t e. false≢true e; fails = λ f n. false≢true (sym f) }
+differ false false = record { passes = λ t. absurd (false≢true t); fails = λ f n. n refl }
 
 is-combined : (b : Bodies) → Decides (combined b) (Combined b)
 unfolding combined
 is-combined b =
     let v : Video = videoIn (b .video) in
-    either (together (opposite (equal (v .encoding) 0)) (equal (length (b .matrix)) 0)) (either (together (equal (v .link) 0) (sound.is-on (soundOf (b .audio)))) (video.is-combined v))
+    either (together (differ (rgbIn (wiresOf (wiringIn (b .wiring)) .input)) (rgbOut v)) (equal (length (b .matrix)) 0))
+    (either (together (equal (v .link) 0) (sound.is-on (soundOf (b .audio)))) (video.is-combined v))
 
 abbrev numberOf : Checked → ℕ
 numberOf c = c .refusal
@@ -113,25 +125,21 @@ asked b z =
     }
 
 pub limit-there : (b : Bodies) → judged b .refusal ≡ 0 → let v : Video = videoIn (b .video) in eqb (clockOf v .refusal) 17 ≡ aboveLimit (tmds v)
-unfolding outside
 limit-there b z =
     let j = asked b z in
     let v : Video = videoIn (b .video) in
-    limit-is v (j .mode) (video.pixel-inside v (neither-left (videoOutside v) _ (j .inside)))
+    limit-is v (j .mode) (video.pixel-inside v (bodies-inside b (j .inside) .video))
 
 -- and row 20, where the other fields are in range
 pub pixel-there : (b : Bodies) → judged b .refusal ≡ 0 → PixelOutside (videoIn (b .video)) → ⊥
-unfolding outside
 pixel-there b z h =
     let v : Video = videoIn (b .video) in
-    video.is-outside v .fails (neither-left (videoOutside v) _ (asked b z .inside)) (video.outside-too v h)
+    video.is-outside v .fails (bodies-inside b (asked b z .inside) .video) (video.outside-too v h)
 
 pub sound-there : (b : Bodies) → judged b .refusal ≡ 0 → SoundFits (soundOf (b .audio))
-unfolding outside
 sound-there b z =
     let s : Sound = soundOf (b .audio) in
-    let y = neither-left (soundOutside s) _ (neither-right (videoOutside (videoIn (b .video))) _ (asked b z .inside)) in
-    sound.in-range s .1 (sound.is-outside s .fails y)
+    sound.in-range s .1 (sound.is-outside s .fails (bodies-inside b (asked b z .inside) .sound))
 
 pub room-there : (b : Bodies) → judged b .refusal ≡ 0
     → Decides (tooMuch (videoIn (b .video)) (soundOf (b .audio))) (TooMuch (videoIn (b .video)) (soundOf (b .audio)))

@@ -8,6 +8,11 @@ use native.Mathlib.Omega.{arith}
 use lib.ListN.{length}
 use borrow.Author.Tests.{ne-eqb}
 use Rattle.lists.specs.Among.{among}
+use Rattle.wiring.specs.declared.Wiring.{Wiring}
+use Rattle.wiring.specs.declared.Wiring.the-variants.{Board, Four, Twelve}
+use Rattle.wiring.specs.Kinds.{fourCount, twelveCount}
+use Rattle.wiring.specs.Wiring.{wiringBody}
+use Rattle.wiring.proofs.Bodies as wiring
 use Rattle.video.specs.Video.{videoBody}
 use Rattle.sound.specs.declared.Sound.{Sound}
 use Rattle.sound.specs.declared.Sound.the-variants.{Off, On}
@@ -30,6 +35,11 @@ use Rattle.request.proofs.Ordered.{accepted}
 
 -- ---- each body has a count that its section allows, and says what it was made of
 
+wiring-counted : (w : Wiring) → among (length (wiringBody w)) (0 ∷ fourCount ∷ twelveCount ∷ []) ≡ true
+wiring-counted Board = refl
+wiring-counted (Four i d s j) = refl
+wiring-counted (Twelve i d s j a b c e) = refl
+
 audio-counted : (s : Sound) → among (length (audioBody s)) (0 ∷ audioCount ∷ []) ≡ true
 audio-counted Off = refl
 audio-counted (On rate channels coherent) = refl
@@ -49,7 +59,7 @@ module _ (r : Request) (s : Shaped (r .matrix)) where
   pub bytes-walked : walked (asBytes r) ≡ whole (inTurn (bodiesOf r)) []
   unfolding walked asBytes
   bytes-walked =
-      let f : fits sections (inTurn (bodiesOf r)) ≡ true = rw (audio-counted (r .sound), matrix-counted (r .matrix) s) in
+      let f : fits sections (inTurn (bodiesOf r)) ≡ true = rw (wiring-counted (r .wiring), audio-counted (r .sound), matrix-counted (r .matrix) s) in
       walks sections (asBytes r) .whole (inTurn (bodiesOf r)) [] .1 (f, refl)
 
   -- another video section in them
@@ -65,7 +75,7 @@ module _ (r : Request) (s : Shaped (r .matrix)) where
 
   pub said : readOf (asBytes r) .refusal ≡ 0 → readOf (asBytes r) ≡ record { refusal = 0; request = r }
   said z =
-      let q : requestIn (bodiesOf r) ≡ r = rw (sound.bodies .back (r .sound), matrix-said (r .matrix) s) in
+      let q : requestIn (bodiesOf r) ≡ r = rw (wiring.bodies .back (r .wiring), sound.bodies .back (r .sound), matrix-said (r .matrix) s) in
       let y : limited (judged (bodiesOf r)) .refusal ≡ 0 = ap (λ (c : Checked). c .refusal) (sym read-judged) ∙ z in
       read-judged ∙ ap₂ (λ (n : ℕ) (x : Request). the (n, x)) y (accepted (bodiesOf r) y .request ∙ q)
     where

@@ -37,7 +37,7 @@ pub begin : (s found : List ℕ) → Turned s found 0 0
 unfolding walked
 begin s found = record { bodies = []; counted = refl; placed = refl; stored = refl; walks = refl }
 
-module _ (s found : List ℕ) (place k : ℕ) (t : Turned s found place k) (h : k < 3) where
+module _ (s found : List ℕ) (place k : ℕ) (t : Turned s found place k) (h : k < length sections) where
   counts : List ℕ
   counts = getD sections k []
 
@@ -92,7 +92,7 @@ module _ (s found : List ℕ) (place k : ℕ) (t : Turned s found place k) (h : 
               walks = at-count ∙ rw (went-on, add-one k, joined-more (t .bodies) body);
             }
 
-module _ (s found : List ℕ) (place k : ℕ) (t : Turned s found place k) (e : k ≡ 3) (l : length found ≡ 3) where
+module _ (s found : List ℕ) (place k : ℕ) (t : Turned s found place k) (e : k ≡ length sections) (l : length found ≡ length sections) where
   all-found : walked s ≡ whole (t .bodies) (drop place s)
   unfolding walk
   all-found = t .walks ∙ rw e (joined-whole (t .bodies) (drop place s))

@@ -3,6 +3,9 @@ use borrow.Author.Needs.{needs}
 use Rattle.request.proofs.is_combined.Statement.{statement}
 use Rattle.request.proofs.is_combined.Tie as tie
 
+converts-requires : tie.Need-converts-requires
+converts-requires c κs = search needs
+
 is-on-requires : tie.Need-is-on-requires
 is-on-requires c κs = search needs
 
@@ -10,7 +13,7 @@ combined-requires : tie.Need-combined-requires
 combined-requires c κs = search needs
 
 returns : tie.Need-returns
-returns c = simp (c .before .is-on .ensures, c .combined .ensures)
+returns c = simp (c .before .before .before .converts .ensures, c .before .is-on .ensures, c .combined .ensures)
 
 pub is-combined-spec : {M : Type 1} → statement M
-is-combined-spec = tie.close (tie.spec is-on-requires combined-requires returns)
+is-combined-spec = tie.close (tie.spec converts-requires is-on-requires combined-requires returns)

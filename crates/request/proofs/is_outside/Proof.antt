@@ -9,8 +9,11 @@ outside-requires c κs = search needs
 outside-requires-2 : tie.Need-outside-requires-2
 outside-requires-2 c κs = search needs
 
+outside-requires-3 : tie.Need-outside-requires-3
+outside-requires-3 c κs = search needs
+
 returns : tie.Need-returns
-returns c = simp (c .before .outside .ensures, c .outside2 .ensures)
+returns c = simp (c .before .before .outside .ensures, c .before .outside2 .ensures, c .outside3 .ensures)
 
 pub is-outside-spec : {M : Type 1} → statement M
-is-outside-spec = tie.close (tie.spec outside-requires outside-requires-2 returns)
+is-outside-spec = tie.close (tie.spec outside-requires outside-requires-2 outside-requires-3 returns)

@@ -1,6 +1,7 @@
 -- `request::judge` meets its contract: rows 4 to 6. Assumes nothing.
 use mathlib.Core.Path.{ap, _∙_}
 use borrow.Author.Needs.{needs}
+use Rattle.wiring.specs.Wiring.{wiringIn}
 use Rattle.video.specs.Video.{videoIn}
 use Rattle.sound.specs.Sound.{soundOf}
 use Rattle.request.proofs.Judged.{refused, taken}
@@ -10,17 +11,23 @@ use Rattle.request.proofs.judge.Tie as tie
 body-requires : tie.Need-body-requires
 body-requires c κs = search needs
 
-video-in-requires : tie.Need-video-in-requires
-video-in-requires c κs = search needs
+wiring-in-requires : tie.Need-wiring-in-requires
+wiring-in-requires c κs = search needs
 
 body-requires-2 : tie.Need-body-requires-2
 body-requires-2 c κs = search needs
 
-sound-in-requires : tie.Need-sound-in-requires
-sound-in-requires c κs = search needs
+video-in-requires : tie.Need-video-in-requires
+video-in-requires c κs = search needs
 
 body-requires-3 : tie.Need-body-requires-3
 body-requires-3 c κs = search needs
+
+sound-in-requires : tie.Need-sound-in-requires
+sound-in-requires c κs = search needs
+
+body-requires-4 : tie.Need-body-requires-4
+body-requires-4 c κs = search needs
 
 fits-requires : tie.Need-fits-requires
 fits-requires c κs = search needs
@@ -37,11 +44,13 @@ returns c =
     let m = f .before in
     let s = m .before .before in
     let v = s .before .before in
+    let w = v .before .before in
     c .refused .ensures
-    ∙ refused _ _ _ _ _ _
-    (v .video-in .ensures ∙ ap videoIn (v .before .body .ensures))
-    (s .sound-in .ensures ∙ ap soundOf (s .before .body2 .ensures))
-    (m .before .body3 .ensures)
+    ∙ refused _ _ _ _ _ _ _
+    (w .wiring-in .ensures ∙ ap wiringIn (w .before .body .ensures))
+    (v .video-in .ensures ∙ ap videoIn (v .before .body2 .ensures))
+    (s .sound-in .ensures ∙ ap soundOf (s .before .body3 .ensures))
+    (m .before .body4 .ensures)
     (m .fits2 .ensures)
     (f .fields .ensures)
     (c .before .if1 .taken)
@@ -55,10 +64,12 @@ returns-2 c =
     let m = f .before in
     let s = m .before .before in
     let v = s .before .before in
-    taken _ _ _ _ _ _
-    (v .video-in .ensures ∙ ap videoIn (v .before .body .ensures))
-    (s .sound-in .ensures ∙ ap soundOf (s .before .body2 .ensures))
-    (m .before .body3 .ensures)
+    let w = v .before .before in
+    taken _ _ _ _ _ _ _
+    (w .wiring-in .ensures ∙ ap wiringIn (w .before .body .ensures))
+    (v .video-in .ensures ∙ ap videoIn (v .before .body2 .ensures))
+    (s .sound-in .ensures ∙ ap soundOf (s .before .body3 .ensures))
+    (m .before .body4 .ensures)
     (m .fits2 .ensures)
     (f .fields .ensures)
     _
@@ -70,10 +81,12 @@ judge-spec =
     tie.close
     (tie.spec
     body-requires
-    video-in-requires
+    wiring-in-requires
     body-requires-2
-    sound-in-requires
+    video-in-requires
     body-requires-3
+    sound-in-requires
+    body-requires-4
     fits-requires
     fields-requires
     refused-requires

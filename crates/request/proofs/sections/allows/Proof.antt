@@ -19,10 +19,13 @@ returns-3 : tie.Need-returns-3
 returns-3 c = rw (c .if3 .taken) (rw or-false refl)
 
 returns-4 : tie.Need-returns-4
-returns-4 c =
-    let k = c .before .before .before .args .k in
-    let h : 3 ≤ k = omega arith in
+returns-4 c = rw (c .if4 .taken) (rw or-false refl)
+
+returns-5 : tie.Need-returns-5
+returns-5 c =
+    let k = c .before .before .before .before .args .k in
+    let h : 4 ≤ k = omega arith in
     rw (List·getD-eq-default sections [] h)
 
 pub allows-spec : {M : Type 1} → statement M
-allows-spec = tie.close (tie.spec returns returns-2 returns-3 returns-4)
+allows-spec = tie.close (tie.spec returns returns-2 returns-3 returns-4 returns-5)

@@ -10,10 +10,10 @@ use Rattle.request.proofs.sections.walk.Statement.{statement}
 use Rattle.request.proofs.sections.walk.Tie as tie
 
 abbrev Inv-loop : tie.InvT-loop
-Inv-loop s ends₀ place₀ k₀ ends place k = (k ≤ 3) × (length ends ≡ 3) × (place ≤ length s) × Turned s ends place k
+Inv-loop s ends₀ place₀ k₀ ends place k = (k ≤ 4) × (length ends ≡ 4) × (place ≤ length s) × Turned s ends place k
 
 abbrev μ-loop : tie.MeasureT-loop
-μ-loop s ends₀ place₀ k₀ ends place k = 3 - k
+μ-loop s ends₀ place₀ k₀ ends place k = 4 - k
 
 loop-holds : tie.Need-loop-holds Inv-loop μ-loop
 loop-holds c = (search needs, search needs, search needs, begin _ _)
