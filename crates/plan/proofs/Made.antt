@@ -7,6 +7,9 @@ use native.Mathlib.Nat.{add-zero, zero-add, mul-one, add-assoc}
 use native.Mathlib.Omega.{arith}
 use lib.Dec.{eqb}
 use lib.ListN.{getD, set, drop}
+use Rattle.wiring.specs.declared.Wires.{Wires}
+use Rattle.wiring.specs.Wiring.{wiresOf}
+use Rattle.wiring.specs.Theorems.{WiresFit}
 use Rattle.video.specs.declared.Video.{Video}
 use Rattle.video.specs.Video.{depth, repetition}
 use Rattle.video.specs.Fits.{VideoFits}
@@ -14,10 +17,11 @@ use Rattle.clock.specs.declared.Pair.{Pair}
 use Rattle.matrix.specs.declared.Matrix.{Matrix}
 use Rattle.frames.specs.Frames.{aviFrame}
 use Rattle.chip.specs.Machine.{Write, _gets_}
+use Rattle.writes.specs.Rows.{from}
 use Rattle.sound.specs.declared.Sound.{Sound}
 use Rattle.request.specs.declared.Request.{Request}
 use Rattle.plan.specs.Places.{withSound, eightChannels, manualCts, rateCodeOf, depthNumbers, audioPacket, coefficientPlaces, places}
-use Rattle.plan.specs.Wanted.{placedAt, laidOut, laidBytes, clockRegisters, inputRegisters, matrixRegisters, enableRegisters, frameRegisters}
+use Rattle.plan.specs.Wanted.{placedAt, laidOut, laidBytes, clockRegisters, inputRegisters, matrixRegisters, enableRegisters, frameRegisters, wiringRegisters}
 use Rattle.plan.proofs.Accepted.{color, shape, range, again}
 
 -- one register's byte, and the others
@@ -44,14 +48,17 @@ module _ (r : Request) (p : Pair) where
   abbrev v : Video
   v = r .video
 
+  abbrev w : Wires
+  w = wiresOf (r .wiring)
+
   pub clock-made : p .n < 1048576 → p .cts < 1048576
       → laidBytes 0x01 (three (p .n)) ++ laidBytes 0x07 (three (p .cts)) ≡ laidOut clockRegisters (places r p)
   clock-made h k = omega arith ▹ omega arith ▹ omega arith ▹ omega arith ▹ omega arith ▹ omega arith ▹ refl
 
   abbrev inputBytes : List Write
   inputBytes =
-      0x0A gets (manualCts s * 128) ∷ 0x0C gets ((eightChannels s * 14 + withSound s) * 4) ∷ 0x15 gets (rateCodeOf s * 16) ∷
-      0x16 gets (cond (eqb (v .encoding) 1) 1 0 * 128) ∷ []
+      0x0A gets (manualCts s * 128) ∷ 0x0C gets ((eightChannels s * 14 + withSound s) * 4) ∷ 0x15 gets (rateCodeOf s * 16 + w .input) ∷
+      0x16 gets (cond (eqb (v .encoding) 1) 1 0 * 128 + w .depth * 16 + w .style * 4) ∷ []
 
   pub inputs-made : inputBytes ≡ laidOut inputRegisters (places r p)
   inputs-made = omega arith ▹ omega arith ▹ omega arith ▹ omega arith ▹ refl
@@ -64,6 +71,17 @@ module _ (r : Request) (p : Pair) where
   pub enables-made : enableBytes ≡ laidOut enableRegisters (places r p)
   enables-made =
       omega arith ▹ omega arith ▹ omega arith ▹ omega arith ▹ refl ▹ refl ▹ omega arith ▹ omega arith ▹ refl
+
+  abbrev pub syncBytes : List ℕ
+  syncBytes =
+      w .hplacement / 4 ∷ (w .hplacement % 4 * 64 + w .hduration / 16) ∷ (w .hduration % 16 * 16 + w .vplacement / 64) ∷
+      (w .vplacement % 64 * 4 + w .vduration / 256) ∷ w .vduration % 256 ∷ []
+
+  pub syncs-made : syncBytes ≡ map (λ a. placedAt a (places r p)) (from 0x30 5)
+  syncs-made = simp (add-zero, mul-one)
+
+  pub wiring-made : laidBytes 0x30 (map (λ a. placedAt a (places r p)) (from 0x30 5)) ++ 0x48 gets (w .justification * 8) ∷ [] ≡ laidOut wiringRegisters (places r p)
+  wiring-made = refl ▹ refl ▹ refl ▹ refl ▹ refl ▹ omega arith ▹ refl
 
   pub frames-made : VideoFits v
       → laidBytes 0x52 (drop 1 (aviFrame v)) ++ laidBytes 0x70 (drop 1 (audioPacket s)) ≡ laidOut frameRegisters (places r p)

@@ -15,6 +15,9 @@ use Rattle.lists.proofs.Both.{both-left, both-right}
 use Rattle.bits.specs.Merge.{bitsIn}
 use Rattle.bits.proofs.Below.{below, at-below}
 use Rattle.registers.specs.Classes.{classAt}
+use Rattle.wiring.specs.Theorems.{WiresFit}
+use Rattle.wiring.specs.Wiring.{wiresOf}
+use Rattle.wiring.proofs.Fits.{wires-fit}
 use Rattle.video.specs.Video.{depth, repetition}
 use Rattle.video.proofs.Fits.{vic-small, encoding-fits, link-fits, range-fits, repetition-fits, depth-fits}
 use Rattle.clock.specs.declared.Pair.{Pair}
@@ -105,6 +108,11 @@ module _ (r : Request) (f : Fits r) where
       let vic = vic-small (r .video) (f .video) in
       let link = link-fits (r .video) (f .video) in
       let y = encoding-fits (r .video) (f .video) in
+      let w : WiresFit (wiresOf (r .wiring)) = wires-fit (r .wiring) (f .wiring) in
+      let hp = w .hplacement in
+      let hd = w .hduration in
+      let vp = w .vplacement in
+      let vd = w .vduration in
       let on = on-small (r .matrix) (f .matrix) in
       let mode = f .mode in
       let k : (i : ℕ) → (getD (r .matrix .coefficients) i 0 / 256 < 32) × (getD (r .matrix .coefficients) i 0 % 256 < 256)
@@ -113,7 +121,7 @@ module _ (r : Request) (f : Fits r) where
       omega arith ▸ omega arith ▸ omega arith ▸ omega arith ▸ omega arith ▸ omega arith ▸
       s .cts ▸ lit< tt ▸ lit< tt ▸
       s .eight ▸ s .eight ▸ s .eight ▸ s .on ▸ lit< tt ▸
-      s .rate ▸ lit< tt ▸ less (eqb (r .video .encoding) 1) 1 0 (lit< tt) (lit< tt) ▸
+      s .rate ▸ w .input ▸ less (eqb (r .video .encoding) 1) 1 0 (lit< tt) (lit< tt) ▸
       omega arith ▸ omega arith ▸ lit< tt ▸
       k 0 .0 ▸ k 0 .1 ▸ k 1 .0 ▸ k 1 .1 ▸ k 2 .0 ▸ k 2 .1 ▸ k 3 .0 ▸ k 3 .1 ▸
       k 4 .0 ▸ k 4 .1 ▸ k 5 .0 ▸ k 5 .1 ▸ k 6 .0 ▸ k 6 .1 ▸ k 7 .0 ▸ k 7 .1 ▸
@@ -133,7 +141,9 @@ module _ (r : Request) (f : Fits r) where
       lit< tt ▸ lit< tt ▸ lit< tt ▸ lit< tt ▸ lit< tt ▸ lit< tt ▸ lit< tt ▸ lit< tt ▸
       lit< tt ▸ lit< tt ▸ omega arith ▸
       lit< tt ▸ s .cc ▸ lit< tt ▸ lit< tt ▸ s .ca ▸ lit< tt ▸
-      in-table (λ i. getD depthNumbers i 0) 16 3 (depth (r .video)) refl (omega (arith, depth-fits (r .video) (f .video))) ▸ tt
+      in-table (λ i. getD depthNumbers i 0) 16 3 (depth (r .video)) refl (omega (arith, depth-fits (r .video) (f .video))) ▸
+      w .depth ▸ w .style ▸ w .justification ▸
+      omega arith ▸ omega arith ▸ omega arith ▸ omega arith ▸ omega arith ▸ omega arith ▸ omega arith ▸ omega arith ▸ tt
 
   pub byte-wanted : (a : ℕ) → a < 256 → wanted r a < 256
   unfolding wanted

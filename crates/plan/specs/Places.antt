@@ -1,4 +1,4 @@
--- Document 01's named fields, in its notation: the number that a request has in each of them, with the field that document 02 adds last. No
+-- Document 01's named fields, in its notation: the number that a request has in each of them, with the fields that document 02 adds last. No
 -- number comes from writes or from steps. The wanted byte of a register is what stands here (`Wanted`), and the finished image shows it.
 use mathlib.Core.Path.{_≡_}
 use mathlib.Core.Bool.{cond}
@@ -8,7 +8,9 @@ use lib.Dec.{eqb}
 use lib.ListN.{getD, replicate}
 use Rattle.lists.specs.Among.{among}
 use Rattle.bits.specs.Merge.{bitsIn}
-use Rattle.map.specs.Map.{audioSelectDefault, audioModeDefault, i2sFormatDefault, inputIdDefault}
+use Rattle.map.specs.Map.{audioSelectDefault, audioModeDefault, i2sFormatDefault}
+use Rattle.wiring.specs.declared.Wires.{Wires}
+use Rattle.wiring.specs.Wiring.{wiresOf}
 use Rattle.video.specs.declared.Video.{Video}
 use Rattle.video.specs.Video.{depth, repetition, yccQuantisation, contentType}
 use Rattle.sound.specs.Rates.{codeFor}
@@ -91,6 +93,16 @@ abbrev pub zeroPlaces : ℕ → ℕ → List Place
 zeroPlaces first zero = []
 zeroPlaces first (suc count) = place first 7 0 0 ∷ zeroPlaces (first + 1) count
 
+-- request 02: "depth, style and justification" and "the sync generation fields 0x30 to 0x34": Hsync placement, Hsync duration, Vsync placement,
+-- Vsync duration, ten bits each, one after the other (000, 4.3.7.2)
+abbrev pub wiringPlaces : Wires → List Place
+wiringPlaces n =
+    place 0x16 5 4 (n .depth) ∷ place 0x16 3 2 (n .style) ∷ place 0x48 4 3 (n .justification) ∷
+    place 0x30 7 0 (n .hplacement / 4) ∷ place 0x31 7 6 (n .hplacement % 4) ∷
+    place 0x31 5 0 (n .hduration / 16) ∷ place 0x32 7 4 (n .hduration % 16) ∷
+    place 0x32 3 0 (n .vplacement / 64) ∷ place 0x33 7 2 (n .vplacement % 64) ∷
+    place 0x33 1 0 (n .vduration / 256) ∷ place 0x34 7 0 (n .vduration % 256) ∷ []
+
 -- the table, in the order of the sentence "Named: N, CTS, .."; the rows of one register stand in falling order of bits
 abbrev pub places : Request → Pair → List Place
 places r p =
@@ -98,13 +110,13 @@ places r p =
     place 0x01 3 0 (p .n / 65536) ∷ place 0x02 7 0 (p .n / 256 % 256) ∷ place 0x03 7 0 (p .n % 256) ∷
     place 0x07 3 0 (p .cts / 65536) ∷ place 0x08 7 0 (p .cts / 256 % 256) ∷ place 0x09 7 0 (p .cts % 256) ∷
     -- "CTS select": "Coherent audio sets 0x0A[7] to 1"; "audio select and mode". "A named field for which this document gives no value
-    -- holds the map's default": these two, and below the I2S format and the input format; "standard I2S" and "input ID 0" say the same
+    -- holds the map's default": these two, and below the I2S format; "standard I2S" says the same
     place 0x0A 7 7 (manualCts (r .sound)) ∷ place 0x0A 6 4 (bitsIn 6 4 audioSelectDefault) ∷ place 0x0A 3 2 (bitsIn 3 2 audioModeDefault) ∷
     -- "I2S enables": "one I2S input is enabled for 2 channels, all four for 8, none when off"; "and format"
     place 0x0C 5 5 (eightChannels (r .sound)) ∷ place 0x0C 4 4 (eightChannels (r .sound)) ∷ place 0x0C 3 3 (eightChannels (r .sound)) ∷
     place 0x0C 2 2 (withSound (r .sound)) ∷ place 0x0C 1 0 (bitsIn 1 0 i2sFormatDefault) ∷
-    -- "rate, input format, output format", which is 1 for 4:2:2
-    place 0x15 7 4 (rateCodeOf (r .sound)) ∷ place 0x15 3 0 (bitsIn 3 0 inputIdDefault) ∷
+    -- "rate, input format, output format", which is 1 for 4:2:2; since request 02 the input format is the wiring's ID
+    place 0x15 7 4 (rateCodeOf (r .sound)) ∷ place 0x15 3 0 (wiresOf (r .wiring) .input) ∷
     place 0x16 7 7 (cond (eqb (r .video .encoding) 1) 1 0) ∷
     -- "CSC with its hold"
     place 0x18 7 7 (r .matrix .on) ∷ place 0x18 6 5 (r .matrix .mode) ∷ place 0x1A 5 5 0 ∷ [] ++
@@ -132,7 +144,8 @@ places r p =
     place 0x73 7 3 0 ∷ place 0x73 2 0 (inCC (r .sound)) ∷ place 0x74 7 0 0 ∷ place 0x75 7 0 0 ∷ place 0x76 7 0 (inCA (r .sound)) ∷
     place 0x77 7 0 0 ∷
     -- request 06: "The general control fields for depth become named"
-    place 0x4C 3 0 (getD depthNumbers (depth (r .video)) 0) ∷ []
+    place 0x4C 3 0 (getD depthNumbers (depth (r .video)) 0) ∷ [] ++
+    wiringPlaces (wiresOf (r .wiring))
 
 -- a number stands in its place of an image
 abbrev pub Shows : List ℕ → Place → Type 0

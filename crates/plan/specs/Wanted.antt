@@ -26,8 +26,9 @@ placedAt a rows = summed (rowsIn a rows)
 unfoldable pub wanted : Request → ℕ → ℕ
 wanted r a = placedAt a (places r (pairFor r))
 
--- the registers of the table, by the groups in which the code makes them: N and CTS; how sound arrives, and the output format; the converter;
--- the repetition, the VIC, the enables, the mute, the depth and the link; the InfoFrames, reserved bytes included
+-- the registers of the table, by the groups in which the code makes them: N and CTS; how sound and picture arrive, and the output format; the
+-- converter; the repetition, the VIC, the enables, the mute, the depth and the link; the InfoFrames, reserved bytes included; the embedded
+-- syncs and the justification
 abbrev pub clockRegisters : List ℕ
 clockRegisters = from 0x01 3 ++ from 0x07 3
 
@@ -42,6 +43,9 @@ enableRegisters = 0x3B ∷ 0x3C ∷ 0x40 ∷ 0x44 ∷ 0x4A ∷ 0x4B ∷ 0x4C ∷
 
 abbrev pub frameRegisters : List ℕ
 frameRegisters = from 0x52 16 ++ from 0x70 13
+
+abbrev pub wiringRegisters : List ℕ
+wiringRegisters = from 0x30 5 ++ 0x48 ∷ []
 
 -- some registers, each with what some rows place there
 abbrev pub laidOut : List ℕ → List Place → List Write

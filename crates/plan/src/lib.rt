@@ -1,11 +1,14 @@
-// Planning: from a request and a register image to the write list. Document 01, "The write list"; document 02, request 06.
+// Planning: from a request and a register image to the write list. Document 01, "The write list"; document 02, requests 02 and 06.
 ghost use mathlib.Core.Path.{_≡_};
 ghost use mathlib.Core.Bool.{true, cond, not, _&&_};
 ghost use mathlib.Core.List.{List, [], _∷_, map};
 ghost use Prim.Native.Nat.{ℕ, _+_, _*_, _/_, _%_, _^_, _<_, _≤_};
 ghost use lib.Dec.{eqb};
 ghost use lib.ListN.{getD, length, replicate};
+ghost use Rattle.writes.specs.Rows.{from};
 ghost use Rattle.map.specs.Map.{outputFormatMask, prModeShift, prPllManualShift, prValueManualShift};
+ghost use Rattle.wiring.specs.Wiring.{wiresOf};
+ghost use Rattle.wiring.specs.Theorems.{WiresFit};
 ghost use Rattle.video.specs.Video.{depth, repetition};
 ghost use Rattle.video.specs.Fits.{VideoFits};
 ghost use Rattle.frames.specs.Frames.{aviFrame};
@@ -20,7 +23,7 @@ ghost use Rattle.chip.specs.Machine.{up, avi, audio, gc};
 ghost use Rattle.writes.specs.List.{ready};
 ghost use Rattle.plan.specs.Places.{withSound, eightChannels, manualCts, rateCodeOf, depthNumbers, audioPacket, coefficientPlaces, places};
 ghost use Rattle.plan.specs.Wanted.{placedAt, wanted, laidOut, laidBytes, stores};
-ghost use Rattle.plan.specs.Wanted.{clockRegisters, inputRegisters, matrixRegisters, enableRegisters, frameRegisters};
+ghost use Rattle.plan.specs.Wanted.{clockRegisters, inputRegisters, matrixRegisters, enableRegisters, frameRegisters, wiringRegisters};
 ghost use Rattle.plan.specs.Plan.{nothing, PlansWith, Plans, standsIn};
 ghost use Rattle.plan.specs.Rules.{PlanRefusals};
 ghost use Rattle.plan.specs.Another.{AnyOther};
@@ -33,6 +36,7 @@ use refusals::Refusal;
 use request::Request;
 use sound::Sound;
 use video::Video;
+use wiring::Wires;
 
 // The number of a refusal, 0 for none, and the count of pairs written.
 pub struct Planned {
@@ -188,17 +192,45 @@ fn output_format(encoding: u8) -> u8
     0
 }
 
-// How sound arrives, and the output format.
-fn with_inputs(out: &mut [u8], r: Request)
-    requires { ⌜ (length (now out) ≡ 256) × SoundFits (r .sound) ⌝ }
+// How sound and picture arrive, and the output format.
+fn with_inputs(out: &mut [u8], r: Request, wires: Wires)
+    requires { ⌜ (length (now out) ≡ 256) × SoundFits (r .sound) × WiresFit wires × (wires ≡ wiresOf (r .wiring)) ⌝ }
     ensures { λ _. ⌜ ((p : Pair) → now (out .exit) ≡ stores (now (out .entry)) (laidOut inputRegisters (places r p))) ⌝ }
 {
     let sound = r.sound;
     out[Map::AUDIO_SOURCE as usize] = cts_select(sound) * (1 << Map::CTS_SELECT_SHIFT);
     out[Map::I2S_CONFIG as usize] = inputs(sound) * (1 << Map::I2S0_ENABLE_SHIFT);
     out[Map::I2S_FREQ_ID_CFG as usize] = rate_code(sound)
-        * (1 << Map::I2S_SAMPLING_FREQUENCY_SHIFT);
-    out[Map::VIDEO_INPUT_CFG1 as usize] = output_format(r.video.encoding);
+        * (1 << Map::I2S_SAMPLING_FREQUENCY_SHIFT)
+        + wires.input;
+    out[Map::VIDEO_INPUT_CFG1 as usize] = output_format(r.video.encoding)
+        + wires.depth * (1 << Map::INPUT_COLOR_DEPTH_SHIFT)
+        + wires.style * (1 << Map::INPUT_STYLE_SHIFT);
+}
+
+// The four sync values, ten bits each, as five bytes.
+fn sync_bytes(wires: Wires) -> [u8; Map::SYNC_GENERATION_COUNT as usize]
+    requires { ⌜ WiresFit wires ⌝ }
+    ensures { λ bytes. ⌜ ((r : Request) (p : Pair) → wires ≡ wiresOf (r .wiring) → bytes ≡ map (λ a. placedAt a (places r p)) (from 0x30 5)) ⌝ }
+{
+    [
+        (wires.hplacement / 4) as u8,
+        (wires.hplacement % 4 * 64 + wires.hduration / 16) as u8,
+        (wires.hduration % 16 * 16 + wires.vplacement / 64) as u8,
+        (wires.vplacement % 64 * 4 + wires.vduration / 256) as u8,
+        (wires.vduration % 256) as u8,
+    ]
+}
+
+// The embedded syncs and the justification.
+fn with_wiring(out: &mut [u8], wires: Wires)
+    requires { ⌜ (length (now out) ≡ 256) × WiresFit wires ⌝ }
+    ensures { λ _. ⌜ ((r : Request) (p : Pair) → wires ≡ wiresOf (r .wiring) → now (out .exit) ≡ stores (now (out .entry)) (laidOut wiringRegisters (places r p))) ⌝ }
+{
+    let syncs = sync_bytes(wires);
+    laid(out, Map::SYNC_GENERATION as usize, &syncs);
+    out[Map::VIDEO_INPUT_CFG2 as usize] = wires.justification
+        * (1 << Map::VIDEO_INPUT_JUSTIFICATION_SHIFT);
 }
 
 // The repetition in its two fields, beside the mode of repetition.
@@ -272,13 +304,16 @@ fn wanted_image(r: Request, pair: Pair, out: &mut [u8])
     requires { ⌜ (length (now out) ≡ 256) × (now out ≡ replicate 256 0) ⌝ }
     ensures { λ _. ⌜ ((a : ℕ) → getD (now (out .exit)) a 0 ≡ wanted r a) ⌝ }
 {
+    let wiring = r.wiring;
     let matrix = r.matrix;
+    let wires = wiring::wires_of(wiring);
     let csc = csc_bytes(matrix);
     with_clock(out, pair);
-    with_inputs(out, r);
+    with_inputs(out, r, wires);
     laid(out, Map::CSC as usize, &csc);
     with_enables(out, r);
     with_frames(out, r);
+    with_wiring(out, wires);
 }
 
 // GC hold down, and not both other holds up.

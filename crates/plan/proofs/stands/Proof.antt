@@ -52,7 +52,7 @@ wanted-image-requires c κs =
     let p = c .before .before .before in
     let r = p .before .before .before .before .before .args .r in
     let g = p .before .before .before .before .before .good in
-    let twelve : length (r .matrix .coefficients) ≡ 12 = search (needs, g .0 .1 .1 .1 .1 .0) in
+    let twelve : length (r .matrix .coefficients) ≡ 12 = search (needs, g .0 .1 .1 .1 .1 .1 .0) in
     (in-hand r .fits twelve (allowed (p .before .before)), (p .pair-for .ensures, (refl, refl)))
 
 stands-requires : tie.Need-stands-requires
