@@ -11,6 +11,10 @@ use lib.Dec.{eqb, lit≤}
 use lib.ListN.{length, getD, take, set, length-append}
 use lib.Seq.{sets, take-suc, take-all, length-take-le}
 use Rattle.lists.proofs.Emit.{sets-append, sets-front}
+use Rattle.wiring.specs.declared.Wiring.{Wiring}
+use Rattle.wiring.specs.declared.Wiring.the-variants.{Board, Four, Twelve}
+use Rattle.wiring.specs.Kinds.{twelveCount}
+use Rattle.wiring.specs.Wiring.{wiringBody}
 use Rattle.video.specs.Video.{videoBody}
 use Rattle.matrix.specs.declared.Matrix.{Matrix}
 use Rattle.matrix.specs.Coefficient.{coefficientBytes}
@@ -47,6 +51,11 @@ emitted d place (b ∷ bs) =
 
 -- ---- a request
 
+pub wiring-room : (w : Wiring) → length (wiringBody w) ≤ twelveCount
+wiring-room Board = lit≤ tt
+wiring-room (Four i d s j) = lit≤ tt
+wiring-room (Twelve i d s j a b c e) = lit≤ tt
+
 pub audio-room : (s : Sound) → length (audioBody s) ≤ audioCount
 audio-room Off = lit≤ tt
 audio-room (On rate channels coherent) = lit≤ tt
@@ -67,25 +76,29 @@ laid-length : (bodies : List (List ℕ)) → length (laid bodies []) ≡ total b
 laid-length [] = refl
 laid-length (b ∷ bs) = omega (arith, length-append b (laid bs []), laid-length bs)
 
-pub requested : (q : Request) (d : List ℕ) {d₁ d₂ d₃ video : List ℕ} {p₁ p₂ p₃ : ℕ} → longest ≤ length d → length (q .matrix .coefficients) ≡ 12
+pub requested : (q : Request) (d : List ℕ) {d₁ d₂ d₃ d₄ video : List ℕ} {p₁ p₂ p₃ p₄ : ℕ} → longest ≤ length d → length (q .matrix .coefficients) ≡ 12
     → video ≡ videoBody (q .video)
-    → (p₁ ≡ 0 + suc (length video)) × (d₁ ≡ sets d 0 (length video ∷ video))
-    → (p₂ ≡ p₁ + suc (length (audioBody (q .sound)))) × (d₂ ≡ sets d₁ p₁ (length (audioBody (q .sound)) ∷ audioBody (q .sound)))
-    → (p₃ ≡ p₂ + suc (length (matrixBody (q .matrix)))) × (d₃ ≡ sets d₂ p₂ (length (matrixBody (q .matrix)) ∷ matrixBody (q .matrix)))
-    → ((p₃ ≡ length (asBytes q)) × (p₃ ≤ longest)) × (d₃ ≡ inFront (asBytes q) d)
+    → (p₁ ≡ 0 + suc (length (wiringBody (q .wiring)))) × (d₁ ≡ sets d 0 (length (wiringBody (q .wiring)) ∷ wiringBody (q .wiring)))
+    → (p₂ ≡ p₁ + suc (length video)) × (d₂ ≡ sets d₁ p₁ (length video ∷ video))
+    → (p₃ ≡ p₂ + suc (length (audioBody (q .sound)))) × (d₃ ≡ sets d₂ p₂ (length (audioBody (q .sound)) ∷ audioBody (q .sound)))
+    → (p₄ ≡ p₃ + suc (length (matrixBody (q .matrix)))) × (d₄ ≡ sets d₃ p₃ (length (matrixBody (q .matrix)) ∷ matrixBody (q .matrix)))
+    → ((p₄ ≡ length (asBytes q)) × (p₄ ≤ longest)) × (d₄ ≡ inFront (asBytes q) d)
 unfolding asBytes
-requested q d room twelve v e f g =
+requested q d {video = video} room twelve v e f g h =
+    let w : List ℕ = wiringBody (q .wiring) in
     let a : List ℕ = audioBody (q .sound) in
     let m : List ℕ = matrixBody (q .matrix) in
     let bs : List (List ℕ) = sections.inTurn (bodiesOf q) in
     let n : length (laid bs []) ≡ total bs = laid-length bs in
     let l = ap length v in
     let x = audio-room (q .sound) in
-    let y = matrix-room (q .matrix) twelve in (
-      (omega (arith, e .0, f .0, g .0), omega (arith, e .0, f .0, g .0)),
-      g .1
-          ∙ ap₂ (λ (b : List ℕ) (p : ℕ). sets b p (length m ∷ m)) (f .1) (f .0)
-          ∙ ap₂ (λ (b : List ℕ) (p : ℕ). sets (sets b p (length a ∷ a)) (p + suc (length a)) (length m ∷ m)) (e .1) (e .0)
-          ∙ ap (λ (u : List ℕ). inTurn d 0 (u ∷ a ∷ m ∷ [])) v
+    let y = matrix-room (q .matrix) twelve in
+    let z = wiring-room (q .wiring) in (
+      (omega (arith, e .0, f .0, g .0, h .0), omega (arith, e .0, f .0, g .0, h .0)),
+      h .1
+          ∙ ap₂ (λ (b : List ℕ) (p : ℕ). sets b p (length m ∷ m)) (g .1) (g .0)
+          ∙ ap₂ (λ (b : List ℕ) (p : ℕ). sets (sets b p (length a ∷ a)) (p + suc (length a)) (length m ∷ m)) (f .1) (f .0)
+          ∙ ap₂ (λ (b : List ℕ) (p : ℕ). inTurn b p (video ∷ a ∷ m ∷ [])) (e .1) (e .0)
+          ∙ ap (λ (u : List ℕ). inTurn d 0 (w ∷ u ∷ a ∷ m ∷ [])) v
           ∙ emitted d 0 bs ∙ sets-front (laid bs []) d (omega arith),
     )

@@ -3,12 +3,16 @@ use mathlib.Core.Path.{_≡_, refl, sym, ap, _∙_}
 use mathlib.Core.Logic.{_⊎_, inl, inr, ⊎-elim}
 use mathlib.Core.Bool.{Bool, true}
 use mathlib.Core.List.{List}
-use Prim.Native.Nat.{ℕ, _+_, _<_, _≤_}
+use Prim.Native.Nat.{ℕ, _+_, _*_, _<_, _≤_}
 use native.Mathlib.Omega.{arith}
 use lib.Dec.{eqb}
 use lib.ListN.{length, getD}
 use borrow.Author.Tests.{eqb-true, eq-eqb, ne-eqb}
 use Rattle.bits.proofs.Below.{at-below}
+use Rattle.wiring.specs.declared.Wires.{Wires}
+use Rattle.wiring.specs.Wiring.{wiresOf}
+use Rattle.wiring.specs.Named.{wiringNamed}
+use Rattle.wiring.proofs.Fits.{its-name}
 use Rattle.video.specs.Video.{depth, answered}
 use Rattle.video.proofs.Fits.{depth-fits}
 use Rattle.frames.specs.Named.{videoNamed}
@@ -25,7 +29,7 @@ use Rattle.request.specs.Fits.{Fits}
 use Rattle.plan.specs.Places.{places, Shows, withSound, manualCts, rateCodeOf, depthNumbers, inCC}
 use Rattle.plan.proofs.Shown.{Picked, picked}
 use Rattle.decode.specs.Ends.{Stands}
-use Rattle.decode.specs.Extract.{bitsAt, depthOf, soundIn, matrixIn, dataIn, extract}
+use Rattle.decode.specs.Extract.{bitsAt, depthOf, wiresIn, soundIn, matrixIn, dataIn, extract}
 use Rattle.decode.proofs.Standing.{each-shows}
 use Rattle.decode.proofs.Groups.{avi-data, matrix-in}
 
@@ -36,6 +40,31 @@ depth-back n h = eqb-true _ _ (at-below (λ n. eqb (depthOf (getD depthNumbers n
 module _ (r : Request) (image : List ℕ) (long : length image ≡ 256) (g : Fits r) (st : Stands r image) where
   at : Picked (Shows image) (places r (pairFor r))
   at = picked (Shows image) (places r (pairFor r)) (each-shows r image st g)
+
+  wires : wiresIn image ≡ wiresOf (r .wiring)
+  wires =
+      let n : Wires = wiresOf (r .wiring) in
+      let a : bitsAt 0x30 7 0 image * 4 + bitsAt 0x31 7 6 image ≡ n .hplacement = rw (at 0x30 7 refl, at 0x31 7 refl) (omega arith) in
+      let b : bitsAt 0x31 5 0 image * 16 + bitsAt 0x32 7 4 image ≡ n .hduration = rw (at 0x31 5 refl, at 0x32 7 refl) (omega arith) in
+      let c : bitsAt 0x32 3 0 image * 64 + bitsAt 0x33 7 2 image ≡ n .vplacement = rw (at 0x32 3 refl, at 0x33 7 refl) (omega arith) in
+      let d : bitsAt 0x33 1 0 image * 256 + bitsAt 0x34 7 0 image ≡ n .vduration = rw (at 0x33 1 refl, at 0x34 7 refl) (omega arith) in
+      let input : bitsAt 0x15 3 0 image ≡ n .input = at 0x15 3 refl in
+      let depth : bitsAt 0x16 5 4 image ≡ n .depth = at 0x16 5 refl in
+      let style : bitsAt 0x16 3 2 image ≡ n .style = at 0x16 3 refl in
+      let justification : bitsAt 0x48 4 3 image ≡ n .justification = at 0x48 4 refl in
+      λ i. record {
+        input = input i;
+        depth = depth i;
+        style = style i;
+        justification = justification i;
+        hplacement = a i;
+        hduration = b i;
+        vplacement = c i;
+        vduration = d i;
+      }
+
+  wired : wiringNamed (wiresIn image) ≡ r .wiring
+  wired = ap wiringNamed wires ∙ its-name (r .wiring) (g .wiring)
 
   video : videoNamed (bitsAt 0xAF 1 1 image) (depthOf (bitsAt 0x4C 3 0 image)) (dataIn image) ≡ answered (r .video)
   video =
@@ -64,4 +93,4 @@ module _ (r : Request) (image : List ℕ) (long : length image ≡ 256) (g : Fit
 
   pub extracted : extract image ≡ answeredAs r
   unfolding extract
-  extracted = rw (video, heard (r .sound) (g .sound) (at 0x44 5 refl) (at 0x15 7 refl) (at 0x73 2 refl) (at 0x0A 7 refl), converted (g .matrix))
+  extracted = rw (wired, video, heard (r .sound) (g .sound) (at 0x44 5 refl) (at 0x15 7 refl) (at 0x73 2 refl) (at 0x0A 7 refl), converted (g .matrix))

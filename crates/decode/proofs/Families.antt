@@ -1,12 +1,11 @@
 -- A request whose sound is not coherent wants the same registers in both families, so the second need not be tried. Assumes nothing.
 use mathlib.Core.Path.{_≡_, refl, sym, ap, _∙_}
-use mathlib.Core.Bool.{true, false}
+use mathlib.Core.Bool.{true, false, not}
 use mathlib.Core.List.{List}
 use Prim.Native.Nat.{ℕ, _<_}
 use native.Mathlib.Omega.{arith}
 use lib.ListN.{length}
 use borrow.Author.Tests.{ltb-true, lt-ltb}
-use Rattle.lists.proofs.Both.{neither-left}
 use Rattle.lists.proofs.Decides.{refuted}
 use Rattle.video.specs.declared.Video.{Video}
 use Rattle.video.specs.Tests.{shownOutside, videoOutside, shownCombined, videoCombined}
@@ -26,6 +25,8 @@ use Rattle.request.specs.declared.Request.{Request}
 use Rattle.request.specs.Read.{allowedOf, pairIn, pairFor}
 use Rattle.request.specs.Bytes.{requestInFamily}
 use Rattle.sound.specs.Fits.{SoundFits}
+use Rattle.matrix.specs.Tests.{matrixInRange}
+use Rattle.request.proofs.Inside.{each-inside}
 use Rattle.request.proofs.Hand.{passed, passing, in-hand}
 use Rattle.plan.specs.Places.{places}
 use Rattle.plan.specs.Wanted.{placedAt, wanted}
@@ -52,7 +53,7 @@ module _ (r : Request) (twelve : length (r .matrix .coefficients) ≡ 12) where
   first z =
       let v : Video = r .video in
       let p = passed (requestInFamily 1 r) z in
-      let i : videoOutside v ≡ false = neither-left (videoOutside v) _ (p .inside) in
+      let i : videoOutside v ≡ false = each-inside (r .wiring) v (r .sound) (not (matrixInRange (r .matrix))) (p .inside) .video in
       passing (requestInFamily 0 r)
       (record { mode = first-offered v (p .mode); inside = p .inside; apart = p .apart; within = first-within v (p .mode) i (p .within); room = p .room })
 

@@ -9,7 +9,7 @@ use borrow.Author.Tests.{eq-eqb, ne-eqb, lt-ltb, le-ltb}
 use Rattle.request.specs.declared.Request.{Request}
 use Rattle.request.specs.Sections.{longest}
 use Rattle.request.specs.Bytes.{asBytes, requestInFamily}
-use Rattle.request.proofs.Fits.{coefficients-small}
+use Rattle.request.proofs.Fits.{coefficients-small, twelve-there}
 use Rattle.plan.specs.Plan.{standsIn}
 use Rattle.decode.specs.declared.Decoded.{Decoded}
 use Rattle.decode.specs.Extract.{matrixIn, extract}
@@ -30,6 +30,10 @@ not-second r image l n f = go (standsIn (requestInFamily 1 r) image) refl
 pub small : (image : List ℕ) → length image ≡ 256 → (i : ℕ) → getD (extract image .matrix .coefficients) i 0 < 8192
 unfolding extract
 small image sized = coefficients-small (matrixIn image) (shaped image sized)
+
+pub twelve : (image : List ℕ) → length image ≡ 256 → length (extract image .matrix .coefficients) ≡ 12
+unfolding extract
+twelve image sized = twelve-there (matrixIn image) (shaped image sized)
 
 -- ---- rows 7, 10 and 11
 

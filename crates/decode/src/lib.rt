@@ -2,15 +2,17 @@
 ghost use mathlib.Core.Path.{_≡_};
 ghost use mathlib.Core.Bool.{_||_};
 ghost use mathlib.Core.List.{List, _∷_};
-ghost use Prim.Native.Nat.{ℕ, suc, _+_, _<_, _≤_};
+ghost use Prim.Native.Nat.{ℕ, suc, _+_, _*_, _<_, _≤_};
 ghost use lib.ListN.{getD, length};
 ghost use lib.Seq.{sets};
 ghost use Rattle.request.specs.declared.Request.{Request};
+ghost use Rattle.wiring.specs.Kinds.{twelveCount};
+ghost use Rattle.wiring.specs.Wiring.{wiringBody};
 ghost use Rattle.sound.specs.Sound.{audioCount, audioBody};
 ghost use Rattle.request.specs.Sections.{matrixCount, longest};
 ghost use Rattle.request.specs.Bytes.{matrixBody, asBytes, requestInFamily};
 ghost use Rattle.plan.specs.Plan.{standsIn};
-ghost use Rattle.decode.specs.Extract.{soundIn, matrixIn, depthOf, extract};
+ghost use Rattle.decode.specs.Extract.{wiresIn, soundIn, matrixIn, depthOf, extract};
 ghost use Rattle.decode.specs.Decode.{inFront, isCoherent, notDecoded, Decodes};
 ghost use Rattle.decode.specs.Theorems.{ExactlyWhen, BitByBit, AtMostOne, Refusals};
 ghost use Rattle.decode.specs.ReadBack.{ReadBack};
@@ -22,6 +24,9 @@ use request::Request;
 use request::sections::LONGEST;
 use sound::AUDIO_COUNT;
 use sound::Sound;
+use wiring::FOUR_COUNT;
+use wiring::Wires;
+use wiring::Wiring;
 
 // The number of a refusal, 0 for none, and the count of bytes of the request.
 pub struct Decoded {
@@ -37,6 +42,44 @@ fn depth_of(code: u8) -> u8
     ensures { λ r. ⌜ r ≡ depthOf code ⌝ }
 {
     DEPTHS[code as usize]
+}
+
+// A number of which one register has the high bits and another the low ones.
+fn joined(high: u8, width: u16, low: u8) -> u16
+    requires { ⌜ width ≤ 256 ⌝ }
+    ensures { λ r. ⌜ (r ≡ high * width + low) × (high < 256) × (low < 256) ⌝ }
+{
+    high as u16 * width + low as u16
+}
+
+// The numbers of the wiring; a sync value lies in two registers.
+fn wires_in(image: &[u8]) -> Wires
+    requires { ⌜ length (now image) ≡ 256 ⌝ }
+    ensures { λ r. ⌜ r ≡ wiresIn (now (image .entry)) ⌝ }
+{
+    let syncs = Map::SYNC_GENERATION as usize;
+    let format = image[Map::VIDEO_INPUT_CFG1 as usize];
+    let a = image[syncs];
+    let b = image[syncs + 1];
+    let c = image[syncs + 2];
+    let d = image[syncs + 3];
+    let e = image[syncs + 4];
+    let hplacement = joined(a, 4, b / 64 % 4);
+    let hduration = joined(b % 64, 16, c / 16 % 16);
+    let vplacement = joined(c % 16, 64, d / 4 % 64);
+    let vduration = joined(d % 4, 256, e);
+    Wires {
+        input: image[Map::I2S_FREQ_ID_CFG as usize] % 16,
+        depth: (format >> Map::INPUT_COLOR_DEPTH_SHIFT) % 4,
+        style: (format >> Map::INPUT_STYLE_SHIFT) % 4,
+        justification: (image[Map::VIDEO_INPUT_CFG2 as usize]
+            >> Map::VIDEO_INPUT_JUSTIFICATION_SHIFT)
+            % 4,
+        hplacement: hplacement,
+        hduration: hduration,
+        vplacement: vplacement,
+        vduration: vduration,
+    }
 }
 
 fn sound_in(image: &[u8]) -> Sound
@@ -78,6 +121,8 @@ fn extract(image: &[u8]) -> Request
     requires { ⌜ length (now image) ≡ 256 ⌝ }
     ensures { λ r. ⌜ r ≡ extract (now (image .entry)) ⌝ }
 {
+    let wires = wires_in(image);
+    let wiring = wiring::wiring_named(wires);
     let sound = sound_in(image);
     let matrix = matrix_in(image);
     let link = image[Map::HDCP_HDMI_CFG as usize] / Map::HDMI_DVI_MODE_SELECT_MASK % 2;
@@ -86,6 +131,7 @@ fn extract(image: &[u8]) -> Request
     let end = start + AVI_COUNT as usize;
     let video = frames::video_named(link, depth, &image[start..end]);
     Request {
+        wiring: wiring,
         video: video,
         sound: sound,
         matrix: matrix,
@@ -106,6 +152,54 @@ fn section(buffer: &mut [u8], place: usize, body: &[u8]) -> usize
         i = i + 1;
     }
     start + i
+}
+
+fn wiring_section(buffer: &mut [u8], place: usize, wiring: Wiring) -> usize
+    requires { ⌜ place + suc twelveCount ≤ length (now buffer) ⌝ }
+    ensures { λ r. ⌜ r ≡ place + suc (length (wiringBody wiring)) ⌝ }
+    ensures { λ _. ⌜ now (buffer .exit) ≡ sets (now (buffer .entry)) place (length (wiringBody wiring) ∷ wiringBody wiring) ⌝ }
+{
+    match wiring {
+        Wiring::Board => {
+            let body = [0u8; FOUR_COUNT as usize];
+            section(buffer, place, &body[..0])
+        }
+        Wiring::Four {
+            input,
+            depth,
+            style,
+            justification,
+        } => {
+            let body = [input, depth, style, justification];
+            section(buffer, place, &body)
+        }
+        Wiring::Twelve {
+            input,
+            depth,
+            style,
+            justification,
+            hplacement,
+            hduration,
+            vplacement,
+            vduration,
+        } => {
+            let body = [
+                input,
+                depth,
+                style,
+                justification,
+                (hplacement / 256) as u8,
+                (hplacement % 256) as u8,
+                (hduration / 256) as u8,
+                (hduration % 256) as u8,
+                (vplacement / 256) as u8,
+                (vplacement % 256) as u8,
+                (vduration / 256) as u8,
+                (vduration % 256) as u8,
+            ];
+            section(buffer, place, &body)
+        }
+    }
 }
 
 fn audio_section(buffer: &mut [u8], place: usize, sound: Sound) -> usize
@@ -143,14 +237,16 @@ fn matrix_section(buffer: &mut [u8], place: usize, m: Matrix) -> usize
 
 // The bytes of a request at the front of the buffer, a line for each section, and their count.
 fn emit(q: Request, buffer: &mut [u8]) -> usize
-    requires { ⌜ (longest ≤ length (now buffer)) × ((i : ℕ) → getD (q .matrix .coefficients) i 0 < 8192) ⌝ }
+    requires { ⌜ (longest ≤ length (now buffer)) × ((i : ℕ) → getD (q .matrix .coefficients) i 0 < 8192) × (length (q .matrix .coefficients) ≡ 12) ⌝ }
     ensures { λ r. ⌜ (r ≡ length (asBytes q)) × (r ≤ longest) ⌝ }
     ensures { λ _. ⌜ now (buffer .exit) ≡ inFront (asBytes q) (now (buffer .entry)) ⌝ }
 {
     let video = video::video_body(q.video);
+    let wiring = q.wiring;
     let sound = q.sound;
     let matrix = q.matrix;
-    let after_video = section(buffer, 0, &video);
+    let after_wiring = wiring_section(buffer, 0, wiring);
+    let after_video = section(buffer, after_wiring, &video);
     let after_audio = audio_section(buffer, after_video, sound);
     matrix_section(buffer, after_audio, matrix)
 }
@@ -160,9 +256,11 @@ fn in_family(q: Request, family: u8) -> Request
     ensures { λ r. ⌜ r ≡ requestInFamily family q ⌝ }
 {
     let video = video::in_family(q.video, family);
+    let wiring = q.wiring;
     let sound = q.sound;
     let matrix = q.matrix;
     Request {
+        wiring: wiring,
         video: video,
         sound: sound,
         matrix: matrix,

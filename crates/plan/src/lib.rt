@@ -200,8 +200,7 @@ fn with_inputs(out: &mut [u8], r: Request, wires: Wires)
     let sound = r.sound;
     out[Map::AUDIO_SOURCE as usize] = cts_select(sound) * (1 << Map::CTS_SELECT_SHIFT);
     out[Map::I2S_CONFIG as usize] = inputs(sound) * (1 << Map::I2S0_ENABLE_SHIFT);
-    out[Map::I2S_FREQ_ID_CFG as usize] = rate_code(sound)
-        * (1 << Map::I2S_SAMPLING_FREQUENCY_SHIFT)
+    out[Map::I2S_FREQ_ID_CFG as usize] = rate_code(sound) * (1 << Map::I2S_SAMPLING_FREQUENCY_SHIFT)
         + wires.input;
     out[Map::VIDEO_INPUT_CFG1 as usize] = output_format(r.video.encoding)
         + wires.depth * (1 << Map::INPUT_COLOR_DEPTH_SHIFT)

@@ -190,7 +190,13 @@ pub fn allowed(r: Request) -> u8
     let wiring = r.wiring;
     let sound = r.sound;
     let matrix = r.matrix;
-    let number = fields(wiring, r.video, sound, matrix.on == 0, !matrix::in_range(matrix));
+    let number = fields(
+        wiring,
+        r.video,
+        sound,
+        matrix.on == 0,
+        !matrix::in_range(matrix),
+    );
     if number != Refusal::NONE {
         return number;
     }

@@ -5,7 +5,7 @@ use lib.ListN.{length}
 use borrow.Author.Tests.{not-true, not-false}
 use borrow.Author.Needs.{needs}
 use Rattle.decode.specs.Decode.{someEnds}
-use Rattle.decode.proofs.Found.{small, seven, ten, eleven, none, refuses, accepts}
+use Rattle.decode.proofs.Found.{small, twelve, seven, ten, eleven, none, refuses, accepts}
 use Rattle.decode.proofs.decode.Statement.{statement}
 use Rattle.decode.proofs.decode.Tie as tie
 
@@ -54,7 +54,7 @@ returns-3 c =
 emit-requires : tie.Need-emit-requires
 emit-requires c κs =
     let e = c .before .before .before in
-    (e .before .if2 .left, rw (e .extract .ensures) (small _ (sized (e .before))))
+    (e .before .if2 .left, rw (e .extract .ensures) (small _ (sized (e .before))), rw (e .extract .ensures) (twelve _ (sized (e .before))))
 
 cast-t10 : tie.Need-cast-t10
 cast-t10 c = omega (arith, c .before .before .emit .ensures .0 .1)

@@ -35,7 +35,7 @@ returns-2 c =
     let f = sym (first (e .before)) ∙ e .if1 .left in
     let n = sym (c .before .is-coherent .ensures) ∙ not-true _ (c .if2 .taken) in
     let g = e .before .before .before .before .good in
-    let twelve : length (a .q .matrix .coefficients) ≡ 12 = search (needs, g .0 .1 .1 .1 .1 .0) in
+    let twelve : length (a .q .matrix .coefficients) ≡ 12 = search (needs, g .0 .1 .1 .1 .1 .1 .0) in
     rw (f, not-second (a .q) (a .image .now) twelve n f)
 
 in-family-requires-2 : tie.Need-in-family-requires-2

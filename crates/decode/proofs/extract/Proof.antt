@@ -1,9 +1,15 @@
 -- `decode::extract` meets its contract: each section from its registers. Assumes nothing.
 use native.Mathlib.Nat.{div-one}
-use borrow.Author.Needs.{needs}
 use Rattle.decode.specs.Extract.{extract}
+use borrow.Author.Needs.{needs}
 use Rattle.decode.proofs.extract.Statement.{statement}
 use Rattle.decode.proofs.extract.Tie as tie
+
+wires-in-requires : tie.Need-wires-in-requires
+wires-in-requires c κs = search needs
+
+wiring-named-requires : tie.Need-wiring-named-requires
+wiring-named-requires c κs = search needs
 
 sound-in-requires : tie.Need-sound-in-requires
 sound-in-requires c κs = search needs
@@ -52,12 +58,16 @@ unfolding extract
 returns c =
     let d = c .before .before in
     let p = d .before .before .before in
-    simp (c .video-named .ensures, d .depth-of .ensures, p .before .sound-in .ensures, p .matrix-in .ensures, div-one)
+    let s = p .before in
+    let w = s .before in
+    simp (c .video-named .ensures, d .depth-of .ensures, s .sound-in .ensures, p .matrix-in .ensures, w .wiring-named .ensures, w .before .wires-in .ensures, div-one)
 
 pub extract-spec : {M : Type 1} → statement M
 extract-spec =
     tie.close
     (tie.spec
+    wires-in-requires
+    wiring-named-requires
     sound-in-requires
     matrix-in-requires
     cast-link
