@@ -49,7 +49,7 @@ use Rattle.chip.specs.Write.{lentAs}
 use Rattle.vendor.specs.Found.{vetRefusal, vetOf}
 use Rattle.promises.specs.Rules.{asked}
 use Rattle.promises.specs.Worked.{zeros, Few, FewDeep, FewEditions}
-use Rattle.promises.specs.Cases.{rgbOverHdmi, asked16, withEdition, editionRefusal, done16, eight, MarkedCases}
+use Rattle.promises.specs.Cases.{rgbOverHdmi, asked16, editionRefusal, done16, eight, MarkedCases}
 
 multiple : (n cts : ℕ) → reference 0 * cts * clockOf (rgbOverHdmi 4 1) .den ≡ clockOf (rgbOverHdmi 4 1) .num * n → 23296 ∣ n
 unfolding reference tmds clockOf modeOf divisorOf euclid
@@ -99,11 +99,11 @@ bytes (x ∷ l) t zero = ltb-true _ _ (both-left _ (every (λ b. ltb b 256) l) t
 bytes (x ∷ l) t (suc i) = bytes l (both-right (ltb x 256) _ t) i
 
 -- the finished image of an accepted request reads back
-reads : (edition : ℕ) → let input : List ℕ = withEdition edition (asked16 0 1 0x00) in
+reads : (edition : ℕ) → let input : List ℕ = asked16 0 1 0x00 edition in
     every (λ b. ltb b 256) input ≡ true → readOf input .refusal ≡ 0 → pairFor (readOf input .request) .refusal ≡ 0
-    → (room : List ℕ) → 38 ≤ length room → Answered (asReadBack input) (done16 edition) room
+    → (room : List ℕ) → 51 ≤ length room → Answered (asReadBack input) (done16 edition) room
 reads edition t z y room h =
-    let input : List ℕ = withEdition edition (asked16 0 1 0x00) in
+    let input : List ℕ = asked16 0 1 0x00 edition in
     let b : Bytes input = bytes input t in
     read-back input zeros (done16 edition) .answered
     (record { bytes = b; read = z; paired = y; sized = image-length (asked input) zeros; registers = image-at (asked input) zeros }) room h

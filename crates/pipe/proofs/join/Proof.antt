@@ -11,7 +11,7 @@ shared-slice-read-count : tie.Need-shared-slice-read-count
 shared-slice-read-count c = let s = c .before .before .before .before in omega (arith, of-length (s .args .pipe .now) (open-is (s .args .pipe .now) (s .pre .0) .0))
 
 cast-count : tie.Need-cast-count
-cast-count c = omega (arith, c .shared-slice-known3 .given 38)
+cast-count c = omega (arith, c .shared-slice-known3 .given 51)
 
 slice-aggregate-put : tie.Need-slice-aggregate-put
 slice-aggregate-put c = let s = c .before .before .before .before .before .before in sym (length-so-far (s .args .pipe .now) (open-is (s .args .pipe .now) (s .pre .0) .0))

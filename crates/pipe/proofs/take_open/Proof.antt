@@ -72,7 +72,7 @@ returns-2 c =
     let s = j .before .before .before .before .before in
     let p = s .args .pipe .now in
     let m = judged-on p (s .args .part .now) _ (n .ncts .result .refusal) (s .pre) (j .join .ensures .1) (ap (λ (q : Pair). q .refusal) (n .ncts .ensures)) (j .join .result) (sym (length-take-le _ _ (j .join .ensures .0))) (k .before .before .before .if1 .left) in
-    (m .0, ap (λ (l : List ℕ). set l 38 (j .join .result)) (k .copy .ensures) ∙ m .1)
+    (m .0, ap (λ (l : List ℕ). set l 51 (j .join .result)) (k .copy .ensures) ∙ m .1)
 
 pub take-open-spec : {M : Type 1} → statement M
 take-open-spec =
