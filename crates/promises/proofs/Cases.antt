@@ -12,6 +12,8 @@ use Rattle.lists.proofs.Both.{both-left, both-right}
 use Rattle.bits.proofs.Below.{at-below}
 use Rattle.video.specs.declared.Video.{Video}
 use Rattle.ratio.specs.Terms.{euclid, divisorOf}
+use Rattle.wiring.specs.Kinds.{kindOf}
+use Rattle.wiring.specs.Tests.{wiringOutside}
 use Rattle.video.specs.Modes.{modeOf}
 use Rattle.video.specs.Video.{noVideo, inEdition}
 use Rattle.video.specs.Tests.{editionOutside, askedUnderD, shownOutside, videoOutside, shownCombined, videoCombined}
@@ -56,30 +58,30 @@ unfolding reference tmds clockOf modeOf divisorOf euclid
 multiple n cts e = divides 6750000000 372736000 (lit< tt) n cts (omega arith)
 
 few : Few
-unfolding flatMap euclid divisorOf modeOf tmds clockOf highestOf beyond reference recommendedOf nearestK nearestIn nearestOf exactly coherentOf pairOf total aviFrame audioFrame fields inRange isAllowed walk walked videoOutside shownOutside videoCombined shownCombined outside combined judged readOf pairFor merge classAt decided byte written middle isWritten finished column flat alreadyThere wanted laterRefusal planWith bufferWith planOf planBuffer
+unfolding flatMap euclid divisorOf modeOf tmds clockOf highestOf beyond reference recommendedOf nearestK nearestIn nearestOf exactly coherentOf pairOf total aviFrame audioFrame fields inRange isAllowed walk walked kindOf wiringOutside videoOutside shownOutside videoCombined shownCombined outside combined judged readOf pairFor merge classAt decided byte written middle isWritten finished column flat alreadyThere wanted laterRefusal planWith bufferWith planOf planBuffer
 few = (refl, refl)
 
 few-deep : FewDeep
-unfolding flatMap euclid divisorOf modeOf tmds clockOf highestOf beyond reference recommendedOf nearestK nearestIn nearestOf exactly coherentOf pairOf total aviFrame audioFrame audioOffFrame fields inRange isAllowed walk walked videoOutside shownOutside videoCombined shownCombined outside combined judged readOf pairFor merge classAt decided byte written middle isWritten finished column flat alreadyThere wanted laterRefusal planWith bufferWith planOf planBuffer
+unfolding flatMap euclid divisorOf modeOf tmds clockOf highestOf beyond reference recommendedOf nearestK nearestIn nearestOf exactly coherentOf pairOf total aviFrame audioFrame audioOffFrame fields inRange isAllowed walk walked kindOf wiringOutside videoOutside shownOutside videoCombined shownCombined outside combined judged readOf pairFor merge classAt decided byte written middle isWritten finished column flat alreadyThere wanted laterRefusal planWith bufferWith planOf planBuffer
 few-deep = (refl, refl)
 
 sound : map (λ input. planOf input zeros zeros .refusal)
     (eight 2 0x00 2 ∷ eight 2 0x00 3 ∷ eight 1 0x00 2 ∷ eight 1 0x00 3 ∷ eight 17 0x00 2 ∷ eight 17 0x00 3 ∷ eight 5 0x00 6 ∷ eight 20 0x00 6 ∷
     eight 2 0x10 5 ∷ eight 2 0x10 6 ∷ []) ≡ 0 ∷ 20 ∷ 0 ∷ 20 ∷ 0 ∷ 20 ∷ 0 ∷ 0 ∷ 0 ∷ 20 ∷ []
-unfolding euclid divisorOf modeOf tmds clockOf highestOf beyond pairOf isAllowed walk walked videoOutside shownOutside videoCombined shownCombined outside combined judged readOf pairFor laterRefusal planWith planOf
+unfolding euclid divisorOf modeOf tmds clockOf highestOf beyond pairOf isAllowed walk walked kindOf wiringOutside videoOutside shownOutside videoCombined shownCombined outside combined judged readOf pairFor laterRefusal planWith planOf
 sound = refl
 
 sound-decoded : map (λ rate. decodeOf (finishedImage (asked (eight 2 0x00 rate)) zeros) zeros .refusal) (2 ∷ 3 ∷ []) ≡ 0 ∷ 11 ∷ []
-unfolding flatMap euclid divisorOf modeOf tmds clockOf highestOf beyond reference recommendedOf nearestK nearestIn nearestOf exactly coherentOf pairOf total aviFrame audioFrame audioOffFrame fields inRange isAllowed walk walked videoOutside shownOutside videoCombined shownCombined outside combined judged readOf pairFor merge classAt decided byte written middle isWritten finished column flat alreadyThere wanted asBytes extract matrixInRange allowedOf standsBelow standsIn rateOf someEnds decodeRefusal decodeOf
+unfolding flatMap euclid divisorOf modeOf tmds clockOf highestOf beyond reference recommendedOf nearestK nearestIn nearestOf exactly coherentOf pairOf total aviFrame audioFrame audioOffFrame fields inRange isAllowed walk walked kindOf wiringOutside videoOutside shownOutside videoCombined shownCombined outside combined judged readOf pairFor merge classAt decided byte written middle isWritten finished column flat alreadyThere wanted asBytes extract matrixInRange allowedOf standsBelow standsIn rateOf someEnds decodeRefusal decodeOf
 sound-decoded = refl
 
 sound-vetted : map (λ rate. vetOf (lentAs (finishedImage (asked (eight 2 0x00 rate)) zeros) (replicate 32 0) (replicate 24 0) false) [] .refusal)
     (2 ∷ 3 ∷ []) ≡ 0 ∷ 16 ∷ []
-unfolding flatMap euclid divisorOf modeOf tmds clockOf highestOf beyond reference recommendedOf nearestK nearestIn nearestOf exactly coherentOf pairOf total aviFrame audioFrame audioOffFrame fields inRange isAllowed walk walked videoOutside shownOutside videoCombined shownCombined outside combined judged readOf pairFor merge classAt decided byte written middle isWritten finished column flat alreadyThere wanted asBytes extract matrixInRange allowedOf standsBelow standsIn rateOf someEnds decodeRefusal decodeOf vetRefusal vetOf
+unfolding flatMap euclid divisorOf modeOf tmds clockOf highestOf beyond reference recommendedOf nearestK nearestIn nearestOf exactly coherentOf pairOf total aviFrame audioFrame audioOffFrame fields inRange isAllowed walk walked kindOf wiringOutside videoOutside shownOutside videoCombined shownCombined outside combined judged readOf pairFor merge classAt decided byte written middle isWritten finished column flat alreadyThere wanted asBytes extract matrixInRange allowedOf standsBelow standsIn rateOf someEnds decodeRefusal decodeOf vetRefusal vetOf
 sound-vetted = refl
 
 few-editions : FewEditions
-unfolding flatMap euclid divisorOf modeOf tmds clockOf highestOf beyond reference recommendedOf nearestK nearestIn nearestOf exactly coherentOf pairOf total aviFrame audioFrame audioOffFrame fields inRange isAllowed walk walked videoOutside shownOutside videoCombined shownCombined outside combined judged readOf pairFor merge classAt decided byte written middle isWritten finished column flat alreadyThere wanted laterRefusal planWith bufferWith planOf planBuffer
+unfolding flatMap euclid divisorOf modeOf tmds clockOf highestOf beyond reference recommendedOf nearestK nearestIn nearestOf exactly coherentOf pairOf total aviFrame audioFrame audioOffFrame fields inRange isAllowed walk walked kindOf wiringOutside videoOutside shownOutside videoCombined shownCombined outside combined judged readOf pairFor merge classAt decided byte written middle isWritten finished column flat alreadyThere wanted laterRefusal planWith bufferWith planOf planBuffer
 few-editions = (refl, refl, refl)
 
 -- each edition byte
@@ -109,7 +111,7 @@ reads edition t z y room h =
     (record { bytes = b; read = z; paired = y; sized = image-length (asked input) zeros; registers = image-at (asked input) zeros }) room h
 
 pub cases : MarkedCases
-unfolding flatMap euclid divisorOf modeOf tmds clockOf highestOf beyond reference recommendedOf nearestK nearestIn nearestOf exactly coherentOf pairOf total aviFrame aviOf audioFrame audioOf audioOffFrame fields inRange isAllowed codeOf previewOf walk walked videoOutside shownOutside videoCombined shownCombined outside combined judged readOf pairFor nctsOf lineOf digits acceptedText refusedText planOf
+unfolding flatMap euclid divisorOf modeOf tmds clockOf highestOf beyond reference recommendedOf nearestK nearestIn nearestOf exactly coherentOf pairOf total aviFrame aviOf audioFrame audioOf audioOffFrame fields inRange isAllowed codeOf previewOf walk walked kindOf wiringOutside videoOutside shownOutside videoCombined shownCombined outside combined judged readOf pairFor nctsOf lineOf digits acceptedText refusedText planOf
 cases =
     record {
       line = refl;
