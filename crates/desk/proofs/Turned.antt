@@ -8,6 +8,7 @@ use lib.Dec.{eqb}
 use lib.ListN.{length}
 use borrow.Author.Tests.{eqb-true, eqb-false, not-true}
 use Rattle.lists.proofs.Both.{both-left, both-right}
+use Rattle.request.specs.Sections.{longest}
 use Rattle.pipe.specs.Bytes.{countIn, fresh}
 use Rattle.pipe.specs.Found.{takeOf, takePipe}
 use Rattle.pipe.specs.Pipe.{OpenPipe, fed, afterParts}
@@ -54,9 +55,9 @@ module _ (pipe : List ℕ) (more : Bool) (left : List ℕ) (r : Reading pipe) (s
         stopped = ap (λ (p : List ℕ). goesOn p (s .part)) (sym (r .taken)) ∙ sym (s .turned .0) ∙ e;
       }
 
-  pub fewer : cond more (suc (39 - countIn left)) 0 < suc (39 - countIn pipe)
+  pub fewer : cond more (suc (longest - countIn left)) 0 < suc (longest - countIn pipe)
   fewer = go more refl
     where
-      go : (b : Bool) → more ≡ b → cond b (suc (39 - countIn left)) 0 < suc (39 - countIn pipe)
+      go : (b : Bool) → more ≡ b → cond b (suc (longest - countIn left)) 0 < suc (longest - countIn pipe)
       go true e = let g = grown e in omega (arith, g .1, g .0 .one .counted)
       go false e = omega arith

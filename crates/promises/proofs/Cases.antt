@@ -12,6 +12,8 @@ use Rattle.lists.proofs.Both.{both-left, both-right}
 use Rattle.bits.proofs.Below.{at-below}
 use Rattle.video.specs.declared.Video.{Video}
 use Rattle.ratio.specs.Terms.{euclid, divisorOf}
+use Rattle.wiring.specs.Kinds.{kindOf}
+use Rattle.wiring.specs.Tests.{wiringOutside}
 use Rattle.video.specs.Modes.{modeOf}
 use Rattle.video.specs.Video.{noVideo, inEdition}
 use Rattle.video.specs.Tests.{editionOutside, askedUnderD, shownOutside, videoOutside, shownCombined, videoCombined}
@@ -49,37 +51,37 @@ use Rattle.chip.specs.Write.{lentAs}
 use Rattle.vendor.specs.Found.{vetRefusal, vetOf}
 use Rattle.promises.specs.Rules.{asked}
 use Rattle.promises.specs.Worked.{zeros, Few, FewDeep, FewEditions}
-use Rattle.promises.specs.Cases.{rgbOverHdmi, asked16, withEdition, editionRefusal, done16, eight, MarkedCases}
+use Rattle.promises.specs.Cases.{rgbOverHdmi, asked16, editionRefusal, done16, eight, MarkedCases}
 
 multiple : (n cts : ℕ) → reference 0 * cts * clockOf (rgbOverHdmi 4 1) .den ≡ clockOf (rgbOverHdmi 4 1) .num * n → 23296 ∣ n
 unfolding reference tmds clockOf modeOf divisorOf euclid
 multiple n cts e = divides 6750000000 372736000 (lit< tt) n cts (omega arith)
 
 few : Few
-unfolding flatMap euclid divisorOf modeOf tmds clockOf highestOf beyond reference recommendedOf nearestK nearestIn nearestOf exactly coherentOf pairOf total aviFrame audioFrame fields inRange isAllowed walk walked videoOutside shownOutside videoCombined shownCombined outside combined judged readOf pairFor merge classAt decided byte written middle isWritten finished column flat alreadyThere wanted laterRefusal planWith bufferWith planOf planBuffer
+unfolding flatMap euclid divisorOf modeOf tmds clockOf highestOf beyond reference recommendedOf nearestK nearestIn nearestOf exactly coherentOf pairOf total aviFrame audioFrame fields inRange isAllowed walk walked kindOf wiringOutside videoOutside shownOutside videoCombined shownCombined outside combined judged readOf pairFor merge classAt decided byte written middle isWritten finished column flat alreadyThere wanted laterRefusal planWith bufferWith planOf planBuffer
 few = (refl, refl)
 
 few-deep : FewDeep
-unfolding flatMap euclid divisorOf modeOf tmds clockOf highestOf beyond reference recommendedOf nearestK nearestIn nearestOf exactly coherentOf pairOf total aviFrame audioFrame audioOffFrame fields inRange isAllowed walk walked videoOutside shownOutside videoCombined shownCombined outside combined judged readOf pairFor merge classAt decided byte written middle isWritten finished column flat alreadyThere wanted laterRefusal planWith bufferWith planOf planBuffer
+unfolding flatMap euclid divisorOf modeOf tmds clockOf highestOf beyond reference recommendedOf nearestK nearestIn nearestOf exactly coherentOf pairOf total aviFrame audioFrame audioOffFrame fields inRange isAllowed walk walked kindOf wiringOutside videoOutside shownOutside videoCombined shownCombined outside combined judged readOf pairFor merge classAt decided byte written middle isWritten finished column flat alreadyThere wanted laterRefusal planWith bufferWith planOf planBuffer
 few-deep = (refl, refl)
 
 sound : map (λ input. planOf input zeros zeros .refusal)
     (eight 2 0x00 2 ∷ eight 2 0x00 3 ∷ eight 1 0x00 2 ∷ eight 1 0x00 3 ∷ eight 17 0x00 2 ∷ eight 17 0x00 3 ∷ eight 5 0x00 6 ∷ eight 20 0x00 6 ∷
     eight 2 0x10 5 ∷ eight 2 0x10 6 ∷ []) ≡ 0 ∷ 20 ∷ 0 ∷ 20 ∷ 0 ∷ 20 ∷ 0 ∷ 0 ∷ 0 ∷ 20 ∷ []
-unfolding euclid divisorOf modeOf tmds clockOf highestOf beyond pairOf isAllowed walk walked videoOutside shownOutside videoCombined shownCombined outside combined judged readOf pairFor laterRefusal planWith planOf
+unfolding euclid divisorOf modeOf tmds clockOf highestOf beyond pairOf isAllowed walk walked kindOf wiringOutside videoOutside shownOutside videoCombined shownCombined outside combined judged readOf pairFor laterRefusal planWith planOf
 sound = refl
 
 sound-decoded : map (λ rate. decodeOf (finishedImage (asked (eight 2 0x00 rate)) zeros) zeros .refusal) (2 ∷ 3 ∷ []) ≡ 0 ∷ 11 ∷ []
-unfolding flatMap euclid divisorOf modeOf tmds clockOf highestOf beyond reference recommendedOf nearestK nearestIn nearestOf exactly coherentOf pairOf total aviFrame audioFrame audioOffFrame fields inRange isAllowed walk walked videoOutside shownOutside videoCombined shownCombined outside combined judged readOf pairFor merge classAt decided byte written middle isWritten finished column flat alreadyThere wanted asBytes extract matrixInRange allowedOf standsBelow standsIn rateOf someEnds decodeRefusal decodeOf
+unfolding flatMap euclid divisorOf modeOf tmds clockOf highestOf beyond reference recommendedOf nearestK nearestIn nearestOf exactly coherentOf pairOf total aviFrame audioFrame audioOffFrame fields inRange isAllowed walk walked kindOf wiringOutside videoOutside shownOutside videoCombined shownCombined outside combined judged readOf pairFor merge classAt decided byte written middle isWritten finished column flat alreadyThere wanted asBytes extract matrixInRange allowedOf standsBelow standsIn rateOf someEnds decodeRefusal decodeOf
 sound-decoded = refl
 
 sound-vetted : map (λ rate. vetOf (lentAs (finishedImage (asked (eight 2 0x00 rate)) zeros) (replicate 32 0) (replicate 24 0) false) [] .refusal)
     (2 ∷ 3 ∷ []) ≡ 0 ∷ 16 ∷ []
-unfolding flatMap euclid divisorOf modeOf tmds clockOf highestOf beyond reference recommendedOf nearestK nearestIn nearestOf exactly coherentOf pairOf total aviFrame audioFrame audioOffFrame fields inRange isAllowed walk walked videoOutside shownOutside videoCombined shownCombined outside combined judged readOf pairFor merge classAt decided byte written middle isWritten finished column flat alreadyThere wanted asBytes extract matrixInRange allowedOf standsBelow standsIn rateOf someEnds decodeRefusal decodeOf vetRefusal vetOf
+unfolding flatMap euclid divisorOf modeOf tmds clockOf highestOf beyond reference recommendedOf nearestK nearestIn nearestOf exactly coherentOf pairOf total aviFrame audioFrame audioOffFrame fields inRange isAllowed walk walked kindOf wiringOutside videoOutside shownOutside videoCombined shownCombined outside combined judged readOf pairFor merge classAt decided byte written middle isWritten finished column flat alreadyThere wanted asBytes extract matrixInRange allowedOf standsBelow standsIn rateOf someEnds decodeRefusal decodeOf vetRefusal vetOf
 sound-vetted = refl
 
 few-editions : FewEditions
-unfolding flatMap euclid divisorOf modeOf tmds clockOf highestOf beyond reference recommendedOf nearestK nearestIn nearestOf exactly coherentOf pairOf total aviFrame audioFrame audioOffFrame fields inRange isAllowed walk walked videoOutside shownOutside videoCombined shownCombined outside combined judged readOf pairFor merge classAt decided byte written middle isWritten finished column flat alreadyThere wanted laterRefusal planWith bufferWith planOf planBuffer
+unfolding flatMap euclid divisorOf modeOf tmds clockOf highestOf beyond reference recommendedOf nearestK nearestIn nearestOf exactly coherentOf pairOf total aviFrame audioFrame audioOffFrame fields inRange isAllowed walk walked kindOf wiringOutside videoOutside shownOutside videoCombined shownCombined outside combined judged readOf pairFor merge classAt decided byte written middle isWritten finished column flat alreadyThere wanted laterRefusal planWith bufferWith planOf planBuffer
 few-editions = (refl, refl, refl)
 
 -- each edition byte
@@ -99,17 +101,17 @@ bytes (x ∷ l) t zero = ltb-true _ _ (both-left _ (every (λ b. ltb b 256) l) t
 bytes (x ∷ l) t (suc i) = bytes l (both-right (ltb x 256) _ t) i
 
 -- the finished image of an accepted request reads back
-reads : (edition : ℕ) → let input : List ℕ = withEdition edition (asked16 0 1 0x00) in
+reads : (edition : ℕ) → let input : List ℕ = asked16 0 1 0x00 edition in
     every (λ b. ltb b 256) input ≡ true → readOf input .refusal ≡ 0 → pairFor (readOf input .request) .refusal ≡ 0
-    → (room : List ℕ) → 38 ≤ length room → Answered (asReadBack input) (done16 edition) room
+    → (room : List ℕ) → 51 ≤ length room → Answered (asReadBack input) (done16 edition) room
 reads edition t z y room h =
-    let input : List ℕ = withEdition edition (asked16 0 1 0x00) in
+    let input : List ℕ = asked16 0 1 0x00 edition in
     let b : Bytes input = bytes input t in
     read-back input zeros (done16 edition) .answered
     (record { bytes = b; read = z; paired = y; sized = image-length (asked input) zeros; registers = image-at (asked input) zeros }) room h
 
 pub cases : MarkedCases
-unfolding flatMap euclid divisorOf modeOf tmds clockOf highestOf beyond reference recommendedOf nearestK nearestIn nearestOf exactly coherentOf pairOf total aviFrame aviOf audioFrame audioOf audioOffFrame fields inRange isAllowed codeOf previewOf walk walked videoOutside shownOutside videoCombined shownCombined outside combined judged readOf pairFor nctsOf lineOf digits acceptedText refusedText planOf
+unfolding flatMap euclid divisorOf modeOf tmds clockOf highestOf beyond reference recommendedOf nearestK nearestIn nearestOf exactly coherentOf pairOf total aviFrame aviOf audioFrame audioOf audioOffFrame fields inRange isAllowed codeOf previewOf walk walked kindOf wiringOutside videoOutside shownOutside videoCombined shownCombined outside combined judged readOf pairFor nctsOf lineOf digits acceptedText refusedText planOf
 cases =
     record {
       line = refl;

@@ -9,11 +9,8 @@ use lib.Dec.{eqb, leb, ltb}
 use lib.ListN.{getD, length, take}
 use borrow.Author.Tests.{eqb-true, eq-eqb, ne-eqb, lt-ltb, le-ltb, ltb-true, ltb-false, leb-true, leb-false, le-leb, lt-leb}
 use Rattle.lists.specs.Among.{among}
-use Rattle.lists.specs.Find.{every}
-use Rattle.lists.proofs.Among.{stands}
-use Rattle.lists.proofs.Find.{every-at}
 use Rattle.lists.proofs.Both.{both-left, both-right, beq-true}
-use Rattle.bits.proofs.Below.{below, at-below}
+use Rattle.bits.proofs.Below.{at-below}
 use Rattle.ratio.specs.Terms.{euclid, divisorOf}
 use Rattle.video.specs.declared.Video.{Video}
 use Rattle.video.specs.Video.{videoIn}
@@ -29,25 +26,21 @@ use Rattle.matrix.specs.Tests.{within, inRange, isAllowed}
 use Rattle.sound.specs.declared.Sound.the-variants.{Off, On}
 use Rattle.sound.specs.Sound.{soundOf}
 use Rattle.sound.specs.Tests.{isOn, soundOutside}
+use Rattle.wiring.specs.Kinds.{rgbIn}
 use Rattle.request.specs.declared.Checked.{Checked}
 use Rattle.request.specs.declared.Request.{Request}
 use Rattle.request.specs.Sections.{sections, Bodies, Walk, whole, walked}
 use Rattle.request.specs.Walks.{fits}
 use Rattle.request.specs.Bytes.{laid}
 use Rattle.request.specs.Request.{present, requestIn}
-use Rattle.request.specs.Read.{outside, combined, judged, checked, limited, readOf, pairFor, nctsOf}
+use Rattle.request.specs.Read.{outside, convertsIn, combined, judged, checked, limited, readOf, pairFor, nctsOf}
 use Rattle.request.proofs.Walks.{walks}
 use Rattle.request.proofs.Ordered.{limit-there, accepted}
 use Rattle.promises.specs.EachByte.{inTheirs, inNone, vics, depthBytes, editionBytes, bitsUnderD, videoBytes, soundBytes}
-use Rattle.promises.specs.EachByte.{modeBytes, highBytes, highInside, matrixInside, together, tooFast, willNotFit, withoutPair, bytesOf, answerTo, pairTo, Answers, EachByte}
-
--- two tests that are alike at every number below 256
-alike : (f g : ℕ → Bool) → below (λ n. Bool·beq (f n) (g n)) 256 ≡ true → (n : ℕ) → n < 256 → f n ≡ g n
-alike f g t n h = beq-true (f n) (g n) (at-below (λ n. Bool·beq (f n) (g n)) 256 n t h)
-
--- a test that passes at every number of a list
-each-of : (f : ℕ → Bool) (l : List ℕ) (n : ℕ) → every f l ≡ true → among n l ≡ true → f n ≡ true
-each-of f l n t a = let s = stands n l a in ap f (sym (s .there)) ∙ every-at f l (s .place) 0 t (s .within)
+use Rattle.promises.specs.EachByte.{modeBytes, highBytes, highInside, matrixInside, together, tooFast, willNotFit, withoutPair, bytesOf, insideTo, apartTo, answerTo, pairTo, Answers, EachByte}
+use Rattle.promises.specs.EachByte.{wiringInside, ofWiring, ofSound, ofMatrix}
+use Rattle.promises.proofs.Choices.{alike, each-of, choices, chosen}
+use Rattle.promises.proofs.Wired.{wired, converts}
 
 -- ---- 4
 
@@ -180,29 +173,13 @@ matrix-inside (mode ∷ more) t h =
 
 -- ---- 6 and 17
 
--- a test at every choice of bytes from their rows, and what it says of one choice
-abbrev choices : List (List ℕ) → (List ℕ → Bool) → Bool
-choices [] f = f []
-choices (row ∷ rows) f = every (λ byte. choices rows (λ bytes. f (byte ∷ bytes))) row
-
-chosen : (rows : List (List ℕ)) (f : List ℕ → Bool) (bytes : List ℕ) → length bytes ≡ length rows → choices rows f ≡ true
-    → inTheirs rows bytes ≡ true → f bytes ≡ true
-chosen [] f [] l t i = t
-chosen [] f (byte ∷ bytes) l t i = absurd (omega arith)
-chosen (row ∷ rows) f [] l t i = absurd (omega arith)
-chosen (row ∷ rows) f (byte ∷ bytes) l t i =
-    chosen rows (λ bytes. f (byte ∷ bytes)) bytes (omega arith)
-    (each-of (λ byte. choices rows (λ bytes. f (byte ∷ bytes))) row byte t (both-left (among byte row) (inTheirs rows bytes) i))
-    (both-right (among byte row) (inTheirs rows bytes) i)
-
--- encoding, link, range, depth byte, edition byte; and the two counts
+-- encoding, link, range, depth byte, edition byte; and the count of the sound
 abbrev apart : List ℕ → List ℕ → Bool
 apart five counts =
     let v : Video = videoIn (0 ∷ 0 ∷ five) in
-    Bool·beq ((not (eqb (v .encoding) 0) && eqb (getD counts 1 0) 0) || ((eqb (v .link) 0 && not (eqb (getD counts 0 0) 0)) || videoCombined v))
-    (inNone together (five ++ counts))
+    Bool·beq ((eqb (v .link) 0 && not (eqb (getD counts 0 0) 0)) || videoCombined v) (inNone together (five ++ counts))
 
-all-apart : choices videoBytes (λ five. choices ((0 ∷ 3 ∷ []) ∷ (0 ∷ 25 ∷ []) ∷ []) (apart five)) ≡ true
+all-apart : choices videoBytes (λ five. choices ((0 ∷ 3 ∷ []) ∷ []) (apart five)) ≡ true
 unfolding videoCombined shownCombined
 all-apart = refl
 
@@ -249,9 +226,9 @@ all-paired = refl
 
 -- ---- all of them
 
-module _ (vic family encoding link range pixel edition : ℕ) (sound matrix : List ℕ)
-    (h : Bytes (vic ∷ family ∷ encoding ∷ link ∷ range ∷ pixel ∷ edition ∷ [])) (hs : Bytes sound) (hm : Bytes matrix)
-    (s : among (length sound) (0 ∷ 3 ∷ []) ≡ true) (m : among (length matrix) (0 ∷ 25 ∷ []) ≡ true)
+module _ (wiring : List ℕ) (vic family encoding link range pixel edition : ℕ) (sound matrix : List ℕ)
+    (hw : Bytes wiring) (h : Bytes (vic ∷ family ∷ encoding ∷ link ∷ range ∷ pixel ∷ edition ∷ [])) (hs : Bytes sound) (hm : Bytes matrix)
+    (w : ofWiring wiring) (s : ofSound sound) (m : ofMatrix matrix)
   where
     abbrev asked : Video
     asked = videoIn (vic ∷ family ∷ encoding ∷ link ∷ range ∷ pixel ∷ edition ∷ [])
@@ -260,10 +237,10 @@ module _ (vic family encoding link range pixel edition : ℕ) (sound matrix : Li
     five = encoding ∷ link ∷ range ∷ pixel ∷ edition ∷ []
 
     abbrev input : List ℕ
-    input = bytesOf vic family encoding link range pixel edition sound matrix
+    input = bytesOf wiring vic family encoding link range pixel edition sound matrix
 
     abbrev asking : List ℕ → Bodies
-    asking x = record { video = vic ∷ family ∷ five; audio = x; matrix = matrix }
+    asking x = record { wiring = wiring; video = vic ∷ family ∷ five; audio = x; matrix = matrix }
 
     abbrev b : Bodies
     b = asking sound
@@ -271,34 +248,53 @@ module _ (vic family encoding link range pixel edition : ℕ) (sound matrix : Li
     read-judged : readOf input ≡ limited (judged b)
     unfolding readOf walked
     read-judged =
-        let bodies : List (List ℕ) = (vic ∷ family ∷ five) ∷ sound ∷ matrix ∷ [] in
-        let f : fits sections bodies ≡ true = rw (s, m) in
+        let bodies : List (List ℕ) = wiring ∷ (vic ∷ family ∷ five) ∷ sound ∷ matrix ∷ [] in
+        let f : fits sections bodies ≡ true = rw (w, s, m) in
         ap (λ (w : Walk). limited (checked w)) (walks sections input .whole bodies [] .1 (f, rw (append-nil matrix)))
 
     abbrev inside : Bool
-    inside = inTheirs videoBytes five && (inTheirs soundBytes sound && matrixInside matrix)
+    inside = insideTo wiring vic family encoding link range pixel edition sound matrix
 
-    not-all : (a b c : Bool) → (not a || (not b || not c)) ≡ not (a && (b && c))
-    not-all false b c = refl
-    not-all true false c = refl
-    not-all true true c = refl
+    not-all : (a b c d : Bool) → (not a || (not b || (not c || not d))) ≡ not (a && (b && (c && d)))
+    not-all false b c d = refl
+    not-all true false c d = refl
+    not-all true true false d = refl
+    not-all true true true d = refl
 
     is-inside : outside b ≡ not inside
     unfolding outside
     is-inside =
-        rw (video-inside vic family encoding link range pixel edition h, sound-inside sound s hs, matrix-inside matrix m hm)
-        (not-all (inTheirs videoBytes five) (inTheirs soundBytes sound) (matrixInside matrix))
+        rw (wired wiring hw w .inside, video-inside vic family encoding link range pixel edition h, sound-inside sound s hs, matrix-inside matrix m hm)
+        (not-all (wiringInside wiring) (inTheirs videoBytes five) (inTheirs soundBytes sound) (matrixInside matrix))
+
+    -- of what is inside: the wiring, the video, the sound
+    its-wiring : inside ≡ true → wiringInside wiring ≡ true
+    its-wiring i = both-left (wiringInside wiring) _ i
+
+    its-video : inside ≡ true → inTheirs videoBytes five ≡ true
+    its-video i = both-left (inTheirs videoBytes five) _ (both-right (wiringInside wiring) _ i)
+
+    its-sound : inside ≡ true → inTheirs soundBytes sound ≡ true
+    its-sound i = both-left (inTheirs soundBytes sound) _ (both-right (inTheirs videoBytes five) _ (both-right (wiringInside wiring) _ i))
 
     its-depth : inTheirs videoBytes five ≡ true → among pixel depthBytes ≡ true
     its-depth i =
         let t = both-right (among range (0 ∷ 1 ∷ [])) _ (both-right (among link (0 ∷ 1 ∷ [])) _ (both-right (among encoding (0 ∷ 1 ∷ 2 ∷ [])) _ i)) in
         both-left (among pixel depthBytes) _ t
 
-    goes-together : inTheirs videoBytes five ≡ true → combined b ≡ inNone together (five ++ (length sound ∷ length matrix ∷ []))
+    abbrev alone : Bool
+    alone = apartTo wiring vic family encoding link range pixel edition sound matrix
+
+    goes-together : inside ≡ true → combined b ≡ alone
     unfolding combined videoCombined shownCombined
     goes-together i =
-        let t = chosen videoBytes (λ five. choices ((0 ∷ 3 ∷ []) ∷ (0 ∷ 25 ∷ []) ∷ []) (apart five)) five refl all-apart i in
-        rw (on-where sound) (beq-true _ _ (chosen ((0 ∷ 3 ∷ []) ∷ (0 ∷ 25 ∷ []) ∷ []) (apart five) (length sound ∷ length matrix ∷ []) refl t (rw (s, m))))
+        let t = chosen videoBytes (λ five. choices ((0 ∷ 3 ∷ []) ∷ []) (apart five)) five refl all-apart (its-video i) in
+        let x = wired wiring hw w in
+        let e = both-left (among encoding (0 ∷ 1 ∷ 2 ∷ [])) _ (its-video i) in
+        ap₂ _||_
+        (ap (λ (n : ℕ). convertsIn (rgbIn n) (eqb encoding 0) && eqb (length matrix) 0) (x .input)
+        ∙ converts (getD wiring 0 0) encoding (length matrix) (x .known (its-wiring i)) e m)
+        (rw (on-where sound) (beq-true _ _ (chosen ((0 ∷ 3 ∷ []) ∷ []) (apart five) (length sound ∷ []) refl t (rw s))))
 
     too-fast : (f : ℕ) → family ≡ f → among vic (vics f) ≡ true → among pixel depthBytes ≡ true
         → aboveLimit (tmds asked) ≡ not (inNone tooFast (vic ∷ pixel ∷ []))
@@ -339,22 +335,22 @@ module _ (vic family encoding link range pixel edition : ℕ) (sound matrix : Li
     last-two o i true k = rw (offers vic family (h 0) ∙ o, is-inside ∙ ap not i, k)
     last-two o i false k =
         let z : judged b .refusal ≡ 0 = rw (offers vic family (h 0) ∙ o, is-inside ∙ ap not i, k) in
-        let v = both-left (inTheirs videoBytes five) _ i in
+        let v = its-video i in
         let l : eqb (clockOf asked .refusal) 17 ≡ not (inNone tooFast (vic ∷ pixel ∷ [])) = limit-there b z ∙ too-fast family refl o (its-depth v) in
         let n : beyond vic (pixel / 16) (soundOf sound) ≡ full-up =
-        too-much sound s (both-left (inTheirs soundBytes sound) _ (both-right (inTheirs videoBytes five) _ i)) o (its-depth v) in
+        too-much sound s (its-sound i) o (its-depth v) in
         rw (offers vic family (h 0) ∙ o, is-inside ∙ ap not i, k) (ap₂ (λ (t u : Bool). cond t 17 (cond u 20 0)) l n)
 
-    read : readOf input .refusal ≡ answerTo vic family encoding link range pixel edition sound matrix
+    read : readOf input .refusal ≡ answerTo wiring vic family encoding link range pixel edition sound matrix
     unfolding judged
     read = ap (λ (c : Checked). c .refusal) read-judged ∙ go (among vic (vics family)) refl inside refl
       where
         go : (a : Bool) → among vic (vics family) ≡ a → (i : Bool) → inside ≡ i → limited (judged b) .refusal
             ≡ cond (not a) 4 (cond (not i) 5
-            (cond (inNone together (five ++ (length sound ∷ length matrix ∷ []))) 6 (cond (not (inNone tooFast (vic ∷ pixel ∷ []))) 17 (cond full-up 20 0))))
+            (cond alone 6 (cond (not (inNone tooFast (vic ∷ pixel ∷ []))) 17 (cond full-up 20 0))))
         go false o i e = rw (offers vic family (h 0) ∙ o)
         go true o false e = rw (offers vic family (h 0) ∙ o, is-inside ∙ ap not e)
-        go true o true e = last-two o e (inNone together (five ++ (length sound ∷ length matrix ∷ []))) (goes-together (both-left (inTheirs videoBytes five) _ e))
+        go true o true e = last-two o e alone (goes-together e)
 
     -- none is given: the VIC, every byte, and the clock
     none : (a b c d e : Bool) → _≡_ {A = ℕ} (cond (not a) 4 (cond (not b) 5 (cond c 6 (cond d 17 (cond e 20 0))))) 0 → (a ≡ true) × (b ≡ true) × (d ≡ false)
@@ -365,11 +361,10 @@ module _ (vic family encoding link range pixel edition : ℕ) (sound matrix : Li
     none true true false false true z = absurd (omega arith)
     none true true false false false z = (refl, refl, refl)
 
-    module _ (z : answerTo vic family encoding link range pixel edition sound matrix ≡ 0) where
+    module _ (z : answerTo wiring vic family encoding link range pixel edition sound matrix ≡ 0) where
       abbrev permitted : (among vic (vics family) ≡ true) × (inside ≡ true) × (not (inNone tooFast (vic ∷ pixel ∷ [])) ≡ false)
       permitted =
-          none (among vic (vics family)) inside (inNone together (five ++ (length sound ∷ length matrix ∷ [])))
-          (not (inNone tooFast (vic ∷ pixel ∷ []))) full-up z
+          none (among vic (vics family)) inside alone (not (inNone tooFast (vic ∷ pixel ∷ []))) full-up z
 
       request : readOf input .request ≡ requestIn b
       request =
@@ -404,7 +399,7 @@ module _ (vic family encoding link range pixel edition : ℕ) (sound matrix : Li
       sound-pair (r ∷ []) t i = absurd (false≢true t)
       sound-pair (r ∷ c ∷ []) t i = absurd (false≢true t)
       sound-pair (r ∷ c ∷ k ∷ []) t i =
-          let d : among pixel depthBytes ≡ true = its-depth (both-left (inTheirs videoBytes five) _ (permitted .1)) in
+          let d : among pixel depthBytes ≡ true = its-depth (its-video (permitted .1)) in
           let more = both-right (among r (0 ∷ 1 ∷ 2 ∷ 3 ∷ 4 ∷ 5 ∷ 6 ∷ [])) _ i in
           pair-of family r k refl
           (rw (permitted .0, d, both-left (among r (0 ∷ 1 ∷ 2 ∷ 3 ∷ 4 ∷ 5 ∷ 6 ∷ [])) _ i, both-left (among k (0 ∷ 1 ∷ [])) _ (both-right (among c (2 ∷ 8 ∷ [])) _ more)))
@@ -412,15 +407,18 @@ module _ (vic family encoding link range pixel edition : ℕ) (sound matrix : Li
           let n : ℕ = length (r ∷ c ∷ k ∷ x ∷ more) in
           absurd (false≢true (rw (ne-eqb n 0 (omega arith), ne-eqb n 3 (omega arith)) at t))
 
-      pair : nctsOf input .refusal ≡ pairTo vic family encoding link range pixel edition sound matrix
+      pair : nctsOf input .refusal ≡ pairTo wiring vic family encoding link range pixel edition sound matrix
       unfolding nctsOf
-      pair = rw (read ∙ z, request) (sound-pair sound s (both-left (inTheirs soundBytes sound) _ (both-right (inTheirs videoBytes five) _ (permitted .1))))
+      pair = rw (read ∙ z, request) (sound-pair sound s (its-sound (permitted .1)))
 
-    answers : Answers vic family encoding link range pixel edition sound matrix
+    answers : Answers wiring vic family encoding link range pixel edition sound matrix
     answers =
         record {
           read = read;
           pair = pair;
+          board = λ z e. ap (λ (r : Request). r .wiring) (request z) ∙ rw (eq-eqb (length wiring) 0 e);
+          four = λ z e. ap (λ (r : Request). r .wiring) (request z) ∙ rw (ne-eqb (length wiring) 0 (omega arith), ne-eqb (length wiring) 12 (omega arith));
+          twelve = λ z e. ap (λ (r : Request). r .wiring) (request z) ∙ rw (ne-eqb (length wiring) 0 (omega arith), eq-eqb (length wiring) 12 e);
           video = λ z. ap (λ (r : Request). r .video) (request z);
           silent = λ z e. ap (λ (r : Request). r .sound) (request z) ∙ rw (eq-eqb (length sound) 0 e);
           sounding = λ z e. ap (λ (r : Request). r .sound) (request z) ∙ rw (ne-eqb (length sound) 0 (omega arith));
@@ -429,7 +427,7 @@ module _ (vic family encoding link range pixel edition : ℕ) (sound matrix : Li
 -- ---- the counts
 
 module _ (bodies : List (List ℕ)) (n : ℕ) (rest : List ℕ) where
-  not-counted : length bodies < 3 → fits (take (length bodies) sections) bodies ≡ true → among n (getD sections (length bodies) []) ≡ false
+  not-counted : length bodies < 4 → fits (take (length bodies) sections) bodies ≡ true → among n (getD sections (length bodies) []) ≡ false
       → readOf (laid bodies (n ∷ rest)) .refusal ≡ 2
   unfolding readOf walked
   not-counted l f a =
@@ -439,7 +437,7 @@ module _ (bodies : List (List ℕ)) (n : ℕ) (rest : List ℕ) where
 -- ---- an input that ends early, or goes on
 
 module _ (bodies : List (List ℕ)) (left : List ℕ) where
-  ended : length bodies < 3 → fits (take (length bodies) sections) bodies ≡ true
+  ended : length bodies < 4 → fits (take (length bodies) sections) bodies ≡ true
       → (length left ≡ 0) ⊎ ((among (getD left 0 0) (getD sections (length bodies) []) ≡ true) × (length left ≤ getD left 0 0))
       → readOf (laid bodies left) .refusal ≡ 1
   unfolding readOf walked
@@ -451,20 +449,31 @@ module _ (bodies : List (List ℕ)) (left : List ℕ) where
   unfolding readOf walked
   goes-on f e = ap (λ (w : Walk). limited (checked w) .refusal) (walks sections (laid bodies left) .whole bodies left .1 (f, refl)) ∙ rw (ne-eqb (length left) 0 e)
 
+-- 4 and 12 are among the counts of a wiring
+allows-it : (n : ℕ) → among n (4 ∷ 12 ∷ []) ≡ true → among n (0 ∷ 4 ∷ 12 ∷ []) ≡ true
+allows-it n a = go (eqb n 0)
+  where
+    go : (b : Bool) → (b || among n (4 ∷ 12 ∷ [])) ≡ true
+    go true = refl
+    go false = a
+
 pub each-byte : EachByte
 each-byte =
     record {
       bytes = answers;
-      videoCount = λ n rest h. not-counted [] n rest (omega arith) refl (rw (ne-eqb n 7 h));
-      soundCount = λ video n rest v a. rw (← v) (not-counted (video ∷ []) n rest (omega arith) (rw v) a);
-      matrixCount = λ video sound n rest v s a. rw (← v) (not-counted (video ∷ sound ∷ []) n rest (omega arith) (rw (v, s)) a);
-      noVideo = ended [] [] (omega arith) refl (inl refl);
-      inVideo = λ rest h. ended [] (7 ∷ rest) (omega arith) refl (inr (refl, omega arith));
-      noSound = λ video v. rw (append-nil video, v) at (ended (video ∷ []) [] (omega arith) (rw v) (inl refl));
-      inSound = λ video rest v h. rw (← v) (ended (video ∷ []) (3 ∷ rest) (omega arith) (rw v) (inr (refl, omega arith)));
-      noMatrix = λ video sound v s.
-          rw (append-nil sound, v) at (ended (video ∷ sound ∷ []) [] (omega arith) (rw (v, s)) (inl refl));
-      inMatrix = λ video sound rest v s h. rw (← v) (ended (video ∷ sound ∷ []) (25 ∷ rest) (omega arith) (rw (v, s)) (inr (refl, omega arith)));
-      after = λ video sound matrix byte rest v s m.
-          rw (← v) (goes-on (video ∷ sound ∷ matrix ∷ []) (byte ∷ rest) (rw (v, s, m)) (λ e. omega arith));
+      wiringCount = λ n rest a. not-counted [] n rest (omega arith) refl a;
+      videoCount = λ wiring n rest w h. not-counted (wiring ∷ []) n rest (omega arith) (rw w) (rw (ne-eqb n 7 h));
+      soundCount = λ wiring video n rest w v a. not-counted (wiring ∷ video ∷ []) n rest (omega arith) (rw (w, v)) a;
+      matrixCount = λ wiring video sound n rest w v s a. not-counted (wiring ∷ video ∷ sound ∷ []) n rest (omega arith) (rw (w, v, s)) a;
+      noWiring = ended [] [] (omega arith) refl (inl refl);
+      inWiring = λ n rest a h. ended [] (n ∷ rest) (omega arith) refl (inr (allows-it n a, omega arith));
+      noVideo = λ wiring w. ended (wiring ∷ []) [] (omega arith) (rw w) (inl refl);
+      inVideo = λ wiring rest w h. ended (wiring ∷ []) (7 ∷ rest) (omega arith) (rw w) (inr (refl, omega arith));
+      noSound = λ wiring video w v. ended (wiring ∷ video ∷ []) [] (omega arith) (rw (w, v)) (inl refl);
+      inSound = λ wiring video rest w v h. ended (wiring ∷ video ∷ []) (3 ∷ rest) (omega arith) (rw (w, v)) (inr (refl, omega arith));
+      noMatrix = λ wiring video sound w v s. ended (wiring ∷ video ∷ sound ∷ []) [] (omega arith) (rw (w, v, s)) (inl refl);
+      inMatrix = λ wiring video sound rest w v s h.
+          ended (wiring ∷ video ∷ sound ∷ []) (25 ∷ rest) (omega arith) (rw (w, v, s)) (inr (refl, omega arith));
+      after = λ wiring video sound matrix byte rest w v s m.
+          goes-on (wiring ∷ video ∷ sound ∷ matrix ∷ []) (byte ∷ rest) (rw (w, v, s, m)) (λ e. omega arith);
     }

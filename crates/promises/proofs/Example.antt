@@ -6,6 +6,8 @@ use Prim.Native.Nat.{ℕ}
 use lib.Dec.{eqb}
 use lib.ListN.{length}
 use Rattle.ratio.specs.Terms.{euclid, divisorOf}
+use Rattle.wiring.specs.Kinds.{kindOf}
+use Rattle.wiring.specs.Tests.{wiringOutside}
 use Rattle.video.specs.Modes.{modeOf}
 use Rattle.video.specs.Tests.{shownOutside, videoOutside, shownCombined, videoCombined}
 use Rattle.clock.specs.Clocks.{tmds}
@@ -21,11 +23,11 @@ use Rattle.promises.specs.Example.{IsAccepted, Example}
 use Rattle.promises.proofs.AnyCut.{accepted}
 
 read : readOf example .refusal ≡ 0
-unfolding euclid divisorOf walk walked videoOutside shownOutside videoCombined shownCombined outside combined judged readOf modeOf tmds clockOf highestOf beyond
+unfolding euclid divisorOf walk walked kindOf wiringOutside videoOutside shownOutside videoCombined shownCombined outside combined judged readOf modeOf tmds clockOf highestOf beyond
 read = refl
 
 paired : eqb (pairFor (readOf example .request) .refusal) 0 ≡ true
-unfolding euclid divisorOf modeOf tmds clockOf highestOf beyond reference recommendedOf nearestK nearestIn nearestOf exactly coherentOf pairOf walk walked videoOutside shownOutside videoCombined shownCombined outside combined judged readOf pairFor
+unfolding euclid divisorOf modeOf tmds clockOf highestOf beyond reference recommendedOf nearestK nearestIn nearestOf exactly coherentOf pairOf walk walked kindOf wiringOutside videoOutside shownOutside videoCombined shownCombined outside combined judged readOf pairFor
 paired = refl
 
 on : (image : List ℕ) → length image ≡ 256 → ready image ≡ true → IsAccepted image

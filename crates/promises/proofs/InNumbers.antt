@@ -8,6 +8,8 @@ use lib.IntN.{ℤ}
 use lib.Signed.{shrZ}
 use lib.ListN.{getD}
 use Rattle.ratio.specs.Terms.{euclid, divisorOf}
+use Rattle.wiring.specs.Kinds.{kindOf}
+use Rattle.wiring.specs.Tests.{wiringOutside}
 use Rattle.video.specs.Modes.{modeOf}
 use Rattle.video.specs.Tests.{videoOutside, shownOutside, videoCombined, shownCombined}
 use Rattle.clock.specs.Clocks.{tmds}
@@ -68,7 +70,7 @@ calls =
     }
 
 pairs : PairsInNumbers
-unfolding flatMap euclid divisorOf modeOf tmds clockOf highestOf beyond reference recommendedOf nearestK nearestIn nearestOf exactly coherentOf pairOf total aviFrame aviOf audioFrame audioOf audioOffFrame fields inRange isAllowed walk walked videoOutside shownOutside videoCombined shownCombined outside combined judged readOf pairFor nctsOf lineOf digits acceptedText refusedText
+unfolding flatMap euclid divisorOf modeOf tmds clockOf highestOf beyond reference recommendedOf nearestK nearestIn nearestOf exactly coherentOf pairOf total aviFrame aviOf audioFrame audioOf audioOffFrame fields inRange isAllowed walk walked kindOf wiringOutside videoOutside shownOutside videoCombined shownCombined outside combined judged readOf pairFor nctsOf lineOf digits acceptedText refusedText
 pairs =
     record {
       coherent = refl;
@@ -116,7 +118,7 @@ module _ (body : List ℕ) (a b c : ℕ) (h : Bytes body) (z : previewOf body a 
       }
 
 converts : Converts
-unfolding fields inRange isAllowed codeOf previewOf walk walked videoOutside shownOutside videoCombined shownCombined outside combined judged readOf modeOf tmds divisorOf euclid
+unfolding fields inRange isAllowed codeOf previewOf walk walked kindOf wiringOutside videoOutside shownOutside videoCombined shownCombined outside combined judged readOf modeOf tmds divisorOf euclid
 converts =
     record {
       a = λ body a b c h z. rw (taken body a b c h z .1) (rounds body a b c h z 0 (omega arith));
@@ -130,7 +132,7 @@ converts =
     }
 
 lengths : LengthsInNumbers
-unfolding flatMap euclid divisorOf modeOf tmds clockOf highestOf beyond reference recommendedOf nearestK nearestIn nearestOf exactly coherentOf pairOf fields inRange isAllowed codeOf previewOf walk walked videoOutside shownOutside videoCombined shownCombined outside combined judged readOf pairFor laterRefusal planWith planOf lentRefusal viewRefusal muteOf matrixRefusal matrixAnswer enterOf turnOf writeOf refuses vetRefusal vetOf asBytes extract matrixInRange allowedOf standsIn someEnds decodeRefusal decodeOf
+unfolding flatMap euclid divisorOf modeOf tmds clockOf highestOf beyond reference recommendedOf nearestK nearestIn nearestOf exactly coherentOf pairOf fields inRange isAllowed codeOf previewOf walk walked kindOf wiringOutside videoOutside shownOutside videoCombined shownCombined outside combined judged readOf pairFor laterRefusal planWith planOf lentRefusal viewRefusal muteOf matrixRefusal matrixAnswer enterOf turnOf writeOf refuses vetRefusal vetOf asBytes extract matrixInRange allowedOf standsIn someEnds decodeRefusal decodeOf
 lengths =
     record {
       planImage = refl;
@@ -151,11 +153,11 @@ lengths =
     }
 
 lists : ListsInNumbers
-unfolding flatMap euclid divisorOf modeOf tmds clockOf highestOf beyond reference recommendedOf nearestK nearestIn nearestOf exactly coherentOf pairOf total aviFrame audioFrame audioOffFrame fields inRange isAllowed walk walked videoOutside shownOutside videoCombined shownCombined outside combined judged readOf pairFor merge classAt decided byte written middle isWritten finished column flat alreadyThere wanted laterRefusal planWith bufferWith planOf planBuffer
+unfolding flatMap euclid divisorOf modeOf tmds clockOf highestOf beyond reference recommendedOf nearestK nearestIn nearestOf exactly coherentOf pairOf total aviFrame audioFrame audioOffFrame fields inRange isAllowed walk walked kindOf wiringOutside videoOutside shownOutside videoCombined shownCombined outside combined judged readOf pairFor merge classAt decided byte written middle isWritten finished column flat alreadyThere wanted laterRefusal planWith bufferWith planOf planBuffer
 lists = record { onZeros = (refl, refl); onOnes = (refl, refl) }
 
 landed : Landed
-unfolding flatMap euclid divisorOf modeOf tmds clockOf highestOf beyond reference recommendedOf nearestK nearestIn nearestOf exactly coherentOf pairOf total aviFrame audioFrame audioOffFrame fields inRange isAllowed walk walked videoOutside shownOutside videoCombined shownCombined outside combined judged readOf pairFor merge classAt decided byte written middle isWritten finished column flat alreadyThere wanted laterRefusal planWith bufferWith planOf planBuffer
+unfolding flatMap euclid divisorOf modeOf tmds clockOf highestOf beyond reference recommendedOf nearestK nearestIn nearestOf exactly coherentOf pairOf total aviFrame audioFrame audioOffFrame fields inRange isAllowed walk walked kindOf wiringOutside videoOutside shownOutside videoCombined shownCombined outside combined judged readOf pairFor merge classAt decided byte written middle isWritten finished column flat alreadyThere wanted laterRefusal planWith bufferWith planOf planBuffer
 landed = refl
 
 pub in-numbers : InNumbers

@@ -1,4 +1,6 @@
 pub mod Cases
+pub mod Choices
+pub mod Wired
 pub mod EachByte
 pub mod InNumbers
 pub mod Ended

@@ -1,6 +1,6 @@
 -- The bytes of a meter's matrix in a request, and in the preview: any matrix section that is allowed is taken. Assumes nothing.
 use mathlib.Core.Path.{_≡_, refl, sym, ap, _∙_, subst}
-use mathlib.Core.Bool.{Bool, true, false, not, _&&_, _||_}
+use mathlib.Core.Bool.{Bool, true, false, _&&_, _||_}
 use mathlib.Core.List.{List, _∷_}
 use Prim.Native.Nat.{ℕ, _≤_}
 use lib.Dec.{eqb}
@@ -9,6 +9,9 @@ use borrow.Author.Tests.{le-ltb, le-leb}
 use Rattle.lists.proofs.Both.{neither-left, neither-right}
 use Rattle.refusals.specs.Tests.{lowest}
 use Rattle.refusals.proofs.Tests.{numbered}
+use Rattle.wiring.specs.Kinds.{rgbIn}
+use Rattle.wiring.specs.Wiring.{wiresOf}
+use Rattle.wiring.specs.Tests.{wiringOutside}
 use Rattle.video.specs.Tests.{videoOutside}
 use Rattle.matrix.specs.declared.Matrix.{Matrix}
 use Rattle.matrix.specs.Coefficient.{coefficientBytes}
@@ -21,7 +24,8 @@ use Rattle.meter.proofs.Rule.{laid-matrix}
 use Rattle.sound.specs.Tests.{soundOutside}
 use Rattle.request.specs.declared.Request.{Request}
 use Rattle.request.specs.declared.Checked.{Checked}
-use Rattle.request.specs.Read.{readOf, allowedOf}
+use Rattle.request.specs.Request.{rgbOut}
+use Rattle.request.specs.Read.{convertsIn, readOf, allowedOf}
 use Rattle.request.specs.Bytes.{matrixBody, asBytes}
 use Rattle.request.specs.ThereAndBack.{Shaped}
 use Rattle.request.specs.Hand.{Says}
@@ -30,20 +34,22 @@ use Rattle.promises.specs.Metered.{bytesWith, askedWith, FromMeter}
 
 -- a whole matrix in place of a request's own
 put : Matrix → Request → Request
-put m r = record { video = r .video; sound = r .sound; matrix = m }
+put m r = record { wiring = r .wiring; video = r .video; sound = r .sound; matrix = m }
 
 -- no row refuses it that does not refuse the request
 another : (r : Request) (m : Matrix) → Whole m → allowedOf r ≡ 0 → allowedOf (put m r) ≡ 0
 unfolding put
 another r m w z =
     let p = passed r z in
+    let x : Bool = wiringOutside (r .wiring) in
     let v : Bool = videoOutside (r .video) in
-    let c : Bool = not (eqb (r .video .encoding) 0) in
-    let o = neither-left v _ (p .inside) in
-    let s = neither-left (soundOutside (r .sound)) _ (neither-right v _ (p .inside)) in
+    let c : Bool = convertsIn (rgbIn (wiresOf (r .wiring) .input)) (rgbOut (r .video)) in
+    let u = neither-left x _ (p .inside) in
+    let o = neither-left v _ (neither-right x _ (p .inside)) in
+    let s = neither-left (soundOutside (r .sound)) _ (neither-right v _ (neither-right x _ (p .inside))) in
     passing (put m r) (record {
       mode = p .mode;
-      inside = rw (o, s, by-mode m (w .on) (w .each), le-leb (m .mode) 2 (w .mode));
+      inside = rw (u, o, s, by-mode m (w .on) (w .each), le-leb (m .mode) 2 (w .mode));
       apart = rw (w .on) (last c (neither-right (c && eqb (r .matrix .on) 0) _ (p .apart)));
       within = p .within;
       room = p .room;

@@ -3,6 +3,8 @@ use mathlib.Core.Path.{refl}
 use Rattle.bits.specs.Merge.{merge}
 use Rattle.registers.specs.Classes.{classAt}
 use Rattle.matrix.specs.Matrix.{fields}
+use Rattle.wiring.specs.Kinds.{kindOf}
+use Rattle.wiring.specs.Tests.{wiringOutside}
 use Rattle.video.specs.Modes.{modeOf}
 use Rattle.video.specs.Tests.{videoOutside, videoCombined}
 use Rattle.matrix.specs.Tests.{matrixInRange}
@@ -17,5 +19,5 @@ use Rattle.vendor.specs.Found.{isBetween, isTurned, vetRefusal, vetOf}
 use Rattle.promises.specs.VendorCases.{VendorCases}
 
 pub vendor-cases : VendorCases
-unfolding merge classAt fields modeOf videoOutside videoCombined matrixInRange allowedOf inUse coefficients gcInUse put stored refuses writeOf vsyncOf isWritten extract standsIn someEnds isBetween isTurned vetRefusal vetOf
+unfolding merge classAt fields modeOf kindOf wiringOutside videoOutside videoCombined matrixInRange allowedOf inUse coefficients gcInUse put stored refuses writeOf vsyncOf isWritten extract standsIn someEnds isBetween isTurned vetRefusal vetOf
 vendor-cases = refl

@@ -1,6 +1,6 @@
 -- Document 01, "Marked cases, proved together as one table", the worked example of "What the station's library does", and the lengths that
 -- "The request" says in numbers; with request 01 in: "Count 4 is no longer allowed, cases and example follow"; those of requests 06, 10
--- and 11, and two of request 09. What each byte of a request is answered stands in `EachByte`, other numbers in `InNumbers`.
+-- and 11, and two of request 09. Each has a wiring section of request 02 in front, that of today's board. What each byte of a request is answered stands in `EachByte`, other numbers in `InNumbers`.
 use mathlib.Core.Path.{_≡_}
 use mathlib.Core.Bool.{true, false, cond}
 use mathlib.Core.List.{List, [], _∷_, map}
@@ -53,13 +53,9 @@ deepRgb vic family pixel = videoIn (vic ∷ family ∷ 0 ∷ 1 ∷ 0 ∷ pixel �
 abbrev pub rgbOverHdmi : ℕ → ℕ → Video
 rgbOverHdmi vic family = deepRgb vic family 0x00
 
--- a request for VIC 16, family 0, without sound or matrix: the encoding, the link and the depth byte
-abbrev pub asked16 : ℕ → ℕ → ℕ → List ℕ
-asked16 encoding link pixel = 0x07 ∷ 0x10 ∷ 0x00 ∷ encoding ∷ link ∷ 0x00 ∷ pixel ∷ 0x00 ∷ 0x00 ∷ 0x00 ∷ []
-
--- the same with an edition byte
-abbrev pub withEdition : ℕ → List ℕ → List ℕ
-withEdition edition input = set input 7 edition
+-- a request for VIC 16, family 0, without sound or matrix: the encoding, the link, the depth byte and the edition byte
+abbrev pub asked16 : ℕ → ℕ → ℕ → ℕ → List ℕ
+asked16 encoding link pixel edition = 0x00 ∷ 0x07 ∷ 0x10 ∷ 0x00 ∷ encoding ∷ link ∷ 0x00 ∷ pixel ∷ edition ∷ 0x00 ∷ 0x00 ∷ []
 
 -- what is answered for each: D, and E with any of its bits; E's bits under D; the others
 abbrev pub editionRefusal : ℕ → ℕ
@@ -67,12 +63,12 @@ editionRefusal edition = cond (among edition editionBytes) 0 (cond (among editio
 
 -- the image that it ends in, from zeros
 abbrev pub done16 : ℕ → List ℕ
-done16 edition = finishedImage (asked (withEdition edition (asked16 0 1 0x00))) zeros
+done16 edition = finishedImage (asked (asked16 0 1 0x00 edition)) zeros
 
 -- VIC, depth byte and rate, with eight channels: RGB over HDMI
 abbrev pub eight : ℕ → ℕ → ℕ → List ℕ
 eight vic pixel rate =
-    0x07 ∷ vic ∷ 0x00 ∷ 0x00 ∷ 0x01 ∷ 0x00 ∷ pixel ∷ 0x00 ∷ 0x03 ∷ rate ∷ 0x08 ∷ 0x00 ∷ 0x00 ∷ []
+    0x00 ∷ 0x07 ∷ vic ∷ 0x00 ∷ 0x00 ∷ 0x01 ∷ 0x00 ∷ pixel ∷ 0x00 ∷ 0x03 ∷ rate ∷ 0x08 ∷ 0x00 ∷ 0x00 ∷ []
 
 -- a clock of so many Hz
 abbrev hertz : ℕ → Clock
@@ -82,22 +78,22 @@ pub record MarkedCases : Type 0 where
   -- "the whole output is `accepted vic 16 n 6144 cts 148500 ..`", with the AVI checksum of case 10
   pub line : lineText example ≡ ascii "accepted vic 16 n 6144 cts 148500 avi 23 audio 70\n"
   -- and in full range
-  pub lineFull : lineText (set example 5 1) ≡ ascii "accepted vic 16 n 6144 cts 148500 avi 1f audio 70\n"
+  pub lineFull : lineText (set example 6 1) ≡ ascii "accepted vic 16 n 6144 cts 148500 avi 1f audio 70\n"
   -- "and for an empty input `refused 1`"
   pub empty : lineText [] ≡ ascii "refused 1\n"
-  -- 1. The first count alone: refused 1
-  pub case1 : readOf (0x07 ∷ []) .refusal ≡ 1
+  -- 1. The video section's count alone: refused 1
+  pub case1 : readOf (0x00 ∷ 0x07 ∷ []) .refusal ≡ 1
   -- 2. A count that is not allowed: refused 2; request 01: "Count 4 is no longer allowed"; nor are 5 and 6 now
-  pub case2 : readOf (0x05 ∷ 0x10 ∷ 0x00 ∷ 0x00 ∷ 0x01 ∷ []) .refusal ≡ 2
-  pub case2Four : readOf (0x04 ∷ 0x10 ∷ 0x00 ∷ 0x00 ∷ 0x01 ∷ []) .refusal ≡ 2
-  pub case2Six : readOf (0x06 ∷ 0x10 ∷ 0x00 ∷ 0x00 ∷ 0x01 ∷ 0x00 ∷ 0x00 ∷ 0x00 ∷ 0x00 ∷ []) .refusal ≡ 2
+  pub case2 : readOf (0x00 ∷ 0x05 ∷ 0x10 ∷ 0x00 ∷ 0x00 ∷ 0x01 ∷ []) .refusal ≡ 2
+  pub case2Four : readOf (0x00 ∷ 0x04 ∷ 0x10 ∷ 0x00 ∷ 0x00 ∷ 0x01 ∷ []) .refusal ≡ 2
+  pub case2Six : readOf (0x00 ∷ 0x06 ∷ 0x10 ∷ 0x00 ∷ 0x00 ∷ 0x01 ∷ 0x00 ∷ 0x00 ∷ 0x00 ∷ 0x00 ∷ []) .refusal ≡ 2
   -- 3. One byte too many: refused 3
-  pub case3 : readOf (0x07 ∷ 0x10 ∷ 0x00 ∷ 0x00 ∷ 0x01 ∷ 0x00 ∷ 0x00 ∷ 0x00 ∷ 0x00 ∷ 0x00 ∷ 0x00 ∷ []) .refusal ≡ 3
+  pub case3 : readOf (0x00 ∷ 0x07 ∷ 0x10 ∷ 0x00 ∷ 0x00 ∷ 0x01 ∷ 0x00 ∷ 0x00 ∷ 0x00 ∷ 0x00 ∷ 0x00 ∷ 0x00 ∷ []) .refusal ≡ 3
   -- 4. VIC 19, family 1: refused 4
   pub case4 : (clockOf (rgbOverHdmi 19 1) .refusal ≡ 4)
-      × (readOf (0x07 ∷ 19 ∷ 1 ∷ 0x00 ∷ 0x01 ∷ 0x00 ∷ 0x00 ∷ 0x00 ∷ 0x00 ∷ 0x00 ∷ []) .refusal ≡ 4)
+      × (readOf (0x00 ∷ 0x07 ∷ 19 ∷ 1 ∷ 0x00 ∷ 0x01 ∷ 0x00 ∷ 0x00 ∷ 0x00 ∷ 0x00 ∷ 0x00 ∷ []) .refusal ≡ 4)
   -- 5. YCbCr 4:2:2 without a matrix: refused 6
-  pub case5 : readOf (0x07 ∷ 0x10 ∷ 0x00 ∷ 0x01 ∷ 0x01 ∷ 0x00 ∷ 0x00 ∷ 0x00 ∷ 0x00 ∷ 0x00 ∷ []) .refusal ≡ 6
+  pub case5 : readOf (0x00 ∷ 0x07 ∷ 0x10 ∷ 0x00 ∷ 0x01 ∷ 0x01 ∷ 0x00 ∷ 0x00 ∷ 0x00 ∷ 0x00 ∷ 0x00 ∷ []) .refusal ≡ 6
   -- 6. VIC 16, family 0, 48 kHz, coherent (so are 7 and 8): 6144, 148500. (Rates 0, 1, 2 are 32, 44.1 and 48 kHz.)
   pub case6 : pairOf (rgbOverHdmi 16 0) 2 1 ≡ thePair 6144 148500
   -- 7. VIC 60, family 0, 44.1 kHz: 5488, 57750
@@ -124,9 +120,9 @@ pub record MarkedCases : Type 0 where
   pub rangesAvi : aviOf (videoIn (0x10 ∷ 0x00 ∷ 0x00 ∷ 0x01 ∷ 0x02 ∷ 0x00 ∷ 0x00 ∷ [])) .refusal ≡ 5
   pub fullWithYCbCrAvi : aviOf (videoIn (0x10 ∷ 0x00 ∷ 0x02 ∷ 0x01 ∷ 0x01 ∷ 0x00 ∷ 0x00 ∷ [])) .refusal ≡ 6
   -- full range over DVI and with VIC 1, with Q 2
-  pub fullOverDvi : lineText (0x07 ∷ 0x10 ∷ 0x00 ∷ 0x00 ∷ 0x00 ∷ 0x01 ∷ 0x00 ∷ 0x00 ∷ 0x00 ∷ 0x00 ∷ [])
+  pub fullOverDvi : lineText (0x00 ∷ 0x07 ∷ 0x10 ∷ 0x00 ∷ 0x00 ∷ 0x00 ∷ 0x01 ∷ 0x00 ∷ 0x00 ∷ 0x00 ∷ 0x00 ∷ [])
       ≡ ascii "accepted vic 16 n 6144 cts 0 avi 1f audio 71\n"
-  pub fullWithVic1 : lineText (0x07 ∷ 0x01 ∷ 0x00 ∷ 0x00 ∷ 0x01 ∷ 0x01 ∷ 0x00 ∷ 0x00 ∷ 0x00 ∷ 0x00 ∷ [])
+  pub fullWithVic1 : lineText (0x00 ∷ 0x07 ∷ 0x01 ∷ 0x00 ∷ 0x00 ∷ 0x01 ∷ 0x01 ∷ 0x00 ∷ 0x00 ∷ 0x00 ∷ 0x00 ∷ [])
       ≡ ascii "accepted vic 1 n 6144 cts 0 avi 3e audio 71\n"
   -- request 06: every depth and every repetition, "under the same fraction": the clocks of VIC 1
   pub factors : map (λ pixel. clockOf (deepRgb 1 0 pixel)) (0x00 ∷ 0x01 ∷ 0x02 ∷ 0x10 ∷ 0x11 ∷ 0x12 ∷ 0x20 ∷ 0x21 ∷ 0x22 ∷ [])
@@ -144,8 +140,8 @@ pub record MarkedCases : Type 0 where
   pub twice : (clockOf (deepRgb 16 0 0x10) .refusal ≡ 17) × (pairOf (deepRgb 16 0 0x10) 2 1 .refusal ≡ 17)
   pub limits : (aboveLimit (hertz 225000000) ≡ false) × (aboveLimit (hertz 225000001) ≡ true)
   -- "after 6 and before 7": with no image at all; and where DVI has 30 bits too
-  pub beforeSeven : planOf (asked16 0 1 0x10) [] [] .refusal ≡ 17
-  pub afterSix : planOf (asked16 0 0 0x11) [] [] .refusal ≡ 6
+  pub beforeSeven : planOf (asked16 0 1 0x10 0x00) [] [] .refusal ≡ 17
+  pub afterSix : planOf (asked16 0 0 0x11 0x00) [] [] .refusal ≡ 6
   -- VIC 4, family 1, 30 bits, coherent: refused 9 at every rate
   pub nineDeep : every (λ rate. eqb (pairOf (deepRgb 4 1 0x01) rate 1 .refusal) 9) (0 ∷ 1 ∷ 2 ∷ 3 ∷ 4 ∷ 5 ∷ 6 ∷ []) ≡ true
   -- "Family is answered as 0", and that may be refused 9 where family 1 is accepted: VIC 2, 30 bits, 32 kHz, coherent
@@ -155,10 +151,10 @@ pub record MarkedCases : Type 0 where
   pub depthsAlone : (clockOf (deepRgb 16 0 0x03) .refusal ≡ 5) × (clockOf (deepRgb 16 0 0x30) .refusal ≡ 5) × (aviOf (deepRgb 16 0 0x30) .refusal ≡ 5)
   pub rates : pairOf (deepRgb 16 0 0x10) 7 1 .refusal ≡ 5
   -- VIC 2 over DVI, four times, shows PR 3
-  pub fourTimes : lineText (0x07 ∷ 0x02 ∷ 0x00 ∷ 0x00 ∷ 0x00 ∷ 0x00 ∷ 0x20 ∷ 0x00 ∷ 0x00 ∷ 0x00 ∷ [])
+  pub fourTimes : lineText (0x00 ∷ 0x07 ∷ 0x02 ∷ 0x00 ∷ 0x00 ∷ 0x00 ∷ 0x00 ∷ 0x20 ∷ 0x00 ∷ 0x00 ∷ 0x00 ∷ [])
       ≡ ascii "accepted vic 2 n 6144 cts 0 avi 3e audio 71\n"
   -- in both halves, VIC 2, family 1, 36 bits, four times, 48 kHz, coherent: 162 MHz
-  pub bothHalves : lineText (0x07 ∷ 0x02 ∷ 0x01 ∷ 0x00 ∷ 0x01 ∷ 0x00 ∷ 0x22 ∷ 0x00 ∷ 0x03 ∷ 0x02 ∷ 0x02 ∷ 0x01 ∷ 0x00 ∷ [])
+  pub bothHalves : lineText (0x00 ∷ 0x07 ∷ 0x02 ∷ 0x01 ∷ 0x00 ∷ 0x01 ∷ 0x00 ∷ 0x22 ∷ 0x00 ∷ 0x03 ∷ 0x02 ∷ 0x02 ∷ 0x01 ∷ 0x00 ∷ [])
       ≡ ascii "accepted vic 2 n 6144 cts 162000 avi 3e audio 70\n"
   -- the AVI call looks neither at the depth nor at the clock
   pub aviAlone : aviOf (deepRgb 16 0 0x13) .refusal ≡ 0
@@ -172,9 +168,9 @@ pub record MarkedCases : Type 0 where
   -- the clock looks at the mode, the family, the depth and the repetition, and at nothing else
   pub clockAlone : (v : Video) → clockOf v ≡ clockOf (videoIn (v .vic ∷ v .family ∷ 0x00 ∷ 0x00 ∷ 0x00 ∷ v .pixel ∷ 0x00 ∷ []))
   -- E, RGB, type 1; E that asks for nothing has D's packet; and with quantisation and type 3
-  pub typeOne : lineText (withEdition 0x11 (asked16 0 1 0x00)) ≡ ascii "accepted vic 16 n 6144 cts 0 avi 13 audio 71\n"
-  pub nothing : lineText (withEdition 0x01 (asked16 0 1 0x00)) ≡ ascii "accepted vic 16 n 6144 cts 0 avi 23 audio 71\n"
-  pub bothAsked : lineText (withEdition 0x35 (asked16 0 1 0x00)) ≡ ascii "accepted vic 16 n 6144 cts 0 avi b3 audio 71\n"
+  pub typeOne : lineText (asked16 0 1 0x00 0x11) ≡ ascii "accepted vic 16 n 6144 cts 0 avi 13 audio 71\n"
+  pub nothing : lineText (asked16 0 1 0x00 0x01) ≡ ascii "accepted vic 16 n 6144 cts 0 avi 23 audio 71\n"
+  pub bothAsked : lineText (asked16 0 1 0x00 0x35) ≡ ascii "accepted vic 16 n 6144 cts 0 avi b3 audio 71\n"
   -- its lists in bare bytes
   pub fewEditions : FewEditions
   -- the two readers, in a packet with the bits that E reserves 1: Y 2, A 1, C 1, M 2, R 9, EC 5, Q 2, VIC 80, PR 9; YQ 2, CN 1; and what is
@@ -184,11 +180,11 @@ pub record MarkedCases : Type 0 where
   pub plain : underD (videoIn (0x02 ∷ 0x01 ∷ 0x00 ∷ 0x01 ∷ 0x01 ∷ 0x22 ∷ 0x35 ∷ []))
       ≡ videoIn (0x02 ∷ 0x01 ∷ 0x00 ∷ 0x01 ∷ 0x01 ∷ 0x22 ∷ 0x00 ∷ [])
   -- the finished image of an E that asks for nothing reads back as D, and that of E with type 1 as it is
-  pub readsAsD : (room : List ℕ) → 38 ≤ length room → Answered (asked16 0 1 0x00) (done16 0x01) room
-  pub readsAsE : (room : List ℕ) → 38 ≤ length room → Answered (withEdition 0x11 (asked16 0 1 0x00)) (done16 0x11) room
+  pub readsAsD : (room : List ℕ) → 51 ≤ length room → Answered (asked16 0 1 0x00 0x00) (done16 0x01) room
+  pub readsAsE : (room : List ℕ) → 51 ≤ length room → Answered (asked16 0 1 0x00 0x11) (done16 0x11) room
   -- request 07: a meter's bytes stand behind the example's sound, and their count, 25, in front of them
-  pub withMeter : bytesWith table39 (readOf (0x07 ∷ 0x10 ∷ 0x00 ∷ 0x00 ∷ 0x01 ∷ 0x00 ∷ 0x00 ∷ 0x00 ∷ 0x03 ∷ 0x02 ∷ 0x02 ∷ 0x01 ∷ 0x00 ∷ []) .request)
-      ≡ 0x07 ∷ 0x10 ∷ 0x00 ∷ 0x00 ∷ 0x01 ∷ 0x00 ∷ 0x00 ∷ 0x00 ∷ 0x03 ∷ 0x02 ∷ 0x02 ∷ 0x01 ∷ 0x19 ∷ table39
+  pub withMeter : bytesWith table39 (readOf (0x00 ∷ 0x07 ∷ 0x10 ∷ 0x00 ∷ 0x00 ∷ 0x01 ∷ 0x00 ∷ 0x00 ∷ 0x00 ∷ 0x03 ∷ 0x02 ∷ 0x02 ∷ 0x01 ∷ 0x00 ∷ []) .request)
+      ≡ 0x00 ∷ 0x07 ∷ 0x10 ∷ 0x00 ∷ 0x00 ∷ 0x01 ∷ 0x00 ∷ 0x00 ∷ 0x00 ∷ 0x03 ∷ 0x02 ∷ 0x02 ∷ 0x01 ∷ 0x19 ∷ table39
   -- request 10, of eight channels: in 480p 48 kHz is accepted and 88.2 kHz is not, and so in VGA and 576p; 192 kHz in 1080i; in 480p with each
   -- pixel twice 176.4 kHz and not 192 kHz
   pub sound : map (λ input. planOf input zeros zeros .refusal)
@@ -207,7 +203,7 @@ pub record MarkedCases : Type 0 where
       (2 ∷ 3 ∷ []) ≡ 0 ∷ 16 ∷ []
   -- request 09
   pub few : Few
-  -- Lengths follow from the counts: document 01 had 7, 10, 32, 35, and each has three bytes more
-  pub lengths : lengths ≡ 10 ∷ 13 ∷ 35 ∷ 38 ∷ []
+  -- Lengths follow from the counts: document 01 had 7, 10, 32, 35, and each has three bytes more in the video section, and a wiring section
+  pub lengths : lengths ≡ 11 ∷ 15 ∷ 23 ∷ 14 ∷ 18 ∷ 26 ∷ 36 ∷ 40 ∷ 48 ∷ 39 ∷ 43 ∷ 51 ∷ []
   -- "the longest request"
-  pub longest : longest ≡ 38
+  pub longest : longest ≡ 51

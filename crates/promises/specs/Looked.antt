@@ -20,8 +20,8 @@ use Rattle.promises.specs.AnyCut.{listOf, AnyCut}
 -- these registers in rows, as the header has them: the first of each row, and how many
 abbrev pub rowsLooked : List (ℕ × ℕ)
 rowsLooked =
-    (0x01, 3) ∷ (0x07, 4) ∷ (0x0C, 1) ∷ (0x15, 2) ∷ (0x18, 24) ∷ (0x3B, 2) ∷ (0x40, 1) ∷ (0x44, 1) ∷ (0x4A, 3) ∷ (0x52, 16) ∷ (0x70, 13) ∷
-    (0x98, 1) ∷ (0x9A, 1) ∷ (0x9C, 2) ∷ (0xA2, 2) ∷ (0xAF, 1) ∷ (0xE0, 1) ∷ (0xF9, 1) ∷ []
+    (0x01, 3) ∷ (0x07, 4) ∷ (0x0C, 1) ∷ (0x15, 2) ∷ (0x18, 29) ∷ (0x3B, 2) ∷ (0x40, 1) ∷ (0x44, 1) ∷ (0x48, 1) ∷ (0x4A, 3) ∷ (0x52, 16) ∷
+    (0x70, 13) ∷ (0x98, 1) ∷ (0x9A, 1) ∷ (0x9C, 2) ∷ (0xA2, 2) ∷ (0xAF, 1) ∷ (0xE0, 1) ∷ (0xF9, 1) ∷ []
 
 abbrev pub inRows : List (ℕ × ℕ) → List ℕ
 inRows [] = []
@@ -42,9 +42,9 @@ pub record AgreeInBits (image other : List ℕ) : Type 0 where
   pub bits : (a j : ℕ) → isWritten a ≡ true → j < 8 → Counts a j → bit j (getD other a 0) ≡ bit j (getD image a 0)
 
 pub record Looked : Type 0 where
-  -- the rows have these registers, and no other: 79
+  -- the rows have these registers, and no other: 85
   pub rows : (a : ℕ) → a < 256 → among a looked ≡ isWritten a
-  pub count : length looked ≡ 79
+  pub count : length looked ≡ 85
   -- planning: the same refusal and the same count, and the same bytes in the buffer
   pub answer : (input image other buffer : List ℕ) → Agree image other → planOf input other buffer ≡ planOf input image buffer
   pub buffer : (input image other buffer : List ℕ) → Agree image other → planBuffer input other buffer ≡ planBuffer input image buffer

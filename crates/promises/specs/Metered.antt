@@ -15,10 +15,10 @@ use Rattle.request.specs.ThereAndBack.{Shaped}
 
 -- a request with a matrix section of these bytes, in place of its own or where it had none: its bytes, and what they say
 abbrev pub bytesWith : List ℕ → Request → List ℕ
-bytesWith body r = laid (inTurn (record { video = bodiesOf r .video; audio = bodiesOf r .audio; matrix = body })) []
+bytesWith body r = laid (inTurn (record { wiring = bodiesOf r .wiring; video = bodiesOf r .video; audio = bodiesOf r .audio; matrix = body })) []
 
 abbrev pub askedWith : List ℕ → Request → Request
-askedWith body r = record { video = r .video; sound = r .sound; matrix = matrixOf body }
+askedWith body r = record { wiring = r .wiring; video = r .video; sound = r .sound; matrix = matrixOf body }
 
 pub record FromMeter (numbers : List Float) (buffer : List ℕ) : Type 0 where
   -- in any request that is accepted, with a matrix or without, they are accepted, and are read as the matrix that they say

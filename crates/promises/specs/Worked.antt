@@ -8,9 +8,9 @@ use Rattle.writes.specs.List.{finishedImage}
 use Rattle.plan.specs.Wanted.{wanted}
 use Rattle.promises.specs.LentBytes.{bytesLeft}
 
--- the bytes `07 10 00 00 01 00 00 00 03 02 02 01 00`
+-- the bytes `00 07 10 00 00 01 00 00 00 03 02 02 01 00`
 abbrev pub example : List ℕ
-example = 0x07 ∷ 0x10 ∷ 0x00 ∷ 0x00 ∷ 0x01 ∷ 0x00 ∷ 0x00 ∷ 0x00 ∷ 0x03 ∷ 0x02 ∷ 0x02 ∷ 0x01 ∷ 0x00 ∷ []
+example = 0x00 ∷ 0x07 ∷ 0x10 ∷ 0x00 ∷ 0x00 ∷ 0x01 ∷ 0x00 ∷ 0x00 ∷ 0x00 ∷ 0x03 ∷ 0x02 ∷ 0x02 ∷ 0x01 ∷ 0x00 ∷ []
 
 abbrev pub zeros : List ℕ
 zeros = replicate 256 0
@@ -31,12 +31,12 @@ exampleList avi others =
 abbrev pub Few : Type 0
 Few =
     (bytesLeft example exampleDone zeros ≡ exampleList [] [])
-    × (bytesLeft (set example 11 0) exampleDone zeros ≡ exampleList [] (0x07 ∷ 0x00 ∷ 0x08 ∷ 0x00 ∷ 0x09 ∷ 0x00 ∷ 0x0A ∷ 0x00 ∷ []))
+    × (bytesLeft (set example 12 0) exampleDone zeros ≡ exampleList [] (0x07 ∷ 0x00 ∷ 0x08 ∷ 0x00 ∷ 0x09 ∷ 0x00 ∷ 0x0A ∷ 0x00 ∷ []))
 
 -- request 06, of VIC 2, silent, at 24 bits and no repetition, on the image that it ends in, where the read-only bits of 0x4C are 1: 30 bits
 -- twice, and 36 bits four times. The checksum and PR change, 0x3B and 0x4C
 abbrev pub vic2 : ℕ → ℕ → List ℕ
-vic2 pixel edition = 0x07 ∷ 0x02 ∷ 0x00 ∷ 0x00 ∷ 0x01 ∷ 0x00 ∷ pixel ∷ edition ∷ 0x00 ∷ 0x00 ∷ []
+vic2 pixel edition = 0x00 ∷ 0x07 ∷ 0x02 ∷ 0x00 ∷ 0x00 ∷ 0x01 ∷ 0x00 ∷ pixel ∷ edition ∷ 0x00 ∷ 0x00 ∷ []
 
 abbrev pub vic2Done : List ℕ
 vic2Done = set (finishedImage (wanted (readOf (vic2 0x00 0x00) .request)) zeros) 0x4C 0xF0

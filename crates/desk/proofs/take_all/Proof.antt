@@ -4,6 +4,7 @@ use mathlib.Core.Bool.{true, false, false≢true, cond}
 use Prim.Native.Nat.{suc, _-_}
 use lib.ListN.{length}
 use borrow.Author.Needs.{needs}
+use Rattle.request.specs.Sections.{longest}
 use Rattle.pipe.specs.Bytes.{countIn}
 use Rattle.desk.specs.Turns.{AllParts}
 use Rattle.desk.proofs.Turned.{Reading, begun, reads-on, stops, fewer}
@@ -14,7 +15,7 @@ abbrev Inv-loop : tie.InvT-loop
 Inv-loop pipe₀ more₀ pipe more = (length pipe ≡ length pipe₀) × (more ≡ true → Reading pipe) × (more ≡ false → AllParts pipe)
 
 abbrev μ-loop : tie.MeasureT-loop
-μ-loop pipe₀ more₀ pipe more = cond more (suc (39 - countIn pipe)) 0
+μ-loop pipe₀ more₀ pipe more = cond more (suc (longest - countIn pipe)) 0
 
 loop-holds : tie.Need-loop-holds Inv-loop μ-loop
 loop-holds c = (refl, (λ _. subst Reading (sym (c .before .pre)) begun), λ e. absurd (false≢true (sym e)))

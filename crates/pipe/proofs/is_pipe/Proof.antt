@@ -2,6 +2,7 @@
 use native.Mathlib.Omega.{arith}
 use borrow.Author.Tests.{eq-eqb, ne-eqb}
 use borrow.Author.Needs.{needs}
+use Rattle.request.specs.Sections.{longest}
 use Rattle.pipe.proofs.is_pipe.Statement.{statement}
 use Rattle.pipe.proofs.is_pipe.Tie as tie
 
@@ -12,7 +13,7 @@ shared-slice-read-result : tie.Need-shared-slice-read-result
 shared-slice-read-result c = search needs
 
 cast-result : tie.Need-cast-result
-cast-result c = omega (arith, c .shared-slice-known .given 38)
+cast-result c = omega (arith, c .shared-slice-known .given longest)
 
 returns-2 : tie.Need-returns-2
 returns-2 c = rw (eq-eqb _ _ (c .before .if1 .left))

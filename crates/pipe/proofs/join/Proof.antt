@@ -3,6 +3,7 @@ use mathlib.Core.Path.{_≡_, sym}
 use native.Mathlib.Omega.{arith}
 use lib.ListN.{length}
 use borrow.Author.Needs.{needs}
+use Rattle.request.specs.Sections.{longest}
 use Rattle.pipe.proofs.Joined.{of-length, open-is, length-so-far, two}
 use Rattle.pipe.proofs.join.Statement.{statement}
 use Rattle.pipe.proofs.join.Tie as tie
@@ -11,7 +12,7 @@ shared-slice-read-count : tie.Need-shared-slice-read-count
 shared-slice-read-count c = let s = c .before .before .before .before in omega (arith, of-length (s .args .pipe .now) (open-is (s .args .pipe .now) (s .pre .0) .0))
 
 cast-count : tie.Need-cast-count
-cast-count c = omega (arith, c .shared-slice-known3 .given 38)
+cast-count c = omega (arith, c .shared-slice-known3 .given longest)
 
 slice-aggregate-put : tie.Need-slice-aggregate-put
 slice-aggregate-put c = let s = c .before .before .before .before .before .before in sym (length-so-far (s .args .pipe .now) (open-is (s .args .pipe .now) (s .pre .0) .0))

@@ -1,6 +1,8 @@
 -- `pipe::pipe_cases`: computed. Assumes nothing.
 use mathlib.Core.Path.{refl}
 use Rattle.ratio.specs.Terms.{euclid, divisorOf}
+use Rattle.wiring.specs.Kinds.{kindOf}
+use Rattle.wiring.specs.Tests.{wiringOutside}
 use Rattle.video.specs.Modes.{modeOf}
 use Rattle.video.specs.Tests.{videoOutside, shownOutside, videoCombined, shownCombined}
 use Rattle.clock.specs.Clocks.{tmds}
@@ -18,7 +20,7 @@ use Rattle.pipe.proofs.pipe_cases.Statement.{statement}
 use Rattle.pipe.proofs.pipe_cases.Tie as tie
 
 cases : PipeCases
-unfolding euclid divisorOf modeOf videoOutside shownOutside videoCombined shownCombined tmds clockOf highestOf beyond reference recommendedOf nearestK nearestIn nearestOf exactly coherentOf pairOf fields inRange isAllowed walk walked outside combined judged readOf pairFor nctsOf takeOf takePipe endPipeOf endPipe
+unfolding euclid divisorOf modeOf kindOf wiringOutside videoOutside shownOutside videoCombined shownCombined tmds clockOf highestOf beyond reference recommendedOf nearestK nearestIn nearestOf exactly coherentOf pairOf fields inRange isAllowed walk walked outside combined judged readOf pairFor nctsOf takeOf takePipe endPipeOf endPipe
 cases = record {
   length = refl;
   zeros = refl;
