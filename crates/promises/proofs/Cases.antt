@@ -101,14 +101,11 @@ bytes (x ∷ l) t zero = ltb-true _ _ (both-left _ (every (λ b. ltb b 256) l) t
 bytes (x ∷ l) t (suc i) = bytes l (both-right (ltb x 256) _ t) i
 
 -- the finished image of an accepted request reads back
-reads : (edition : ℕ) → let input : List ℕ = asked16 0 1 0x00 edition in
-    every (λ b. ltb b 256) input ≡ true → readOf input .refusal ≡ 0 → pairFor (readOf input .request) .refusal ≡ 0
-    → (room : List ℕ) → 51 ≤ length room → Answered (asReadBack input) (done16 edition) room
-reads edition t z y room h =
-    let input : List ℕ = asked16 0 1 0x00 edition in
-    let b : Bytes input = bytes input t in
-    read-back input zeros (done16 edition) .answered
-    (record { bytes = b; read = z; paired = y; sized = image-length (asked input) zeros; registers = image-at (asked input) zeros }) room h
+pub reads-back : (input : List ℕ) → every (λ b. ltb b 256) input ≡ true → readOf input .refusal ≡ 0 → pairFor (readOf input .request) .refusal ≡ 0
+    → (room : List ℕ) → 51 ≤ length room → Answered (asReadBack input) (finishedImage (asked input) zeros) room
+reads-back input t z y room h =
+    read-back input zeros (finishedImage (asked input) zeros) .answered
+    (record { bytes = bytes input t; read = z; paired = y; sized = image-length (asked input) zeros; registers = image-at (asked input) zeros }) room h
 
 pub cases : MarkedCases
 unfolding flatMap euclid divisorOf modeOf tmds clockOf highestOf beyond reference recommendedOf nearestK nearestIn nearestOf exactly coherentOf pairOf total aviFrame aviOf audioFrame audioOf audioOffFrame fields inRange isAllowed codeOf previewOf walk walked kindOf wiringOutside videoOutside shownOutside videoCombined shownCombined outside combined judged readOf pairFor nctsOf lineOf digits acceptedText refusedText planOf
@@ -163,8 +160,8 @@ cases =
       bothAsked = refl;
       fewEditions = few-editions;
       readers = refl;
-      readsAsD = reads 0x01 refl refl refl;
-      readsAsE = reads 0x11 refl refl refl;
+      readsAsD = reads-back (asked16 0 1 0x00 0x01) refl refl refl;
+      readsAsE = reads-back (asked16 0 1 0x00 0x11) refl refl refl;
       withMeter = refl;
       sound = sound;
       soundFirst = refl;

@@ -3,6 +3,7 @@ pub mod Choices
 pub mod Wired
 pub mod EachByte
 pub mod InNumbers
+pub mod WiringCases
 pub mod Ended
 pub mod LentBytes
 pub mod Only

@@ -82,6 +82,13 @@ module _ (image other : List ℕ) (g : Agree image other) where
       rw (
         g .bytes 0x44 refl,
         g .bytes 0x15 refl,
+        g .bytes 0x16 refl,
+        g .bytes 0x30 refl,
+        g .bytes 0x31 refl,
+        g .bytes 0x32 refl,
+        g .bytes 0x33 refl,
+        g .bytes 0x34 refl,
+        g .bytes 0x48 refl,
         g .bytes 0x73 refl,
         g .bytes 0x0A refl,
         g .bytes 0x18 refl,

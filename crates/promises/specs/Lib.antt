@@ -2,6 +2,7 @@ pub mod Worked
 pub mod Cases
 pub mod EachByte
 pub mod InNumbers
+pub mod WiringCases
 pub mod AnyInput
 pub mod OtherCalls
 pub mod Settled

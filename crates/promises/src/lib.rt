@@ -25,6 +25,7 @@ ghost use Rattle.promises.specs.OnSomeImage.{OnSomeImage};
 ghost use Rattle.promises.specs.Said.{Said};
 ghost use Rattle.promises.specs.Settled.{Settled};
 ghost use Rattle.promises.specs.VendorCases.{VendorCases};
+ghost use Rattle.promises.specs.WiringCases.{WiringCases};
 ghost use Rattle.promises.specs.Vendors.{Vendors};
 
 // Document 01, "Marked cases, proved together as one table".
@@ -108,6 +109,11 @@ pub fn through_pipe()
 // Document 02, request 03: our own lists pass, and what a vendor's list that passes gives.
 pub fn vendors_lists()
     ensures { λ _. ⌜ Vendors ⌝ }
+{}
+
+// Document 02, request 02, in bare numbers.
+pub fn wiring_cases()
+    ensures { λ _. ⌜ WiringCases ⌝ }
 {}
 
 // Lists that a vendor might bring, in bare numbers.
