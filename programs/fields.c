@@ -582,6 +582,14 @@ const char *words_of_codes(const struct wiring *w, const char *name, char text[W
     return text;
 }
 
+void registers_of_syncs(const uint16_t values[SYNC_VALUES_OF_A_ROW], uint8_t left[SYNC_REGISTERS]) {
+    uint8_t image[STATION_IMAGE] = { 0 }, writes[STATION_WRITES];
+    struct request q = request_of_text("input 422 embedded 8bit style1 syncs %u %u %u %u vic 4 ycbcr422 hdmi", values[0], values[1], values[2], values[3]);
+    struct station_count n = station_plan(q.bytes, q.length, image, sizeof image, writes, sizeof writes);
+    for (uint32_t i = 0; i < n.count; i++) image[writes[2 * i]] = writes[2 * i + 1];
+    memcpy(left, image + FIRST_SYNC_REGISTER, SYNC_REGISTERS);
+}
+
 /* ---- Bytes to words. */
 
 static int number_in(const uint8_t *bytes) {

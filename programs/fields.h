@@ -62,6 +62,9 @@ const struct wiring *wiring_of_request(const struct request *q);
 int                  is_wiring(const struct request *q);
 struct request       with_wiring(struct request q, const struct request *of);
 
+/* What the library leaves in 0x30 to 0x34, on registers of zeros, of four sync values. */
+void registers_of_syncs(const uint16_t values[4], uint8_t left[5]);
+
 /* The mode of a VIC in words ("1920x1080p 60 Hz, 16:9"), with the frame rate of a family. */
 void text_of_mode(uint8_t vic, uint8_t family, char *text, size_t room);
 

@@ -172,11 +172,22 @@ static void tell_clock_above(FILE *to, const struct request *q) {
     fprintf(to, some ? "\n" : " no change of one field is accepted\n");
 }
 
+/* Bytes that would be accepted, or refused by a later rule, with the count of today's board in front. */
+static void tell_older(FILE *to, const struct request *q) {
+    struct request r = { { 0 }, q->length + 1 };
+    if (q->length >= STATION_REQUEST) return;
+    memcpy(r.bytes + 1, q->bytes, q->length);
+    uint32_t refusal = station_ncts(r.bytes, r.length).refusal;
+    if (refusal != STATION_INPUT_ENDS && refusal != STATION_COUNT_NOT_ALLOWED && refusal != STATION_BYTES_AFTER)
+        fprintf(to, "the wiring section comes first; a request of before version 6.0.0 has none: put 00 in front\n");
+}
+
 static void tell_clause(FILE *to, const uint8_t *bytes, size_t length, uint32_t refusal) {
     struct request q = { { 0 }, length };
     char text[TEXT_OF_A_FIT];
     if (length > STATION_REQUEST) return;
     if (length) memcpy(q.bytes, bytes, length);
+    if (refusal == STATION_COUNT_NOT_ALLOWED) tell_older(to, &q);
     if (refusal == STATION_MODE_NOT_OFFERED) tell_mode(to, &q);
     if (refusal == STATION_FIELD_OUT_OF_RANGE && !is_wiring(&q)) tell_wiring(to, &q);
     if (refusal == STATION_COMBINATION) tell_combination(to, &q);
