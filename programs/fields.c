@@ -776,7 +776,7 @@ void explain_words(FILE *to) {
     char text[TEXT_OF_A_REQUEST];
     for (size_t f = 0, syncs = 0; f < FIELDS; f++) {
         if (may_be_left_out(&fields[f])) {
-            if (!syncs++) fprintf(to, "  %-6s %-12s %s\n", "", "syncs", "syncs and four numbers, 0 to 1023, where syncs are embedded");
+            if (!syncs++) fprintf(to, "  %-6s %-12s %s\n", "", "syncs", "syncs and four numbers, 0 to 1023, where embedded");
             continue;
         }
         fprintf(to, "  %-6s %-12s %s%s%s%s\n", f == 0 || fields[f].section != fields[f - 1].section ? sections[fields[f].section].name : "",

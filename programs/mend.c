@@ -83,11 +83,13 @@ int has_wiring(const uint8_t image[STATION_IMAGE]) {
     return is_wiring(&q) && apart_from_wiring(image, &q) == 0;
 }
 
+/* Of two that are as near, the one with the registers' own ID. */
 static struct request nearest_wiring(const uint8_t *image) {
     struct request best = wiring_of_codes(0, 0, 0, 0, 0);
-    unsigned least = apart_from_wiring(image, &best);
-    for (size_t id = 1; id < number_of_wirings; id++)
+    unsigned least = apart_from_wiring(image, &best), own = image[INPUT_ID] & OF_ID;
+    for (unsigned n = 0; n < number_of_wirings; n++)
         for (int k = 0; k < 64; k++) {
+            unsigned id = n ? n : own;
             struct request q = wiring_of_codes((int)id, k / 16, k / 4 % 4, k % 4, bits_of_syncs(image));
             if (!is_wiring(&q) || apart_from_wiring(image, &q) >= least) continue;
             least = apart_from_wiring(image, &q);
