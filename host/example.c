@@ -4,7 +4,7 @@
 #include <stdio.h>
 
 int main(void) {
-    const uint8_t request[] = { 0x07, 0x10, 0x00, 0x00, 0x01, 0x00, 0x00, 0x00, 0x03, 0x02, 0x02, 0x01, 0x00 };
+    const uint8_t request[] = { 0x00, 0x07, 0x10, 0x00, 0x00, 0x01, 0x00, 0x00, 0x00, 0x03, 0x02, 0x02, 0x01, 0x00 };
     uint8_t image[STATION_IMAGE] = { 0 }, writes[STATION_WRITES];   /* the registers as they stand, and room for the list */
     struct station_count c = station_plan(request, sizeof request, image, sizeof image, writes, sizeof writes);
     if (c.refusal) {

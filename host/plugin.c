@@ -133,6 +133,8 @@ static int finish(pid_t process) {
 
 /* ---- Its request. */
 
+enum { COUNT_OF_VIDEO = 7 };
+
 /* What came, for a person to see; the library keeps what it needs in the pipe. One byte more than the longest request has is enough. */
 struct written { uint8_t bytes[STATION_REQUEST + 1]; size_t length; unsigned parts; int ended; };
 
@@ -170,11 +172,13 @@ static const char *by_a_shell(int status, char *text, size_t room) {
     return text;
 }
 
-/* The two mistakes that are made most, told by the bytes themselves. */
+/* The mistakes that are made most, told by the bytes themselves. */
 static const char *likely(uint32_t refusal, const struct written *w) {
     if (!w->length) return "It wrote nothing: was its output flushed before it exited?\n";
     if (refusal == STATION_COUNT_NOT_ALLOWED && isxdigit(w->bytes[0]))
         return "Its first byte is a hex digit: were digits written in place of the bytes themselves?\n";
+    if (refusal == STATION_COUNT_NOT_ALLOWED && w->bytes[0] == COUNT_OF_VIDEO)
+        return "Its first byte is the count of the video section: a request of before version 6.0.0? It gets 00 in front.\n";
     if (refusal == STATION_BYTES_AFTER && w->bytes[w->length - 1] == '\n')
         return "Its last byte is 0a: an end of line that was not meant?\n";
     return "";

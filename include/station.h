@@ -5,7 +5,13 @@
  * Not promised: slices that overlap, and pointers that do not point to as many bytes as the length beside them says. A null pointer with
  * length 0 was tried and behaves as an empty slice; it is not promised.
  *
- * A request is three sections in this order, each after a byte that counts its bytes:
+ * A request is four sections in this order, each after a byte that counts its bytes:
+ *   wiring  0        today's board: RGB, 24 bits, separate syncs
+ *           4        how the camera is wired to the chip, in the registers' own codes: input ID (1 to 8: 5 is RGB, all others YCbCr 4:2:2; 2, 4
+ *                    and 8 have embedded syncs); bits of each colour (1, 2, 3 for 10, 12, 8); style (1, 2, 3 for style 2, 1, 3: IDs 3, 4, 7
+ *                    and 8 have no style 3); justification (0 evenly distributed, 1 right, 2 left: ID 5 has 0 alone)
+ *           12       for an ID with embedded syncs, and for no other: these four, then four numbers from 0 to 1023, two bytes each, high byte
+ *                    first: Hsync placement and duration in pixels, Vsync placement and duration in lines
  *   video   7        VIC (1 to 5, 16 to 20, 31, 32, 34, 60, 62); family (0 whole frame rate, 1 divided by 1.001, which VIC 17 to 20 and 31
  *                    do not offer); encoding (0 RGB, 1 YCbCr 4:2:2, 2 YCbCr 4:4:4); link (0 DVI, 1 HDMI); range (0 limited, 1 full: what
  *                    the screen is told of RGB; with YCbCr it is 0); depth and pixel repetition in one byte: in its lower half the depth (0,
@@ -15,8 +21,9 @@
  *   audio   0 or 3   rate (0 to 6 for 32, 44.1, 48, 88.2, 96, 176.4, 192 kHz); channels (2 or 8); coherent (0 or 1)
  *   matrix  0 or 25  mode (0 to 2); coefficients A1 to A4, B1 to B4, C1 to C4, two bytes each, high byte first, two's complement, from
  *                    -4096 to 4095
- * So 07 10 00 00 01 00 00 00 03 02 02 01 00 is 1080p at 60 Hz, RGB over HDMI, limited range, 24 bits, no repetition, edition D, coherent
- * stereo at 48 kHz, no matrix.
+ * So 00 07 10 00 00 01 00 00 00 03 02 02 01 00 is 1080p at 60 Hz, RGB over HDMI, limited range, 24 bits, no repetition, edition D, coherent
+ * stereo at 48 kHz, no matrix, from today's board. A matrix is needed exactly where input and output are of different colour kinds, RGB and
+ * YCbCr; elsewhere it is allowed.
  * N and CTS rest on the TMDS clock: the pixel clock times 1, 5/4 or 3/2 by the depth, times 1, 2 or 4 by the repetition. It is 225,000,000 Hz
  * at the most.
  * Sound travels in the picture's blanking. Two channels fit at every rate, in every mode; eight channels fit up to a rate that the mode and the
@@ -29,9 +36,9 @@
 #include <stdint.h>
 
 /* The version of this header, one for each landing; CHANGELOG.md says what came with it. */
-#define STATION_VERSION "5.5.0"
-#define STATION_MAJOR 5
-#define STATION_MINOR 5
+#define STATION_VERSION "6.0.0"
+#define STATION_MAJOR 6
+#define STATION_MINOR 0
 #define STATION_PATCH 0
 
 /* Lengths in bytes. */
@@ -40,7 +47,7 @@
 #define STATION_COEFFICIENTS 24 /* its coefficient buffer */
 #define STATION_MARK 1          /* its waiting mark */
 #define STATION_WRITES 256      /* the least room for a write list */
-#define STATION_REQUEST 38      /* the longest request, and the least room for one */
+#define STATION_REQUEST 51      /* the longest request, and the least room for one */
 #define STATION_MATRIX 25       /* a matrix as a request has it: its mode and twelve coefficients */
 #define STATION_LIST 1024       /* the longest list that a vendor may bring, 512 pairs */
 #define STATION_PIPE (STATION_REQUEST + 2) /* a pipe: the request so far, its count, its answer */
@@ -52,7 +59,7 @@
  * an image (proved), so a host need read no other; what was not read may be any byte. The image has 256 bytes all the same. As a table:
  *   static const uint8_t rows[][2] = STATION_ROWS; */
 #define STATION_ROWS \
-    { { 0x01, 3 }, { 0x07, 4 }, { 0x0C, 1 }, { 0x15, 2 }, { 0x18, 24 }, { 0x3B, 2 }, { 0x40, 1 }, { 0x44, 1 }, { 0x4A, 3 }, \
+    { { 0x01, 3 }, { 0x07, 4 }, { 0x0C, 1 }, { 0x15, 2 }, { 0x18, 29 }, { 0x3B, 2 }, { 0x40, 1 }, { 0x44, 1 }, { 0x48, 1 }, { 0x4A, 3 }, \
       { 0x52, 16 }, { 0x70, 13 }, { 0x98, 1 }, { 0x9A, 1 }, { 0x9C, 2 }, { 0xA2, 2 }, { 0xAF, 1 }, { 0xE0, 1 }, { 0xF9, 1 } }
 
 #ifdef __cplusplus
@@ -68,8 +75,8 @@ enum station_refusal {
     STATION_COUNT_NOT_ALLOWED = 2,  /* a count the section does not allow */
     STATION_BYTES_AFTER = 3,        /* bytes after the matrix section */
     STATION_MODE_NOT_OFFERED = 4,   /* VIC not listed, or family not offered by it */
-    STATION_FIELD_OUT_OF_RANGE = 5, /* any other field outside its range (matrix mode, depth or repetition above 2; range, edition or quantisation above 1; bits 7:6 of the edition byte); not twelve numbers of a meter */
-    STATION_COMBINATION = 6,        /* encoding not 0 without a matrix or with range 1; DVI with audio or with encoding not 0; more than 24 bits with 4:2:2 or DVI; quantisation or content type under edition D */
+    STATION_FIELD_OUT_OF_RANGE = 5, /* any other field outside its range (matrix mode, depth or repetition above 2; range, edition or quantisation above 1; bits 7:6 of the edition byte); input ID 0 or above 8, a wiring that is not defined for its ID or a count that does not fit it, a sync value above 1023; not twelve numbers of a meter */
+    STATION_COMBINATION = 6,        /* RGB input and encoding not 0, or YCbCr input and encoding 0, without a matrix; encoding not 0 with range 1; DVI with audio or with encoding not 0; more than 24 bits with 4:2:2 or DVI; quantisation or content type under edition D */
     STATION_IMAGE_LENGTH = 7,       /* image not of 256 bytes; in the machine also packet buffer not of 32, coefficient buffer not of 24, mark not of 1; bytes that are no pipe: another length, or a count above the longest request */
     STATION_HOLDS_UP = 8,           /* GC hold up, or AVI and audio holds both up */
     STATION_NO_EXACT_PAIR = 9,      /* coherent audio, and no exact pair exists */
@@ -106,8 +113,8 @@ struct station_count station_plan(const uint8_t *request, size_t request_length,
 
 /* The request that ends in a register image of 256 bytes: `count` bytes at the front of `request`, which has at least STATION_REQUEST; the
  * bytes after them stay. Its family is answered as 0, for no register names it; where the request was finished in family 1, the one that is
- * answered may itself be refused 9. The edition is answered as D where no bit of E is set, so E that asks for nothing reads back as D. Of
- * registers whose sound does not fit (20) it is 11. Refusals 7, 10 and 11. */
+ * answered may itself be refused 9. The edition is answered as D where no bit of E is set, so E that asks for nothing reads back as D. The
+ * wiring section is answered as it was asked, count and all. Of registers whose sound does not fit (20) it is 11. Refusals 7, 10 and 11. */
 struct station_count station_decode(const uint8_t *image, size_t image_length, uint8_t *request, size_t request_length);
 
 /* N and CTS for a request. Refusals 1 to 6, 17, 20 and 9. */

@@ -32,6 +32,18 @@ static void any_matrix(struct chain *c, char *text, size_t room) {
     }
 }
 
+/* "": today's board; or any ID with any codes, and sync values where it has them. */
+static void any_wiring(struct chain *c, char *text, size_t room) {
+    uint32_t is_other = any(c, 2), id = 1 + any(c, (uint32_t)number_of_wirings - 1), width = 1 + any(c, 3), style = 1 + any(c, 3), side = any(c, 3);
+    uint32_t values[4];
+    for (int k = 0; k < 4; k++) values[k] = any(c, LARGEST_SYNC_VALUE + 1);
+    *text = 0;
+    if (!is_other) return;
+    size_t used = (size_t)snprintf(text, room, "input id=%u width=%u style=%u justified=%u", (unsigned)id, (unsigned)width, (unsigned)style, (unsigned)side);
+    if (is_embedded(wiring_of_id((int)id)))
+        snprintf(text + used, room - used, " syncs %u %u %u %u", (unsigned)values[0], (unsigned)values[1], (unsigned)values[2], (unsigned)values[3]);
+}
+
 /* Words that may stand together, or not: the library says. */
 static struct request any_request(struct chain *c) {
     static const char *const families[] = { "whole", "/1.001" }, *const encodings[] = { "rgb", "ycbcr422", "ycbcr444" },
@@ -40,7 +52,7 @@ static struct request any_request(struct chain *c) {
         *const depths[] = { "24bit", "30bit", "36bit" }, *const repetitions[] = { "once", "twice", "four-times" },
         *const editions[] = { "861-d", "861-e" }, *const quantisations[] = { "ycc-limited", "ycc-full" },
         *const contents[] = { "no-type", "photo", "cinema", "game" };
-    char sound[40] = "", matrix[120];
+    char sound[40] = "", matrix[120], wiring[80];
     uint32_t mode = any(c, (uint32_t)number_of_modes), family = any(c, 4) == 0, encoding = any(c, 3), wire = any(c, 5) == 0;
     uint32_t range = any(c, 3) == 0, silent = any(c, 3) == 0, rate = any(c, 7), channel = any(c, 2), by = any(c, 2);
     uint32_t deep = any(c, 2), depth = any(c, 3), repeated = any(c, 2), repetition = any(c, 3);
@@ -50,7 +62,8 @@ static struct request any_request(struct chain *c) {
     if (!edition) quantisation = content = 0;
     if (!silent) snprintf(sound, sizeof sound, "audio %s %s %s", rates[rate], channels[channel], coherent[by]);
     any_matrix(c, matrix, sizeof matrix);
-    return request_of_text("vic %u %s %s %s %s %s %s %s %s %s %s %s", (unsigned)modes[mode].vic, families[family], encodings[encoding],
+    any_wiring(c, wiring, sizeof wiring);
+    return request_of_text("%s vic %u %s %s %s %s %s %s %s %s %s %s %s", wiring, (unsigned)modes[mode].vic, families[family], encodings[encoding],
                            wires[wire], ranges[range], depths[depth], repetitions[repetition], editions[edition],
                            quantisations[quantisation], contents[content], sound, matrix);
 }

@@ -1,5 +1,5 @@
 /* The tables of the programming guide (source document 000), each number as printed, misprints included; and the misprints, named.
- * N and CTS are Tables 80 to 82, the matrices are Tables 39 to 64. */
+ * N and CTS are Tables 80 to 82, the matrices are Tables 39 to 64, the syncs are Tables 32 and 35. */
 #ifndef GUIDE_H
 #define GUIDE_H
 
@@ -56,6 +56,44 @@ static const struct misprint { uint8_t row, rate; uint32_t refusal, n, cts; cons
     { 9, 3, 0, 12544, 165000, "", "misprint" },
     { 9, 5, 0, 25088, 165000, "", "misprint" },
 };
+
+/* ---- Syncs that are embedded. */
+
+enum { SYNC_VALUES_OF_A_ROW = 4, FIRST_SYNC_REGISTER = 0x30, SYNC_REGISTERS = 5, VICS_OF_A_ROW = 2 };
+
+/* A format: the modes that have it (VIC 0: none; of 1080p at 24 Hz the tables have frame packing alone, whose lines are the same); by Table 32 the
+ * four sync values, as a request has them; by Table 35 the registers from 0x30 on, and 0x17[6:5]. */
+static const struct sync_row {
+    const char *format;
+    uint8_t vics[VICS_OF_A_ROW];
+    uint16_t values[SYNC_VALUES_OF_A_ROW];
+    uint8_t registers[SYNC_REGISTERS], polarity;
+} sync_rows[] = {
+    { "480i", { 0 }, { 19, 62, 4, 3 }, { 0x04, 0xC3, 0xE0, 0x10, 0x03 }, 3 },
+    { "576i", { 0 }, { 12, 63, 2, 3 }, { 0x03, 0x03, 0xF0, 0x08, 0x03 }, 3 },
+    { "480p", { 2, 3 }, { 16, 62, 9, 6 }, { 0x04, 0x03, 0xE0, 0x24, 0x06 }, 3 },
+    { "576p", { 17, 18 }, { 12, 64, 5, 5 }, { 0x03, 0x04, 0x00, 0x14, 0x05 }, 3 },
+    { "720p-60", { 4 }, { 110, 40, 5, 5 }, { 0x1B, 0x82, 0x80, 0x14, 0x05 }, 0 },
+    { "720p-50", { 19 }, { 440, 40, 5, 5 }, { 0x6E, 0x02, 0x80, 0x14, 0x05 }, 0 },
+    { "1080i-30", { 5 }, { 88, 44, 2, 5 }, { 0x16, 0x02, 0xC0, 0x08, 0x05 }, 0 },
+    { "1080i-25", { 20 }, { 528, 44, 2, 5 }, { 0x84, 0x02, 0xC0, 0x08, 0x05 }, 0 },
+    { "1080p-60", { 16 }, { 88, 44, 4, 5 }, { 0x16, 0x02, 0xC0, 0x10, 0x05 }, 0 },
+    { "1080p-50", { 31 }, { 528, 44, 4, 5 }, { 0x84, 0x02, 0xC0, 0x10, 0x05 }, 0 },
+    { "1080p-24 (Frame Packing)", { 32 }, { 638, 44, 4, 5 }, { 0x9F, 0x82, 0xC0, 0x10, 0x05 }, 0 },
+    { "720p-60 (Frame Packing)", { 0 }, { 110, 40, 5, 5 }, { 0x6E, 0x02, 0x80, 0x14, 0x05 }, 0 },
+    { "720p-50 (Frame Packing)", { 0 }, { 440, 40, 5, 5 }, { 0x1B, 0x82, 0x80, 0x14, 0x05 }, 0 },
+};
+
+/* The rows of Table 35 that have each other's numbers. */
+static const char *const exchanged[] = { "720p-60 (Frame Packing)", "720p-50 (Frame Packing)" };
+
+/* The row of a mode, or NULL. */
+static inline const struct sync_row *syncs_of_mode(int vic) {
+    for (size_t r = 0; vic && r < sizeof sync_rows / sizeof sync_rows[0]; r++)
+        for (int v = 0; v < VICS_OF_A_ROW; v++)
+            if (sync_rows[r].vics[v] == vic) return &sync_rows[r];
+    return NULL;
+}
 
 /* ---- Matrices. */
 

@@ -1,10 +1,8 @@
 #include "mend.h"
 #include <string.h>
 
-/* ---- The nearest request. */
-
 enum { GC = 0x4B, MUTE_BITS = 0xC0, MUTE = 0x40, HOLDS = 0x4A, PACKET_HOLDS = 0x70, MATRIX_HOLD = 0x1A, MATRIX_HOLD_BIT = 0x20, VIC = 0x3C,
-       AVI_SUM = 0x54, AVI_VIC = 0x58, AUDIO_SUM = 0x72, AVI_BYTE_5 = 0x59, MODES = 3, EDITIONS = 3, YQ = 0xC0, CN = 0x30, OF_E = YQ | CN, CONVERTER = 0x18 };
+       AVI_SUM = 0x54, AVI_VIC = 0x58, AUDIO_SUM = 0x72, AVI_BYTE_5 = 0x59, MODES = 3, EDITIONS = 3, YQ = 0xC0, CN = 0x30, OF_E = YQ | CN, CONVERTER = 0x18, WIRINGS = 3 };
 
 static unsigned bits_of(unsigned byte) {
     unsigned n = 0;
@@ -23,7 +21,86 @@ static unsigned apart(const uint8_t *a, const uint8_t *b, unsigned *registers) {
     return 16384 * *registers + 4096 * sums + bits;
 }
 
-struct search { const uint8_t *image; uint8_t base[STATION_IMAGE]; unsigned least; struct nearest *best; };
+/* ---- Wirings. */
+
+enum { INPUT_ID = 0x15, OF_ID = 0x0F, VIDEO_FORMAT = 0x16, OF_FORMAT = 0x3C, INPUT_PIXELS = 0x48, OF_PIXELS = 0x18, FIRST_SYNC = 0x30, SYNCS = 5,
+       VALUES = 4, VALUE_BITS = 10 };
+static const char *const values_by_name[VALUES] = { "h-placement", "h-duration", "v-placement", "v-duration" };
+
+/* The four sync values of ten bits lie one behind the other in five registers. */
+static uint64_t bits_of_syncs(const uint8_t *image) {
+    uint64_t bits = 0;
+    for (int k = 0; k < SYNCS; k++) bits = bits << 8 | image[FIRST_SYNC + k];
+    return bits;
+}
+
+static struct request wiring_of_codes(int id, int width, int style, int side, uint64_t syncs) {
+    const struct wiring *w = wiring_of_id(id);
+    struct request q = request_of_text("vic 1 rgb hdmi");
+    if (id) q = request_of_text("input id=%d width=%d style=%d justified=%d %s vic 1 rgb hdmi", id, width, style, side, w && is_embedded(w) ? "syncs 0 0 0 0" : "");
+    for (int k = 0; k < VALUES; k++)
+        q = with_field(q, values_by_name[k], (int)(syncs >> VALUE_BITS * (VALUES - 1 - k) & ((1 << VALUE_BITS) - 1)));
+    q.length = 1u + q.bytes[0];
+    return q;
+}
+
+struct request wiring_of_image(const uint8_t image[STATION_IMAGE]) {
+    return wiring_of_codes(image[INPUT_ID] & OF_ID, image[VIDEO_FORMAT] >> 4 & 3, image[VIDEO_FORMAT] >> 2 & 3, image[INPUT_PIXELS] >> 3 & 3, bits_of_syncs(image));
+}
+
+/* The registers of a wiring, those bits alone. */
+static void image_of_wiring(const struct request *q, uint8_t image[STATION_IMAGE]) {
+    uint64_t syncs = 0;
+    int is_today = q->bytes[0] == 0;
+    memset(image, 0, STATION_IMAGE);
+    image[INPUT_ID] = is_today ? 0 : (uint8_t)value_of_field(q, "id");
+    image[VIDEO_FORMAT] = (uint8_t)(is_today ? value_of_word("width", (char *)"8bit") << 4 : value_of_field(q, "width") << 4 | value_of_field(q, "style") << 2);
+    image[INPUT_PIXELS] = (uint8_t)(is_today ? 0 : value_of_field(q, "justified") << 3);
+    for (int k = 0; k < VALUES; k++) {
+        int value = value_of_field(q, values_by_name[k]);
+        syncs = syncs << VALUE_BITS | (uint64_t)(value < 0 ? 0 : value);
+    }
+    for (int k = SYNCS; k-- > 0; syncs >>= 8) image[FIRST_SYNC + k] = (uint8_t)syncs;
+}
+
+/* How far registers are from those of a wiring: registers first, then bits. */
+static unsigned apart_from_wiring(const uint8_t *image, const struct request *q) {
+    static const struct { uint8_t address, bits; } of_wiring[] = {
+        { INPUT_ID, OF_ID }, { VIDEO_FORMAT, OF_FORMAT }, { INPUT_PIXELS, OF_PIXELS }, { 0x30, 0xFF }, { 0x31, 0xFF }, { 0x32, 0xFF }, { 0x33, 0xFF }, { 0x34, 0xFF },
+    };
+    uint8_t want[STATION_IMAGE];
+    unsigned distance = 0;
+    image_of_wiring(q, want);
+    for (size_t k = 0; k < sizeof of_wiring / sizeof of_wiring[0]; k++) {
+        unsigned differ = (unsigned)(image[of_wiring[k].address] ^ want[of_wiring[k].address]) & of_wiring[k].bits;
+        distance += (differ ? 256 : 0) + bits_of(differ);
+    }
+    return distance;
+}
+
+int has_wiring(const uint8_t image[STATION_IMAGE]) {
+    struct request q = wiring_of_image(image);
+    return is_wiring(&q) && apart_from_wiring(image, &q) == 0;
+}
+
+/* Of two that are as near, the one with the registers' own ID. */
+static struct request nearest_wiring(const uint8_t *image) {
+    struct request best = wiring_of_codes(0, 0, 0, 0, 0);
+    unsigned least = apart_from_wiring(image, &best), own = image[INPUT_ID] & OF_ID;
+    for (unsigned n = 0; n < number_of_wirings; n++)
+        for (int k = 0; k < 64; k++) {
+            unsigned id = n ? n : own;
+            struct request q = wiring_of_codes((int)id, k / 16, k / 4 % 4, k % 4, bits_of_syncs(image));
+            if (!is_wiring(&q) || apart_from_wiring(image, &q) >= least) continue;
+            least = apart_from_wiring(image, &q);
+            best = q;
+        }
+    return best;
+}
+
+/* ---- The nearest request. */
+
+struct search { const uint8_t *image; uint8_t base[STATION_IMAGE]; unsigned least; struct nearest *best; struct request wiring; };
 
 static void look_at(struct search *s, const struct request *q) {
     uint8_t writes[STATION_WRITES], image[STATION_IMAGE];
@@ -83,7 +160,7 @@ static void look_at_sections(struct search *s, int vic, int with_sound, int mode
         int value = 256 * matrix[1 + 2 * n] + matrix[2 + 2 * n];
         used += (size_t)snprintf(text + used, sizeof text - used, " %d", value < 32768 ? value : value - 65536);
     }
-    struct request q = request_of_text("vic %d rgb hdmi%s%s", vic, with_sound ? " audio 48kHz 2" : "", text);
+    struct request q = with_wiring(request_of_text("vic %d rgb hdmi%s%s", vic, with_sound ? " audio 48kHz 2" : "", text), &s->wiring);
     for (int e = 0; e < EDITIONS; e++) {                        /* D; E with the registers' own bits; E with their content type alone */
         if ((e == 1 && !(s->image[AVI_BYTE_5] & OF_E)) || (e == 2 && (!(s->image[AVI_BYTE_5] & CN) || !(s->image[AVI_BYTE_5] & YQ)))) continue;
         q = with_field(q, "edition", e > 0);
@@ -94,7 +171,12 @@ static void look_at_sections(struct search *s, int vic, int with_sound, int mode
 }
 
 int nearest_request(const uint8_t image[STATION_IMAGE], const struct request *begun, struct nearest *n) {
-    struct search s = { image, { 0 }, ~0u, n };
+    struct search s = { image, { 0 }, ~0u, n, { { 0 }, 0 } };
+    struct request wirings_of[WIRINGS];
+    size_t number = 0;
+    wirings_of[number++] = nearest_wiring(image);
+    if (wirings_of[0].bytes[0]) wirings_of[number++] = wiring_of_codes(0, 0, 0, 0, 0);
+    if (begun && begun->bytes[0]) wirings_of[number++] = *begun;
     int own = image[CONVERTER] >> 5 & 3, vics[] = { image[AVI_VIC] & 0x7F, image[VIC] & 0x3F, begun ? value_of_field(begun, "vic") : -1 };
     memcpy(s.base, image, STATION_IMAGE);
     s.base[HOLDS] &= (uint8_t)~PACKET_HOLDS;                    /* planning refuses two packet holds */
@@ -103,9 +185,12 @@ int nearest_request(const uint8_t image[STATION_IMAGE], const struct request *be
         int is_named = 0, none = 1;
         for (int v = 0; v < 3; v++) is_named |= modes[m].vic == vics[v];
         for (size_t k = 0; k < number_of_modes; k++) none &= modes[k].vic != vics[0] && modes[k].vic != vics[1] && modes[k].vic != vics[2];
-        for (int sound = 0; (is_named || none) && sound < 2; sound++)
-            for (int mode = -1; mode < MODES; mode++)
-                if (mode < 0 || own == mode || own == MODES) look_at_sections(&s, modes[m].vic, sound, mode);
+        for (size_t w = 0; w < number; w++)
+            for (int sound = 0; (is_named || none) && sound < 2; sound++)
+                for (int mode = -1; mode < MODES; mode++) {
+                    s.wiring = wirings_of[w];
+                    if (mode < 0 || own == mode || own == MODES) look_at_sections(&s, modes[m].vic, sound, mode);
+                }
     }
     return s.least != ~0u;
 }

@@ -6,9 +6,13 @@
 #include "fields.h"
 #include "judge.h"
 
+/* The wiring section that registers speak of, as the front of a request; and whether they are those of a wiring. */
+struct request wiring_of_image(const uint8_t image[STATION_IMAGE]);
+int            has_wiring(const uint8_t image[STATION_IMAGE]);
+
 /* The request whose finished registers differ from these in the fewest places, and those registers. It is looked for among the requests
- * that the registers themselves speak of, field by field, with the VIC of `begun` too where that is not NULL, and with every VIC where none of
- * these is listed. 0 where there is none. */
+ * that the registers themselves speak of, field by field, with the VIC and the wiring of `begun` too where that is not NULL, with today's board
+ * and the wiring that is nearest, and with every VIC where none of these is listed. 0 where there is none. */
 struct nearest { struct request asked; uint8_t image[STATION_IMAGE]; unsigned registers; };
 int nearest_request(const uint8_t image[STATION_IMAGE], const struct request *begun, struct nearest *n);
 

@@ -11,6 +11,7 @@ const char *program = "tools/modes";
 
 static const char help[] =
     "tools/modes [DEPTH] [REPETITION]\n"
+    "tools/modes --wirings\n"
     "\n"
     "Lists the modes that a request may name: VIC, name, family, frame rate and TMDS\n"
     "clock, which is the pixel clock times 1, 5/4 or 3/2 by the depth, times 1, 2 or\n"
@@ -25,11 +26,20 @@ static const char help[] =
     "DEPTH is 24bit, 30bit or 36bit, REPETITION once, twice or four-times, as in\n"
     "tools/request; where none is given, 24bit and once: the pixel clock.\n"
     "\n"
-    "The status is 0; 1 where what the library answers does not rest on these clocks;\n"
-    "2 for a command that is not as above.\n"
+    "  --wirings  lists the input IDs instead: the words of each, its colours, the\n"
+    "             count of its section, every width, style and justification that\n"
+    "             the library takes with it, how many these make, the highest input\n"
+    "             clock by Table 15 of the programming guide (no rule of a request),\n"
+    "             and which tables draw it. Then for each mode the four sync values\n"
+    "             of Table 32, the registers that they make, and 0x17[6:5] as Table\n"
+    "             35 has it, which is the board's; '-' where there is no row\n"
+    "\n"
+    "The status is 0; 1 where what the library answers does not rest on these clocks,\n"
+    "or is not what these tables have; 2 for a command that is not as above.\n"
     "\n"
     "  tools/modes\n"
-    "  tools/modes 30bit twice\n";
+    "  tools/modes 30bit twice\n"
+    "  tools/modes --wirings\n";
 
 enum { CLOCKS = 32, KHZ_48 = 2 };
 
@@ -115,6 +125,86 @@ static void print_sounds(void) {
     }
 }
 
+/* ---- The wirings. */
+
+enum { CODES = 4 };
+#define VALUES_OF_720P "h-placement=110 h-duration=40 v-placement=5 v-duration=5"
+
+static const char *const coded[] = { "width", "style", "justified" };
+enum { FIELDS_WITH_CODES = sizeof coded / sizeof coded[0] };
+#define OF_A_WIRING "%2s %-19s %-5s %5s %-7s %-6s %-15s %3s %4s %s\n"
+
+/* Does the library take these codes with an ID, in a section of either count? No matrix is needed from YCbCr to YCbCr, nor from RGB to RGB. */
+static int is_taken(int id, int is_long, const int code[FIELDS_WITH_CODES]) {
+    int is_some = 0;
+    for (int encoding = 0; encoding < 2; encoding++) {
+        struct request q = request_of_text("input id=%d width=%d style=%d justified=%d %s vic 4 encoding=%d hdmi", id, code[0], code[1], code[2],
+                                           is_long ? VALUES_OF_720P : "", encoding);
+        is_some |= station_ncts(q.bytes, q.length).refusal == 0;
+    }
+    return is_some;
+}
+
+/* The words of a field that an ID has, without what is the same in all. */
+static const char *bare_words(const struct wiring *w, const char *name, const char *same, char text[WORDS_OF_CODES]) {
+    char *at;
+    words_of_codes(w, name, text);
+    while (*same && (at = strstr(text, same))) memmove(at, at + strlen(same), strlen(at + strlen(same)) + 1);
+    while ((at = strchr(text, ','))) memmove(at, at + 1, strlen(at));
+    return text;
+}
+
+/* A row; and whether the library takes with each ID what the table has, and nothing else. How many combinations it takes. */
+static unsigned print_wiring(const struct wiring *w) {
+    char words[WORDS_OF_A_WIRING] = "(no section)", widths[WORDS_OF_CODES], styles[WORDS_OF_CODES], sides[WORDS_OF_CODES], id[8], all[8], clock[16];
+    unsigned taken = 0;
+    for (int k = 0; k < 2 * CODES * CODES * CODES; k++) {
+        int is_long = k % 2, code[FIELDS_WITH_CODES] = { k / 2 / CODES / CODES, k / 2 / CODES % CODES, k / 2 % CODES };
+        int is_of_table = w->id && is_long == is_embedded(w), is = is_taken(w->id, is_long, code);
+        for (int f = 0; f < FIELDS_WITH_CODES; f++) is_of_table &= is_code_of_wiring(w, coded[f], code[f]);
+        wrong |= is != is_of_table;
+        taken += (unsigned)is;
+    }
+    if (w->id) words_of_wiring(w, words);
+    snprintf(id, sizeof id, "%u", w->id);
+    snprintf(all, sizeof all, "%u", taken);
+    snprintf(clock, sizeof clock, "%.4g", w->megahertz);
+    printf(OF_A_WIRING, id, words, is_rgb(w) ? "RGB" : "YCbCr", !w->id ? "0" : is_embedded(w) ? "12" : "4", bare_words(w, "width", "bit", widths),
+           w->id ? bare_words(w, "style", "style", styles) : "-", w->id ? bare_words(w, "justified", "", sides) : "-", w->id ? all : "-", clock, w->tables);
+    return taken;
+}
+
+static void print_syncs(const struct mode *m) {
+    const struct sync_row *s = syncs_of_mode(m->vic);
+    char lead[48];
+    uint8_t left[SYNC_REGISTERS];
+    snprintf(lead, sizeof lead, "%s %s", m->lines, m->aspect);
+    printf("%3u  %-16s %6.5g Hz", m->vic, lead, frame_rate(m, 0));
+    if (!s) {
+        printf("  -\n");
+        return;
+    }
+    registers_of_syncs(s->values, left);
+    wrong |= memcmp(left, s->registers, sizeof left) != 0;
+    printf("  syncs %3u %2u %u %u  ", s->values[0], s->values[1], s->values[2], s->values[3]);
+    for (int k = 0; k < SYNC_REGISTERS; k++) printf(" %02x", left[k]);
+    printf("   %u%u\n", s->polarity >> 1, s->polarity & 1);
+}
+
+static int print_wirings(void) {
+    unsigned all = 0;
+    printf(OF_A_WIRING, "ID", "words", "in", "count", "widths", "styles", "justified", "all", "MHz", "of");
+    for (size_t k = 0; k < number_of_wirings; k++) all += print_wiring(&wirings[k]);
+    printf("All are %u. In a request 8bit is 3, 10bit 1, 12bit 2; style1 2, style2 1,\n"
+           "style3 3; even 0, right 1, left 2. ID 0 is today's board. MHz: the highest input\n"
+           "clock of Table 15; of: the guide's tables that draw it.\n", all);
+    printf("\nWhere syncs are embedded: the sync values of Table 32, a starting point; 0x30 to\n"
+           "0x34 as the library writes them; 0x17[6:5] of Table 35, for the board to set:\n");
+    for (size_t m = 0; m < number_of_modes; m++) print_syncs(&modes[m]);
+    if (wrong) fprintf(stderr, "%s: WHAT THE LIBRARY TAKES IS NOT WHAT THESE TABLES HAVE\n", program);
+    return printed(wrong ? REFUSED : ACCEPTED);
+}
+
 static void take(char *word) {
     static int given[2];
     int d = value_of_word("depth", word), r = d < 0 ? value_of_word("repetition", word) : -1;
@@ -131,6 +221,10 @@ int main(int count, char **words) {
             printf("%s", help);
             return printed(ACCEPTED);
         }
+    if (count > 1 && !strcmp(words[1], "--wirings")) {
+        if (count > 2) misuse("--wirings stands alone");
+        return print_wirings();
+    }
     for (int i = 1; i < count; i++) take(words[i]);
 
     printf("%3s  %-16s %6s  %10s  %-16s %s\n", "VIC", "mode", "family", "frame rate", "TMDS clock in Hz", "in MHz");

@@ -2,12 +2,15 @@
 #include "clocks.h"
 #include "fields.h"
 #include "fits.h"
+#include "guide.h"
 #include "station_text.h"
 #include "words.h"
 #include <stdlib.h>
 #include <string.h>
 
 const char *program = "tools/request";
+
+enum { LINES_OF_SDTV = 576 };
 
 static const char help[] =
     "tools/request WORDS..\n"
@@ -17,16 +20,21 @@ static const char help[] =
     "request's bytes in words, and whether it is accepted. A byte is exactly two hex\n"
     "digits, with or without blanks between.\n"
     "\n"
-    "The words are those of the video section; then, where there is sound, 'audio'\n"
-    "and its words; then, where there is a matrix, 'matrix' and one of these: its\n"
-    "mode and twelve whole numbers from -4096 to 4095, A1 to A4, B1 to B4, C1 to C4;\n"
-    "'tableNN' (a table of the programming guide, 39 to 64, its misprints corrected);\n"
-    "'factors' and twelve numbers as a colour meter has them, such as 1.25, in the\n"
-    "same order (tools/meter reads a meter's file, and says more of them). Within a\n"
-    "section the fields may stand in any order:\n"
+    "In front, where the camera is not wired as on today's board, stands 'input' and\n"
+    "the words of its wiring. Then follow the words of the video section; then, where\n"
+    "there is sound, 'audio' and its words; then, where there is a matrix, 'matrix'\n"
+    "and one of these: its mode and twelve whole numbers from -4096 to 4095, A1 to\n"
+    "A4, B1 to B4, C1 to C4; 'tableNN' (a table of the programming guide, 39 to 64,\n"
+    "its misprints corrected); 'factors' and twelve numbers as a colour meter has\n"
+    "them, such as 1.25, in the same order (tools/meter reads a meter's file, and\n"
+    "says more of them). Within a section the fields may stand in any order:\n"
     "\n",
     more[] =
     "\n"
+    "The words of an ID are 422 or rgb444 for its colours, separate or embedded for\n"
+    "its syncs, and 1x, 2x, ddr or 2x-ddr for its clock; separate and 1x where none\n"
+    "is given. So 'input 422 embedded' is id 2; tools/modes --wirings lists them all,\n"
+    "what is defined for each, and the sync values of the modes.\n"
     "A mode may be named by its lines and its frame rate: 1080p60, 720p50, 1080i50,\n"
     "1080p59.94 (with /1.001). 'stereo' is 2 channels.\n"
     "Quantisation and content are of edition E: 861-e stands beside their words.\n"
@@ -44,6 +52,8 @@ static const char help[] =
     "  tools/request vic 16 rgb hdmi 861-e photo\n"
     "  tools/request vic 1 rgb dvi matrix 1 2048 0 0 0 0 2048 0 0 0 0 2048 0\n"
     "  tools/request vic 1 rgb dvi matrix factors 1 0 0 0 0 .98 0 0 0 0 1.05 -2.5\n"
+    "  tools/request input 422 embedded 10bit style2 left syncs 110 40 5 5 \\\n"
+    "    vic 4 ycbcr422 hdmi\n"
     "  tools/request --explain " EXAMPLE "\n";
 
 static int tell(FILE *to, struct station_pair p, int of_sound) {
@@ -79,9 +89,51 @@ static void tell_mode(FILE *to, const struct request *q) {
     fprintf(to, " are (tools/modes)\n");
 }
 
+/* A wiring section that is not defined: each of its fields that its ID does not have, and what it has. */
+static void tell_wiring(FILE *to, const struct request *q) {
+    static const char *const coded[] = { "width", "style", "justified" }, *const values[] = { "h-placement", "h-duration", "v-placement", "v-duration" };
+    const struct wiring *w = wiring_of_request(q);
+    const struct sync_row *row = syncs_of_mode(value_of_field(q, "vic"));
+    char text[WORDS_OF_CODES];
+    int id = value_of_field(q, "id"), has_values = value_of_field(q, values[0]) >= 0;
+    if (!w && id) fprintf(to, "id %d is none: 1 to 8 are (tools/modes --wirings)\n", id);
+    if (!w && !id) fprintf(to, "id 0 is today's board, which has no section: leave 'input' and its words out\n");
+    if (!w) return;
+    if (is_embedded(w) && !has_values) {
+        fprintf(to, "id %d has embedded syncs, and four sync values must follow: ", id);
+        if (row) fprintf(to, "syncs %u %u %u %u by Table 32 of the guide\n", row->values[0], row->values[1], row->values[2], row->values[3]);
+        else fprintf(to, SYNC_VALUES "\n");
+    }
+    if (!is_embedded(w) && has_values) fprintf(to, "id %d has separate syncs: leave 'syncs' and its four numbers out\n", id);
+    for (size_t k = 0; k < sizeof coded / sizeof coded[0]; k++) {
+        int code = value_of_field(q, coded[k]);
+        const char *word = word_of_value(coded[k], code);
+        if (is_code_of_wiring(w, coded[k], code)) continue;
+        if (word) fprintf(to, "id %d has no %s, but %s\n", id, word, words_of_codes(w, coded[k], text));
+        else fprintf(to, "%s=%d is none: id %d has %s\n", coded[k], code, id, words_of_codes(w, coded[k], text));
+    }
+    for (size_t k = 0; k < sizeof values / sizeof values[0]; k++)
+        if (value_of_field(q, values[k]) > LARGEST_SYNC_VALUE)
+            fprintf(to, "%s is %d: a sync value is %d at the most\n", values[k], value_of_field(q, values[k]), LARGEST_SYNC_VALUE);
+}
+
+/* The guide's table for a matrix that is missing: from RGB of limited range, or to RGB of the range that is asked for; of up to 576 lines SDTV. */
+static unsigned table_between(const struct request *q) {
+    enum space from = HDTV_LIMITED, to = RGB_LIMITED;
+    for (size_t m = 0; m < number_of_modes; m++)
+        if (modes[m].vic == value_of_field(q, "vic") && atoi(strchr(modes[m].lines, 'x') + 1) <= LINES_OF_SDTV) from = SDTV_LIMITED;
+    if (value_of_field(q, "encoding")) to = from, from = RGB_LIMITED;
+    else if (value_of_field(q, "range")) to = RGB_FULL;
+    for (size_t t = 0; t < sizeof tables / sizeof tables[0]; t++)
+        if (tables[t].from == from && tables[t].to == to) return tables[t].number;
+    return 0;
+}
+
 static void tell_combination(FILE *to, const struct request *q) {
     int encoding = value_of_field(q, "encoding"), is_dvi = value_of_field(q, "link") == 0, is_deep = value_of_field(q, "depth") > 0;
-    if (encoding && !matrix_of_request(q)) fprintf(to, "YCbCr needs a matrix that makes it of the camera's RGB: matrix table43\n");
+    int from_rgb = is_rgb(wiring_of_request(q)), has_matrix = matrix_of_request(q) != NULL;
+    if (from_rgb && encoding && !has_matrix) fprintf(to, "YCbCr needs a matrix that makes it of the camera's RGB: matrix table%u\n", table_between(q));
+    if (!from_rgb && !encoding && !has_matrix) fprintf(to, "RGB needs a matrix that makes it of the camera's YCbCr: matrix table%u\n", table_between(q));
     if (encoding && value_of_field(q, "range"))
         fprintf(to, "'full' is said of RGB: with YCbCr leave it out; 861-e and ycc-full say it of YCbCr\n");
     if (is_dvi && value_of_field(q, "rate") >= 0) fprintf(to, "DVI carries no sound: hdmi, or no audio\n");
@@ -120,19 +172,36 @@ static void tell_clock_above(FILE *to, const struct request *q) {
     fprintf(to, some ? "\n" : " no change of one field is accepted\n");
 }
 
+/* Bytes that would be accepted, or refused by a later rule, with the count of today's board in front. */
+static void tell_older(FILE *to, const struct request *q) {
+    struct request r = { { 0 }, q->length + 1 };
+    if (q->length >= STATION_REQUEST) return;
+    memcpy(r.bytes + 1, q->bytes, q->length);
+    uint32_t refusal = station_ncts(r.bytes, r.length).refusal;
+    if (refusal != STATION_INPUT_ENDS && refusal != STATION_COUNT_NOT_ALLOWED && refusal != STATION_BYTES_AFTER)
+        fprintf(to, "the wiring section comes first; a request of before version 6.0.0 has none: put 00 in front\n");
+}
+
 static void tell_clause(FILE *to, const uint8_t *bytes, size_t length, uint32_t refusal) {
     struct request q = { { 0 }, length };
     char text[TEXT_OF_A_FIT];
     if (length > STATION_REQUEST) return;
     if (length) memcpy(q.bytes, bytes, length);
+    if (refusal == STATION_COUNT_NOT_ALLOWED) tell_older(to, &q);
     if (refusal == STATION_MODE_NOT_OFFERED) tell_mode(to, &q);
+    if (refusal == STATION_FIELD_OUT_OF_RANGE && !is_wiring(&q)) tell_wiring(to, &q);
     if (refusal == STATION_COMBINATION) tell_combination(to, &q);
     if (refusal == STATION_CLOCK_ABOVE) tell_clock_above(to, &q);
     if (refusal == STATION_SOUND_TOO_MUCH) fprintf(to, "%s\n", text_of_fit(&q, text));
     if (refusal == STATION_NO_EXACT_PAIR) tell_rates(to, &q);
 }
 
-/* What a matrix makes of black, grey, white and the primaries, in 12-bit codes. */
+static void tell_colour(const uint8_t *matrix, const char *name, uint32_t a, uint32_t b, uint32_t c) {
+    struct station_pixel p = station_preview(matrix, STATION_MATRIX, a, b, c);
+    printf("  %-12s  %4u %4u %4u becomes %4u %4u %4u\n", name, (unsigned)a, (unsigned)b, (unsigned)c, (unsigned)p.a, (unsigned)p.b, (unsigned)p.c);
+}
+
+/* What a matrix makes of black, grey, white and the primaries, in 12-bit codes; of a YCbCr input, of black, white and grey. */
 static void tell_colours(const struct request *q) {
     static const struct { const char *name; uint32_t a, b, c; } colours[] = {
         { "black", 0, 0, 0 }, { "grey", 2048, 2048, 2048 }, { "white", 4095, 4095, 4095 },
@@ -140,10 +209,11 @@ static void tell_colours(const struct request *q) {
     };
     const uint8_t *matrix = matrix_of_request(q);
     if (!matrix) return;
-    for (size_t k = 0; k < sizeof colours / sizeof colours[0]; k++) {
-        struct station_pixel p = station_preview(matrix, STATION_MATRIX, colours[k].a, colours[k].b, colours[k].c);
-        printf("  %-12s  %4u %4u %4u becomes %4u %4u %4u\n", colours[k].name, (unsigned)colours[k].a, (unsigned)colours[k].b,
-               (unsigned)colours[k].c, (unsigned)p.a, (unsigned)p.b, (unsigned)p.c);
+    for (size_t k = 0; k < sizeof colours / sizeof colours[0] && is_rgb(wiring_of_request(q)); k++)
+        tell_colour(matrix, colours[k].name, colours[k].a, colours[k].b, colours[k].c);
+    for (int l = 0; l < LEVELS && !is_rgb(wiring_of_request(q)); l++) {
+        const uint32_t *code = spaces[HDTV_LIMITED].code[l];
+        tell_colour(matrix, levels[l], code[0], code[1], code[2]);
     }
 }
 

@@ -192,7 +192,8 @@ const char *text_of_change(const struct review *v, const struct mended *p, char 
     return text;
 }
 
-enum { GC = 0x4B, OPEN = 0x80, MUTE_BITS = 0xC0, REPETITION = 0x3B, AVI_BYTE_4 = 0x58, AVI_BYTE_5 = 0x59, COLOUR_DEPTH = 0x4C };
+enum { GC = 0x4B, OPEN = 0x80, MUTE_BITS = 0xC0, REPETITION = 0x3B, AVI_BYTE_4 = 0x58, AVI_BYTE_5 = 0x59, COLOUR_DEPTH = 0x4C,
+       INPUT_ID = 0x15, VIDEO_FORMAT = 0x16, CONVERTER = 0x18, AVI_BYTE_1 = 0x55 };
 
 /* Where registers say what sound there is: the rate's code, the channels, the inputs, the enables, HDMI. */
 static const struct { uint8_t address, bits; } sounding[] = { { 0x15, 0xF0 }, { 0x73, 0x07 }, { 0x0C, 0x3C }, { 0x44, 0x68 }, { 0xAF, 0x02 } };
@@ -216,6 +217,29 @@ static int is_too_much(const uint8_t image[STATION_IMAGE], struct request *q) {
         return station_ncts(q->bytes, q->length).refusal == STATION_SOUND_TOO_MUCH;
     }
     return 0;
+}
+
+/* Registers that are of no wiring: what they would have to be. */
+static const char *text_of_wiring(const uint8_t image[STATION_IMAGE], char *text, size_t room) {
+    unsigned id = image[INPUT_ID] & 0x0F;
+    if (!id) snprintf(text, room, "input ID 0 is today's board, and that has 1100 in 0x16[5:2], 00 in 0x48[4:3] and 0 in 0x30 to 0x34");
+    else if (!wiring_of_id((int)id)) snprintf(text, room, "0x15[3:0], the input ID, is %u: none above 8 is defined", id);
+    else snprintf(text, room, "0x16[5:2], 0x48[4:3] and 0x30 to 0x34 are not what input ID %u can have (tools/modes --wirings)", id);
+    return text;
+}
+
+static int is_without_matrix(const uint8_t image[STATION_IMAGE]) {
+    int is_ycbcr = (image[AVI_BYTE_1] >> 5 & 3) != 0;
+    return !(image[CONVERTER] & 0x80) && is_rgb(wiring_of_id(image[INPUT_ID] & 0x0F)) == is_ycbcr;
+}
+
+/* Registers in which a request ends but for the input's width, which versions before 6.0.0 did not write. */
+static int is_of_older_version(const uint8_t image[STATION_IMAGE]) {
+    uint8_t with_width[STATION_IMAGE], request[STATION_REQUEST];
+    memcpy(with_width, image, STATION_IMAGE);
+    with_width[VIDEO_FORMAT] |= 0x30;
+    return (image[INPUT_ID] & 0x0F) == 0 && (image[VIDEO_FORMAT] & 0x30) != 0x30 &&
+           station_decode(with_width, STATION_IMAGE, request, sizeof request).refusal == 0;
 }
 
 int tell_bad_end(const struct chip *c, void (*tell)(const char *text)) {
@@ -252,6 +276,9 @@ int tell_bad_end(const struct chip *c, void (*tell)(const char *text)) {
     if (c->image[AVI_BYTE_5] >> 6 > 1) tell("YQ (0x59[7:6]), the YCC quantisation, is none of 00 and 01"), told++;
     uint8_t depth = c->image[COLOUR_DEPTH] & 0x0F;
     if (depth != 0 && depth != 5 && depth != 6) tell("0x4C[3:0], the colour depth, is none of 0000, 0101 and 0110"), told++;
+    if (!has_wiring(c->image)) tell(text_of_wiring(c->image, text, sizeof text)), told++;
+    else if (is_without_matrix(c->image))
+        tell("input and output are of different colour kinds, by 0x15[3:0] and 0x55[6:5], and the converter is off, 0x18[7]"), told++;
     struct request q;
     char fit[TEXT_OF_A_FIT];
     if (is_too_much(c->image, &q)) tell(text_of_room(&q, fit)), told++;
@@ -275,6 +302,8 @@ int tell_worth_knowing(const struct review *v, void (*tell)(const char *text)) {
     struct request q;
     if (!v->begins && is_too_much(v->chip.image, &q))
         tell("the sound in the registers at the beginning does not fit, so they are those of no request; versions before 5.5.0 planned such sound."), told++;
+    if (!v->begins && is_of_older_version(v->chip.image))
+        tell("the input's width in the registers at the beginning, 0x16[5:4], is not 11, so they are those of no request; versions before 6.0.0 did not write it."), told++;
     return (int)told;
 }
 

@@ -5,6 +5,7 @@
 #include "fields.h"
 #include "guide.h"
 #include "words.h"
+#include <string.h>
 
 const char *program = "vectors";
 
@@ -126,7 +127,49 @@ static struct tally run_tables(void) {
     return all;
 }
 
+/* ---- Tables 32 and 35 against the registers that the library writes. */
+
+static const struct sync_row *row_of_format(const char *format) {
+    const struct sync_row *s = sync_rows;
+    while (strcmp(s->format, format)) s++;
+    return s;
+}
+
+/* Named are the two rows that have each other's registers. */
+static enum verdict verdict_of_syncs(const struct sync_row *s, const uint8_t left[SYNC_REGISTERS]) {
+    if (!memcmp(left, s->registers, SYNC_REGISTERS)) return AGREES;
+    for (size_t k = 0; k < COUNT(exchanged); k++)
+        if (!strcmp(s->format, exchanged[k]) && !memcmp(left, row_of_format(exchanged[COUNT(exchanged) - 1 - k])->registers, SYNC_REGISTERS)) return NAMED;
+    return UNEXPLAINED;
+}
+
+static void print_bytes(const uint8_t *bytes, size_t count) {
+    for (size_t k = 0; k < count; k++) printf(" %02x", bytes[k]);
+}
+
+static struct tally run_all_syncs(void) {
+    struct tally all = { { 0 } };
+    printf("Tables 32 and 35: embedded syncs, 0x30 to 0x34 as printed, and as the library writes Table 32's values\n");
+    for (const struct sync_row *s = sync_rows; s < sync_rows + COUNT(sync_rows); s++) {
+        uint8_t left[SYNC_REGISTERS];
+        registers_of_syncs(s->values, left);
+        enum verdict v = verdict_of_syncs(s, left);
+        all.of[v]++;
+        printf("%s, %u %u %u %u:", s->format, s->values[0], s->values[1], s->values[2], s->values[3]);
+        print_bytes(left, sizeof left);
+        if (v == AGREES) printf("\n");
+        else {
+            printf(", printed");
+            print_bytes(s->registers, sizeof s->registers);
+            printf(v == NAMED ? ": named, the two rows of 720p are exchanged\n" : ": UNEXPLAINED\n");
+        }
+    }
+    printf("Syncs: ");
+    show(&all);
+    return all;
+}
+
 int main(void) {
-    struct tally pairs = run_rows(), matrices = run_tables();
-    return pairs.of[UNEXPLAINED] || matrices.of[UNEXPLAINED];
+    struct tally pairs = run_rows(), matrices = run_tables(), syncs = run_all_syncs();
+    return pairs.of[UNEXPLAINED] || matrices.of[UNEXPLAINED] || syncs.of[UNEXPLAINED];
 }
