@@ -28,6 +28,12 @@ every-at test [] k d t h = absurd (not-suc-le-zero h)
 every-at test (x ∷ xs) zero d t h = both-left (test x) (every test xs) t
 every-at test (x ∷ xs) (suc k) d t h = every-at test xs k d (both-right (test x) (every test xs) t) (le-of-suc-le-suc h)
 
+-- past the last entry what stands in for none
+pub every-or : {A : Type 0} (test : A → Bool) (l : List A) (d : A) → every test l ≡ true → test d ≡ true → (k : ℕ) → test (getD l k d) ≡ true
+every-or test [] d t e k = e
+every-or test (x ∷ xs) d t e zero = both-left (test x) (every test xs) t
+every-or test (x ∷ xs) d t e (suc k) = every-or test xs d (both-right (test x) (every test xs) t) e k
+
 pub at-every : {A : Type 0} (test : A → Bool) (l : List A) (d : A) → ((k : ℕ) → k < length l → test (getD l k d) ≡ true) → every test l ≡ true
 at-every test [] d f = refl
 at-every test (x ∷ xs) d f = rw (f 0 (zero-lt-suc _)) (at-every test xs d (λ k h. f (suc k) (suc-le-suc h)))

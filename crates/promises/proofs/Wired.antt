@@ -6,10 +6,12 @@ use mathlib.Core.List.{List, [], _∷_}
 use Prim.Native.Nat.{ℕ, _+_, _*_, _<_, _≤_}
 use native.Mathlib.Omega.{arith}
 use lib.Dec.{eqb, leb, ltb}
-use lib.ListN.{getD, length, drop}
+use lib.ListN.{getD, length, drop, List·getD-eq-default}
 use borrow.Author.Tests.{eqb-true, lt-ltb, le-ltb, ltb-true, ltb-false, leb-true}
 use Rattle.lists.specs.Among.{among}
+use Rattle.lists.specs.Find.{every}
 use Rattle.lists.proofs.Both.{both-left, both-right, beq-true}
+use Rattle.lists.proofs.Find.{every-or}
 use Rattle.lists.proofs.Place.{byPlace, by-place}
 use Rattle.bits.proofs.Below.{below, at-below}
 use Rattle.matrix.specs.Matrix.{Bytes}
@@ -17,12 +19,11 @@ use Rattle.wiring.specs.declared.Kind.{Kind}
 use Rattle.wiring.specs.declared.Wires.{Wires}
 use Rattle.wiring.specs.declared.Wiring.{Wiring}
 use Rattle.wiring.specs.declared.Wiring.the-variants.{Board, Four, Twelve}
-use Rattle.wiring.specs.Kinds.{kinds, kindOf, rgbIn, mostSync}
+use Rattle.wiring.specs.Kinds.{kinds, noKind, kindOf, rgbIn, mostSync}
 use Rattle.wiring.specs.Wiring.{wiringIn, wires, wiresOf}
 use Rattle.wiring.specs.Tests.{undrawn, syncBeyond, wiringOutside}
-use Rattle.wiring.proofs.Rows.{past, each}
 use Rattle.request.specs.Read.{convertsIn}
-use Rattle.promises.specs.EachByte.{inNone, drawn, syncsInside, wiringInside, converted, ofWiring}
+use Rattle.promises.specs.EachByte.{inNone, drawn, syncsInside, wiringInside, recoloured, ofWiring}
 use Rattle.promises.proofs.Choices.{alike, choices, chosen}
 
 -- ---- 5
@@ -51,7 +52,11 @@ kind-cap n = go (ltb n 9) refl
   where
     go : (b : Bool) → ltb n 9 ≡ b → kindOf n ≡ kindOf (cond b n 9)
     go true e = refl
-    go false e = past kinds n (ltb-false n 9 e)
+    go false e = List·getD-eq-default kinds noKind (ltb-false n 9 e)
+
+each : (test : Kind → Bool) → every test kinds ≡ true → test noKind ≡ true → (input : ℕ) → test (kindOf input) ≡ true
+unfolding kindOf
+each test = every-or test kinds noKind
 
 in-cap : (k : ℕ) (l : List ℕ) → below (λ n. Bool·beq (among n l) (among (cap k n) l)) 256 ≡ true → (n : ℕ) → n < 256 → among n l ≡ among (cap k n) l
 in-cap k l t n h = alike (λ n. among n l) (λ n. among (cap k n) l) t n h
@@ -242,7 +247,7 @@ wired w h t = go (eqb (length w) 0) refl (eqb (length w) 4) refl (eqb (length w)
 
 abbrev converting : List ℕ → Bool
 converting three =
-    Bool·beq (convertsIn (rgbIn (getD three 0 0)) (eqb (getD three 1 0) 0) && eqb (getD three 2 0) 0) (inNone converted three)
+    Bool·beq (convertsIn (rgbIn (getD three 0 0)) (eqb (getD three 1 0) 0) && eqb (getD three 2 0) 0) (inNone recoloured three)
 
 abbrev convertingIn : List (List ℕ)
 convertingIn = known ∷ (0 ∷ 1 ∷ 2 ∷ []) ∷ (0 ∷ 25 ∷ []) ∷ []
@@ -252,5 +257,5 @@ unfolding kindOf
 all-converting = refl
 
 pub converts : (i encoding matrix : ℕ) → among i known ≡ true → among encoding (0 ∷ 1 ∷ 2 ∷ []) ≡ true → among matrix (0 ∷ 25 ∷ []) ≡ true
-    → (convertsIn (rgbIn i) (eqb encoding 0) && eqb matrix 0) ≡ inNone converted (i ∷ encoding ∷ matrix ∷ [])
+    → (convertsIn (rgbIn i) (eqb encoding 0) && eqb matrix 0) ≡ inNone recoloured (i ∷ encoding ∷ matrix ∷ [])
 converts i encoding matrix a b c = beq-true _ _ (chosen convertingIn converting (i ∷ encoding ∷ matrix ∷ []) refl all-converting (rw (a, b, c)))

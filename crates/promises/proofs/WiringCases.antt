@@ -33,7 +33,7 @@ use Rattle.decode.specs.Decode.{someEnds, decodeRefusal, decodeOf}
 use Rattle.decode.specs.Theorems.{Answered}
 use Rattle.promises.specs.Rules.{asked}
 use Rattle.promises.specs.Worked.{zeros}
-use Rattle.promises.specs.WiringCases.{wiredTo, camera, camera1080, fieldsOf, leaves, table32, table35, WiringCases}
+use Rattle.promises.specs.WiringCases.{wiredTo, camera, camera1080, fieldsOf, leftAt, table32, table35, WiringCases}
 use Rattle.promises.proofs.Cases.{reads-back}
 
 board : map (λ input. planOf (wiredTo 1 (camera1080 input)) zeros zeros .refusal) (2 ∷ 4 ∷ 8 ∷ []) ≡ 0 ∷ 0 ∷ 0 ∷ []
@@ -41,7 +41,7 @@ unfolding flatMap euclid divisorOf modeOf tmds clockOf highestOf beyond referenc
 board = refl
 
 -- of each ID its registers
-leaves-board : map (λ input. leaves (0x15 ∷ 0x16 ∷ 0x48 ∷ []) (wiredTo 1 (camera1080 input))) (2 ∷ 4 ∷ 8 ∷ [])
+leaves-board : map (λ input. leftAt (0x15 ∷ 0x16 ∷ 0x48 ∷ []) (wiredTo 1 (camera1080 input))) (2 ∷ 4 ∷ 8 ∷ [])
     ≡ (0x22 ∷ 0x98 ∷ 0x10 ∷ []) ∷ (0x24 ∷ 0x98 ∷ 0x10 ∷ []) ∷ (0x28 ∷ 0x98 ∷ 0x10 ∷ []) ∷ []
 unfolding flatMap euclid divisorOf modeOf tmds clockOf highestOf beyond reference recommendedOf nearestK nearestIn nearestOf exactly coherentOf pairOf total aviFrame audioFrame audioOffFrame fields inRange isAllowed walk walked kindOf wiringOutside videoOutside shownOutside videoCombined shownCombined outside combined judged readOf pairFor merge classAt decided byte written middle isWritten finished column flat alreadyThere wanted laterRefusal planWith bufferWith planOf planBuffer
 leaves-board = refl
@@ -59,15 +59,15 @@ board-back : (room : List ℕ) → 51 ≤ length room
 unfolding flatMap
 board-back room h = rw as-asked at (reads-back (wiredTo 1 (camera1080 2)) refl (accepted .0) (accepted .1) room h)
 
-syncs : map (λ numbers. leaves (from 0x30 5) (wiredTo 1 (camera 2 numbers))) table32 ≡ table35
+syncs : map (λ numbers. leftAt (from 0x30 5) (wiredTo 1 (camera 2 numbers))) table32 ≡ table35
 unfolding flatMap euclid divisorOf modeOf tmds clockOf highestOf beyond reference recommendedOf nearestK nearestIn nearestOf exactly coherentOf pairOf total aviFrame audioFrame audioOffFrame fields inRange isAllowed walk walked kindOf wiringOutside videoOutside shownOutside videoCombined shownCombined outside combined judged readOf pairFor merge classAt decided byte written middle isWritten finished column flat alreadyThere wanted laterRefusal planWith bufferWith planOf planBuffer
 syncs = refl
 
-no-syncs : leaves (from 0x30 5) (wiredTo 1 (fieldsOf 1)) ≡ 0 ∷ 0 ∷ 0 ∷ 0 ∷ 0 ∷ []
+no-syncs : leftAt (from 0x30 5) (wiredTo 1 (fieldsOf 1)) ≡ 0 ∷ 0 ∷ 0 ∷ 0 ∷ 0 ∷ []
 unfolding flatMap euclid divisorOf modeOf tmds clockOf highestOf beyond reference recommendedOf nearestK nearestIn nearestOf exactly coherentOf pairOf total aviFrame audioFrame audioOffFrame fields inRange isAllowed walk walked kindOf wiringOutside videoOutside shownOutside videoCombined shownCombined outside combined judged readOf pairFor merge classAt decided byte written middle isWritten finished column flat alreadyThere wanted laterRefusal planWith bufferWith planOf planBuffer
 no-syncs = refl
 
-today : leaves (0x15 ∷ 0x16 ∷ 0x48 ∷ from 0x30 5) (wiredTo 0 (0x00 ∷ [])) ≡ 0x20 ∷ 0x30 ∷ 0 ∷ 0 ∷ 0 ∷ 0 ∷ 0 ∷ 0 ∷ []
+today : leftAt (0x15 ∷ 0x16 ∷ 0x48 ∷ from 0x30 5) (wiredTo 0 (0x00 ∷ [])) ≡ 0x20 ∷ 0x30 ∷ 0 ∷ 0 ∷ 0 ∷ 0 ∷ 0 ∷ 0 ∷ []
 unfolding flatMap euclid divisorOf modeOf tmds clockOf highestOf beyond reference recommendedOf nearestK nearestIn nearestOf exactly coherentOf pairOf total aviFrame audioFrame audioOffFrame fields inRange isAllowed walk walked kindOf wiringOutside videoOutside shownOutside videoCombined shownCombined outside combined judged readOf pairFor merge classAt decided byte written middle isWritten finished column flat alreadyThere wanted laterRefusal planWith bufferWith planOf planBuffer
 today = refl
 

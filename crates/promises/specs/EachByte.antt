@@ -93,8 +93,8 @@ together =
     ((1 ∷ []) ∷ (1 ∷ []) ∷ (0 ∷ []) ∷ (0x00 ∷ 0x10 ∷ 0x20 ∷ []) ∷ editionBytes ∷ (0 ∷ 3 ∷ []) ∷ []) ∷
     ((2 ∷ []) ∷ (1 ∷ []) ∷ (0 ∷ []) ∷ depthBytes ∷ editionBytes ∷ (0 ∷ 3 ∷ []) ∷ []) ∷ []
 
-abbrev pub converted : List (List (List ℕ))
-converted =
+abbrev pub recoloured : List (List (List ℕ))
+recoloured =
     ((0 ∷ 5 ∷ []) ∷ (0 ∷ []) ∷ (0 ∷ 25 ∷ []) ∷ []) ∷
     ((0 ∷ 5 ∷ []) ∷ (1 ∷ 2 ∷ []) ∷ (25 ∷ []) ∷ []) ∷
     ((1 ∷ 2 ∷ 3 ∷ 4 ∷ 6 ∷ 7 ∷ 8 ∷ []) ∷ (0 ∷ []) ∷ (25 ∷ []) ∷ []) ∷
@@ -139,7 +139,7 @@ module _ (wiring : List ℕ) (vic family encoding link range pixel edition : ℕ
 
   abbrev pub apartTo : Bool
   apartTo =
-      inNone converted (getD wiring 0 0 ∷ encoding ∷ length matrix ∷ [])
+      inNone recoloured (getD wiring 0 0 ∷ encoding ∷ length matrix ∷ [])
       || inNone together (encoding ∷ link ∷ range ∷ pixel ∷ edition ∷ length sound ∷ [])
 
   abbrev pub answerTo : ℕ

@@ -31,8 +31,8 @@ abbrev pub fieldsOf : ℕ → List ℕ
 fieldsOf input = 0x04 ∷ input ∷ 0x02 ∷ 0x01 ∷ 0x00 ∷ []
 
 -- the bytes of some registers in the image that a request ends in, from zeros
-abbrev pub leaves : List ℕ → List ℕ → List ℕ
-leaves registers input = map (finished (asked input) zeros) registers
+abbrev pub leftAt : List ℕ → List ℕ → List ℕ
+leftAt registers input = map (finished (asked input) zeros) registers
 
 -- Table 32: Hsync placement, Hsync duration, Vsync placement, Vsync duration, of 480i, 576i, 480p, 576p, 720p-60, 720p-50, 1080i-30, 1080i-25,
 -- 1080p-60, 1080p-50, 1080p-24 (Frame Packing); and Table 35: 0x30 to 0x34. The two rows of 720p with frame packing are exchanged in Table 35
@@ -54,7 +54,7 @@ table35 =
 pub record WiringCases : Type 0 where
   -- the board of the request, with 4:2:2 out: IDs 2, 4 and 8 are accepted; 0x15, 0x16, 0x48; and each reads back, count and all
   pub board : map (λ input. planOf (wiredTo 1 (camera1080 input)) zeros zeros .refusal) (2 ∷ 4 ∷ 8 ∷ []) ≡ 0 ∷ 0 ∷ 0 ∷ []
-  pub boardLeaves : map (λ input. leaves (0x15 ∷ 0x16 ∷ 0x48 ∷ []) (wiredTo 1 (camera1080 input))) (2 ∷ 4 ∷ 8 ∷ [])
+  pub boardLeaves : map (λ input. leftAt (0x15 ∷ 0x16 ∷ 0x48 ∷ []) (wiredTo 1 (camera1080 input))) (2 ∷ 4 ∷ 8 ∷ [])
       ≡ (0x22 ∷ 0x98 ∷ 0x10 ∷ []) ∷ (0x24 ∷ 0x98 ∷ 0x10 ∷ []) ∷ (0x28 ∷ 0x98 ∷ 0x10 ∷ []) ∷ []
   pub boardBack : (room : List ℕ) → 51 ≤ length room
       → Answered (wiredTo 1 (camera1080 2)) (finishedImage (asked (wiredTo 1 (camera1080 2))) zeros) room
@@ -75,9 +75,9 @@ pub record WiringCases : Type 0 where
   pub countThree : readOf (wiredTo 1 (0x03 ∷ 0x01 ∷ 0x01 ∷ 0x02 ∷ [])) .refusal ≡ 2
   pub inside : readOf (0x0C ∷ 0x02 ∷ 0x01 ∷ 0x02 ∷ 0x02 ∷ 0x00 ∷ []) .refusal ≡ 1
   -- Table 32's sync numbers as Table 35 has them
-  pub syncs : map (λ numbers. leaves (from 0x30 5) (wiredTo 1 (camera 2 numbers))) table32 ≡ table35
+  pub syncs : map (λ numbers. leftAt (from 0x30 5) (wiredTo 1 (camera 2 numbers))) table32 ≡ table35
   -- without embedded syncs they are 0, whatever stood there; today's board: depth 11
-  pub noSyncs : leaves (from 0x30 5) (wiredTo 1 (fieldsOf 1)) ≡ 0 ∷ 0 ∷ 0 ∷ 0 ∷ 0 ∷ []
-  pub today : leaves (0x15 ∷ 0x16 ∷ 0x48 ∷ from 0x30 5) (wiredTo 0 (0x00 ∷ [])) ≡ 0x20 ∷ 0x30 ∷ 0 ∷ 0 ∷ 0 ∷ 0 ∷ 0 ∷ 0 ∷ []
+  pub noSyncs : leftAt (from 0x30 5) (wiredTo 1 (fieldsOf 1)) ≡ 0 ∷ 0 ∷ 0 ∷ 0 ∷ 0 ∷ []
+  pub today : leftAt (0x15 ∷ 0x16 ∷ 0x48 ∷ from 0x30 5) (wiredTo 0 (0x00 ∷ [])) ≡ 0x20 ∷ 0x30 ∷ 0 ∷ 0 ∷ 0 ∷ 0 ∷ 0 ∷ 0 ∷ []
   -- an image that an older version finished, whose depth of the input is 00, decodes to nothing
   pub older : decodeOf (set (finishedImage (asked (wiredTo 0 (0x00 ∷ []))) zeros) 0x16 0x00) zeros .refusal ≡ 11

@@ -55,13 +55,13 @@ Outside b =
 abbrev pub rgbOut : Video → Bool
 rgbOut video = eqb (video .encoding) 0
 
-abbrev pub Converts : Wiring → Video → Type 0
-Converts wiring video = rgbIn (wiresOf wiring .input) ≢ rgbOut video
+abbrev pub Recolours : Wiring → Video → Type 0
+Recolours wiring video = rgbIn (wiresOf wiring .input) ≢ rgbOut video
 
 abbrev pub Combined : Bodies → Type 0
 Combined b =
     let video : Video = videoIn (b .video) in
-    (Converts (wiringIn (b .wiring)) video × (length (b .matrix) ≡ 0)) ⊎ ((video .link ≡ 0) × (soundOf (b .audio) ≢ Off)) ⊎ VideoCombined video
+    (Recolours (wiringIn (b .wiring)) video × (length (b .matrix) ≡ 0)) ⊎ ((video .link ≡ 0) × (soundOf (b .audio) ≢ Off)) ⊎ VideoCombined video
 
 -- row 9, "coherent audio, and no exact pair exists": without audio it does not apply
 abbrev pub NoPair : Video → Sound → Type 0

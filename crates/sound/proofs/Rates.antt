@@ -7,18 +7,11 @@ use native.Mathlib.Nat.{not-suc-le-zero, le-of-suc-le-suc}
 use lib.Dec.{eqb, ltb}
 use lib.ListN.{length, getD}
 use borrow.Author.Tests.{eqb-true, ltb-true}
-use Rattle.lists.specs.Find.{every}
-use Rattle.lists.proofs.Both.{both-left, both-right}
+use Rattle.lists.proofs.Find.{every-or}
 use Rattle.bits.proofs.Below.{at-below}
 use Rattle.sound.specs.Rates.{rates, codeFor}
 use Rattle.sound.specs.Coded.{ratePlace, rateOf}
 use Rattle.sound.specs.Theorems.{RateTable}
-
--- a test that every row passes, and what stands for none, any row passes
-pub at-every : (test : ℕ × ℕ → Bool) (rs : List (ℕ × ℕ)) → every test rs ≡ true → test (0, 0) ≡ true → (n : ℕ) → test (getD rs n (0, 0)) ≡ true
-at-every test [] t e n = e
-at-every test (r ∷ rs) t e zero = both-left (test r) (every test rs) t
-at-every test (r ∷ rs) t e (suc n) = at-every test rs (both-right (test r) (every test rs) t) e n
 
 -- a column of the table, and what stands past its end
 pub column : (f : ℕ × ℕ → ℕ) → f (0, 0) ≡ 0 → (rs : List (ℕ × ℕ)) (n : ℕ) → getD (map f rs) n 0 ≡ f (getD rs n (0, 0))
@@ -45,7 +38,7 @@ pub table : RateTable
 unfolding rateOf
 table =
     record {
-      bits = λ n. ltb-true _ _ (at-every (λ r. ltb (r .1) 16) rates refl refl n);
+      bits = λ n. ltb-true _ _ (every-or (λ r. ltb (r .1) 16) rates (0, 0) refl refl n);
       back = λ n h. eqb-true _ _ (at-below (λ n. eqb (rateOf (codeFor n)) n) (length rates) n refl h);
       only = λ code. found code rates;
     }

@@ -5,18 +5,19 @@ use mathlib.Core.Bool.{Bool, true, false, cond}
 use Prim.Native.Nat.{ℕ, _<_, _≤_}
 use native.Mathlib.Omega.{arith}
 use lib.Dec.{eqb, ltb, leb}
+use lib.ListN.{List·getD-eq-default}
 use borrow.Author.Tests.{eqb-true, eqb-false, ltb-true, ltb-false, leb-true}
 use Rattle.lists.proofs.Decides.{Decides, equal, less, opposite, either, at-most, is-equal}
 use Rattle.wiring.specs.declared.Kind.{Kind}
 use Rattle.wiring.specs.declared.Wires.{Wires}
 use Rattle.wiring.specs.declared.Wiring.{Wiring}
 use Rattle.wiring.specs.declared.Wiring.the-variants.{Board, Four, Twelve}
-use Rattle.wiring.specs.Kinds.{kinds, kindOf, mostSync}
+use Rattle.wiring.specs.Kinds.{kinds, noKind, kindOf, mostSync}
 use Rattle.wiring.specs.Wiring.{countOf, wiresOf, Undrawn, SyncBeyond, WiringOutside}
 use Rattle.wiring.specs.Tests.{undrawn, syncBeyond, wiringOutside}
 use Rattle.wiring.specs.Named.{wiringNamed}
 use Rattle.wiring.specs.Theorems.{WiresFit, WiringRange}
-use Rattle.wiring.proofs.Rows.{past, each}
+use Rattle.wiring.proofs.Rows.{each}
 
 is-undrawn : (k : Kind) (n : Wires) → Decides (undrawn k n) (Undrawn k n)
 is-undrawn k n =
@@ -53,7 +54,7 @@ input-small input depth l m = go (ltb input 9) refl
   where
     go : (b : Bool) → ltb input 9 ≡ b → input < 16
     go true e = omega (arith, ltb-true input 9 e)
-    go false e = absurd (omega (arith, ap (λ (k : Kind). k .least) (past kinds input (ltb-false input 9 e))))
+    go false e = absurd (omega (arith, ap (λ (k : Kind). k .least) (List·getD-eq-default kinds noKind (ltb-false input 9 e))))
 
 module _ (w : Wiring) (inside : WiringOutside w → ⊥) where
   n : Wires

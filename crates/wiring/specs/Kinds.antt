@@ -1,5 +1,6 @@
 -- Document 02, request 02: "input IDs 1 to 8 with depth, style and justification as source document 000 gives them". One table, a row for each
--- ID; the rules are over its row. docs/DECISIONS.md, 02.2 and 02.3, holds it against Tables 15 to 28 of 000, which draw the combinations.
+-- ID; the rules are over its row. `EachByte` (promises) has the same in bare numbers; docs/DECISIONS.md, 02.2 and 02.3, holds it against Tables 15
+-- to 28 of 000, which draw the combinations.
 use mathlib.Core.Bool.{Bool, cond}
 use mathlib.Core.List.{List, [], _∷_}
 use Prim.Native.Nat.{ℕ}

@@ -55,7 +55,7 @@ wiresOf (Four input depth style justification) = wires input depth style justifi
 wiresOf (Twelve input depth style justification a b c d) = wires input depth style justification a b c d
 
 -- row 5, of this section: "an undefined combination, ID 0, or a count that does not fit the ID is 5"; a sync value is "0 to 1023, for an
--- embedded ID". ID 0 is the ID of count 0. `WiringInWords` says it ID by ID
+-- embedded ID". ID 0 is the ID of count 0. `EachByte` (promises) has what is drawn in bare numbers
 abbrev pub Undrawn : Kind → Wires → Type 0
 Undrawn k n =
     (n .depth < k .least) ⊎ (depthMost < n .depth) ⊎ (n .style < k .first) ⊎ (k .last < n .style) ⊎ (k .ways < n .justification)

@@ -1,10 +1,10 @@
 -- `wiring::kind_of` meets its contract: each arm is the row of its ID, and past the last there is none. Assumes nothing.
 use mathlib.Core.Path.{_≡_, sym, ap, _∙_}
 use Prim.Native.Nat.{ℕ, _+_, _≤_}
+use lib.ListN.{List·getD-eq-default}
 use borrow.Author.Needs.{needs}
 use native.Mathlib.Omega.{arith}
-use Rattle.wiring.specs.Kinds.{kinds, kindOf}
-use Rattle.wiring.proofs.Rows.{past}
+use Rattle.wiring.specs.Kinds.{kinds, noKind, kindOf}
 use Rattle.wiring.proofs.kind_of.Statement.{statement}
 use Rattle.wiring.proofs.kind_of.Tie as tie
 
@@ -86,7 +86,7 @@ returns-10 c =
     let a : 5 ≤ input =
     more 4 input (more 3 input (more 2 input (more 1 input (more 0 input (omega arith) (o .0 .0 .0 .0 .0 .0 .0 .0 .1)) (o .0 .0 .0 .0 .0 .0 .0 .1)) (o .0 .0 .0 .0 .0 .0 .1)) (o .0 .0 .0 .0 .0 .1)) (o .0 .0 .0 .0 .1) in
     let beyond : 9 ≤ input = more 8 input (more 7 input (more 6 input (more 5 input a (o .0 .0 .0 .1)) (o .0 .0 .1)) (o .0 .1)) (o .1) in
-    c .row10 .ensures ∙ sym (past kinds input beyond)
+    c .row10 .ensures ∙ sym (List·getD-eq-default kinds noKind beyond)
 
 pub kind-of-spec : {M : Type 1} → statement M
 kind-of-spec =
