@@ -41,9 +41,15 @@ static inline struct fields asked(const uint8_t *r, size_t rl) {
     return f;
 }
 
+/* The place of the video section's count, or the end where there is none. */
+static inline size_t video_at(const uint8_t *r, size_t rl) { return rl && 1u + r[0] < rl ? 1u + r[0] : rl; }
+
 /* The request that an image shows, in family 0, whether it is accepted or not; 0 where a field shows no value that is allowed. */
 static inline int shown_by(const uint8_t *image, struct fields *f) {
-    *f = (struct fields){ .sound = image[0x44] >> 5 & 1, .matrix = image[0x18] >> 7 };
+    int input = image[0x15] & 15;
+    if (input > 8) return 0;
+    *f = (struct fields){ .wiring = model_wiring_of(input), .sound = image[0x44] >> 5 & 1, .matrix = image[0x18] >> 7 };
+    if (f->wiring > WIRING_BYTES) model_syncs_shown(image + SYNCS_AT, f->sync);
     for (const struct field *row = model_fields; row < model_fields + FIELDS; row++) {
         if (!model_has(f, row->section) || row->shown(image) == NO_REGISTER) continue;
         *model_field(f, row) = row->shown(image);
