@@ -1259,6 +1259,7 @@ static const struct { const char *name; void (*run)(void); } sections[SECTIONS] 
     { "depth and repetition", depths },
     { "editions of the InfoFrame", editions },
     { "sound that fits", sounds },
+    { "the other input wirings", wirings },
     { "the model's search", search },
     { "machine writes", writes },
     { "Vsync and the mark", turns },

@@ -559,7 +559,7 @@ static void every_cut(void) {
     uint32_t cut[NUMBERS_OF][VARIANTS] = { { 0 } }, of_each = run.share < 1000 ? 1 : 12, left = 0;
     for (int k = 0; k < NUMBERS_OF; k++)
         for (int v = 0; v < VARIANTS; v++) left += of_each * (uint32_t)numbers[k].is[v];
-    for (uint32_t i = 0; left > 0 && i < 20000; i++) {
+    for (uint32_t i = 0; left > 0 && i < 60000; i++) {
         int k = 0;
         seed(0x2000000u + i);
         any_whole(&r, LEAST_ROOM);
