@@ -156,6 +156,8 @@ static const struct row rows[] = {
     { "a bad count is there", FOUND("05", NOT_YET), { { "", 2, "05" }, { THE_END, 2, "05" } } },
     { "a bad count is there at the end", FOUND(VIDEO "05", NOT_YET), { { THE_END, 2, VIDEO "05" }, { "", 2, VIDEO "05" } } },
     { "a bad count is there, and a part", FOUND("05", NOT_YET), { { "10 00", 2, "05" }, { THE_END, 2, "05" } } },
+    { "a bad count is there, and the pipe is full", FOUND("05 02 01 01 02 00 6E 00 28 00 05 00 05 " PICTURE SOUND MATRIX_39, NOT_YET),
+      { { "00", 2, "05 02 01 01 02 00 6E 00 28 00 05 00 05 " PICTURE SOUND MATRIX_39 } } },
     { "a byte too many is there", FOUND(VIDEO "00 00 00", NOT_YET), { { "", 3, VIDEO "00 00 00" }, { THE_END, 3, VIDEO "00 00 00" } } },
     { "a byte too many is there at the end", FOUND(VIDEO "00 00 00", NOT_YET), { { THE_END, 3, VIDEO "00 00 00" } } },
     { "a part of a request is there", FOUND(VIDEO "03", NOT_YET),

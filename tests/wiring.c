@@ -191,6 +191,21 @@ static const struct { const char *format; int sync[4]; uint8_t registers[5]; } g
     { "720p-50 (Frame Packing), as Table 35 has 720p-60", { 440, 40, 5, 5 }, { 0x6E, 0x02, 0x80, 0x14, 0x05 } },
 };
 
+/* The class of each bit that a wiring names, and of those beside them. */
+static void classes(void) {
+    static const struct { uint8_t address, mandated, named, free; } rows[] = {
+        { 0x15, 0x00, 0xFF, 0x00 }, { 0x16, 0x40, 0xBC, 0x03 }, { 0x17, 0x98, 0x00, 0x67 }, { 0x2F, 0x00, 0xFF, 0x00 }, { 0x30, 0x00, 0xFF, 0x00 },
+        { 0x31, 0x00, 0xFF, 0x00 }, { 0x32, 0x00, 0xFF, 0x00 }, { 0x33, 0x00, 0xFF, 0x00 }, { 0x34, 0x00, 0xFF, 0x00 }, { 0x35, 0x00, 0x00, 0xFF },
+        { 0x48, 0x80, 0x18, 0x67 }, { 0x9D, 0xF3, 0x00, 0x0C }, { 0xD0, 0x01, 0x00, 0xFE }, { 0xFA, 0x03, 0x00, 0xFC },
+    };
+    for (size_t k = 0; k < sizeof rows / sizeof rows[0]; k++) {
+        struct station_masks m = run.f->class_of(rows[k].address);
+        run.now->cases++;
+        if (m.mandated != rows[k].mandated || m.named != rows[k].named || m.free_bits != rows[k].free || m.read_only)
+            differs("0x%02x: mandated %02x, named %02x, free %02x", rows[k].address, m.mandated, m.named, m.free_bits);
+    }
+}
+
 /* The image that the library's list leaves of another one, in the registers that the wiring has and in the free bits beside them. */
 static const struct { uint8_t address, named; } places[] = {
     { 0x15, 0x0F }, { 0x16, 0x3C }, { 0x30, 0xFF }, { 0x31, 0xFF }, { 0x32, 0xFF }, { 0x33, 0xFF }, { 0x34, 0xFF }, { 0x48, 0x18 },
@@ -492,6 +507,7 @@ static void vendors(void) {
 
 void wirings(void) {
     seed(0x2600000u);
+    classes();
     by_hand();
     tables_32_and_35();
     colours();
