@@ -21,8 +21,9 @@ enum { INPUTS = 64, ROUNDS = 1000, CHANGES = 200 };
 /* A list of pairs, its length in bytes. */
 struct pairs { uint8_t bytes[STATION_LIST + 2]; size_t length; };
 
-/* A request in words, part by part, but for the last two bytes of the video section, the depth byte and the edition byte. */
-struct parts { unsigned vic, family, encoding, range, depth, edition; char sound[64], matrix[TEXT_OF_A_REQUEST / 2]; };
+/* A request in words, part by part, but for the last two bytes of the video section, the depth byte and the edition byte. `ycbcr`: its
+ * input is, by its wiring. */
+struct parts { unsigned ycbcr, vic, family, encoding, range, depth, edition; char wiring[160], sound[64], matrix[TEXT_OF_A_REQUEST / 2]; };
 
 static struct {
     struct parts parts;
@@ -79,13 +80,25 @@ static void draw_matrix(struct parts *p) {
     for (int k = 0; k < 12; k++) used += snprintf(p->matrix + used, sizeof p->matrix - used, " %d", (int)(noise() % 8192) - 4096);
 }
 
+/* Another wiring than today's, each ID by turns, sync values where it has them. */
+static void draw_wiring(struct parts *p, unsigned id) {
+    int embedded = id == 2 || id == 4 || id == 8, of_rgb = id == 5;
+    int used = snprintf(p->wiring, sizeof p->wiring, "input id=%u width=%u style=%u justified=%u", id, 1 + noise() % 3, 1 + noise() % 2,
+                        of_rgb ? 0 : noise() % 3);
+    if (embedded)
+        snprintf(p->wiring + used, sizeof p->wiring - (size_t)used, " h-placement=%u h-duration=%u v-placement=%u v-duration=%u",
+                 noise() % 1024, noise() % 1024, noise() % 1024, noise() % 1024);
+    p->ycbcr = !of_rgb;
+}
+
 static unsigned draw_vic(void) { return modes[noise() % number_of_modes].vic; }
 
 static struct request request_of(const struct parts *p) {
-    struct request r = request_of_text("vic %u family=%u encoding=%u hdmi range=%u %s %s", p->vic, p->family, p->encoding, p->range,
-                                       p->sound, p->matrix);
-    r.bytes[r.bytes[0] - 1] = (uint8_t)p->depth;
-    r.bytes[r.bytes[0]] = (uint8_t)p->edition;
+    struct request r = request_of_text("%s vic %u family=%u encoding=%u hdmi range=%u %s %s", p->wiring, p->vic, p->family, p->encoding,
+                                       p->range, p->sound, p->matrix);
+    uint8_t *video = r.bytes + 1 + r.bytes[0];
+    video[video[0] - 1] = (uint8_t)p->depth;
+    video[video[0]] = (uint8_t)p->edition;
     return r;
 }
 
@@ -104,8 +117,8 @@ static unsigned draw_edition(void) {
     return 1 | quantisation << 2 | type << 4;
 }
 
-/* Requests over HDMI that are accepted, half of them with a matrix, half of those with RGB in full range, one of eight with depth or
- * repetition, one of eight with what 861-E has; an image of noise; the image that each ends in; and that image with one mandated bit turned
+/* Requests over HDMI that are accepted, one of eight with another wiring than today's, half of them with a matrix, half of those with RGB in
+ * full range, one of eight with depth or repetition, one of eight with what 861-E has; an image of noise; the image that each ends in; and that image with one mandated bit turned
  * over. */
 static void make_inputs(void) {
     for (int i = 0; i < INPUTS; ) {
@@ -113,7 +126,9 @@ static void make_inputs(void) {
         unsigned with_matrix = noise() % 2;
         p->vic = draw_vic();
         p->family = noise() % 2;
-        p->encoding = with_matrix ? noise() % 3 : 0;
+        p->wiring[0] = 0, p->ycbcr = 0;
+        if (i % 8 == 5) draw_wiring(p, 1 + (unsigned)i / 8 % 8);
+        p->encoding = with_matrix ? noise() % 3 : p->ycbcr ? 1 + noise() % 2 : 0;
         p->range = p->encoding ? 0 : noise() % 2;
         p->depth = i % 8 == 7 ? 1 + noise() % 0x22 : 0;
         p->edition = i % 8 == 3 ? draw_edition() : 0;
@@ -426,6 +441,7 @@ static const uint8_t powered_up[STATION_IMAGE] = {
 };
 
 /* What is shown before, NULL at power-up, and what is asked for. */
+#define CAMERA "input 422 embedded 10bit style2 left syncs 110 40 5 5 vic 4 ycbcr422 hdmi audio 48kHz 2 coherent"
 #define SHOWN "vic 16 ycbcr444 hdmi audio 48kHz 2 coherent matrix table43"
 static const struct { const char *title, *shown, *asked; } changes[] = {
     { "the same request again", SHOWN, SHOWN },
@@ -434,6 +450,8 @@ static const struct { const char *title, *shown, *asked; } changes[] = {
     { "other mode", SHOWN, "vic 4 ycbcr444 hdmi audio 48kHz 2 coherent matrix table43" },
     { "mode, sound and matrix", MAY_BEFORE, MAY_ASKED },
     { "from power-up", NULL, SHOWN },
+    { "a camera board, power-up", NULL, CAMERA },
+    { "a camera board, other mode", CAMERA, "input 422 embedded 10bit style2 left syncs 88 44 4 5 vic 16 ycbcr422 hdmi audio 48kHz 2 coherent" },
 };
 
 static uint32_t writes_on(const uint8_t *image, const struct request *r) {

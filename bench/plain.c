@@ -5,10 +5,21 @@
 #include <math.h>
 #include <string.h>
 
-/* The places of the video section's fields in a request, behind its count, and that of the next count. The bytes of each section and of
- * the longest request, with its three counts; the VICs have six bits. */
+/* The places of the video section's fields from its count on, and that of the next count; those of a wiring's fields. The bytes of each
+ * section, a wiring with or without its sync values, and of the longest request, with its four counts; the VICs have six bits. */
 enum { VIC = 1, FAMILY, ENCODING, LINK, RANGE, DEPTH, EDITION, NEXT };
-enum { VIDEO = NEXT - 1, SOUND = 3, MATRIX = STATION_MATRIX, LONGEST = 3 + VIDEO + SOUND + MATRIX, VICS = 64, RATES = 7, DEPTHS = 3 };
+enum { ID, WIDTH, STYLE, JUSTIFIED, SYNCS };
+enum { WIRING = 4, EMBEDDED = WIRING + 8, VIDEO = NEXT - 1, SOUND = 3, MATRIX = STATION_MATRIX };
+enum { LONGEST = 4 + EMBEDDED + VIDEO + SOUND + MATRIX, VICS = 64, RATES = 7, DEPTHS = 3 };
+
+/* For each input ID: the count of its wiring section, which is 0 for today's board, whether it is RGB, and the codes of depth, style and
+ * justification that the guide draws, a bit each. */
+enum { INPUTS = 9, TODAY = 0x30 };                          /* 0x16 of today's board: 8 bit */
+static const struct { uint8_t count, rgb, codes[3]; } inputs[INPUTS] = {
+    { 0, 1, { 0 } },                { WIRING, 0, { 14, 14, 7 } },   { EMBEDDED, 0, { 14, 14, 7 } },
+    { WIRING, 0, { 14, 6, 7 } },    { EMBEDDED, 0, { 14, 6, 7 } },  { WIRING, 1, { 14, 14, 1 } },
+    { WIRING, 0, { 14, 14, 7 } },   { WIRING, 0, { 14, 6, 7 } },    { EMBEDDED, 0, { 14, 6, 7 } },
+};
 
 /* For each VIC: its pixel clock, a row of `rows`, at family 0 and 1 (0 where it is not offered), 4:3, ITU-R 601, the rates that fit with
  * eight channels, by repetition, from the lowest on, and the clock at family 0 in Hz. */
@@ -131,7 +142,8 @@ static const uint8_t depth_codes[DEPTHS] = { 0, 5, 6 }, repeats[] = { 0, 1, 3 };
 #define FOUR_FROM(a) a, a + 1, a + 2, a + 3
 #define EIGHT_FROM(a) FOUR_FROM(a), FOUR_FROM(a + 4)
 #define TABLE_14 0x98, 0x9A, 0x9C, 0x9D, 0xA2, 0xA3, 0xE0, 0xF9
-#define OTHERS 0x01, 0x02, 0x03, 0x07, 0x08, 0x09, 0x0A, 0x0C, 0x15, 0x16, 0x3B, 0x3C, 0x40, 0x44, 0x4C, 0xAF
+#define OTHERS \
+    0x01, 0x02, 0x03, 0x07, 0x08, 0x09, 0x0A, 0x0C, 0x15, 0x16, FOUR_FROM(0x30), 0x34, 0x3B, 0x3C, 0x40, 0x44, 0x48, 0x4C, 0xAF
 static const uint8_t table_14[] = { TABLE_14 }, others[] = { OTHERS };
 static const uint8_t all[] = {
     TABLE_14, EIGHT_FROM(0x18), EIGHT_FROM(0x20), EIGHT_FROM(0x28), 0x4A, EIGHT_FROM(0x52), EIGHT_FROM(0x5A), EIGHT_FROM(0x70),
@@ -140,9 +152,9 @@ static const uint8_t all[] = {
 
 /* The bits of them that are kept from the image. */
 static const uint8_t kept[256] = {
-    [0x01] = 0xF0, [0x07] = 0xF0, [0x0A] = 0x03, [0x0C] = 0xC0, [0x16] = 0x3F, [0x1A] = 0xC0, [0x1C] = 0xE0, [0x1E] = 0xE0, [0x20] = 0xE0,
+    [0x01] = 0xF0, [0x07] = 0xF0, [0x0A] = 0x03, [0x0C] = 0xC0, [0x16] = 0x03, [0x1A] = 0xC0, [0x1C] = 0xE0, [0x1E] = 0xE0, [0x20] = 0xE0,
     [0x22] = 0xE0, [0x24] = 0xE0, [0x26] = 0xE0, [0x28] = 0xE0, [0x2A] = 0xE0, [0x2C] = 0xE0, [0x2E] = 0xE0, [0x3C] = 0xC0, [0x40] = 0x7F,
-    [0x44] = 0x01, [0x4A] = 0x1F, [0x4B] = 0x3F, [0x4C] = 0xF0, [0x52] = 0xF8, [0x53] = 0xE0, [0x70] = 0xF8, [0x71] = 0xE0, [0x9A] = 0x01,
+    [0x44] = 0x01, [0x48] = 0x67, [0x4A] = 0x1F, [0x4B] = 0x3F, [0x4C] = 0xF0, [0x52] = 0xF8, [0x53] = 0xE0, [0x70] = 0xF8, [0x71] = 0xE0, [0x9A] = 0x01,
     [0x9D] = 0x0C, [0xAF] = 0x90,
 };
 
@@ -155,14 +167,27 @@ static const uint8_t always[256] = {
 /* The edition byte: E alone may ask for the YCC quantisation, 0 or 1, and the content type; the rest of it is 0. */
 enum { IS_E = 0x01, QUANTISATION = 0x04, TYPE = 0x30, ALL_OF_E = IS_E | QUANTISATION | TYPE };
 
-/* `row` is that of `pairs`, `of_e` the upper half of AVI data byte 5, in its place. */
-struct asked { uint8_t vic, family, encoding, link, range, depth, repetition, of_e, row; const uint8_t *sound, *matrix; };
+/* `row` is that of `pairs`, `of_e` the upper half of AVI data byte 5, in its place; `id` is 0 where there is no wiring. */
+struct asked { uint8_t id, vic, family, encoding, link, range, depth, repetition, of_e, row; const uint8_t *wiring, *sound, *matrix; };
 
 static inline uint8_t row_of(const struct asked *q) { return rows[modes[q->vic].clock[q->family]][q->depth][q->repetition]; }
 
-static uint32_t read(const uint8_t *r, size_t length, struct asked *q) {
+/* Is this combination drawn, of an ID that has this count, and are the sync values below 1024? */
+static inline int defined(const uint8_t *w, uint8_t count) {
+    if (w[ID] >= INPUTS || inputs[w[ID]].count != count || w[WIDTH] > 3 || w[STYLE] > 3 || w[JUSTIFIED] > 3) return 0;
+    const uint8_t *codes = inputs[w[ID]].codes;
+    if (!(codes[0] >> w[WIDTH] & codes[1] >> w[STYLE] & codes[2] >> w[JUSTIFIED] & 1)) return 0;
+    return count != EMBEDDED || (w[SYNCS] | w[SYNCS + 2] | w[SYNCS + 4] | w[SYNCS + 6]) <= 3;
+}
+
+static uint32_t read(const uint8_t *request, size_t length, struct asked *q) {
     size_t at = NEXT;
     if (length < 1) return 1;
+    const uint8_t count = request[0], *r = request + 1 + count;
+    if (count != 0 && count != WIRING && count != EMBEDDED) return 2;
+    if (length < 2u + count) return 1;
+    length -= 1u + count;
+    q->wiring = count ? request + 1 : NULL;
     if (r[0] != VIDEO) return 2;
     if (length < at + 1) return 1;
     q->sound = q->matrix = NULL;
@@ -191,7 +216,10 @@ static uint32_t read(const uint8_t *r, size_t length, struct asked *q) {
         for (int k = 1; k < MATRIX; k += 2)
             if (q->matrix[k] > 0x0F && q->matrix[k] < 0xF0) return 5;
     }
-    if ((q->encoding && (!q->matrix || q->range)) || (!q->link && (q->sound || q->encoding))) return 6;
+    if (q->wiring && !defined(q->wiring, count)) return 5;
+    q->id = q->wiring ? q->wiring[ID] : 0;
+    if (!q->matrix && inputs[q->id].rgb == (q->encoding != 0)) return 6;
+    if ((q->encoding && q->range) || (!q->link && (q->sound || q->encoding))) return 6;
     if ((q->depth && (q->encoding == 1 || !q->link)) || (q->of_e && !(r[EDITION] & IS_E))) return 6;
     q->row = row_of(q);
     if (!q->row) return 17;
@@ -258,7 +286,20 @@ static inline int want(const struct asked *q, find_pair *find, uint8_t *b) {
         b[0x73] = (uint8_t)(q->sound[1] - 1);
         b[0x76] = q->sound[1] == 8 ? 0x13 : 0x00;
     }
+    b[0x15] |= q->id;
     b[0x16] = q->encoding == 1 ? 0x80 : 0x00;
+    if (q->wiring) {
+        const uint8_t *w = q->wiring, *s = w + SYNCS;
+        b[0x16] |= (uint8_t)(w[WIDTH] << 4 | w[STYLE] << 2);
+        b[0x48] = (uint8_t)(w[JUSTIFIED] << 3);
+        if (inputs[q->id].count == EMBEDDED) {              /* ten bits each, one after the other */
+            b[0x30] = (uint8_t)(s[0] << 6 | s[1] >> 2);
+            b[0x31] = (uint8_t)(s[1] << 6 | s[2] << 4 | s[3] >> 4);
+            b[0x32] = (uint8_t)(s[3] << 4 | s[4] << 2 | s[5] >> 6);
+            b[0x33] = (uint8_t)(s[5] << 2 | s[6]);
+            b[0x34] = s[7];
+        }
+    } else b[0x16] |= TODAY;
     if (q->matrix) {
         memcpy(b + 0x18, q->matrix + 1, 24);
         for (int a = 0x18; a < 0x30; a += 2) b[a] &= 0x1F;
@@ -344,11 +385,28 @@ static inline struct station_count decode(const uint8_t *image, size_t image_len
                                           find_pair *find) {
     static const uint8_t rates[16] = { 1, 9, 2, 0, 9, 9, 9, 9, 3, 9, 4, 9, 5, 9, 6, 9 };
     static const uint8_t depths[16] = { 0, 9, 9, 9, 9, 1, 2, 9, 9, 9, 9, 9, 9, 9, 9, 9 };
-    uint8_t r[LONGEST] = { VIDEO };
+    uint8_t whole[LONGEST], *r = whole + 1, id = image[0x15] & 15;
     size_t at = NEXT;
     struct asked q;
     if (image_length != 256) return (struct station_count){ 7, 0 };
     if (request_length < LONGEST) return (struct station_count){ 10, 0 };
+    if (id >= INPUTS) return (struct station_count){ 11, 0 };
+    whole[0] = inputs[id].count;
+    if (id) {
+        r[ID] = id;
+        r[WIDTH] = image[0x16] >> 4 & 3;
+        r[STYLE] = image[0x16] >> 2 & 3;
+        r[JUSTIFIED] = image[0x48] >> 3 & 3;
+        if (whole[0] == EMBEDDED) {
+            const uint8_t *s = image + 0x30, syncs[] = {
+                s[0] >> 6, (uint8_t)(s[0] << 2 | s[1] >> 6), s[1] >> 4 & 3, (uint8_t)(s[1] << 4 | s[2] >> 4),
+                s[2] >> 2 & 3, (uint8_t)(s[2] << 6 | s[3] >> 2), s[3] & 3, s[4],
+            };
+            memcpy(r + SYNCS, syncs, sizeof syncs);
+        }
+        r += whole[0];
+    }
+    r[0] = VIDEO, r[FAMILY] = 0;
     r[VIC] = image[0x3C] & 0x3F;
     r[ENCODING] = image[0x55] >> 5 & 3;
     r[LINK] = image[0xAF] >> 1 & 1;
@@ -369,13 +427,14 @@ static inline struct station_count decode(const uint8_t *image, size_t image_len
             r[at++] = image[a + 1];
         }
     } else r[at++] = 0;
-    if (read(r, at, &q)) return (struct station_count){ 11, 0 };
+    at += 1u + whole[0];
+    if (read(whole, at, &q)) return (struct station_count){ 11, 0 };
     if (!stands(&q, image, find)) {
         q.family = 1;
         q.row = row_of(&q);
         if (!q.sound || !q.sound[2] || !modes[q.vic].clock[1] || !stands(&q, image, find)) return (struct station_count){ 11, 0 };
     }
-    memcpy(request, r, at);
+    memcpy(request, whole, at);
     return (struct station_count){ 0, (uint32_t)at };
 }
 
@@ -388,9 +447,10 @@ static inline struct station_count decode(const uint8_t *image, size_t image_len
 #define TWO_COEFFICIENTS(a) NAMED(a, 0xE0), EIGHT(a + 1), NAMED(a + 2, 0xE0), EIGHT(a + 3)
 static const struct { uint8_t ours, mandated, value, free; } rules[256] = {
     NAMED(0x01, 0xF0), EIGHT(0x02), EIGHT(0x03), NAMED(0x07, 0xF0), EIGHT(0x08), EIGHT(0x09), NAMED(0x0A, 0x03), NAMED(0x0C, 0xC0),
-    EIGHT(0x15), MANDATED(0x16, 0x40, 0, 0x3F), EIGHT(0x18), EIGHT(0x19), NAMED(0x1A, 0xC0), EIGHT(0x1B),
+    EIGHT(0x15), MANDATED(0x16, 0x40, 0, 0x03), EIGHT(0x18), EIGHT(0x19), NAMED(0x1A, 0xC0), EIGHT(0x1B),
     TWO_COEFFICIENTS(0x1C), TWO_COEFFICIENTS(0x20), TWO_COEFFICIENTS(0x24), TWO_COEFFICIENTS(0x28), TWO_COEFFICIENTS(0x2C),
-    MANDATED(0x3B, 0x81, 0x80, 0), NAMED(0x3C, 0xC0), NAMED(0x40, 0x7F), MANDATED(0x44, 0x86, 0, 0x01),
+    FOUR(0x30), EIGHT(0x34), MANDATED(0x3B, 0x81, 0x80, 0), NAMED(0x3C, 0xC0), NAMED(0x40, 0x7F), MANDATED(0x44, 0x86, 0, 0x01),
+    MANDATED(0x48, 0x80, 0, 0x67),
     NAMED(0x4A, 0x1F), NAMED(0x4B, 0x3F), EIGHT(0x4C),
     NAMED(0x52, 0xF8), NAMED(0x53, 0xE0), EIGHT(0x54), EIGHT(0x55), FOUR(0x56), FOUR(0x5A), FOUR(0x5E),
     NAMED(0x70, 0xF8), NAMED(0x71, 0xE0), EIGHT(0x72), EIGHT(0x73), FOUR(0x74),

@@ -40,47 +40,47 @@ static int passed_over(uint32_t of) { return run.share < 1000 && any(of) != 0; }
 
 /* Whole requests, byte by byte: the refusal, or data byte 5, the AVI checksum and the edition byte that reads back. */
 static const struct { uint8_t length, bytes[16]; uint32_t refusal; int byte_5, sum, back; } marked[] = {
-    { 13, { 7, 0x10, 0, 0, 1, 0, 0, 0x00, 3, 2, 2, 1, 0 }, 0, 0x00, 0x23, 0x00 },       /* the worked example */
-    { 10, { 7, 0x10, 0, 0, 1, 0, 0, 0x00, 0, 0 }, 0, 0x00, 0x23, 0x00 },
-    { 10, { 7, 0x10, 0, 0, 1, 0, 0, 0x01, 0, 0 }, 0, 0x00, 0x23, 0x00 },                /* E that asks for nothing reads back as D */
-    { 10, { 7, 0x10, 0, 0, 1, 0, 0, 0x05, 0, 0 }, 0, 0x40, 0xE3, 0x05 },                /* quantisation */
-    { 10, { 7, 0x10, 0, 0, 1, 0, 0, 0x11, 0, 0 }, 0, 0x10, 0x13, 0x11 },                /* each type */
-    { 10, { 7, 0x10, 0, 0, 1, 0, 0, 0x21, 0, 0 }, 0, 0x20, 0x03, 0x21 },
-    { 10, { 7, 0x10, 0, 0, 1, 0, 0, 0x31, 0, 0 }, 0, 0x30, 0xF3, 0x31 },
-    { 10, { 7, 0x10, 0, 0, 1, 0, 0, 0x15, 0, 0 }, 0, 0x50, 0xD3, 0x15 },                /* both */
-    { 10, { 7, 0x10, 0, 0, 1, 0, 0, 0x25, 0, 0 }, 0, 0x60, 0xC3, 0x25 },
-    { 10, { 7, 0x10, 0, 0, 1, 0, 0, 0x35, 0, 0 }, 0, 0x70, 0xB3, 0x35 },
-    { 10, { 7, 0x10, 0, 0, 1, 1, 0, 0x35, 0, 0 }, 0, 0x70, 0xAF, 0x35 },                /* RGB of full range */
-    { 10, { 7, 0x10, 0, 0, 0, 0, 0, 0x35, 0, 0 }, 0, 0x70, 0xB3, 0x35 },                /* DVI */
-    { 10, { 7, 0x04, 0, 0, 1, 0, 0x10, 0x35, 0, 0 }, 0, 0x71, 0xBE, 0x35 },             /* each pixel twice, and four times */
-    { 10, { 7, 0x01, 0, 0, 1, 0, 0x20, 0x35, 0, 0 }, 0, 0x73, 0xCF, 0x35 },
-    { 10, { 7, 0x01, 0, 0, 1, 0, 0x22, 0x11, 0, 0 }, 0, 0x13, 0x2F, 0x11 },             /* 36 bits too */
-    { 13, { 7, 0x04, 1, 0, 1, 0, 0, 0x31, 3, 0, 2, 1, 0 }, 9, 0, 0, 0 },                /* the edition lifts no other refusal */
-    { 10, { 7, 0x10, 0, 0, 1, 0, 0, 0x04, 0, 0 }, 6, 0, 0, 0 },                         /* D with each of E's bits */
-    { 10, { 7, 0x10, 0, 0, 1, 0, 0, 0x10, 0, 0 }, 6, 0, 0, 0 },
-    { 10, { 7, 0x10, 0, 0, 1, 0, 0, 0x20, 0, 0 }, 6, 0, 0, 0 },
-    { 10, { 7, 0x10, 0, 0, 1, 0, 0, 0x34, 0, 0 }, 6, 0, 0, 0 },
-    { 10, { 7, 0x10, 0, 0, 1, 0, 0, 0x02, 0, 0 }, 5, 0, 0, 0 },                         /* edition 2 and 3 */
-    { 10, { 7, 0x10, 0, 0, 1, 0, 0, 0x03, 0, 0 }, 5, 0, 0, 0 },
-    { 10, { 7, 0x10, 0, 0, 1, 0, 0, 0x37, 0, 0 }, 5, 0, 0, 0 },
-    { 10, { 7, 0x10, 0, 0, 1, 0, 0, 0x09, 0, 0 }, 5, 0, 0, 0 },                         /* quantisation 2 and 3 */
-    { 10, { 7, 0x10, 0, 0, 1, 0, 0, 0x0D, 0, 0 }, 5, 0, 0, 0 },
-    { 10, { 7, 0x10, 0, 0, 1, 0, 0, 0x40, 0, 0 }, 5, 0, 0, 0 },                         /* bits 7:6 */
-    { 10, { 7, 0x10, 0, 0, 1, 0, 0, 0x41, 0, 0 }, 5, 0, 0, 0 },
-    { 10, { 7, 0x10, 0, 0, 1, 0, 0, 0x81, 0, 0 }, 5, 0, 0, 0 },
-    { 10, { 7, 0x10, 0, 0, 1, 0, 0, 0xFF, 0, 0 }, 5, 0, 0, 0 },
-    { 10, { 7, 0x10, 0, 0, 1, 0, 0, 0x08, 0, 0 }, 5, 0, 0, 0 },                         /* 5 before 6, both by this byte */
-    { 10, { 7, 0x10, 0, 0, 1, 0, 0, 0x50, 0, 0 }, 5, 0, 0, 0 },
-    { 10, { 7, 0x10, 0, 0, 1, 2, 0, 0x04, 0, 0 }, 5, 0, 0, 0 },                         /* 5 by the range, 6 by this byte */
-    { 10, { 7, 0x10, 0, 1, 1, 0, 0, 0x02, 0, 0 }, 5, 0, 0, 0 },                         /* 5 by this byte, 6 by the encoding */
-    { 10, { 7, 0x13, 1, 0, 1, 0, 0, 0xFF, 0, 0 }, 4, 0, 0, 0 },                         /* 4 before 5 and 6 */
-    { 10, { 7, 0x13, 1, 0, 1, 0, 0, 0x04, 0, 0 }, 4, 0, 0, 0 },
-    { 10, { 7, 0x10, 0, 0, 1, 0, 0x10, 0x04, 0, 0 }, 6, 0, 0, 0 },                      /* 6 before 17 */
-    { 10, { 7, 0x10, 0, 0, 1, 0, 0x10, 0x35, 0, 0 }, 17, 0, 0, 0 },
-    { 11, { 7, 0x10, 0, 0, 1, 0, 0, 0xFF, 0, 0, 0 }, 3, 0, 0, 0 },                      /* 1 to 3 before all that */
-    { 9, { 6, 0x10, 0, 0, 1, 0, 0, 0, 0 }, 2, 0, 0, 0 },                                /* as it was before this request */
-    { 7, { 7, 0x10, 0, 0, 1, 0, 0 }, 1, 0, 0, 0 },
-    { 8, { 7, 0x10, 0, 0, 1, 0, 0, 0x35 }, 1, 0, 0, 0 },
+    { 14, { 0, 7, 0x10, 0, 0, 1, 0, 0, 0x00, 3, 2, 2, 1, 0 }, 0, 0x00, 0x23, 0x00 },       /* the worked example */
+    { 11, { 0, 7, 0x10, 0, 0, 1, 0, 0, 0x00, 0, 0 }, 0, 0x00, 0x23, 0x00 },
+    { 11, { 0, 7, 0x10, 0, 0, 1, 0, 0, 0x01, 0, 0 }, 0, 0x00, 0x23, 0x00 },                /* E that asks for nothing reads back as D */
+    { 11, { 0, 7, 0x10, 0, 0, 1, 0, 0, 0x05, 0, 0 }, 0, 0x40, 0xE3, 0x05 },                /* quantisation */
+    { 11, { 0, 7, 0x10, 0, 0, 1, 0, 0, 0x11, 0, 0 }, 0, 0x10, 0x13, 0x11 },                /* each type */
+    { 11, { 0, 7, 0x10, 0, 0, 1, 0, 0, 0x21, 0, 0 }, 0, 0x20, 0x03, 0x21 },
+    { 11, { 0, 7, 0x10, 0, 0, 1, 0, 0, 0x31, 0, 0 }, 0, 0x30, 0xF3, 0x31 },
+    { 11, { 0, 7, 0x10, 0, 0, 1, 0, 0, 0x15, 0, 0 }, 0, 0x50, 0xD3, 0x15 },                /* both */
+    { 11, { 0, 7, 0x10, 0, 0, 1, 0, 0, 0x25, 0, 0 }, 0, 0x60, 0xC3, 0x25 },
+    { 11, { 0, 7, 0x10, 0, 0, 1, 0, 0, 0x35, 0, 0 }, 0, 0x70, 0xB3, 0x35 },
+    { 11, { 0, 7, 0x10, 0, 0, 1, 1, 0, 0x35, 0, 0 }, 0, 0x70, 0xAF, 0x35 },                /* RGB of full range */
+    { 11, { 0, 7, 0x10, 0, 0, 0, 0, 0, 0x35, 0, 0 }, 0, 0x70, 0xB3, 0x35 },                /* DVI */
+    { 11, { 0, 7, 0x04, 0, 0, 1, 0, 0x10, 0x35, 0, 0 }, 0, 0x71, 0xBE, 0x35 },             /* each pixel twice, and four times */
+    { 11, { 0, 7, 0x01, 0, 0, 1, 0, 0x20, 0x35, 0, 0 }, 0, 0x73, 0xCF, 0x35 },
+    { 11, { 0, 7, 0x01, 0, 0, 1, 0, 0x22, 0x11, 0, 0 }, 0, 0x13, 0x2F, 0x11 },             /* 36 bits too */
+    { 14, { 0, 7, 0x04, 1, 0, 1, 0, 0, 0x31, 3, 0, 2, 1, 0 }, 9, 0, 0, 0 },                /* the edition lifts no other refusal */
+    { 11, { 0, 7, 0x10, 0, 0, 1, 0, 0, 0x04, 0, 0 }, 6, 0, 0, 0 },                         /* D with each of E's bits */
+    { 11, { 0, 7, 0x10, 0, 0, 1, 0, 0, 0x10, 0, 0 }, 6, 0, 0, 0 },
+    { 11, { 0, 7, 0x10, 0, 0, 1, 0, 0, 0x20, 0, 0 }, 6, 0, 0, 0 },
+    { 11, { 0, 7, 0x10, 0, 0, 1, 0, 0, 0x34, 0, 0 }, 6, 0, 0, 0 },
+    { 11, { 0, 7, 0x10, 0, 0, 1, 0, 0, 0x02, 0, 0 }, 5, 0, 0, 0 },                         /* edition 2 and 3 */
+    { 11, { 0, 7, 0x10, 0, 0, 1, 0, 0, 0x03, 0, 0 }, 5, 0, 0, 0 },
+    { 11, { 0, 7, 0x10, 0, 0, 1, 0, 0, 0x37, 0, 0 }, 5, 0, 0, 0 },
+    { 11, { 0, 7, 0x10, 0, 0, 1, 0, 0, 0x09, 0, 0 }, 5, 0, 0, 0 },                         /* quantisation 2 and 3 */
+    { 11, { 0, 7, 0x10, 0, 0, 1, 0, 0, 0x0D, 0, 0 }, 5, 0, 0, 0 },
+    { 11, { 0, 7, 0x10, 0, 0, 1, 0, 0, 0x40, 0, 0 }, 5, 0, 0, 0 },                         /* bits 7:6 */
+    { 11, { 0, 7, 0x10, 0, 0, 1, 0, 0, 0x41, 0, 0 }, 5, 0, 0, 0 },
+    { 11, { 0, 7, 0x10, 0, 0, 1, 0, 0, 0x81, 0, 0 }, 5, 0, 0, 0 },
+    { 11, { 0, 7, 0x10, 0, 0, 1, 0, 0, 0xFF, 0, 0 }, 5, 0, 0, 0 },
+    { 11, { 0, 7, 0x10, 0, 0, 1, 0, 0, 0x08, 0, 0 }, 5, 0, 0, 0 },                         /* 5 before 6, both by this byte */
+    { 11, { 0, 7, 0x10, 0, 0, 1, 0, 0, 0x50, 0, 0 }, 5, 0, 0, 0 },
+    { 11, { 0, 7, 0x10, 0, 0, 1, 2, 0, 0x04, 0, 0 }, 5, 0, 0, 0 },                         /* 5 by the range, 6 by this byte */
+    { 11, { 0, 7, 0x10, 0, 1, 1, 0, 0, 0x02, 0, 0 }, 5, 0, 0, 0 },                         /* 5 by this byte, 6 by the encoding */
+    { 11, { 0, 7, 0x13, 1, 0, 1, 0, 0, 0xFF, 0, 0 }, 4, 0, 0, 0 },                         /* 4 before 5 and 6 */
+    { 11, { 0, 7, 0x13, 1, 0, 1, 0, 0, 0x04, 0, 0 }, 4, 0, 0, 0 },
+    { 11, { 0, 7, 0x10, 0, 0, 1, 0, 0x10, 0x04, 0, 0 }, 6, 0, 0, 0 },                      /* 6 before 17 */
+    { 11, { 0, 7, 0x10, 0, 0, 1, 0, 0x10, 0x35, 0, 0 }, 17, 0, 0, 0 },
+    { 12, { 0, 7, 0x10, 0, 0, 1, 0, 0, 0xFF, 0, 0, 0 }, 3, 0, 0, 0 },                      /* 1 to 3 before all that */
+    { 10, { 0, 6, 0x10, 0, 0, 1, 0, 0, 0, 0 }, 2, 0, 0, 0 },                                /* as it was before this request */
+    { 8, { 0, 7, 0x10, 0, 0, 1, 0, 0 }, 1, 0, 0, 0 },
+    { 9, { 0, 7, 0x10, 0, 0, 1, 0, 0, 0x35 }, 1, 0, 0, 0 },
 };
 
 static void marked_editions(void) {
@@ -93,16 +93,16 @@ static void marked_editions(void) {
         uint32_t refusal = run.f->ncts(bytes, length).refusal;
         struct station_count c = run.f->plan(bytes, length, image, 256, writes, 256);
         if (refusal != marked[i].refusal || c.refusal != marked[i].refusal)
-            differs("VIC %d, edition byte %02x: %u and %u, not %u", bytes[1], bytes[7], refusal, c.refusal, marked[i].refusal);
+            differs("VIC %d, edition byte %02x: %u and %u, not %u", bytes[2], bytes[8], refusal, c.refusal, marked[i].refusal);
         if (marked[i].refusal) continue;
         for (int a = 0; a < 256; a++) image[a] = (uint8_t)left_in((uint8_t)a, image, writes, c);
         if (image[BYTE_5] != marked[i].byte_5 || image[CHECKSUM] != marked[i].sum)
-            differs("edition byte %02x: data byte 5 is %02x, the checksum %02x", bytes[7], image[BYTE_5], image[CHECKSUM]);
+            differs("edition byte %02x: data byte 5 is %02x, the checksum %02x", bytes[8], image[BYTE_5], image[CHECKSUM]);
         check_decode(image, 256, back, sizeof back);
         struct station_count d = run.f->decode(image, 256, back, sizeof back);
-        if (d.refusal || d.count != length || back[7] != marked[i].back || memcmp(back, bytes, 7) ||
-            memcmp(back + 8, bytes + 8, length - 8))
-            differs("edition byte %02x reads back as %u, %02x", bytes[7], d.refusal, back[7]);
+        if (d.refusal || d.count != length || back[8] != marked[i].back || memcmp(back, bytes, 8) ||
+            memcmp(back + 9, bytes + 9, length - 9))
+            differs("edition byte %02x reads back as %u, %02x", bytes[8], d.refusal, back[8]);
     }
 }
 
@@ -113,12 +113,12 @@ static void older_requests(void) {
     for (size_t less = 1; less <= 3; less++)
         for (int k = 0; k < 2; k++) {
             uint8_t bytes[LONGEST], image[256] = { 0 }, writes[256] = { 0 };
-            size_t length = model_bytes(of[k], bytes) - less, kept = 1 + VIDEO_BYTES - less;
-            bytes[0] = (uint8_t)(VIDEO_BYTES - less);
+            size_t length = model_bytes(of[k], bytes) - less, kept = 2 + VIDEO_BYTES - less;
+            bytes[1] = (uint8_t)(VIDEO_BYTES - less);
             memmove(bytes + kept, bytes + kept + less, length - kept);
             check_ncts(bytes, length);
             check_plan(bytes, length, image, 256, writes, 256);
-            if (run.f->ncts(bytes, length).refusal != 2) differs("a count of %d is not refused 2", bytes[0]);
+            if (run.f->ncts(bytes, length).refusal != 2) differs("a count of %d is not refused 2", bytes[1]);
         }
 }
 

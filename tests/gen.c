@@ -41,6 +41,18 @@ static void any_matrix(struct fields *f) {
 
 static void any_value(struct fields *f, const struct field *row) { *model_field(f, row) = row->values[any((uint32_t)row->count)]; }
 
+int any_sync(void) {
+    static const int edge[] = { 0, 1, 15, 16, 63, 64, 255, 256, 511, 512, MOST_SYNC - 1, MOST_SYNC };
+    return any(3) ? (int)any(MOST_SYNC + 1) : edge[any(sizeof edge / sizeof *edge)];
+}
+
+/* The count that fits the ID, and sync values where it has them. */
+void fit_wiring(struct fields *f) {
+    int was = f->wiring;
+    f->wiring = model_wiring_of(f->input);
+    for (int i = 0; i < SYNCS; i++) f->sync[i] = f->wiring <= WIRING_BYTES ? 0 : was == f->wiring ? f->sync[i] : any_sync();
+}
+
 static int permitted(const struct fields *f) {
     uint8_t bytes[LONGEST];
     struct fields again;
@@ -52,29 +64,40 @@ static void none_of_e_under_d(struct fields *f) {
     if (f->edition == 0) f->quantisation = f->content = 0;
 }
 
-/* Half of them without depth and repetition, so that 4:2:2 and DVI stay frequent. */
+/* Two of three are for today's board. Half of them without depth and repetition, so that 4:2:2 and DVI stay frequent. */
 void any_fields(struct fields *f) {
     do {
-        *f = (struct fields){ .sound = any(3) != 0 };
+        *f = (struct fields){ .sound = any(3) != 0, .wiring = any(3) ? NO_WIRING : WIRING_BYTES };
         if (any(2)) any_matrix(f);
         for (const struct field *row = model_fields; row < model_fields + FIELDS; row++)
             if (model_has(f, row->section)) any_value(f, row);
+        fit_wiring(f);
         if (any(2)) f->depth = f->repetition = 0;
         none_of_e_under_d(f);
     } while (!permitted(f));
+}
+
+/* Any codes, and any count beside them: mostly no combination that is drawn. */
+static void loose_wiring(struct fields *f) {
+    f->wiring = any(2) ? WIRING_BYTES : WIRING_BYTES + SYNC_BYTES;
+    f->input = (int)any(any(4) ? 9 : 16), f->input_depth = (int)any(4), f->style = (int)any(4), f->justification = (int)any(4);
+    for (int i = 0; i < SYNCS; i++) f->sync[i] = any_sync();
 }
 
 /* Fields that are likely to be refused 4, 5 or 6: of each, values a little above those that are allowed, or any. */
 static void loose_fields(struct fields *f) {
     any_fields(f);
     for (uint32_t n = 1 + any(3); n > 0; n--) {         /* more than one, so that the order of the refusals shows */
-        uint32_t what = any(FIELDS + 4);
+        uint32_t what = any(FIELDS + 7);
         if (what < FIELDS) {
             const struct field *row = &model_fields[what];
             *model_field(f, row) = any(4) ? row->values[row->count - 1] - 1 + (int)any(4) : (int)any(1u << row->bits);
         } else if (what == FIELDS) f->coefficient[any(12)] = (int)any(65536) - 32768;
         else if (what == FIELDS + 1) f->coefficient[any(12)] = any(2) ? 4096 : -4097;
         else if (what == FIELDS + 2) f->matrix = !f->matrix;
+        else if (what == FIELDS + 3) f->sync[any(SYNCS)] = any(2) ? MOST_SYNC - 1 + (int)any(4) : (int)any(65536);
+        else if (what == FIELDS + 4) f->wiring = (const int[]){ NO_WIRING, WIRING_BYTES, WIRING_BYTES + SYNC_BYTES }[any(3)];
+        else if (what == FIELDS + 5) loose_wiring(f);
         else f->sound = !f->sound;
     }
 }
@@ -94,7 +117,7 @@ size_t any_request(uint8_t *bytes, size_t room) {
     if (how == 0) {                                     /* noise, mostly short */
         length = any(8) ? any(LONGEST + 15) : any((uint32_t)room);
         any_bytes(bytes, length);
-        if (length && any(2)) bytes[0] = VIDEO_BYTES;
+        if (length > 1 && any(2)) bytes[0] = NO_WIRING, bytes[1] = VIDEO_BYTES;
         return length;
     }
     if (how <= 4) loose_fields(&f);
@@ -112,7 +135,7 @@ size_t any_request(uint8_t *bytes, size_t room) {
     if (how == 8) {                                     /* a count that is not allowed, often the count of another section */
         size_t at = 0;
         for (uint32_t s = any(PARTS); s > 0; s--) at += 1u + bytes[at];
-        uint32_t count = (uint32_t)model_counts[any(PARTS)];
+        uint32_t count = any(4) ? (uint32_t)model_counts[any(PARTS)] : WIRING_BYTES;
         bytes[at] = (uint8_t)(any(2) ? count : any(4) ? count - 1 + any(3) : any(256));
     }
     if (how == 9) bytes[any((uint32_t)length)] ^= (uint8_t)(1u << any(8));
@@ -222,6 +245,9 @@ void other_part(struct fields *f) {
         if (part == PARTS && model_has(f, one->section)) any_value(f, one);
         for (const struct field *row = model_fields; row < model_fields + FIELDS; row++)
             if (row->section == part) *model_field(f, row) = *model_field(&other, row);
+        if (part == OF_WIRING) f->wiring = other.wiring, memcpy(f->sync, other.sync, sizeof f->sync);
+        else fit_wiring(f);
+        if (part == PARTS && f->wiring > WIRING_BYTES && any(4) == 0) f->sync[any(SYNCS)] = any_sync();
         if (part == OF_SOUND) f->sound = other.sound;
         if (part == OF_MATRIX) f->matrix = other.matrix, memcpy(f->coefficient, other.coefficient, sizeof f->coefficient);
     } while (!permitted(f) || !model_pair(f).exists);
@@ -249,7 +275,7 @@ void near_image(uint8_t *image, const struct fields *f) {
 
 /* A kind for each combination of values, or for MOST_KINDS of them by chance where there are more. */
 static uint64_t combinations(void) {
-    uint64_t all = 2 * 2;
+    uint64_t all = 2 * 2 * 2;
     for (int i = 0; i < FIELDS; i++)
         if (model_fields[i].section != OF_MATRIX) all *= (uint64_t)model_fields[i].count;
     return all;
@@ -263,6 +289,8 @@ int kind_of_request(uint32_t kind, struct fields *f) {
     if (by_chance) number = ((uint64_t)any(1u << 31) << 31 | any(1u << 31)) % all;
     *f = (struct fields){ .sound = by_chance ? any(4) != 0 : number % 2 };
     number /= 2;
+    if (by_chance ? any(3) == 0 : number % 2) f->wiring = WIRING_BYTES;
+    number /= 2;
     if (number % 2) any_matrix(f);
     number /= 2;
     for (const struct field *row = model_fields; row < model_fields + FIELDS; row++) {
@@ -272,6 +300,7 @@ int kind_of_request(uint32_t kind, struct fields *f) {
         if (model_has(f, row->section)) *model_field(f, row) = row->values[v];
         else if (v && !by_chance) return 0;             /* a field that is not there has one value */
     }
+    fit_wiring(f);
     if (by_chance) none_of_e_under_d(f);
     return permitted(f);
 }

@@ -12,6 +12,8 @@ enum { MORE = 40, LEAST_ROOM = LONGEST + MORE + 1 };    /* bytes after the last 
 void     seed(uint64_t s);
 uint32_t any(uint32_t below);                           /* 0 .. below - 1 */
 void     any_bytes(uint8_t *bytes, size_t length);
+int      any_sync(void);                                /* a sync value, 0 to 1023, often at an edge */
+void     fit_wiring(struct fields *f);                  /* the count that fits its ID; sync values where that has them and it had none */
 uint8_t  any_written(void);                             /* a register that a list may write */
 void     any_fields(struct fields *f);                  /* fields of a request that 1 to 6, 17 and 20 let pass (9 may apply) */
 size_t   any_request(uint8_t *bytes, size_t room);      /* valid, damaged, cut, too long, or plain noise; `room` is LEAST_ROOM or more */
@@ -23,9 +25,9 @@ void     left_up(uint8_t *image);                       /* holds that refusal 8 
 void     other_part(struct fields *f);                  /* another one, accepted, which differs in one section, or in one field */
 void     near_image(uint8_t *image, const struct fields *f);    /* one that planning accepts, and that needs few writes for this request */
 
-/* Every kind of request: each value of each field of the video and the audio section, sound and matrix on or off; where these are too many,
+/* Every kind of request: each value of each field of the wiring, the video and the audio section, wiring, sound and matrix on or off; where these are too many,
  * a part of them by chance. A kind has a number below `kinds()`; many numbers are of requests that 1 to 6, 17 or 20 refuse, and for these
- * the answer is 0. The matrix is any. */
+ * the answer is 0. The matrix and the sync values are any. */
 enum { MOST_KINDS = 40000 };
 uint32_t kinds(void);
 int      kind_of_request(uint32_t kind, struct fields *f);

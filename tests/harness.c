@@ -328,10 +328,10 @@ static void marked(void) {
     };
     uint8_t bytes[LONGEST + 1] = { 0 }, image[256] = { 0 }, writes[256], coefficients[24] = { 0 }, matrix[MATRIX_BYTES];
     size_t length = model_bytes(&(struct fields){ .vic = 16, .link = 1 }, bytes);
-    marked_case(1, bytes, 1, 1, 0, 0);                      /* its first count alone */
+    marked_case(1, bytes, 2, 1, 0, 0);                      /* the first two counts alone */
     marked_case(3, bytes, length + 1, 3, 0, 0);             /* a byte more */
-    bytes[0]++;
-    marked_case(2, bytes, 1 + VIDEO_BYTES, 2, 0, 0);        /* the count one too large */
+    bytes[1]++;
+    marked_case(2, bytes, 2 + VIDEO_BYTES, 2, 0, 0);        /* the count of the video section one too large */
     for (size_t i = 0; i < sizeof cases / sizeof cases[0]; i++)
         marked_case(4 + i, bytes, model_bytes(&cases[i].f, bytes), cases[i].refusal, cases[i].n, cases[i].cts);
     /* 10 and 11: checksums, read off the list's bytes for 0x54 and 0x72. 10 is of limited range, the last row of full. */
@@ -438,6 +438,7 @@ static void ncts(void) {
         check_ncts(bytes, length);
     }
     memset(bytes, VIDEO_BYTES, sizeof bytes);       /* a very long one */
+    bytes[0] = NO_WIRING;
     check_ncts(bytes, ROOM - 64);
 }
 
@@ -773,7 +774,7 @@ static void is_planned(const struct fields *f, const uint8_t *image, const struc
 
 /* By their own numbers, not the model's: on an image that document 01's example has finished over zeros, with some bits of one register
  * turned over, the nine writes alone or with one more put in. */
-enum { NO_MORE = 0xFF };
+enum { NO_MORE = 0xFF, EACH_WRITE = 91 };
 static void marked_few(void) {
     static const struct { uint8_t address, bits, at, pair[2]; const char *what; } cases[] = {
         { 0x00, 0x00, NO_MORE, { 0 }, "nothing" },
@@ -793,7 +794,23 @@ static void marked_few(void) {
         { 0x9A, 0x01, NO_MORE, { 0 }, "a free bit of Table 14" },
         { 0x99, 0xFF, NO_MORE, { 0 }, "a register that is fixed by the map and not in Table 14" },
         { 0x3D, 0xFF, NO_MORE, { 0 }, "a register that is read-only" },
-        { 0x30, 0xFF, NO_MORE, { 0 }, "a register that is free" },
+        { 0x15, 0x02, 8, { 0x15, 0x20 }, "the input ID" },
+        { 0x16, 0x30, 8, { 0x16, 0x30 }, "the input depth" },
+        { 0x16, 0x0C, 8, { 0x16, 0x30 }, "the input style" },
+        { 0x16, 0x03, NO_MORE, { 0 }, "free bits beside the style" },
+        { 0x16, 0x43, 8, { 0x16, 0x33 }, "a mandated bit beside the depth, and free bits" },
+        { 0x30, 0x80, 8, { 0x30, 0x00 }, "Hsync placement" },
+        { 0x32, 0xF0, 8, { 0x32, 0x00 }, "Hsync duration" },
+        { 0x32, 0x0F, 8, { 0x32, 0x00 }, "Vsync placement" },
+        { 0x34, 0x01, 8, { 0x34, 0x00 }, "Vsync duration" },
+        { 0x48, 0x18, 8, { 0x48, 0x00 }, "the justification" },
+        { 0x48, 0x80, 8, { 0x48, 0x00 }, "a mandated bit beside the justification" },
+        { 0x48, 0x67, NO_MORE, { 0 }, "free bits beside the justification" },
+        { 0x35, 0xFF, NO_MORE, { 0 }, "a register that is free" },
+        { 0x17, 0x60, NO_MORE, { 0 }, "the polarity of syncs" },
+        { 0x9D, 0x0C, NO_MORE, { 0 }, "the clock divide, free bits of Table 14" },
+        { 0xD0, 0x0C, NO_MORE, { 0 }, "the sync pulse" },
+        { 0xFA, 0xE0, NO_MORE, { 0 }, "the high bits of Hsync placement" },
         { 0x18, 0x20, 2, { 0x18, 0x28 }, "the matrix mode" },
         { 0x18, 0x80, 2, { 0x18, 0x28 }, "the converter" },
         { 0x19, 0x01, 2, { 0x19, 0x00 }, "A1" },
@@ -832,7 +849,7 @@ static void marked_few(void) {
     turned[0x4A] = 0;
     uint8_t bytes[LONGEST], writes[256];
     uint32_t count = run.f->plan(bytes, model_bytes(&example, bytes), turned, 256, writes, 256).count;
-    if (count != 85) differs("%u writes where each is needed, and not 85", count);
+    if (count != EACH_WRITE) differs("%u writes where each is needed, and not %d", count, EACH_WRITE);
 }
 
 /* "Always made right": on the library's machine its list leaves the registers, and what is in use, as the list with nothing left out does.
@@ -917,7 +934,7 @@ static void marked_lists(void) {
         { 0, 0, 2, { 0x3C, 0x10 }, "one pair, and never muted: it has no cut" },
         { 16, 0, 2, { 0x4B, 0x40 }, "one pair, the mute" },
         { 16, 0, 2, { 0x3C, 0x04 }, "one pair, another VIC" },
-        { 15, 0, 2, { 0x30, 0x00 }, "one pair, no register of ours" },
+        { 15, 0, 2, { 0x35, 0x00 }, "one pair, no register of ours" },
         { 15, 0, 2, { 0x4A, 0xE0 }, "one pair, two holds" },
         { 0, 0, 4, { 0x4B, 0x40, 0x4B, 0x80 }, "muted and opened" },
         { 15, 0, 4, { 0x4B, 0x80, 0x4B, 0x80 }, "not muted" },
@@ -945,6 +962,8 @@ static void marked_lists(void) {
         { 15, 1, 8, { 0x4B, 0x40, 0x55, 0x30, 0x55, 0x10, 0x4B, 0x80 }, "an AVI byte without its hold" },
         { 0, 0, 12, { 0x4B, 0x40, 0x4A, 0xC0, 0x55, 0x30, 0x55, 0x10, 0x4A, 0x80, 0x4B, 0x80 }, "the same, with its hold" },
         { 16, 0, 10, { 0x4B, 0x40, 0x4A, 0xC0, 0x55, 0x30, 0x4A, 0xA0, 0x4B, 0x80 }, "a new AVI group, and a bad end" },
+        { 15, 3, 16, { 0x4B, 0x40, 0x4A, 0xC0, 0x55, 0x30, 0x4A, 0x80, 0x55, 0x10, 0x4A, 0xC0, 0x55, 0x30, 0x4B, 0x80 },
+          "an AVI byte that ends in the registers and not in use" },
         { 15, 1, 8, { 0x4B, 0x40, 0x73, 0x07, 0x73, 0x01, 0x4B, 0x80 }, "an audio byte without its hold" },
         { 15, 1, 8, { 0x4B, 0x40, 0x18, 0x2C, 0x18, 0x28, 0x4B, 0x80 }, "a coefficient without its hold" },
         { 15, 1, 8, { 0x4B, 0x40, 0x18, 0x38, 0x18, 0x28, 0x4B, 0x80 }, "a coefficient's sign without its hold" },
@@ -954,7 +973,21 @@ static void marked_lists(void) {
         { 15, 3, 10, { 0x4B, 0x40, 0x4A, 0xA0, 0x4B, 0x80, 0x4A, 0xE0, 0x4B, 0x80 }, "opened just before two holds: no cut there" },
         { 15, 1, 10, { 0x4B, 0x40, 0x4B, 0x80, 0x4A, 0xC0, 0x4A, 0xE0, 0x4B, 0x80 }, "opened earlier: a cut there" },
         { 15, 2, 10, { 0x4B, 0x40, 0x55, 0x30, 0x4A, 0xE0, 0x55, 0x10, 0x4B, 0x80 }, "two holds end the list: an AVI byte is new" },
-        { 15, 1, 10, { 0x4B, 0x40, 0x55, 0x30, 0x30, 0x01, 0x55, 0x10, 0x4B, 0x80 }, "another bad pair does not end it" },
+        { 15, 1, 10, { 0x4B, 0x40, 0x55, 0x30, 0x35, 0x01, 0x55, 0x10, 0x4B, 0x80 }, "another bad pair does not end it" },
+        { 0, 0, 6, { 0x4B, 0x40, 0x16, 0x30, 0x4B, 0x80 }, "the input depth as it stands" },
+        { 16, 0, 6, { 0x4B, 0x40, 0x16, 0x00, 0x4B, 0x80 }, "today's board with the depth that is invalid" },
+        { 16, 0, 6, { 0x4B, 0x40, 0x16, 0x20, 0x4B, 0x80 }, "today's board with 12 bit" },
+        { 16, 0, 6, { 0x4B, 0x40, 0x16, 0x34, 0x4B, 0x80 }, "today's board with a style" },
+        { 16, 0, 6, { 0x4B, 0x40, 0x48, 0x08, 0x4B, 0x80 }, "today's board with a justification" },
+        { 16, 0, 6, { 0x4B, 0x40, 0x30, 0x01, 0x4B, 0x80 }, "today's board with a sync value" },
+        { 0, 0, 8, { 0x4B, 0x40, 0x16, 0x24, 0x16, 0x30, 0x4B, 0x80 }, "a depth that is put right: no group has it" },
+        { 15, 1, 8, { 0x4B, 0x40, 0x16, 0x32, 0x16, 0x30, 0x4B, 0x80 }, "the edge of DDR, a free bit" },
+        { 15, 1, 8, { 0x4B, 0x40, 0x48, 0x20, 0x48, 0x00, 0x4B, 0x80 }, "the alignment of DDR, a free bit" },
+        { 15, 1, 8, { 0x4B, 0x40, 0x48, 0x80, 0x48, 0x00, 0x4B, 0x80 }, "a mandated bit beside the justification" },
+        { 0, 0, 10, { 0x4B, 0x40, 0x15, 0x25, 0x16, 0x34, 0x16, 0x38, 0x4B, 0x80 }, "ID 5, RGB as today's" },
+        { 16, 0, 8, { 0x4B, 0x40, 0x15, 0x25, 0x48, 0x08, 0x4B, 0x80 }, "ID 5 without a style, justified" },
+        { 16, 0, 8, { 0x4B, 0x40, 0x15, 0x21, 0x16, 0x38, 0x4B, 0x80 }, "ID 1 to RGB without a matrix" },
+        { 15, 1, 6, { 0x4B, 0x40, 0xD0, 0x0C, 0x4B, 0x80 }, "the sync pulse, no register of ours" },
         { 15, 1, 10, { 0x4B, 0x40, 0x4A, 0x90, 0x4A, 0xD0, 0x4A, 0x80, 0x4B, 0x80 }, "the GC hold, then two" },
         { 14, 0, 1, { 0x4B }, "half a pair" },
         { 14, 0, 3, { 0x4B, 0x80, 0x4B }, "a pair and a half" },
@@ -1140,7 +1173,7 @@ static void changed_lists(void) {
             l = ours, stretch(&c, &l, count);
             if (check_list(&c, &l) != (count <= MOST_PAIRS ? 0 : 14)) differs("a list of %zu fair pairs is not what it should be", count);
             l.length++, check_list(&c, &l);
-            l.length--, l.bytes[2 * (256 + any((uint32_t)count - 256))] = 0x30, check_list(&c, &l);     /* a place of more than a byte */
+            l.length--, l.bytes[2 * (256 + any((uint32_t)count - 256))] = 0x35, check_list(&c, &l);     /* a place of more than a byte */
         }
     }
 }
@@ -1228,6 +1261,7 @@ static const struct { const char *name; void (*run)(void); } sections[SECTIONS] 
     { "depth and repetition", depths },
     { "editions of the InfoFrame", editions },
     { "sound that fits", sounds },
+    { "the other input wirings", wirings },
     { "the model's search", search },
     { "machine writes", writes },
     { "Vsync and the mark", turns },

@@ -1,7 +1,7 @@
 /* tests: `tests lib` compares the library with the model; `tests self` the model with itself, which tries the harness; `tests wrong` runs
- * every wrong library of tests/wrong and says how many were caught, after twelve right ones (the model, the two plain ones of bench/, and
+ * every wrong library of tests/wrong and says how many were caught, after thirteen right ones (the model, the two plain ones of bench/, and
  * the planner of wrong/fewer.c, the machine of wrong/mark.c, the judge of wrong/vet.c, the libraries of wrong/chain.c, wrong/depth.c,
- * wrong/edition.c and wrong/sound.c, the matrices of wrong/meter.c and the pipe of wrong/pipe.c without a fault).
+ * wrong/edition.c, wrong/sound.c and wrong/wiring.c, the matrices of wrong/meter.c and the pipe of wrong/pipe.c without a fault).
  * `tests facts` is what station.h says of sizes, alignment, threads and stack. Each ends with 'N passed, M failed'. `tests line` and
  * `tests verdict` print what the programs `desk` and `vet` should print, `tests input` writes inputs for `vet`. */
 #include "../bench/plain.h"
@@ -52,6 +52,7 @@ static const struct { const char *what; void (*put)(struct face *); unsigned sha
     { "the library of wrong/depth.c without a fault", put_right_depths, 5 * SHARE, ALL, SECTIONS },
     { "the library of wrong/edition.c without a fault", put_right_editions, 5 * SHARE, ALL, SECTIONS },
     { "the library of wrong/sound.c without a fault", put_right_sounds, 5 * SHARE, ALL, SECTIONS },
+    { "the library of wrong/wiring.c without a fault", put_right_wirings, 5 * SHARE, ALL, SECTIONS },
     { "the matrices of wrong/meter.c without a fault", put_right_meter, 5 * SHARE, ON_METER, ON_PIPES },
     { "the pipe of wrong/pipe.c without a fault", put_right_pipe, 5 * SHARE, ON_PIPES, ON_LISTS },
 };

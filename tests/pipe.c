@@ -21,13 +21,15 @@ static int same_piped(struct station_piped a, struct station_piped b) {
 }
 
 /* The numbers of a request, and its kinds: by the section that it ends in (1) or whose count is bad (2), else by those that are there,
- * sound as 1 and the matrix as 2. */
-enum { VARIANTS = 4 };
+ * sound as 1, the matrix as 2 and a wiring as 4. */
+enum { VARIANTS = 8 };
+#define EVERY_KIND { 1, 1, 1, 1, 1, 1, 1, 1 }
+#define EACH_SECTION { 1, 1, 1, 1, 0, 0, 0, 0 }
+#define WITH_SOUND { 0, 1, 0, 1, 0, 1, 0, 1 }
 static const struct { uint32_t number; const char *what; int is[VARIANTS]; } numbers[] = {
-    { 0, "accepted", { 1, 1, 1, 1 } },  { 1, "refused 1", { 1, 1, 1, 0 } },   { 2, "refused 2", { 1, 1, 1, 0 } },
-    { 3, "refused 3", { 1, 1, 1, 1 } }, { 4, "refused 4", { 1, 1, 1, 1 } },   { 5, "refused 5", { 1, 1, 1, 1 } },
-    { 6, "refused 6", { 1, 1, 1, 1 } }, { 17, "refused 17", { 1, 1, 1, 1 } }, { 20, "refused 20", { 0, 1, 0, 1 } },
-    { 9, "refused 9", { 0, 1, 0, 1 } },
+    { 0, "accepted", EVERY_KIND },  { 1, "refused 1", EACH_SECTION }, { 2, "refused 2", EACH_SECTION }, { 3, "refused 3", EVERY_KIND },
+    { 4, "refused 4", EVERY_KIND }, { 5, "refused 5", EVERY_KIND },   { 6, "refused 6", EVERY_KIND },   { 17, "refused 17", EVERY_KIND },
+    { 20, "refused 20", WITH_SOUND }, { 9, "refused 9", WITH_SOUND },
 };
 enum { NUMBERS_OF = sizeof numbers / sizeof numbers[0] };
 static int answer_of(uint32_t number) { return number ? (int)number : YES; }
@@ -64,47 +66,70 @@ static struct station_piped end(uint8_t *pipe, size_t length) {
 
 /* By hand. -------------------------------------------------------------------------------------------------------------------------- */
 
-/* Sections in bare bytes: 1080p over HDMI, coherent stereo at 48 kHz, the guide's Table 39 (its last byte by itself too). */
-#define VIDEO "07 10 00 00 01 00 00 00 "
+/* Sections in bare bytes: 4:2:2 with separate syncs, 8 bit, style 1, evenly; with embedded ones, 10 bit, style 2, left, 110 40 5 5; 1080p
+ * over HDMI, and the same for today's board; coherent stereo at 48 kHz; the guide's Table 39 (its last byte by itself too). */
+#define SEPARATE "04 01 03 02 00 "
+#define EMBEDDED "0C 02 01 01 02 00 6E 00 28 00 05 00 05 "
+#define PICTURE "07 10 00 00 01 00 00 00 "
+#define VIDEO "00 " PICTURE
 #define SOUND "03 02 02 01 "
 #define BUT_ONE "19 01 0C 53 08 00 00 00 F9 D6 FC 56 08 00 FE 88 02 91 FF FF 08 00 0E 85 F8 "
 #define MATRIX_39 BUT_ONE "BE "
+#define LONG EMBEDDED PICTURE SOUND
 
 /* A pipe, as it is found or as it is left: its bytes so far and its answer; and what comes, a part or the end. */
 #define THE_END NULL
 struct step { const char *comes; int answer; const char *so_far; };
-struct row { const char *what; struct step found, steps[9]; };
+struct row { const char *what; struct step found, steps[12]; };       /* the last is none */
 #define FRESH { "", NOT_YET, "" }
 #define FOUND(so_far, answer) { "", answer, so_far }
 
 static const struct row rows[] = {
-    { "nothing at all", FRESH, { { THE_END, 1, "" }, { "07", 1, "" }, { "", 1, "" }, { THE_END, 1, "" } } },
+    { "nothing at all", FRESH, { { THE_END, 1, "" }, { "00", 1, "" }, { "", 1, "" }, { THE_END, 1, "" } } },
     { "empty parts", FRESH,
       { { "", NOT_YET, "" }, { "", NOT_YET, "" }, { VIDEO, NOT_YET, VIDEO }, { "", NOT_YET, VIDEO }, { "00 00", NOT_YET, VIDEO "00 00" },
         { "", NOT_YET, VIDEO "00 00" }, { THE_END, YES, VIDEO "00 00" }, { "", YES, VIDEO "00 00" } } },
     { "an empty part, and the end", FRESH, { { "", NOT_YET, "" }, { THE_END, 1, "" }, { "", 1, "" } } },
     { "the example", FRESH,
-      { { "07 10 00 00 01", NOT_YET, "07 10 00 00 01" }, { "00 00 00 03 02", NOT_YET, VIDEO "03 02" },
+      { { "00 07 10 00 00 01", NOT_YET, "00 07 10 00 00 01" }, { "00 00 00 03 02", NOT_YET, VIDEO "03 02" },
         { "02 01 00", NOT_YET, VIDEO SOUND "00" }, { THE_END, YES, VIDEO SOUND "00" }, { VIDEO, YES, VIDEO SOUND "00" },
         { THE_END, YES, VIDEO SOUND "00" } } },
     { "a byte at a time", FRESH,
-      { { "07", NOT_YET, "07" }, { "10", NOT_YET, "07 10" }, { "00", NOT_YET, "07 10 00" }, { "03", NOT_YET, "07 10 00 03" },
-        { "", NOT_YET, "07 10 00 03" }, { "01", NOT_YET, "07 10 00 03 01" }, { THE_END, 1, "07 10 00 03 01" },
-        { "00 00 00 00 00", 1, "07 10 00 03 01" }, { THE_END, 1, "07 10 00 03 01" } } },
-    { "the first count", FRESH, { { "07", NOT_YET, "07" }, { THE_END, 1, "07" } } },
+      { { "00", NOT_YET, "00" }, { "07", NOT_YET, "00 07" }, { "10", NOT_YET, "00 07 10" }, { "00", NOT_YET, "00 07 10 00" },
+        { "03", NOT_YET, "00 07 10 00 03" }, { "", NOT_YET, "00 07 10 00 03" }, { "01", NOT_YET, "00 07 10 00 03 01" },
+        { THE_END, 1, "00 07 10 00 03 01" }, { "00 00 00 00 00", 1, "00 07 10 00 03 01" }, { THE_END, 1, "00 07 10 00 03 01" } } },
+    { "a wiring, a byte at a time", FRESH,
+      { { "04", NOT_YET, "04" }, { "01", NOT_YET, "04 01" }, { "03", NOT_YET, "04 01 03" }, { "02", NOT_YET, "04 01 03 02" },
+        { "00", NOT_YET, SEPARATE }, { "07", NOT_YET, SEPARATE "07" }, { THE_END, 1, SEPARATE "07" } } },
+    { "a sync value, cut", FRESH,
+      { { "0C 02 01 01 02 00", NOT_YET, "0C 02 01 01 02 00" }, { "6E 00 28 00 05 00", NOT_YET, "0C 02 01 01 02 00 6E 00 28 00 05 00" },
+        { "05", NOT_YET, EMBEDDED }, { PICTURE "00 " MATRIX_39, NOT_YET, EMBEDDED PICTURE "00 " MATRIX_39 },
+        { THE_END, YES, EMBEDDED PICTURE "00 " MATRIX_39 } } },
+    { "the end in a wiring", FRESH, { { "0C 02 01 01 02", NOT_YET, "0C 02 01 01 02" }, { THE_END, 1, "0C 02 01 01 02" }, { "00", 1, "0C 02 01 01 02" } } },
+    { "a wiring that no request has, and a bad count", FRESH,
+      { { "04 FF FF FF FF", NOT_YET, "04 FF FF FF FF" }, { "06", 2, "04 FF FF FF FF" }, { THE_END, 2, "04 FF FF FF FF" } } },
+    { "a wiring that no request has", FRESH,
+      { { "04 FF FF FF FF", NOT_YET, "04 FF FF FF FF" }, { PICTURE "00 00", NOT_YET, "04 FF FF FF FF " PICTURE "00 00" },
+        { THE_END, 5, "04 FF FF FF FF " PICTURE "00 00" } } },
+    { "a request as it was before the wiring", FRESH, { { PICTURE "00 00", 2, "" }, { THE_END, 2, "" } } },
+    { "its first count alone", FRESH, { { "07", 2, "" }, { "10", 2, "" }, { THE_END, 2, "" } } },
+    { "the first count", FRESH, { { "00", NOT_YET, "00" }, { THE_END, 1, "00" } } },
+    { "the first two counts", FRESH, { { "00", NOT_YET, "00" }, { "07", NOT_YET, "00 07" }, { THE_END, 1, "00 07" } } },
     { "a bad first count", FRESH, { { "08", 2, "" }, { VIDEO, 2, "" }, { THE_END, 2, "" }, { "", 2, "" } } },
-    { "a first count of 0", FRESH, { { "", NOT_YET, "" }, { "00", 2, "" }, { THE_END, 2, "" } } },
+    { "a first count of 3", FRESH, { { "03", 2, "" }, { THE_END, 2, "" } } },
+    { "a video count of 0", FRESH, { { "00", NOT_YET, "00" }, { "00", 2, "00" }, { THE_END, 2, "00" } } },
+    { "a second wiring", FRESH, { { SEPARATE, NOT_YET, SEPARATE }, { SEPARATE, 2, SEPARATE }, { THE_END, 2, SEPARATE } } },
     { "a bad first count, and more", FRESH, { { "05 10 00 00 01", 2, "" }, { THE_END, 2, "" } } },
     { "a bad count of sound", FRESH, { { VIDEO, NOT_YET, VIDEO }, { "04", 2, VIDEO }, { "00", 2, VIDEO }, { THE_END, 2, VIDEO } } },
     { "a bad count of sound, within a part", FRESH,
-      { { "07 10", NOT_YET, "07 10" }, { "00 00 01 00 00 00 01 02", 2, "07 10" }, { "", 2, "07 10" }, { THE_END, 2, "07 10" } } },
-    { "another section's count", FRESH, { { VIDEO "07 10 00 00 01 00 00 00 00 00", 2, "" }, { THE_END, 2, "" } } },
+      { { "00 07 10", NOT_YET, "00 07 10" }, { "00 00 01 00 00 00 01 02", 2, "00 07 10" }, { "", 2, "00 07 10" }, { THE_END, 2, "00 07 10" } } },
+    { "another section's count", FRESH, { { VIDEO PICTURE "00 00", 2, "" }, { THE_END, 2, "" } } },
     { "a bad count of the matrix", FRESH,
       { { VIDEO SOUND, NOT_YET, VIDEO SOUND }, { "18", 2, VIDEO SOUND }, { THE_END, 2, VIDEO SOUND } } },
     { "one without sound", FRESH, { { VIDEO "00", NOT_YET, VIDEO "00" }, { "03 00 02 00", 2, VIDEO "00" }, { "", 2, VIDEO "00" } } },
     { "fields that no request has, and a bad count", FRESH,
-      { { "07 FF FF FF FF FF FF", NOT_YET, "07 FF FF FF FF FF FF" }, { "FF", NOT_YET, "07 FF FF FF FF FF FF FF" },
-        { "FF", 2, "07 FF FF FF FF FF FF FF" }, { THE_END, 2, "07 FF FF FF FF FF FF FF" } } },
+      { { "00 07 FF FF FF FF FF FF", NOT_YET, "00 07 FF FF FF FF FF FF" }, { "FF", NOT_YET, "00 07 FF FF FF FF FF FF FF" },
+        { "FF", 2, "00 07 FF FF FF FF FF FF FF" }, { THE_END, 2, "00 07 FF FF FF FF FF FF FF" } } },
     { "a bad count, and then too many bytes", FRESH,
       { { VIDEO "01 00 00 00" MATRIX_39 MATRIX_39, 2, "" }, { THE_END, 2, "" } } },
     { "a byte too many", FRESH,
@@ -114,22 +139,25 @@ static const struct row rows[] = {
     { "a byte too many, in one part", FRESH, { { VIDEO "00 00 00", 3, "" }, { THE_END, 3, "" } } },
     { "a byte too many, with the last count", FRESH, { { VIDEO SOUND, NOT_YET, VIDEO SOUND }, { "00 FF", 3, VIDEO SOUND } } },
     { "many too many", FRESH,
-      { { "07", NOT_YET, "07" }, { "10 00 00 01 00 00 00 00 00 07 10 00 00 01 00 00 00 00 00", 3, "07" }, { THE_END, 3, "07" } } },
+      { { "00 07", NOT_YET, "00 07" }, { "10 00 00 01 00 00 00 00 00 07 10 00 00 01 00 00 00 00 00", 3, "00 07" }, { THE_END, 3, "00 07" } } },
     { "the longest", FRESH,
-      { { VIDEO SOUND, NOT_YET, VIDEO SOUND }, { BUT_ONE, NOT_YET, VIDEO SOUND BUT_ONE }, { "BE", NOT_YET, VIDEO SOUND MATRIX_39 },
-        { "", NOT_YET, VIDEO SOUND MATRIX_39 }, { THE_END, YES, VIDEO SOUND MATRIX_39 }, { "00", YES, VIDEO SOUND MATRIX_39 },
-        { THE_END, YES, VIDEO SOUND MATRIX_39 } } },
+      { { LONG, NOT_YET, LONG }, { BUT_ONE, NOT_YET, LONG BUT_ONE }, { "BE", NOT_YET, LONG MATRIX_39 }, { "", NOT_YET, LONG MATRIX_39 },
+        { THE_END, YES, LONG MATRIX_39 }, { "00", YES, LONG MATRIX_39 }, { THE_END, YES, LONG MATRIX_39 } } },
     { "the longest, but for a byte", FRESH,
-      { { VIDEO SOUND BUT_ONE, NOT_YET, VIDEO SOUND BUT_ONE }, { THE_END, 1, VIDEO SOUND BUT_ONE }, { "BE", 1, VIDEO SOUND BUT_ONE } } },
+      { { LONG BUT_ONE, NOT_YET, LONG BUT_ONE }, { THE_END, 1, LONG BUT_ONE }, { "BE", 1, LONG BUT_ONE } } },
     { "the longest, and a byte", FRESH,
-      { { VIDEO SOUND MATRIX_39, NOT_YET, VIDEO SOUND MATRIX_39 }, { "19", 3, VIDEO SOUND MATRIX_39 },
-        { THE_END, 3, VIDEO SOUND MATRIX_39 } } },
+      { { LONG MATRIX_39, NOT_YET, LONG MATRIX_39 }, { "19", 3, LONG MATRIX_39 }, { THE_END, 3, LONG MATRIX_39 } } },
     { "the longest, and a byte with its last", FRESH,
-      { { VIDEO SOUND BUT_ONE, NOT_YET, VIDEO SOUND BUT_ONE }, { "BE 00", 3, VIDEO SOUND BUT_ONE }, { THE_END, 3, VIDEO SOUND BUT_ONE } } },
+      { { LONG BUT_ONE, NOT_YET, LONG BUT_ONE }, { "BE 00", 3, LONG BUT_ONE }, { THE_END, 3, LONG BUT_ONE } } },
+    { "the longest for today's board", FRESH,
+      { { VIDEO SOUND, NOT_YET, VIDEO SOUND }, { MATRIX_39, NOT_YET, VIDEO SOUND MATRIX_39 }, { "", NOT_YET, VIDEO SOUND MATRIX_39 },
+        { "19", 3, VIDEO SOUND MATRIX_39 }, { THE_END, 3, VIDEO SOUND MATRIX_39 } } },
     /* What another hand wrote. */
     { "a bad count is there", FOUND("05", NOT_YET), { { "", 2, "05" }, { THE_END, 2, "05" } } },
     { "a bad count is there at the end", FOUND(VIDEO "05", NOT_YET), { { THE_END, 2, VIDEO "05" }, { "", 2, VIDEO "05" } } },
     { "a bad count is there, and a part", FOUND("05", NOT_YET), { { "10 00", 2, "05" }, { THE_END, 2, "05" } } },
+    { "a bad count is there, and the pipe is full", FOUND("05 02 01 01 02 00 6E 00 28 00 05 00 05 " PICTURE SOUND MATRIX_39, NOT_YET),
+      { { "00", 2, "05 02 01 01 02 00 6E 00 28 00 05 00 05 " PICTURE SOUND MATRIX_39 } } },
     { "a byte too many is there", FOUND(VIDEO "00 00 00", NOT_YET), { { "", 3, VIDEO "00 00 00" }, { THE_END, 3, VIDEO "00 00 00" } } },
     { "a byte too many is there at the end", FOUND(VIDEO "00 00 00", NOT_YET), { { THE_END, 3, VIDEO "00 00 00" } } },
     { "a part of a request is there", FOUND(VIDEO "03", NOT_YET),
@@ -148,18 +176,31 @@ static const struct { const char *bytes; int answer; } whole[] = {
     { VIDEO SOUND "00", YES },
     { VIDEO "00 " MATRIX_39, YES },
     { VIDEO SOUND MATRIX_39, YES },
-    { "07 13 01 00 01 00 00 00 00 00", 4 },             /* VIC 19 has no family 1 */
-    { "07 00 00 00 01 00 00 00 " SOUND "00", 4 },
-    { "07 10 00 03 01 00 00 00 00 00", 5 },             /* encoding 3 */
-    { "07 10 00 00 01 00 00 00 03 07 02 01 00", 5 },    /* rate 7 */
+    { "00 07 13 01 00 01 00 00 00 00 00", 4 },             /* VIC 19 has no family 1 */
+    { "00 07 00 00 00 01 00 00 00 " SOUND "00", 4 },
+    { "00 07 10 00 03 01 00 00 00 00 00", 5 },             /* encoding 3 */
+    { "00 07 10 00 00 01 00 00 00 03 07 02 01 00", 5 },    /* rate 7 */
     { VIDEO "00 19 03 0C 53 08 00 00 00 F9 D6 FC 56 08 00 FE 88 02 91 FF FF 08 00 0E 85 F8 BE", 5 },     /* mode 3 */
-    { "07 10 00 01 01 00 00 00 00 00", 6 },             /* 4:2:2 without a matrix */
-    { "07 10 00 00 00 00 00 00 " SOUND "00", 6 },       /* DVI with sound */
-    { "07 10 00 00 01 00 10 00 00 00", 17 },            /* 297 MHz */
-    { "07 10 00 00 01 00 02 00 " SOUND MATRIX_39, YES },    /* 222.75 MHz */
-    { "07 02 00 00 01 00 00 00 03 06 08 00 00", 20 },   /* eight channels at 192 kHz over 480p */
-    { "07 02 00 00 01 00 10 00 03 05 08 00 " MATRIX_39, YES },     /* at 176.4 kHz, each pixel twice */
-    { "07 04 01 00 01 00 00 00 03 00 02 01 00", 9 },    /* no exact pair */
+    { "00 07 10 00 01 01 00 00 00 00 00", 6 },             /* 4:2:2 without a matrix */
+    { "00 07 10 00 00 00 00 00 00 " SOUND "00", 6 },       /* DVI with sound */
+    { "00 07 10 00 00 01 00 10 00 00 00", 17 },            /* 297 MHz */
+    { "00 07 10 00 00 01 00 02 00 " SOUND MATRIX_39, YES },    /* 222.75 MHz */
+    { "00 07 02 00 00 01 00 00 00 03 06 08 00 00", 20 },   /* eight channels at 192 kHz over 480p */
+    { "00 07 02 00 00 01 00 10 00 03 05 08 00 " MATRIX_39, YES },     /* at 176.4 kHz, each pixel twice */
+    { "00 07 04 01 00 01 00 00 00 03 00 02 01 00", 9 },    /* no exact pair */
+    { SEPARATE PICTURE SOUND MATRIX_39, YES },
+    { EMBEDDED PICTURE SOUND MATRIX_39, YES },
+    { EMBEDDED "07 10 00 01 01 00 00 00 00 00", YES },  /* YCbCr 4:2:2 in and out without a matrix */
+    { SEPARATE "07 10 00 02 01 00 00 00 " SOUND "00", YES },
+    { EMBEDDED PICTURE "00 00", 6 },                    /* YCbCr in and RGB out without one */
+    { "04 05 03 02 00 " PICTURE "00 00", YES },         /* ID 5 is RGB */
+    { "04 05 03 02 00 07 10 00 01 01 00 00 00 00 00", 6 },
+    { "04 00 03 00 00 " PICTURE "00 00", 5 },           /* ID 0 in a section */
+    { "04 02 01 01 02 " PICTURE "00 " MATRIX_39, 5 },   /* 4 with an ID of embedded syncs, 12 with one of separate ones */
+    { "0C 01 01 01 02 00 6E 00 28 00 05 00 05 " PICTURE "00 " MATRIX_39, 5 },
+    { "0C 02 01 01 02 04 00 00 28 00 05 00 05 " PICTURE "00 " MATRIX_39, 5 },   /* 1024 */
+    { "0C 02 01 01 02 03 FF 03 FF 03 FF 03 FF " PICTURE "00 " MATRIX_39, YES },
+    { "04 00 03 00 00 07 06 00 00 01 00 00 00 00 00", 4 },  /* 4 before 5, though it stands behind it */
 };
 
 static size_t from_hex(const char *text, uint8_t *bytes) {
@@ -192,14 +233,16 @@ static void run_row(const struct row *r, int paint) {
 
 /* Each byte as the count of each section, after the bytes before it: 2 but for those that are allowed. */
 static void every_count(void) {
-    static const struct { const char *before; int allowed[2]; } counts[] = {
-        { "", { 7, 7 } }, { VIDEO, { 0, 3 } }, { VIDEO "00", { 0, 25 } }, { VIDEO SOUND, { 0, 25 } },
+    static const struct { const char *before; int allowed[3]; } counts[] = {
+        { "", { 0, 4, 12 } }, { "00", { 7, 7, 7 } }, { SEPARATE, { 7, 7, 7 } }, { EMBEDDED, { 7, 7, 7 } }, { VIDEO, { 0, 3, 3 } },
+        { SEPARATE PICTURE, { 0, 3, 3 } }, { VIDEO "00", { 0, 25, 25 } }, { VIDEO SOUND, { 0, 25, 25 } }, { LONG, { 0, 25, 25 } },
     };
     for (size_t k = 0; k < sizeof counts / sizeof counts[0]; k++)
         for (int count = 0; count < 256; count++) {
             const char *before = counts[k].before;
-            char byte[8], bytes[64];
-            int answer = count == counts[k].allowed[0] || count == counts[k].allowed[1] ? NOT_YET : 2;
+            char byte[8], bytes[128];
+            const int *allowed = counts[k].allowed;
+            int answer = count == allowed[0] || count == allowed[1] || count == allowed[2] ? NOT_YET : 2;
             snprintf(byte, sizeof byte, "%02X", (unsigned)count);
             snprintf(bytes, sizeof bytes, "%s %s", before, byte);
             const struct row alone = { bytes, FRESH, { { before, NOT_YET, before }, { byte, answer, answer ? before : bytes } } };
@@ -232,7 +275,7 @@ static void every_length(void) {
     static const size_t more[] = { 256, 256 + BYTES, 1000, 65536, 65536 + BYTES, ROOM - 64 };
     static const struct { uint8_t count, answer; } found[] = { { 0, NOT_YET }, { 1, NOT_YET }, { 1, YES }, { 1, 3 }, { BYTES, NOT_YET } };
     static uint8_t pipe[ROOM], was[ROOM], part[STATION_REQUEST + 1];
-    part[0] = VIDEO_BYTES;
+    part[1] = VIDEO_BYTES;
     for (size_t n = 0; n < 2 * BYTES + 1 + sizeof more / sizeof more[0]; n++) {
         size_t length = n <= 2 * BYTES ? n : more[n - 2 * BYTES - 1];
         for (size_t k = 0; k < sizeof found / sizeof found[0]; k++)
@@ -240,7 +283,7 @@ static void every_length(void) {
                 if (part_length > 1 && passed_over(8)) continue;
                 if (length > 1000 && part_length > 1) break;
                 memset(pipe, 0, length);
-                pipe[0] = VIDEO_BYTES, pipe[COUNT] = found[k].count, pipe[ANSWER] = found[k].answer;
+                pipe[0] = WIRING_BYTES, pipe[COUNT] = found[k].count, pipe[ANSWER] = found[k].answer;
                 memcpy(was, pipe, length);
                 struct station_piped a = take(pipe, length, part, part_length), b = end(pipe, length);
                 if (length == BYTES && found[k].count <= STATION_REQUEST) continue;
@@ -356,14 +399,12 @@ void pipes(void) {
 
 /* Requests, cut. -------------------------------------------------------------------------------------------------------------------- */
 
-static int allowed(int section, int count) { return count == model_counts[section] || (section != OF_VIDEO && count == 0); }
-
 /* "Refusal 2 as soon as its count is read, refusal 3 at the first byte too many": what these bytes decide, by a walk. */
 static int decided(const uint8_t *bytes, size_t length) {
     size_t at = 0;
     for (int s = 0; s < PARTS; s++) {
         if (at >= length) return NOT_YET;
-        if (!allowed(s, bytes[at])) return 2;
+        if (!model_allowed((enum part)s, bytes[at])) return 2;
         at += 1u + bytes[at];
     }
     return at < length ? 3 : NOT_YET;
@@ -508,8 +549,8 @@ static int kind_of(const struct request *r, uint32_t number) {
     int there = 0;
     for (int s = 0; s < PARTS; s++) {
         if (number == 1 && (at >= r->length || at + 1 + r->bytes[at] > r->length)) return s;
-        if (number == 2 && !allowed(s, r->bytes[at])) return s;
-        if (s != OF_VIDEO && r->bytes[at] != 0) there += s == OF_SOUND ? 1 : 2;
+        if (number == 2 && !model_allowed((enum part)s, r->bytes[at])) return s;
+        if (s != OF_VIDEO && r->bytes[at] != 0) there += s == OF_SOUND ? 1 : s == OF_MATRIX ? 2 : 4;
         at += 1u + r->bytes[at];
     }
     return there;
@@ -520,7 +561,7 @@ static void every_cut(void) {
     uint32_t cut[NUMBERS_OF][VARIANTS] = { { 0 } }, of_each = run.share < 1000 ? 1 : 12, left = 0;
     for (int k = 0; k < NUMBERS_OF; k++)
         for (int v = 0; v < VARIANTS; v++) left += of_each * (uint32_t)numbers[k].is[v];
-    for (uint32_t i = 0; left > 0 && i < 20000; i++) {
+    for (uint32_t i = 0; left > 0 && i < 60000; i++) {
         int k = 0;
         seed(0x2000000u + i);
         any_whole(&r, LEAST_ROOM);

@@ -58,14 +58,14 @@ static void planned_as(const uint8_t *bytes, size_t length, const uint8_t *image
     memcpy(writes, before, sizeof writes);
     check_plan(bytes, length, image, image_length, before, room);
     struct station_count c = run.f->plan(bytes, length, image, image_length, writes, room);
-    if (c.refusal != number) differs("VIC %d, depth byte %02x: planning %u, not %u", bytes[1], bytes[6], c.refusal, number);
+    if (c.refusal != number) differs("VIC %d, depth byte %02x: planning %u, not %u", bytes[2], bytes[7], c.refusal, number);
     else if (number && (c.count || memcmp(writes, before, sizeof writes))) differs("planning: something beside %u", number);
 }
 
 static void counted_as(const uint8_t *bytes, size_t length, uint32_t number) {
     check_ncts(bytes, length);
     struct station_pair p = run.f->ncts(bytes, length);
-    if (p.refusal != number) differs("VIC %d, depth byte %02x: N and CTS %u, not %u", bytes[1], bytes[6], p.refusal, number);
+    if (p.refusal != number) differs("VIC %d, depth byte %02x: N and CTS %u, not %u", bytes[2], bytes[7], p.refusal, number);
     else if (number && (p.n || p.cts)) differs("N and CTS: something beside %u", number);
 }
 
@@ -166,22 +166,23 @@ static void every_sound(void) {
 /* By hand. -------------------------------------------------------------------------------------------------------------------------- */
 
 /* Eight channels at 192 kHz over 480p, not coherent, and what is changed of it: 20 loses to each of 1 to 6. */
-static const uint8_t too_much[] = { 7, 2, 0, 0, 1, 0, 0x00, 0x00, 3, 6, 8, 0, 0 };
-enum { WHOLE = sizeof too_much, NOWHERE = 0 };
+static const uint8_t too_much[] = { 0, 7, 2, 0, 0, 1, 0, 0x00, 0x00, 3, 6, 8, 0, 0 };
+enum { WHOLE = sizeof too_much, NOWHERE = 1 };
 static const struct { uint8_t at, byte, length; uint32_t number; } changes[] = {
-    { NOWHERE, 7, WHOLE, 20 },  { 1, 1, WHOLE, 20 },    { 1, 18, WHOLE, 20 },   { 2, 1, WHOLE, 20 },        /* VGA, 576p, family 1 */
-    { 6, 0x01, WHOLE, 20 },     { 6, 0x02, WHOLE, 20 }, { 6, 0x10, WHOLE, 20 }, { 6, 0x12, WHOLE, 20 },     /* deeper; each pixel twice */
-    { 6, 0x20, WHOLE, 0 },      { 6, 0x22, WHOLE, 0 },                                                      /* four times */
-    { 9, 3, WHOLE, 20 },        { 9, 2, WHOLE, 0 },     { 10, 2, WHOLE, 0 },    { 11, 1, WHOLE, 20 },       /* 88.2, 48 kHz; two; coherent */
-    { 1, 5, WHOLE, 0 },         { 1, 20, WHOLE, 0 },    { 1, 16, WHOLE, 0 },    { 1, 60, WHOLE, 0 },        /* 1080i, 1080p, 720p at 24 Hz */
-    { 5, 1, WHOLE, 20 },        { 7, 0x01, WHOLE, 20 },                                                     /* full range; edition E */
+    { NOWHERE, 7, WHOLE, 20 },  { 2, 1, WHOLE, 20 },    { 2, 18, WHOLE, 20 },   { 3, 1, WHOLE, 20 },        /* VGA, 576p, family 1 */
+    { 7, 0x01, WHOLE, 20 },     { 7, 0x02, WHOLE, 20 }, { 7, 0x10, WHOLE, 20 }, { 7, 0x12, WHOLE, 20 },     /* deeper; each pixel twice */
+    { 7, 0x20, WHOLE, 0 },      { 7, 0x22, WHOLE, 0 },                                                      /* four times */
+    { 10, 3, WHOLE, 20 },        { 10, 2, WHOLE, 0 },     { 11, 2, WHOLE, 0 },    { 12, 1, WHOLE, 20 },       /* 88.2, 48 kHz; two; coherent */
+    { 2, 5, WHOLE, 0 },         { 2, 20, WHOLE, 0 },    { 2, 16, WHOLE, 0 },    { 2, 60, WHOLE, 0 },        /* 1080i, 1080p, 720p at 24 Hz */
+    { 6, 1, WHOLE, 20 },        { 8, 0x01, WHOLE, 20 },                                                     /* full range; edition E */
     { NOWHERE, 7, WHOLE - 1, 1 },   { NOWHERE, 7, WHOLE - 2, 1 },
-    { NOWHERE, 6, WHOLE, 2 },       { 8, 2, WHOLE, 2 },         { 12, 24, WHOLE, 2 },
+    { NOWHERE, 6, WHOLE, 2 },       { 9, 2, WHOLE, 2 },         { 13, 24, WHOLE, 2 },
+    { 0, 7, WHOLE, 2 },             { 0, 3, WHOLE, 2 },
     { NOWHERE, 7, WHOLE + 1, 3 },
-    { 1, 6, WHOLE, 4 },             { 2, 2, WHOLE, 4 },
-    { 3, 3, WHOLE, 5 },             { 4, 2, WHOLE, 5 },         { 5, 2, WHOLE, 5 },         { 6, 0x03, WHOLE, 5 },
-    { 6, 0x30, WHOLE, 5 },          { 7, 0x02, WHOLE, 5 },      { 9, 7, WHOLE, 5 },         { 10, 9, WHOLE, 5 },    { 11, 2, WHOLE, 5 },
-    { 3, 1, WHOLE, 6 },             { 3, 2, WHOLE, 6 },         { 4, 0, WHOLE, 6 },         { 7, 0x04, WHOLE, 6 },  { 7, 0x10, WHOLE, 6 },
+    { 2, 6, WHOLE, 4 },             { 3, 2, WHOLE, 4 },
+    { 4, 3, WHOLE, 5 },             { 5, 2, WHOLE, 5 },         { 6, 2, WHOLE, 5 },         { 7, 0x03, WHOLE, 5 },
+    { 7, 0x30, WHOLE, 5 },          { 8, 0x02, WHOLE, 5 },      { 10, 7, WHOLE, 5 },         { 11, 9, WHOLE, 5 },    { 12, 2, WHOLE, 5 },
+    { 4, 1, WHOLE, 6 },             { 4, 2, WHOLE, 6 },         { 5, 0, WHOLE, 6 },         { 8, 0x04, WHOLE, 6 },  { 8, 0x10, WHOLE, 6 },
 };
 
 /* The requests of the table, and 20 before 7, 8 and 10, on registers with and without holds. No request meets 17 and 20, nor 9 and 20: what
@@ -202,7 +203,7 @@ static void ordered(void) {
             for (size_t r = 0; r < sizeof rooms / sizeof rooms[0]; r++) {
                 uint8_t image[257] = { [0x4A] = holds[h] }, fits[WHOLE];
                 memcpy(fits, too_much, WHOLE);
-                fits[10] = 2;
+                fits[11] = 2;
                 planned_as(too_much, WHOLE, image, lengths[l], rooms[r], 20);
                 planned_as(fits, WHOLE, image, lengths[l], rooms[r], lengths[l] != 256 ? 7 : holds[h] ? 8 : rooms[r] < 256 ? 10 : 0);
             }

@@ -34,7 +34,7 @@ const struct model_class model_classes[256] = {
 /* 13 */ FREE,
 /* 14 */ FREE,
 /* 15 */ NAMED,                         /* rate [7:4], input format [3:0] */
-/* 16 */ ROW(00, 40, 80, 3F, 00),       /* output format [7]; [6] must be default, 0; depth, style, edge free */
+/* 16 */ ROW(00, 40, BC, 03, 00),       /* output format [7]; [6] must be default, 0; input depth [5:4], style [3:2]; edge [1], [0] free */
 /* 17 */ ROW(00, 98, 00, 67, 00),       /* [7] and [4:3] must be default, 0 */
 /* 18 */ NAMED,                         /* CSC enable [7], mode [6:5], A1[12:8] */
 /* 19 */ NAMED,
@@ -60,11 +60,11 @@ const struct model_class model_classes[256] = {
 /* 2D */ NAMED,
 /* 2E */ LOW5,
 /* 2F */ NAMED,
-/* 30 */ FREE,
-/* 31 */ FREE,
-/* 32 */ FREE,
-/* 33 */ FREE,
-/* 34 */ FREE,
+/* 30 */ NAMED,                         /* 30 to 34: sync generation, four times ten bits, named by document 02, request 02 */
+/* 31 */ NAMED,
+/* 32 */ NAMED,
+/* 33 */ NAMED,
+/* 34 */ NAMED,
 /* 35 */ FREE,
 /* 36 */ FREE,
 /* 37 */ FREE,
@@ -84,7 +84,7 @@ const struct model_class model_classes[256] = {
 /* 45 */ FREE,
 /* 46 */ FREE,
 /* 47 */ FREE,
-/* 48 */ ROW(00, 80, 00, 7F, 00),       /* [7] reserved, must be default, 0 */
+/* 48 */ ROW(00, 80, 18, 67, 00),       /* [7] reserved, must be default, 0; justification [4:3]; bus order [6], DDR alignment [5] free */
 /* 49 */ FREE,                          /* "all other settings are invalid" is no order */
 /* 4A */ ROW(00, 00, E0, 1F, 00),       /* auto checksum [7], AVI hold [6], audio hold [5]; the GC hold [4] is not in the named list */
 /* 4B */ ROW(00, 00, C0, 3F, 00),       /* AV mute: clear [7], set [6] */

@@ -1,6 +1,6 @@
 /* Decoding, as document 01 has it: is there a request, in one of its families, that ends in this image? Every request is tried whose fields
- * are as the image shows them; the harness tries the others too, and that none of them stands. The matrix is read off the image in any
- * case, since no other value of it could stand there. Where the bits that 861-E has are 0, D is answered (document 02, request 11). */
+ * are as the image shows them; the harness tries the others too, and that none of them stands. The matrix and the sync values are read off
+ * the image in any case, since no other values of them could stand there. Where the bits that 861-E has are 0, D is answered (document 02, request 11). */
 #include "model.h"
 
 static int ends_in(const struct fields *f, const uint8_t *image) {
@@ -28,9 +28,13 @@ static int tried(const uint8_t *image, int row, uint32_t free, struct fields *f)
 }
 
 int model_ends(const uint8_t *image, uint32_t free, struct fields *f) {
-    for (int sections = 0; sections < 4; sections++) {
-        *f = (struct fields){ .sound = sections & 1, .matrix = sections >> 1 };
-        if (!(free & SECTIONS_FREE) && (f->sound != (image[0x44] >> 5 & 1) || f->matrix != image[0x18] >> 7)) continue;
+    static const int wirings[] = { NO_WIRING, WIRING_BYTES, WIRING_BYTES + SYNC_BYTES };
+    int input = image[0x15] & 15;
+    for (int sections = 0; sections < 4 * 3; sections++) {
+        *f = (struct fields){ .sound = sections & 1, .matrix = sections >> 1 & 1, .wiring = wirings[sections >> 2] };
+        int shown = f->sound == (image[0x44] >> 5 & 1) && f->matrix == image[0x18] >> 7 && input <= 8 && f->wiring == model_wiring_of(input);
+        if (!(free & SECTIONS_FREE) && !shown) continue;
+        if (f->wiring > WIRING_BYTES) model_syncs_shown(image + SYNCS_AT, f->sync);
         if (f->matrix) {
             f->mode = image[0x18] >> 5 & 3;
             for (int i = 0; i < 12; i++) {

@@ -2,6 +2,7 @@
 #include "model.h"
 
 static const int numbers[VALUES] = { 0, 1, 2, 3, 4, 5, 6, 7, 8, 9, 10, 11, 12, 13, 14, 15 }, two_or_eight[] = { 2, 8 };
+static const int inputs[] = { 1, 2, 3, 4, 5, 6, 7, 8 }, one_to_three[] = { 1, 2, 3 };
 
 static int rate_of_code(int code) {
     for (int r = 0; r < RATES; r++)
@@ -32,7 +33,9 @@ const struct field model_fields[FIELDS] = { MODEL_FIELDS(ROW) };
 
 int *model_field(struct fields *f, const struct field *row) { return (int *)((char *)f + row->at); }
 
-int model_has(const struct fields *f, enum part s) { return s == OF_VIDEO || (s == OF_SOUND && f->sound) || (s == OF_MATRIX && f->matrix); }
+int model_has(const struct fields *f, enum part s) {
+    return s == OF_VIDEO || (s == OF_WIRING && f->wiring != NO_WIRING) || (s == OF_SOUND && f->sound) || (s == OF_MATRIX && f->matrix);
+}
 
 int model_allows(const struct field *row, int value) {
     for (int i = 0; i < row->count; i++)

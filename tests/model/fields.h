@@ -4,8 +4,13 @@
  * its section; the byte of the section's body that it is in, from 0, and the bits of that byte, from bit `low` on; its name in `struct
  * fields`; the values that the documents allow, ONE_OF(..) or BELOW(..); and what a finished image shows of it, NO_REGISTER where no
  * register names it. The counts of the sections and the longest request follow. The twelve coefficients are no rows: they follow the rows
- * of the matrix section. */
+ * of the matrix section; nor are the four sync values, which follow those of the wiring section where its syncs are embedded. What a
+ * wiring's four fields may be together is wiring.c's. */
 #define MODEL_FIELDS(FIELD) \
+    FIELD(OF_WIRING, 0, 0, 8, input, ONE_OF(inputs), image[0x15] & 15) \
+    FIELD(OF_WIRING, 1, 0, 8, input_depth, ONE_OF(one_to_three), image[0x16] >> 4 & 3) \
+    FIELD(OF_WIRING, 2, 0, 8, style, ONE_OF(one_to_three), image[0x16] >> 2 & 3) \
+    FIELD(OF_WIRING, 3, 0, 8, justification, BELOW(3), image[0x48] >> 3 & 3) \
     FIELD(OF_VIDEO, 0, 0, 8, vic, ONE_OF(model_vics), image[0x3C] & 0x3F) \
     FIELD(OF_VIDEO, 1, 0, 8, family, BELOW(2), NO_REGISTER) \
     FIELD(OF_VIDEO, 2, 0, 8, encoding, BELOW(3), image[0x55] >> 5 & 3) \

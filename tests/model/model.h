@@ -10,13 +10,15 @@
 struct model_class { uint8_t read_only, mandated, named, free, bits; };
 extern const struct model_class model_classes[256];
 
-/* fields.h: the table of the fields. Here the fields of one request; without sound or matrix those of that section are 0. */
+/* fields.h: the table of the fields. Here the fields of one request; without a wiring, sound or matrix those of that section are 0. `wiring`
+ * is the count of its section: none for today's board, the four fields, or these and the sync values. */
 #include "fields.h"
-enum part { OF_VIDEO, OF_SOUND, OF_MATRIX, PARTS };
+enum part { OF_WIRING, OF_VIDEO, OF_SOUND, OF_MATRIX, PARTS };
+enum { NO_WIRING = 0, SYNCS = 4, SYNC_BYTES = 2 * SYNCS, SYNC_BITS = 10, MOST_SYNC = 1023 };
 #define MODEL_MEMBER(section, byte, low, bits, name, ...) int name;
 struct fields {
     MODEL_FIELDS(MODEL_MEMBER)
-    int sound, matrix, coefficient[12];
+    int wiring, sync[SYNCS], sound, matrix, coefficient[12];
 };
 
 /* A row of the table. `at` is the place in `struct fields`. */
@@ -41,20 +43,34 @@ void model_answer(struct fields *f, const uint8_t *image);
 
 /* request.c: refusals 1 to 6, 17 and 20, 0 for none; and the bytes of a request. The counts of the sections, each byte counted at the row of
  * its lowest bit, and with these counts the longest request. */
+#define MODEL_WIRING(section, byte, low, ...) + (section == OF_WIRING && low == 0)
 #define MODEL_VIDEO(section, byte, low, ...) + (section == OF_VIDEO && low == 0)
 #define MODEL_SOUND(section, byte, low, ...) + (section == OF_SOUND && low == 0)
 #define MODEL_MATRIX(section, byte, low, ...) + (section == OF_MATRIX && low == 0)
 enum {
+    WIRING_BYTES = MODEL_FIELDS(MODEL_WIRING),
     VIDEO_BYTES = MODEL_FIELDS(MODEL_VIDEO),
     SOUND_BYTES = MODEL_FIELDS(MODEL_SOUND),
     MODE_BYTES = MODEL_FIELDS(MODEL_MATRIX),
     MATRIX_BYTES = MODE_BYTES + 2 * 12,
-    LONGEST = PARTS + VIDEO_BYTES + SOUND_BYTES + MATRIX_BYTES
+    LONGEST = PARTS + WIRING_BYTES + SYNC_BYTES + VIDEO_BYTES + SOUND_BYTES + MATRIX_BYTES
 };
-extern const int model_counts[PARTS];
+extern const int model_counts[PARTS];               /* the largest that is allowed */
+int      model_allowed(enum part s, int count);
+int      model_count(const struct fields *f, enum part s);
 uint32_t model_read(const uint8_t *request, size_t length, struct fields *f);   /* also sets `f` where it answers 4 or more */
 size_t   model_bytes(const struct fields *f, uint8_t *request);
 int      model_coefficient(const uint8_t *two);     /* two's complement, high byte first */
+
+/* wiring.c: the input IDs. Whether an ID is RGB, and whether its syncs are embedded; the count that fits it; whether a wiring is defined, else
+ * refusal 5; and the four sync values as 0x30 to 0x34 have them. */
+enum { SYNCS_AT = 0x30, SYNC_REGISTERS = 5, TODAY_DEPTH = 3 };          /* today's board: "RGB, 24 bits", code 11 of 8 bit */
+int  model_rgb_input(int input);
+int  model_embedded(int input);
+int  model_wiring_of(int input);
+int  model_wired(const struct fields *f);
+void model_sync_registers(const int *sync, uint8_t *registers);
+void model_syncs_shown(const uint8_t *registers, int *sync);
 
 /* clock.c: the modes, N and CTS. `exists` is 0 where refusal 9 applies. */
 struct pair { int exists; uint32_t n, cts; };

@@ -17,8 +17,11 @@ void model_wanted(const struct fields *f, struct pair p, uint8_t *wanted) {
     wanted[0x09] = (uint8_t)p.cts;
     wanted[0x0A] = f->coherent ? 0x80 : 0x00;               /* CTS select; audio select 0 is I2S; mode at its default, 0 */
     wanted[0x0C] = !f->sound ? 0x00 : f->channels == 2 ? 0x04 : 0x3C;   /* I2S0, or all four; standard I2S is 0 */
-    wanted[0x15] = (uint8_t)((f->sound ? model_rate_codes[f->rate] : 0x2) << 4);    /* audio off: the 48 kHz code; input ID 0 */
+    wanted[0x15] = (uint8_t)((f->sound ? model_rate_codes[f->rate] : 0x2) << 4 | f->input);    /* audio off: the 48 kHz code; input ID */
     wanted[0x16] = f->encoding == 1 ? 0x80 : 0x00;          /* output 4:2:2 */
+    wanted[0x16] |= (uint8_t)((f->wiring == NO_WIRING ? TODAY_DEPTH : f->input_depth) << 4 | f->style << 2);
+    model_sync_registers(f->sync, wanted + SYNCS_AT);       /* 0 where no syncs are embedded */
+    wanted[0x48] = (uint8_t)(f->justification << 3);
 
     int mode = 1, k[12] = { 2048, 0, 0, 0, 0, 2048, 0, 0, 0, 0, 2048, 0 };
     if (f->matrix) {

@@ -31,6 +31,21 @@ static size_t about(size_t right) { return !one_in(300) ? right : one_in(2) ? ri
 
 enum { ROOM = STATION_REQUEST + 26 };
 
+/* A wiring section in one of three requests, mostly one that is defined; answers its input ID, 0 for today's board. */
+static uint32_t any_wiring(uint8_t *q, size_t *n) {
+    uint32_t id = one_in(3) ? 1 + any(8) : 0;
+    int embedded = id == 2 || id == 4 || id == 8;
+    q[(*n)++] = id == 0 ? 0 : embedded ? 12 : 4;
+    if (id == 0) return 0;
+    uint32_t depth = 1 + any(3), style = 1 + any(one_in(4) ? 3 : 2), justified = id == 5 ? 0 : any(3);
+    q[(*n)++] = (uint8_t)id, q[(*n)++] = (uint8_t)depth, q[(*n)++] = (uint8_t)style, q[(*n)++] = (uint8_t)justified;
+    for (int k = 0; embedded && k < 4; k++) {
+        uint32_t sync = any(one_in(40) ? 1100 : 1024);
+        q[(*n)++] = (uint8_t)(sync >> 8), q[(*n)++] = (uint8_t)sync;
+    }
+    return id;
+}
+
 /* A request that is accepted, more often than not, and in one of eight is damaged: a byte changed, cut, or longer. */
 static size_t any_request(uint8_t *q) {
     static const uint8_t vics[] = { 1, 2, 3, 4, 5, 16, 17, 18, 19, 20, 31, 32, 34, 60, 62, 6 };
@@ -38,6 +53,7 @@ static size_t any_request(uint8_t *q) {
     int hdmi = !one_in(6), audio = hdmi && !one_in(4);
     uint8_t encoding = hdmi ? (uint8_t)any(3) : 0;
     size_t n = 0, at;
+    uint32_t id = any_wiring(q, &n);
     q[n++] = 7, q[n++] = vics[any(16)], q[n++] = (uint8_t)one_in(3), q[n++] = encoding, q[n++] = (uint8_t)hdmi;
     q[n++] = encoding ? 0 : (uint8_t)any(2);
     uint32_t depth = one_in(3) ? any(3) : 0, repetition = one_in(3) ? any(3) : 0;
@@ -45,7 +61,7 @@ static size_t any_request(uint8_t *q) {
     q[n++] = editions[any(8)];
     q[n++] = audio ? 3 : 0;
     if (audio) q[n++] = (uint8_t)any(7), q[n++] = one_in(2) ? 2 : 8, q[n++] = (uint8_t)any(2);
-    int matrix = encoding || one_in(2);
+    int converts = (id == 0 || id == 5) == (encoding != 0), matrix = converts || one_in(2);
     q[n++] = matrix ? 25 : 0;
     if (matrix) q[n++] = (uint8_t)any(3);
     for (int k = 0; matrix && k < 12; k++) {

@@ -120,7 +120,7 @@ PUT(decode, rest_cleared)
 
 DECODE(refusal_writes) {
     struct station_count c = RIGHT;
-    if (c.refusal == 11) r[0] = VIDEO_BYTES;
+    if (c.refusal == 11) r[1] = VIDEO_BYTES;
     return c;
 }
 PUT(decode, refusal_writes)

@@ -167,10 +167,12 @@ static uint32_t ordered(enum fault fault, const struct fields *f, uint32_t refus
 enum { SINCE = 2, OLDER = VIDEO_BYTES - SINCE };
 
 static uint32_t reads(enum fault fault, const uint8_t *r, size_t rl, struct fields *f) {
-    uint8_t whole[LONGEST] = { VIDEO_BYTES };
-    if (fault == older_count_fault && rl > OLDER && rl + SINCE <= LONGEST && r[0] == OLDER) {
-        memcpy(whole + 1, r + 1, OLDER);
-        memcpy(whole + 1 + VIDEO_BYTES, r + 1 + OLDER, rl - 1 - OLDER);
+    uint8_t whole[LONGEST] = { 0 };
+    size_t at = video_at(r, rl);
+    if (fault == older_count_fault && rl > at + OLDER && rl + SINCE <= LONGEST && r[at] == OLDER) {
+        memcpy(whole, r, at + 1 + OLDER);
+        whole[at] = VIDEO_BYTES;
+        memcpy(whole + at + 1 + VIDEO_BYTES, r + at + 1 + OLDER, rl - at - 1 - OLDER);
         r = whole, rl += SINCE;
     }
     uint32_t refusal = model_read(r, rl, f);

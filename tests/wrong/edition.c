@@ -188,11 +188,12 @@ static uint32_t renumbered(enum fault fault, const struct fields *f, uint32_t re
 
 /* A request as it was before: without the last byte of the video section. */
 static const uint8_t *with_last_byte(const uint8_t *r, size_t *rl, uint8_t *whole) {
-    if (*rl < VIDEO_BYTES || *rl >= LONGEST || r[0] != VIDEO_BYTES - 1) return r;
+    size_t at = video_at(r, *rl);
+    if (*rl < at + VIDEO_BYTES || *rl >= LONGEST || r[at] != VIDEO_BYTES - 1) return r;
     memset(whole, 0, LONGEST);
-    whole[0] = VIDEO_BYTES;
-    memcpy(whole + 1, r + 1, VIDEO_BYTES - 1);
-    memcpy(whole + 1 + VIDEO_BYTES, r + VIDEO_BYTES, *rl - VIDEO_BYTES);
+    memcpy(whole, r, at + VIDEO_BYTES);
+    whole[at] = VIDEO_BYTES;
+    memcpy(whole + at + 1 + VIDEO_BYTES, r + at + VIDEO_BYTES, *rl - at - VIDEO_BYTES);
     ++*rl;
     return whole;
 }

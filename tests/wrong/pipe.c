@@ -40,11 +40,17 @@
     FAULT(two_next_part, "2 with the next part", CUT) \
     FAULT(two_after_its_bytes, "2 after as many bytes as its count says", CUT) \
     FAULT(two_of_video, "2 at once of the video's count alone", CUT) \
+    FAULT(two_not_of_wiring, "2 not at once of the wiring's count", CUT) \
     FAULT(two_not_of_sound, "2 of the sound's count at the end", CUT) \
     FAULT(two_not_of_matrix, "2 of the matrix's count at the end", CUT) \
     FAULT(two_where_it_ends, "2 only where its count ends a part", CUT) \
     FAULT(two_where_it_begins, "2 only where its count begins a part", CUT) \
     FAULT(zero_not_allowed, "2 for a count of 0", CUT) \
+    FAULT(no_wiring_not_allowed, "2 for a wiring's count of 0", CUT) \
+    FAULT(four_not_allowed, "2 for a wiring's count of 4", CUT) \
+    FAULT(twelve_not_allowed, "2 for a wiring's count of 12", CUT) \
+    FAULT(eight_allowed, "a wiring's count of 8 taken", CUT) \
+    FAULT(wirings_between, "a wiring's count between 4 and 12 taken", CUT) \
     FAULT(old_count, "document 01's count of the video section taken", CUT) \
     FAULT(part_judged_alone, "2 and 3 by the part alone", CUT) \
     FAULT(one_at_once, "1 at once", CUT) \
@@ -59,6 +65,7 @@
     FAULT(longest_at_once, "the longest request accepted at once", CUT) \
     FAULT(four_with_its_byte, "4 with the byte of the family", CUT) \
     FAULT(five_with_its_byte, "5 with the byte of the encoding", CUT) \
+    FAULT(five_with_its_wiring, "5 with the byte of the input ID", CUT) \
     FAULT(part_kept_2, "the part kept beside 2", CUT) \
     FAULT(part_kept_3, "the part kept beside 3", CUT) \
     FAULT(kept_with_deciding, "the part kept up to the byte that decides", CUT) \
@@ -84,6 +91,7 @@
     FAULT(part_one_further, "a byte left out between two parts", CUT) \
     FAULT(boundary_lost, "the count after a cut between two sections dropped", CUT) \
     FAULT(coefficient_cut, "the bytes of a coefficient that is cut exchanged", CUT) \
+    FAULT(sync_cut, "the bytes of a sync value that is cut exchanged", CUT) \
     FAULT(one_byte_dropped, "a part of one byte dropped", CUT) \
     FAULT(first_byte_dropped, "the first byte of a later part dropped", CUT) \
     FAULT(last_alone_dropped, "the longest request's last byte alone dropped", CUT) \
@@ -215,17 +223,32 @@ struct joined { size_t so_far, length; uint8_t bytes[LOOKED_AT]; };
 
 /* 2 or 3 with the number of bytes that decide it, 1 where it is not whole, else 0; and the section, with the bytes that are left of it. */
 struct walk { uint32_t number; size_t at; int section, left; };
+static int walk_allows(enum fault fault, int section, int count) {
+    int of_wiring = section == OF_WIRING;
+    switch (fault) {
+    case old_count_fault: if (section == OF_VIDEO && count == 4) return 1; break;
+    case zero_not_allowed_fault: if (!of_wiring && count == 0) return 0; break;
+    case no_wiring_not_allowed_fault: if (of_wiring && count == 0) return 0; break;
+    case four_not_allowed_fault: if (of_wiring && count == 4) return 0; break;
+    case twelve_not_allowed_fault: if (of_wiring && count == 12) return 0; break;
+    case eight_allowed_fault: if (of_wiring && count == 8) return 1; break;
+    case wirings_between_fault: if (of_wiring && count > 4 && count < 12) return 1; break;
+    default: break;
+    }
+    return model_allowed((enum part)section, count);
+}
 static struct walk walked(enum fault fault, const struct joined *j) {
-    struct walk w = { 0, 0, OF_VIDEO, 0 };
+    struct walk w = { 0, 0, OF_WIRING, 0 };
     for (size_t i = 0; i < j->length && i < LOOKED_AT; i++) {
         int byte = j->bytes[i];
         w.at = i + 1;
         if (w.section == PARTS) return w.number = 3, w;
         if (w.left) {
             if (--w.left == 0) w.section++;
-        } else if (byte == model_counts[w.section] || (fault == old_count_fault && w.section == OF_VIDEO && byte == 4)) w.left = byte;
-        else if (byte || w.section == OF_VIDEO || fault == zero_not_allowed_fault) return w.number = 2, w;
-        else w.section++;
+        } else if (walk_allows(fault, w.section, byte)) {
+            w.left = byte;
+            w.section += byte == 0;
+        } else return w.number = 2, w;
     }
     w.number = w.section < PARTS;
     if (fault == three_early_fault && w.section == PARTS) w.number = 3;
@@ -240,6 +263,7 @@ static uint32_t at_once(enum fault fault, const struct joined *j) {
     uint32_t number = w.number == 2 || w.number == 3 ? w.number : 0, whole = w.number ? 1 : model_number(j->bytes, j->length);
     int room = j->length <= LONGEST, here = w.at > j->so_far, two = number == 2, three = number == 3;
     int counted = two ? j->bytes[w.at - 1] : 0, not_yet = 0;
+    size_t video = video_at(j->bytes, j->length < LOOKED_AT ? j->length : LOOKED_AT);
     switch (fault) {
     case three_late_fault: not_yet = three && room && j->length == w.at; break;
     case three_next_part_fault: not_yet = three && room && here; break;
@@ -250,6 +274,7 @@ static uint32_t at_once(enum fault fault, const struct joined *j) {
     case two_next_part_fault: not_yet = two && room && here; break;
     case two_after_its_bytes_fault: not_yet = two && j->length < w.at + (size_t)counted; break;
     case two_of_video_fault: not_yet = two && w.section != OF_VIDEO; break;
+    case two_not_of_wiring_fault: not_yet = two && w.section == OF_WIRING; break;
     case two_not_of_sound_fault: not_yet = two && w.section == OF_SOUND; break;
     case two_not_of_matrix_fault: not_yet = two && w.section == OF_MATRIX; break;
     case two_where_it_ends_fault: not_yet = two && j->length != w.at; break;
@@ -268,8 +293,10 @@ static uint32_t at_once(enum fault fault, const struct joined *j) {
     case longest_refused_fault: return !number && j->length == LONGEST ? 3 : number;
     case three_is_full_fault: return j->so_far == LONGEST && j->length > LONGEST ? 3 : number;
     case three_is_2_fault: return three ? 2 : number;
-    case four_with_its_byte_fault: return !number && j->length > 2 && !model_offers(j->bytes[1], j->bytes[2]) ? 4 : number;
-    case five_with_its_byte_fault: return !number && j->length > 3 && j->bytes[3] > 2 ? 5 : number;
+    case four_with_its_byte_fault:
+        return !number && j->length > video + 2 && !model_offers(j->bytes[video + 1], j->bytes[video + 2]) ? 4 : number;
+    case five_with_its_byte_fault: return !number && j->length > video + 3 && j->bytes[video + 3] > 2 ? 5 : number;
+    case five_with_its_wiring_fault: return !number && j->length > 1 && j->bytes[0] && (!j->bytes[1] || j->bytes[1] > 8) ? 5 : number;
     case one_at_once_fault: return !number && whole == 1 ? 1 : number;
     case one_in_a_section_fault: return !number && whole == 1 && j->length > 1 ? 1 : number;
     case four_at_once_fault: return !number && whole == 4 ? 4 : number;
@@ -301,7 +328,7 @@ static uint32_t at_the_end(enum fault fault, const uint8_t *bytes, size_t count)
     case seventeen_not_given_fault: return number == 17 ? 0 : number;
     case twenty_not_given_fault: return number == 20 ? 0 : number;
     case one_is_2_fault: return number == 1 && count ? 2 : number;
-    case old_count_fault: return model_number(bytes, count);
+    case old_count_fault: case eight_allowed_fault: case wirings_between_fault: return model_number(bytes, count);
     case so_far_trusted_at_end_fault: return number == 3 ? 0 : number;
     default: return number;
     }
@@ -412,7 +439,7 @@ static struct station_piped go_on(enum fault fault, uint8_t *pipe, const struct 
     if (fault == part_one_further_fault && at && part && to < LONGEST) at++, to++;
     if (fault == part_in_front_fault) memmove(pipe + part, pipe, j->so_far), at = 0;
     if (part) memcpy(pipe + at, bytes, part);
-    if (fault == coefficient_cut_fault) memcpy(pipe, j->bytes, to);
+    if (fault == coefficient_cut_fault || fault == sync_cut_fault) memcpy(pipe, j->bytes, to);
     remembered.last = part;
     switch (fault) {
     case count_not_grown_fault: to = j->so_far; break;
@@ -490,6 +517,10 @@ static void join(enum fault fault, const uint8_t *pipe, const uint8_t *part, siz
     for (size_t i = 0; i < length && so_far + i < LOOKED_AT; i++)
         j->bytes[so_far + i] = part[i] & (fault == high_bit_lost_fault ? 127 : 255);
     if (fault == coefficient_cut_fault && length && w.section == OF_MATRIX && w.left % 2 && w.left < MATRIX_BYTES) {
+        uint8_t high = j->bytes[so_far - 1];
+        j->bytes[so_far - 1] = j->bytes[so_far], j->bytes[so_far] = high;
+    }
+    if (fault == sync_cut_fault && length && w.section == OF_WIRING && w.left % 2 && w.left < SYNC_BYTES && j->bytes[0] > WIRING_BYTES) {
         uint8_t high = j->bytes[so_far - 1];
         j->bytes[so_far - 1] = j->bytes[so_far], j->bytes[so_far] = high;
     }

@@ -127,12 +127,12 @@ static int has_sound(const struct fields *f) {
 
 /* What the request's front up to its sound would be refused, without a matrix. */
 static uint32_t refused_so_far(const uint8_t *r, size_t rl) {
-    enum { FRONT = 1 + VIDEO_BYTES + 1 + SOUND_BYTES };
-    uint8_t front[FRONT + 1] = { 0 };
+    uint8_t front[LONGEST] = { 0 };
+    size_t length = video_at(r, rl) + 1 + VIDEO_BYTES + 1 + SOUND_BYTES;
     struct fields f;
-    if (rl < FRONT) return 0;
-    memcpy(front, r, FRONT);
-    return model_read(front, sizeof front, &f);
+    if (rl < length || length >= LONGEST) return 0;
+    memcpy(front, r, length);
+    return model_read(front, length + 1, &f);
 }
 
 static uint32_t reads(enum fault fault, const uint8_t *r, size_t rl, struct fields *f) {

@@ -26,7 +26,7 @@
     FAULT(read_only_register, "a register that is read-only let through (0x3D)") \
     FAULT(depth_refused, "0x4C refused, for it has read-only bits") \
     FAULT(read_only_looked_at, "read-only bits of a value looked at") \
-    FAULT(free_register, "a register that is free let through (0x30)") \
+    FAULT(free_register, "a register that is free let through (0x35)") \
     FAULT(fixed_register, "a register fixed by the map let through (0x99)") \
     FAULT(avi_to_its_end, "the AVI packet taken to run to 0x6F") \
     FAULT(reserved_refused, "the audio packet's reserved registers refused") \
@@ -101,7 +101,7 @@ static int touches_ours(enum fault fault, uint8_t a) {
     if (fault == reserved_refused_fault && a >= 0x78 && a <= 0x7C) return 0;
     if (fault == read_only_register_fault && a == 0x3D) return 1;
     if (fault == depth_refused_fault && a == 0x4C) return 0;
-    if (fault == free_register_fault && a == 0x30) return 1;
+    if (fault == free_register_fault && a == 0x35) return 1;
     if (fault == fixed_register_fault && a == 0x99) return 1;
     if (fault == avi_to_its_end_fault && a >= 0x62 && a <= 0x6F) return 1;
     return model_written(a);

@@ -11,11 +11,11 @@
 struct wrong { const char *fault; void (*put)(struct face *); int alone; };
 enum { BY_CUTS = 1, BY_CHAINS = 2, NOT_BY_CUTS = 4, BY_PARTS = 8, BY_REST = 16, BY_CHAINS_ALONE = BY_CHAINS | NOT_BY_CUTS };
 extern const struct wrong wrong_plans[], wrong_fewer[], wrong_numbers[], wrong_decodes[], wrong_machines[], wrong_marks[], wrong_views[],
-    wrong_vets[], wrong_chains[], wrong_depths[], wrong_editions[], wrong_sounds[], wrong_meters[], wrong_pipes[], wrong_looks[];
+    wrong_vets[], wrong_chains[], wrong_depths[], wrong_editions[], wrong_sounds[], wrong_wirings[], wrong_meters[], wrong_pipes[], wrong_looks[];
 /* The sets, the last without rows; `first` is the section of the harness to begin with. */
 extern const struct wrong_set { const struct wrong *rows; int first; } wrong_sets[];
 /* The planner of wrong/fewer.c, the machine of wrong/mark.c, the judge of wrong/vet.c, the libraries of wrong/chain.c, wrong/depth.c,
- * wrong/edition.c and wrong/sound.c, the matrices of wrong/meter.c and the pipe of wrong/pipe.c, without a fault: they must not be caught. */
+ * wrong/edition.c, wrong/sound.c and wrong/wiring.c, the matrices of wrong/meter.c and the pipe of wrong/pipe.c, without a fault: they must not be caught. */
 void put_right_planner(struct face *f);
 void put_right_machine(struct face *f);
 void put_right_judge(struct face *f);
@@ -23,6 +23,7 @@ void put_right_library(struct face *f);
 void put_right_depths(struct face *f);
 void put_right_editions(struct face *f);
 void put_right_sounds(struct face *f);
+void put_right_wirings(struct face *f);
 void put_right_meter(struct face *f);
 void put_right_pipe(struct face *f);
 
@@ -41,9 +42,15 @@ static inline struct fields asked(const uint8_t *r, size_t rl) {
     return f;
 }
 
+/* The place of the video section's count, or the end where there is none. */
+static inline size_t video_at(const uint8_t *r, size_t rl) { return rl && 1u + r[0] < rl ? 1u + r[0] : rl; }
+
 /* The request that an image shows, in family 0, whether it is accepted or not; 0 where a field shows no value that is allowed. */
 static inline int shown_by(const uint8_t *image, struct fields *f) {
-    *f = (struct fields){ .sound = image[0x44] >> 5 & 1, .matrix = image[0x18] >> 7 };
+    int input = image[0x15] & 15;
+    if (input > 8) return 0;
+    *f = (struct fields){ .wiring = model_wiring_of(input), .sound = image[0x44] >> 5 & 1, .matrix = image[0x18] >> 7 };
+    if (f->wiring > WIRING_BYTES) model_syncs_shown(image + SYNCS_AT, f->sync);
     for (const struct field *row = model_fields; row < model_fields + FIELDS; row++) {
         if (!model_has(f, row->section) || row->shown(image) == NO_REGISTER) continue;
         *model_field(f, row) = row->shown(image);
