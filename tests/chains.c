@@ -57,7 +57,7 @@ enum situation {
     WAITED_IN_USE, BEFORE_FIRST,
     LEFT_IN_MATRIX, LEFT_IN_AVI, LEFT_IN_AUDIO, LEFT_WAITING, LEFT_OPEN, WAITS_OVER_A_LINK, TAKEN_LATER, DROPPED_LATER,
     TWICE_IN_MATRIX, TWICE_IN_AVI, TWICE_IN_AUDIO, THREE_TIMES, RIGHT_IN_MATRIX, RIGHT_IN_AVI, RIGHT_IN_AUDIO, FIRST_AFTER_TWO, OF_EARLIER,
-    OF_THREE, AUDIO_BEFORE_AVI, THROUGH_DVI, FROM_D_TO_E, FROM_E_TO_D, AGAIN_AFTER_OTHER, VENDORS, VENDORS_CUT, TORN_WITHIN, TORN_AFTER,
+    OF_THREE, AUDIO_BEFORE_AVI, THROUGH_DVI, FROM_D_TO_E, FROM_E_TO_D, TO_EMBEDDED, FROM_EMBEDDED, OTHER_ID, AGAIN_AFTER_OTHER, VENDORS, VENDORS_CUT, TORN_WITHIN, TORN_AFTER,
     TORN_CARRIED, MENDED,
     SITUATIONS
 };
@@ -95,6 +95,9 @@ static const struct { const char *of, *what; } situations[SITUATIONS] = {
     [THROUGH_DVI] = { "chains", "from HDMI over DVI to HDMI" },
     [FROM_D_TO_E] = { "links", "of what 861-E alone has, after writes of a request without" },
     [FROM_E_TO_D] = { "links", "without it, after writes of a request with it" },
+    [TO_EMBEDDED] = { "links", "of embedded syncs, after writes of a request without" },
+    [FROM_EMBEDDED] = { "links", "without them, after writes of a request with them" },
+    [OTHER_ID] = { "links", "of an input ID, after writes of a request of another" },
     [AGAIN_AFTER_OTHER] = { "links", "a request again, after another one" },
     [VENDORS] = { "links", "a vendor's list that passes" },
     [VENDORS_CUT] = { "links", "a vendor's list that passes, cut" },
@@ -313,6 +316,10 @@ static void link_begins(const struct chain *c) {
     int had_e = before > 0 && model_asks_of_e(&c->by[before]), has_e = model_asks_of_e(&c->by[c->links]);
     meets(FROM_D_TO_E, before > 0 && c->made[before] && !had_e && has_e);
     meets(FROM_E_TO_D, before > 0 && c->made[before] && had_e && !has_e);
+    int had = before > 0 && c->made[before] ? c->by[before].input : 0, has = c->by[c->links].input, known = before > 0 && c->made[before];
+    meets(TO_EMBEDDED, known && !model_embedded(had) && model_embedded(has));
+    meets(FROM_EMBEDDED, known && model_embedded(had) && !model_embedded(has));
+    meets(OTHER_ID, known && had != has && had && has);
     for (int row = 1; row < before; row++)
         meets(AGAIN_AFTER_OTHER, c->made[row] && c->made[before] && same_request(c, row, c->links) && !same_request(c, before, c->links));
 }

@@ -1,5 +1,6 @@
 /* The other input wirings: document 02, request 02. */
 #include "check.h"
+#include <stdlib.h>
 #include <string.h>
 
 /* By their own numbers, not the model's. A wiring's four codes and its sync values; the count says whether these are there. */
@@ -465,6 +466,40 @@ static void any_codes(int matrix) {
         }
 }
 
+/* Every wiring that is defined, and today's board, with four sets of sync values where it has them, each encoding, with and without a matrix:
+ * no two of these requests end in one image. */
+enum { SYNC_SETS = 4, OF_EMBEDDED = 27 + 18 + 18, WIRINGS = 1 + DEFINED + (SYNC_SETS - 1) * OF_EMBEDDED, OUTPUTS = 3 * 2 };
+static uint8_t ends[WIRINGS * OUTPUTS][256];
+
+static int by_image(const void *a, const void *b) { return memcmp(a, b, 256); }
+
+static void one_image(void) {
+    static const int sets[SYNC_SETS][4] = { { 0, 0, 0, 0 }, { 1, 0, 0, 0 }, { 0, 0, 0, 1 }, { MOST, MOST, MOST, MOST } };
+    uint8_t before[256];
+    size_t count = 0, requests = 0;
+    any_before(before);
+    for (int codes = 0; codes < (HIGHEST_ID + 1) * 64; codes++) {
+        struct wiring w = { 0, codes >> 6, codes >> 4 & 3, codes >> 2 & 3, codes & 3, { 0 } };
+        w.count = codes ? count_for(w.id) : 0;
+        if (codes && !is_drawn(&w)) continue;
+        for (int set = 0; set < (w.count == TWELVE ? SYNC_SETS : 1); set++)
+            for (int out = 0; out < OUTPUTS; out++) {
+                uint8_t bytes[ROOM_FOR], writes[256] = { 0 };
+                memcpy(w.sync, sets[set], sizeof w.sync);
+                if (out < 3 && rgb_in(&w) != (out % 3 == 0)) continue;
+                struct station_count c = run.f->plan(bytes, asked(&w, out % 3, 1, out >= 3, bytes), before, 256, writes, 256);
+                requests++, run.now->cases++;
+                if (c.refusal || c.count > 128) continue;
+                for (int a = 0; a < 256; a++) ends[count][a] = (uint8_t)left_in((uint8_t)a, before, writes, c);
+                count++;
+            }
+    }
+    qsort(ends, count, sizeof ends[0], by_image);
+    for (size_t k = 1; k < count; k++)
+        if (!by_image(ends[k - 1], ends[k])) differs("two requests of other wirings end in one image, its ID %d", ends[k][0x15] & 15);
+    if (count != requests) differs("%zu of %zu requests of a wiring are accepted", count, requests);
+}
+
 /* A vendor's lists from one wiring to another, on an image that a request has finished over zeros. */
 static const struct { struct wiring from, to; } changes[] = {
     { { 0 }, { FOUR, 5, 3, 2, 0, { 0 } } },
@@ -519,5 +554,6 @@ void wirings(void) {
     today();
     any_codes(1);
     any_codes(0);
+    one_image();
     vendors();
 }
