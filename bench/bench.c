@@ -118,8 +118,8 @@ static unsigned draw_edition(void) {
 }
 
 /* Requests over HDMI that are accepted, one of eight with another wiring than today's, half of them with a matrix, half of those with RGB in
- * full range, one of eight with depth or repetition, one of eight with what 861-E has; an image of noise; the image that each ends in; and that image with one mandated bit turned
- * over. */
+ * full range, one of eight with depth or repetition, one of eight with what 861-E has; an image of noise; the image that each ends in; and
+ * that image with one mandated bit turned over. */
 static void make_inputs(void) {
     for (int i = 0; i < INPUTS; ) {
         struct parts *p = &in[i].parts;

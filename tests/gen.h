@@ -25,9 +25,9 @@ void     left_up(uint8_t *image);                       /* holds that refusal 8 
 void     other_part(struct fields *f);                  /* another one, accepted, which differs in one section, or in one field */
 void     near_image(uint8_t *image, const struct fields *f);    /* one that planning accepts, and that needs few writes for this request */
 
-/* Every kind of request: each value of each field of the wiring, the video and the audio section, wiring, sound and matrix on or off; where these are too many,
- * a part of them by chance. A kind has a number below `kinds()`; many numbers are of requests that 1 to 6, 17 or 20 refuse, and for these
- * the answer is 0. The matrix and the sync values are any. */
+/* Every kind of request: each value of each field of the wiring, the video and the audio section, wiring, sound and matrix on or off; where
+ * these are too many, a part of them by chance. A kind has a number below `kinds()`; many numbers are of requests that 1 to 6, 17 or 20
+ * refuse, and for these the answer is 0. The matrix and the sync values are any. */
 enum { MOST_KINDS = 40000 };
 uint32_t kinds(void);
 int      kind_of_request(uint32_t kind, struct fields *f);

@@ -95,7 +95,8 @@ static void answers(const uint8_t *bytes, size_t length, uint32_t number, const 
     struct station_piped e = run.f->pipe_end(pipe, sizeof pipe);
     if (p.refusal != number || c.refusal != number || e.refusal != number || !e.answered)
         differs("%s %d: %u, %u and %u, not %u", what, value, p.refusal, c.refusal, e.refusal, number);
-    else if (number && (p.n || p.cts || c.count || memcmp(writes, before, sizeof writes))) differs("%s %d: something beside %u", what, value, number);
+    else if (number && (p.n || p.cts || c.count || memcmp(writes, before, sizeof writes)))
+        differs("%s %d: something beside %u", what, value, number);
 }
 
 /* Bytes by hand. -------------------------------------------------------------------------------------------------------------------- */
@@ -164,7 +165,8 @@ static const struct { uint8_t length, bytes[51]; uint32_t number; const char *wh
 static void by_hand(void) {
     static const size_t lengths[] = { 0, 255, 256, 257 }, rooms[] = { 0, 255, 256 };
     static const uint8_t holds[] = { 0x00, 0x10, 0x60 };
-    for (size_t k = 0; k < sizeof marked / sizeof marked[0]; k++) answers(marked[k].bytes, marked[k].length, marked[k].number, marked[k].what, (int)k);
+    for (size_t k = 0; k < sizeof marked / sizeof marked[0]; k++)
+        answers(marked[k].bytes, marked[k].length, marked[k].number, marked[k].what, (int)k);
     for (size_t k = 0; k < sizeof marked / sizeof marked[0]; k++)               /* 5 and 6 before 7, 8 and 10 */
         for (int c = 0; c < 4 * 3 * 3 && (marked[k].number == 5 || marked[k].number == 6); c++) {
             uint8_t image[257] = { [0x4A] = holds[c / 12] }, writes[256] = { 0 };
@@ -195,9 +197,10 @@ static const struct { const char *format; int sync[4]; uint8_t registers[5]; } g
 /* The class of each bit that a wiring names, and of those beside them. */
 static void classes(void) {
     static const struct { uint8_t address, mandated, named, free; } rows[] = {
-        { 0x15, 0x00, 0xFF, 0x00 }, { 0x16, 0x40, 0xBC, 0x03 }, { 0x17, 0x98, 0x00, 0x67 }, { 0x2F, 0x00, 0xFF, 0x00 }, { 0x30, 0x00, 0xFF, 0x00 },
-        { 0x31, 0x00, 0xFF, 0x00 }, { 0x32, 0x00, 0xFF, 0x00 }, { 0x33, 0x00, 0xFF, 0x00 }, { 0x34, 0x00, 0xFF, 0x00 }, { 0x35, 0x00, 0x00, 0xFF },
-        { 0x48, 0x80, 0x18, 0x67 }, { 0x9D, 0xF3, 0x00, 0x0C }, { 0xD0, 0x01, 0x00, 0xFE }, { 0xFA, 0x03, 0x00, 0xFC },
+        { 0x15, 0x00, 0xFF, 0x00 }, { 0x16, 0x40, 0xBC, 0x03 }, { 0x17, 0x98, 0x00, 0x67 }, { 0x2F, 0x00, 0xFF, 0x00 },
+        { 0x30, 0x00, 0xFF, 0x00 }, { 0x31, 0x00, 0xFF, 0x00 }, { 0x32, 0x00, 0xFF, 0x00 }, { 0x33, 0x00, 0xFF, 0x00 },
+        { 0x34, 0x00, 0xFF, 0x00 }, { 0x35, 0x00, 0x00, 0xFF }, { 0x48, 0x80, 0x18, 0x67 }, { 0x9D, 0xF3, 0x00, 0x0C },
+        { 0xD0, 0x01, 0x00, 0xFE }, { 0xFA, 0x03, 0x00, 0xFC },
     };
     for (size_t k = 0; k < sizeof rows / sizeof rows[0]; k++) {
         struct station_masks m = run.f->class_of(rows[k].address);
@@ -340,7 +343,8 @@ static void every_one_back(void) {
 
 /* Each sync value by itself: the edges, with each other one at an edge; then each of its 1,024 values, and what is above. */
 static void every_sync(void) {
-    static const int edges[] = { 0, 1, MOST, MOST + 1, 65535 }, above[] = { 1024, 1025, 1279, 1280, 2047, 2048, 4096, 8192, 16384, 32768, 65535 };
+    static const int edges[] = { 0, 1, MOST, MOST + 1, 65535 };
+    static const int above[] = { 1024, 1025, 1279, 1280, 2047, 2048, 4096, 8192, 16384, 32768, 65535 };
     uint8_t bytes[ROOM_FOR], image[256];
     struct wiring w = a_wiring(2);
     for (int k = 0; k < 5 * 5 * 5 * 5; k++) {
@@ -461,7 +465,8 @@ static void any_codes(int matrix) {
             check_decode(image, 256, back, sizeof back);
             struct station_count d = run.f->decode(image, 256, back, sizeof back);
             size_t length = asked(&w, 0, 1, matrix, bytes);
-            if (d.refusal != (right ? 0u : 11u)) differs("ID %d, codes %d %d %d: decoded as %u", w.id, w.depth, w.style, w.justification, d.refusal);
+            if (d.refusal != (right ? 0u : 11u))
+                differs("ID %d, codes %d %d %d: decoded as %u", w.id, w.depth, w.style, w.justification, d.refusal);
             else if (right && (d.count != length || memcmp(back, bytes, length))) differs("ID %d: another request, its count %d", w.id, back[0]);
         }
 }
@@ -531,7 +536,8 @@ static void vendors(void) {
             run.now->cases++;
             struct station_verdict v =
                 run.f->vet(c.image, 256, c.packet, PACKET_BYTES, c.coefficients, COEFFICIENT_BYTES, c.mark, l.bytes, l.length);
-            uint32_t right = model_vet(c.image, 256, c.packet, PACKET_BYTES, c.coefficients, COEFFICIENT_BYTES, c.mark, l.bytes, l.length).refusal;
+            uint32_t right = model_vet(c.image, 256, c.packet, PACKET_BYTES, c.coefficients, COEFFICIENT_BYTES, c.mark, l.bytes,
+                                       l.length).refusal;
             if (v.refusal != right || (out == n.count && v.refusal)) differs("change %zu of wirings, without pair %u: %u", k, out, v.refusal);
             if (!sent_whole(&end, l.bytes, (uint32_t)count_of(&l))) differs("change %zu of wirings: a write refused", k);
             uint32_t refusal = run.f->decode(end.image, 256, bytes, STATION_REQUEST).refusal;

@@ -1,6 +1,7 @@
 /* Decoding, as document 01 has it: is there a request, in one of its families, that ends in this image? Every request is tried whose fields
  * are as the image shows them; the harness tries the others too, and that none of them stands. The matrix and the sync values are read off
- * the image in any case, since no other values of them could stand there. Where the bits that 861-E has are 0, D is answered (document 02, request 11). */
+ * the image in any case, since no other values of them could stand there. Where the bits that 861-E has are 0, D is answered (document 02,
+ * request 11). */
 #include "model.h"
 
 static int ends_in(const struct fields *f, const uint8_t *image) {

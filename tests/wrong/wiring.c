@@ -209,7 +209,8 @@ static int is_defined(enum fault fault, const struct fields *f) {
     if ((fault == style_3_of_3_fault && id == 3) || (fault == style_3_of_4_fault && id == 4) || (fault == style_3_of_7_fault && id == 7) ||
         (fault == style_3_of_8_fault && id == 8))
         two = 0;
-    if ((fault == style_3_not_of_1_fault && id == 1) || (fault == style_3_not_of_5_fault && id == 5) || (fault == style_3_not_of_6_fault && id == 6))
+    if ((fault == style_3_not_of_1_fault && id == 1) || (fault == style_3_not_of_5_fault && id == 5) ||
+        (fault == style_3_not_of_6_fault && id == 6))
         two = 1;
     if (fault == style_1_not_of_8_fault && id == 8 && style == 2) return 0;
     if (style > 3 || (style == 3 && two) || (style == 0 && fault != style_0_fault)) return 0;
@@ -240,7 +241,8 @@ static uint32_t reads(enum fault fault, const uint8_t *r, size_t rl, struct fiel
     take(fault, f);
     struct fields rest = *f;
     rest.wiring = NO_WIRING, rest.matrix = 1;
-    if (fault == dvi_of_ycbcr_fault && f->wiring && f->link == 0 && f->encoding && !f->sound && !f->depth && !one_of(RGB_IDS, f->input)) rest.link = 1;
+    int of_ycbcr = f->wiring && !one_of(RGB_IDS, f->input);
+    if (fault == dvi_of_ycbcr_fault && of_ycbcr && f->link == 0 && f->encoding && !f->sound && !f->depth) rest.link = 1;
     uint32_t other = refusal_of(&rest);
     int five = !is_defined(fault, f), six = !f->matrix && needs_matrix(fault, f);
     if (fault == matrix_too_much_fault && f->wiring && f->matrix && !needs_matrix(fault, f)) six = 1;

@@ -11,11 +11,13 @@
 struct wrong { const char *fault; void (*put)(struct face *); int alone; };
 enum { BY_CUTS = 1, BY_CHAINS = 2, NOT_BY_CUTS = 4, BY_PARTS = 8, BY_REST = 16, BY_CHAINS_ALONE = BY_CHAINS | NOT_BY_CUTS };
 extern const struct wrong wrong_plans[], wrong_fewer[], wrong_numbers[], wrong_decodes[], wrong_machines[], wrong_marks[], wrong_views[],
-    wrong_vets[], wrong_chains[], wrong_depths[], wrong_editions[], wrong_sounds[], wrong_wirings[], wrong_meters[], wrong_pipes[], wrong_looks[];
+    wrong_vets[], wrong_chains[], wrong_depths[], wrong_editions[], wrong_sounds[], wrong_wirings[], wrong_meters[], wrong_pipes[],
+    wrong_looks[];
 /* The sets, the last without rows; `first` is the section of the harness to begin with. */
 extern const struct wrong_set { const struct wrong *rows; int first; } wrong_sets[];
 /* The planner of wrong/fewer.c, the machine of wrong/mark.c, the judge of wrong/vet.c, the libraries of wrong/chain.c, wrong/depth.c,
- * wrong/edition.c, wrong/sound.c and wrong/wiring.c, the matrices of wrong/meter.c and the pipe of wrong/pipe.c, without a fault: they must not be caught. */
+ * wrong/edition.c, wrong/sound.c and wrong/wiring.c, the matrices of wrong/meter.c and the pipe of wrong/pipe.c, without a fault: they must
+ * not be caught. */
 void put_right_planner(struct face *f);
 void put_right_machine(struct face *f);
 void put_right_judge(struct face *f);
