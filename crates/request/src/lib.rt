@@ -207,17 +207,14 @@ pub fn allowed(r: Request) -> u8
 pub fn read(s: &[u8]) -> Checked
     ensures { λ r. ⌜ Reads (now (s .entry)) r ⌝ }
 {
-    let asked = ask(s);
+    let mut asked = ask(s);
     if asked.refusal != Refusal::NONE {
         return asked;
     }
     let request = asked.request;
     let sound = request.sound;
-    let number = limits(request.video, sound);
-    Checked {
-        refusal: number,
-        request: request,
-    }
+    asked.refusal = limits(request.video, sound);
+    asked
 }
 
 // N and CTS for a request: row 9.

@@ -12,7 +12,7 @@ use Rattle.wiring.specs.declared.Kind.{Kind}
 use Rattle.wiring.specs.declared.Wires.{Wires}
 use Rattle.wiring.specs.declared.Wiring.{Wiring}
 use Rattle.wiring.specs.declared.Wiring.the-variants.{Board, Four, Twelve}
-use Rattle.wiring.specs.Kinds.{kinds, noKind, kindOf, mostSync}
+use Rattle.wiring.specs.Kinds.{kinds, noKind, kindOf, rgbIn, mostSync}
 use Rattle.wiring.specs.Wiring.{countOf, wiresOf, Undrawn, SyncBeyond, WiringOutside}
 use Rattle.wiring.specs.Tests.{undrawn, syncBeyond, wiringOutside}
 use Rattle.wiring.specs.Named.{wiringNamed}
@@ -56,10 +56,20 @@ input-small input depth l m = go (ltb input 9) refl
     go true e = omega (arith, ltb-true input 9 e)
     go false e = absurd (omega (arith, ap (λ (k : Kind). k .least) (List·getD-eq-default kinds noKind (ltb-false input 9 e))))
 
-module _ (w : Wiring) (inside : WiringOutside w → ⊥) where
-  n : Wires
-  n = wiresOf w
+-- today's board, by its count
+pub board-inside : (w : Wiring) → countOf w ≡ 0 → wiringOutside w ≡ false
+unfolding wiringOutside kindOf
+board-inside Board e = refl
+board-inside (Four i d s j) e = absurd (omega (arith, e))
+board-inside (Twelve i d s j a b c d') e = absurd (omega (arith, e))
 
+pub board-rgb : (w : Wiring) → countOf w ≡ 0 → rgbIn (wiresOf w .input) ≡ true
+unfolding kindOf
+board-rgb Board e = refl
+board-rgb (Four i d s j) e = absurd (omega (arith, e))
+board-rgb (Twelve i d s j a b c d') e = absurd (omega (arith, e))
+
+module _ (w : Wiring) (inside : WiringOutside w → ⊥) where
   pub its-count : countOf w ≡ kindOf (wiresOf w .input) .count
   its-count = is-equal _ _ (λ h. inside (inr (inl h)))
 
