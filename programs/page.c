@@ -445,7 +445,8 @@ static struct station_pixel input_of(const struct chip *c, uint8_t corner) {
     enum { FULL = 4095 };
     double red = corner >> 2 & 1, green = corner >> 1 & 1, blue = corner & 1, y = .2126 * red + .7152 * green + .0722 * blue;
     if (!is_ycbcr_input(c)) return (struct station_pixel){ 0, corner & 4 ? FULL : 0, corner & 2 ? FULL : 0, corner & 1 ? FULL : 0 };
-    return (struct station_pixel){ 0, (uint32_t)(2048.5 + 3584 * (red - y) / 1.5748), (uint32_t)(256.5 + 3504 * y), (uint32_t)(2048.5 + 3584 * (blue - y) / 1.8556) };
+    return (struct station_pixel){ 0, (uint32_t)(2048.5 + 3584 * (red - y) / 1.5748), (uint32_t)(256.5 + 3504 * y),
+                                   (uint32_t)(2048.5 + 3584 * (blue - y) / 1.8556) };
 }
 
 static void print_colour(const struct chip *c, const struct sent *s, uint8_t corner) {
