@@ -24,7 +24,8 @@ static struct request some_request(void) {
     static const char *const editions[] = { "", "", "861-e photo", "861-e ycc-full game" };
     static const char *const sounds[] = { "", "audio 48kHz 2", "audio 48kHz 8 coherent", "audio 96kHz 8" };
     static const char *const matrices[] = { "", "matrix table39", "matrix table43", "matrix 0 1 2 3 4 5 6 7 8 9 10 11 -12" };
-    static const char *const boards[] = { "", "", "input id 1 8bit style1", "input rgb444 12bit style3", "input 422 embedded 2x 10bit style2 left syncs 110 40 5 1023" };
+    static const char *const boards[] = { "", "", "input id 1 8bit style1", "input rgb444 12bit style3",
+                                          "input 422 embedded 2x 10bit style2 left syncs 110 40 5 1023" };
     struct request q;
     do {
         uint32_t e = below(5), mode = below((uint32_t)number_of_modes), depth = below(4), repetition = below(4), sound = below(4);

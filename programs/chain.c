@@ -39,7 +39,8 @@ static void any_wiring(struct chain *c, char *text, size_t room) {
     for (int k = 0; k < 4; k++) values[k] = any(c, LARGEST_SYNC_VALUE + 1);
     *text = 0;
     if (!is_other) return;
-    size_t used = (size_t)snprintf(text, room, "input id=%u width=%u style=%u justified=%u", (unsigned)id, (unsigned)width, (unsigned)style, (unsigned)side);
+    size_t used = (size_t)snprintf(text, room, "input id=%u width=%u style=%u justified=%u", (unsigned)id, (unsigned)width, (unsigned)style,
+                                   (unsigned)side);
     if (is_embedded(wiring_of_id((int)id)))
         snprintf(text + used, room - used, " syncs %u %u %u %u", (unsigned)values[0], (unsigned)values[1], (unsigned)values[2], (unsigned)values[3]);
 }

@@ -89,7 +89,8 @@ static const struct field {
 } fields[] = {
     { IN_WIRING, 0, 0, 8, "id", NULL, { { NULL, 0, NULL } } },
     { IN_WIRING, 1, 0, 8, "width", NULL,
-      { { "8bit", BITS_8, "8 bits of each colour" }, { "10bit", BITS_10, "10 bits of each colour" }, { "12bit", BITS_12, "12 bits of each colour" } } },
+      { { "8bit", BITS_8, "8 bits of each colour" }, { "10bit", BITS_10, "10 bits of each colour" },
+        { "12bit", BITS_12, "12 bits of each colour" } } },
     { IN_WIRING, 2, 0, 8, "style", NULL, { { "style1", STYLE_1, "style 1" }, { "style2", STYLE_2, "style 2" }, { "style3", STYLE_3, "style 3" } } },
     { IN_WIRING, 3, 0, 8, "justified", "even",
       { { "even", EVEN, "evenly distributed" }, { "right", RIGHT, "right justified" }, { "left", LEFT, "left justified" } } },
@@ -567,7 +568,8 @@ int is_wiring(const struct request *q) {
     if (q->bytes[0] == 0) return 1;
     if (!w || q->bytes[0] != (is_embedded(w) ? count_of(IN_WIRING) : sections[IN_WIRING].short_count)) return 0;
     for (size_t f = 0; f < FIELDS; f++)
-        if (fields[f].section == IN_WIRING && end_of(&fields[f]) <= q->bytes[0] && !is_defined(w, &fields[f], value_in(&fields[f], q->bytes + 1))) return 0;
+        if (fields[f].section == IN_WIRING && end_of(&fields[f]) <= q->bytes[0] &&
+            !is_defined(w, &fields[f], value_in(&fields[f], q->bytes + 1))) return 0;
     return 1;
 }
 
@@ -584,7 +586,8 @@ const char *words_of_codes(const struct wiring *w, const char *name, char text[W
 
 void registers_of_syncs(const uint16_t values[SYNC_VALUES_OF_A_ROW], uint8_t left[SYNC_REGISTERS]) {
     uint8_t image[STATION_IMAGE] = { 0 }, writes[STATION_WRITES];
-    struct request q = request_of_text("input 422 embedded 8bit style1 syncs %u %u %u %u vic 4 ycbcr422 hdmi", values[0], values[1], values[2], values[3]);
+    struct request q = request_of_text("input 422 embedded 8bit style1 syncs %u %u %u %u vic 4 ycbcr422 hdmi", values[0], values[1],
+                                       values[2], values[3]);
     struct station_count n = station_plan(q.bytes, q.length, image, sizeof image, writes, sizeof writes);
     for (uint32_t i = 0; i < n.count; i++) image[writes[2 * i]] = writes[2 * i + 1];
     memcpy(left, image + FIRST_SYNC_REGISTER, SYNC_REGISTERS);
@@ -644,7 +647,8 @@ int words_of_request(const uint8_t *request, size_t length, char text[TEXT_OF_A_
             continue;
         }
         for (size_t f = 0; f < FIELDS; f++)
-            if (fields[f].section == s && fields[f].bits > 8 && end_of(&fields[f]) <= count) are_small &= value_in(&fields[f], body) <= LARGEST_SYNC_VALUE;
+            if (fields[f].section == s && fields[f].bits > 8 && end_of(&fields[f]) <= count)
+                are_small &= value_in(&fields[f], body) <= LARGEST_SYNC_VALUE;
         for (size_t f = 0, syncs = 0; f < FIELDS; f++) {
             if (fields[f].section != s || end_of(&fields[f]) > count) continue;
             int value = value_in(&fields[f], body);
@@ -684,7 +688,8 @@ static void meaning(const struct field *f, const uint8_t *body, size_t there, ch
     else if (f->bits > 8 && value <= LARGEST_SYNC_VALUE) snprintf(text, room, "%d", value);
     else snprintf(text, room, "%d, outside its range", value);
     if (f == field_of("id")) {
-        if (of) snprintf(text, room, "%d: %s, %s, %s", value, traits[COLOUR][of->colour].says, traits[SYNC][of->syncs].says, traits[CLOCK][of->clock].says);
+        if (of) snprintf(text, room, "%d: %s, %s, %s", value, traits[COLOUR][of->colour].says, traits[SYNC][of->syncs].says,
+                         traits[CLOCK][of->clock].says);
         else snprintf(text, room, value ? "%d, outside its range" : "%d: today's board, which has no section", value);
     }
     if (f == field_of("vic")) {
@@ -720,7 +725,8 @@ void explain_request(FILE *to, const uint8_t *request, size_t length) {
         int left_out = count == 0 && sections[s].opens;
         snprintf(digits, sizeof digits, "%02x", request[at]);
         fprintf(to, LINE "%s\n", sections[s].name, digits,
-                left_out ? (s == IN_WIRING ? "none: today's board, RGB of 24 bits" : "none") : count == want ? "its count" : "a count that is not allowed");
+                left_out ? (s == IN_WIRING ? "none: today's board, RGB of 24 bits" : "none")
+                         : count == want ? "its count" : "a count that is not allowed");
         at++;
         if (left_out) continue;
         if (count != want) return;

@@ -2,7 +2,8 @@
 #include <string.h>
 
 enum { GC = 0x4B, MUTE_BITS = 0xC0, MUTE = 0x40, HOLDS = 0x4A, PACKET_HOLDS = 0x70, MATRIX_HOLD = 0x1A, MATRIX_HOLD_BIT = 0x20, VIC = 0x3C,
-       AVI_SUM = 0x54, AVI_VIC = 0x58, AUDIO_SUM = 0x72, AVI_BYTE_5 = 0x59, MODES = 3, EDITIONS = 3, YQ = 0xC0, CN = 0x30, OF_E = YQ | CN, CONVERTER = 0x18, WIRINGS = 3 };
+       AVI_SUM = 0x54, AVI_VIC = 0x58, AUDIO_SUM = 0x72, AVI_BYTE_5 = 0x59, MODES = 3, EDITIONS = 3, YQ = 0xC0, CN = 0x30, OF_E = YQ | CN,
+       CONVERTER = 0x18, WIRINGS = 3 };
 
 static unsigned bits_of(unsigned byte) {
     unsigned n = 0;
@@ -37,7 +38,9 @@ static uint64_t bits_of_syncs(const uint8_t *image) {
 static struct request wiring_of_codes(int id, int width, int style, int side, uint64_t syncs) {
     const struct wiring *w = wiring_of_id(id);
     struct request q = request_of_text("vic 1 rgb hdmi");
-    if (id) q = request_of_text("input id=%d width=%d style=%d justified=%d %s vic 1 rgb hdmi", id, width, style, side, w && is_embedded(w) ? "syncs 0 0 0 0" : "");
+    if (id)
+        q = request_of_text("input id=%d width=%d style=%d justified=%d %s vic 1 rgb hdmi", id, width, style, side,
+                            w && is_embedded(w) ? "syncs 0 0 0 0" : "");
     for (int k = 0; k < VALUES; k++)
         q = with_field(q, values_by_name[k], (int)(syncs >> VALUE_BITS * (VALUES - 1 - k) & ((1 << VALUE_BITS) - 1)));
     q.length = 1u + q.bytes[0];
@@ -45,7 +48,8 @@ static struct request wiring_of_codes(int id, int width, int style, int side, ui
 }
 
 struct request wiring_of_image(const uint8_t image[STATION_IMAGE]) {
-    return wiring_of_codes(image[INPUT_ID] & OF_ID, image[VIDEO_FORMAT] >> 4 & 3, image[VIDEO_FORMAT] >> 2 & 3, image[INPUT_PIXELS] >> 3 & 3, bits_of_syncs(image));
+    return wiring_of_codes(image[INPUT_ID] & OF_ID, image[VIDEO_FORMAT] >> 4 & 3, image[VIDEO_FORMAT] >> 2 & 3, image[INPUT_PIXELS] >> 3 & 3,
+                           bits_of_syncs(image));
 }
 
 /* The registers of a wiring, those bits alone. */
@@ -54,7 +58,8 @@ static void image_of_wiring(const struct request *q, uint8_t image[STATION_IMAGE
     int is_today = q->bytes[0] == 0;
     memset(image, 0, STATION_IMAGE);
     image[INPUT_ID] = is_today ? 0 : (uint8_t)value_of_field(q, "id");
-    image[VIDEO_FORMAT] = (uint8_t)(is_today ? value_of_word("width", (char *)"8bit") << 4 : value_of_field(q, "width") << 4 | value_of_field(q, "style") << 2);
+    image[VIDEO_FORMAT] = (uint8_t)(is_today ? value_of_word("width", (char *)"8bit") << 4
+                                             : value_of_field(q, "width") << 4 | value_of_field(q, "style") << 2);
     image[INPUT_PIXELS] = (uint8_t)(is_today ? 0 : value_of_field(q, "justified") << 3);
     for (int k = 0; k < VALUES; k++) {
         int value = value_of_field(q, values_by_name[k]);
@@ -66,7 +71,8 @@ static void image_of_wiring(const struct request *q, uint8_t image[STATION_IMAGE
 /* How far registers are from those of a wiring: registers first, then bits. */
 static unsigned apart_from_wiring(const uint8_t *image, const struct request *q) {
     static const struct { uint8_t address, bits; } of_wiring[] = {
-        { INPUT_ID, OF_ID }, { VIDEO_FORMAT, OF_FORMAT }, { INPUT_PIXELS, OF_PIXELS }, { 0x30, 0xFF }, { 0x31, 0xFF }, { 0x32, 0xFF }, { 0x33, 0xFF }, { 0x34, 0xFF },
+        { INPUT_ID, OF_ID }, { VIDEO_FORMAT, OF_FORMAT }, { INPUT_PIXELS, OF_PIXELS },
+        { 0x30, 0xFF }, { 0x31, 0xFF }, { 0x32, 0xFF }, { 0x33, 0xFF }, { 0x34, 0xFF },
     };
     uint8_t want[STATION_IMAGE];
     unsigned distance = 0;

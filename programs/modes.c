@@ -170,7 +170,8 @@ static unsigned print_wiring(const struct wiring *w) {
     snprintf(all, sizeof all, "%u", taken);
     snprintf(clock, sizeof clock, "%.4g", w->megahertz);
     printf(OF_A_WIRING, id, words, is_rgb(w) ? "RGB" : "YCbCr", !w->id ? "0" : is_embedded(w) ? "12" : "4", bare_words(w, "width", "bit", widths),
-           w->id ? bare_words(w, "style", "style", styles) : "-", w->id ? bare_words(w, "justified", "", sides) : "-", w->id ? all : "-", clock, w->tables);
+           w->id ? bare_words(w, "style", "style", styles) : "-", w->id ? bare_words(w, "justified", "", sides) : "-",
+           w->id ? all : "-", clock, w->tables);
     return taken;
 }
 

@@ -418,7 +418,8 @@ static void print_registers(const struct review *v) {
     printf("</table></div></div>\n");
 }
 
-/* ---- Colours: the corners of the code cube through the matrix in use, as it begins and as it ends. The chip's input is RGB. */
+/* ---- Colours: the corners of the colour cube through the matrix in use, as it begins and as it ends. The chip's input is RGB or, by its ID,
+ * YCbCr: then it has them as HDTV does, in limited range. */
 
 static int hex_of(double x) { return x <= 0 ? 0 : x >= 1 ? 255 : (int)(255 * x + .5); }
 
@@ -434,13 +435,27 @@ static void print_patch(int is_ycbcr, double a, double b, double c) {
     printf("<span class='patch' style='background:#%02x%02x%02x'></span> ", (unsigned)hex_of(red), (unsigned)hex_of(green), (unsigned)hex_of(blue));
 }
 
-static void print_colour(const struct chip *c, const struct sent *s, uint32_t a, uint32_t b, uint32_t d) {
+static int is_ycbcr_input(const struct chip *c) {
+    const struct wiring *w = wiring_of_id(c->image[0x15] & 0x0F);
+    return w && !is_rgb(w);
+}
+
+/* A corner of the cube, red in bit 2, green in bit 1, blue in bit 0, as the chip finds it at its input. */
+static struct station_pixel input_of(const struct chip *c, uint8_t corner) {
+    enum { FULL = 4095 };
+    double red = corner >> 2 & 1, green = corner >> 1 & 1, blue = corner & 1, y = .2126 * red + .7152 * green + .0722 * blue;
+    if (!is_ycbcr_input(c)) return (struct station_pixel){ 0, corner & 4 ? FULL : 0, corner & 2 ? FULL : 0, corner & 1 ? FULL : 0 };
+    return (struct station_pixel){ 0, (uint32_t)(2048.5 + 3584 * (red - y) / 1.5748), (uint32_t)(256.5 + 3504 * y),
+                                   (uint32_t)(2048.5 + 3584 * (blue - y) / 1.8556) };
+}
+
+static void print_colour(const struct chip *c, const struct sent *s, uint8_t corner) {
     enum { CONVERTER = 0x18, IS_ON = 0x80, DATA_BYTE_1 = 3 };
     uint8_t matrix[STATION_MATRIX];
     int is_ycbcr = (s->avi[DATA_BYTE_1] >> 5 & 3) != 0;
-    struct station_pixel p = { 0, a, b, d };
+    struct station_pixel p = input_of(c, corner);
     station_matrix(c->image, STATION_IMAGE, c->coefficients, STATION_COEFFICIENTS, c->mark[0], matrix, sizeof matrix);
-    if (c->image[CONVERTER] & IS_ON) p = station_preview(matrix, sizeof matrix, a, b, d);
+    if (c->image[CONVERTER] & IS_ON) p = station_preview(matrix, sizeof matrix, p.a, p.b, p.c);
     printf("<td>");
     if (p.refusal) printf("mode %u: no preview", matrix[0]);
     else {
@@ -454,15 +469,15 @@ static void print_colours(const struct review *v) {
         { "black", 0 }, { "white", 7 }, { "red", 4 }, { "green", 2 }, { "blue", 1 }, { "cyan", 3 }, { "magenta", 5 }, { "yellow", 6 },
     };
     enum { FULL = 4095 };
-    printf("<h2>Colours</h2>\n<p>Eight patches of the chip's input, RGB, through the matrix as the list begins and as it ends, by "
+    printf("<h2>Colours</h2>\n<p>Eight patches of the chip's input, RGB%s, through the matrix as the list begins and as it ends, by "
            "<code>station_preview</code>: codes from 0 to 4095 of the outputs A, B and C. They are drawn as a screen shows them that is told RGB, or YCbCr "
-           "(A is Cr, B is Y, C is Cb); a colour is near, a number is exact.</p>\n<div class='wide'><table><tr><th>patch<th>input<th>as it begins<th>as it ends</tr>\n");
+           "(A is Cr, B is Y, C is Cb); a colour is near, a number is exact.</p>\n<div class='wide'><table><tr><th>patch<th>input<th>as it begins<th>as it ends</tr>\n",
+           is_ycbcr_input(&v->chip) || is_ycbcr_input(&v->j.last) ? ", or where the wiring feeds YCbCr the same in YCbCr (of HDTV, limited range)" : "");
     for (size_t p = 0; p < sizeof patches / sizeof patches[0]; p++) {
-        uint32_t a = patches[p].corner & 4 ? FULL : 0, b = patches[p].corner & 2 ? FULL : 0, c = patches[p].corner & 1 ? FULL : 0;
         printf("<tr><td>%s<td>", patches[p].name);
-        print_patch(0, a, b, c);
-        print_colour(&v->chip, &v->j.old, a, b, c);
-        print_colour(&v->j.last, &v->j.new, a, b, c);
+        print_patch(0, patches[p].corner & 4 ? FULL : 0, patches[p].corner & 2 ? FULL : 0, patches[p].corner & 1 ? FULL : 0);
+        print_colour(&v->chip, &v->j.old, patches[p].corner);
+        print_colour(&v->j.last, &v->j.new, patches[p].corner);
         printf("</tr>\n");
     }
     printf("</table></div>\n");

@@ -91,7 +91,8 @@ static void tell_mode(FILE *to, const struct request *q) {
 
 /* A wiring section that is not defined: each of its fields that its ID does not have, and what it has. */
 static void tell_wiring(FILE *to, const struct request *q) {
-    static const char *const coded[] = { "width", "style", "justified" }, *const values[] = { "h-placement", "h-duration", "v-placement", "v-duration" };
+    static const char *const coded[] = { "width", "style", "justified" },
+        *const values[] = { "h-placement", "h-duration", "v-placement", "v-duration" };
     const struct wiring *w = wiring_of_request(q);
     const struct sync_row *row = syncs_of_mode(value_of_field(q, "vic"));
     char text[WORDS_OF_CODES];
@@ -132,8 +133,10 @@ static unsigned table_between(const struct request *q) {
 static void tell_combination(FILE *to, const struct request *q) {
     int encoding = value_of_field(q, "encoding"), is_dvi = value_of_field(q, "link") == 0, is_deep = value_of_field(q, "depth") > 0;
     int from_rgb = is_rgb(wiring_of_request(q)), has_matrix = matrix_of_request(q) != NULL;
-    if (from_rgb && encoding && !has_matrix) fprintf(to, "YCbCr needs a matrix that makes it of the camera's RGB: matrix table%u\n", table_between(q));
-    if (!from_rgb && !encoding && !has_matrix) fprintf(to, "RGB needs a matrix that makes it of the camera's YCbCr: matrix table%u\n", table_between(q));
+    if (from_rgb && encoding && !has_matrix)
+        fprintf(to, "YCbCr needs a matrix that makes it of the camera's RGB: matrix table%u\n", table_between(q));
+    if (!from_rgb && !encoding && !has_matrix)
+        fprintf(to, "RGB needs a matrix that makes it of the camera's YCbCr: matrix table%u\n", table_between(q));
     if (encoding && value_of_field(q, "range"))
         fprintf(to, "'full' is said of RGB: with YCbCr leave it out; 861-e and ycc-full say it of YCbCr\n");
     if (is_dvi && value_of_field(q, "rate") >= 0) fprintf(to, "DVI carries no sound: hdmi, or no audio\n");

@@ -138,8 +138,10 @@ static const struct sync_row *row_of_format(const char *format) {
 /* Named are the two rows that have each other's registers. */
 static enum verdict verdict_of_syncs(const struct sync_row *s, const uint8_t left[SYNC_REGISTERS]) {
     if (!memcmp(left, s->registers, SYNC_REGISTERS)) return AGREES;
-    for (size_t k = 0; k < COUNT(exchanged); k++)
-        if (!strcmp(s->format, exchanged[k]) && !memcmp(left, row_of_format(exchanged[COUNT(exchanged) - 1 - k])->registers, SYNC_REGISTERS)) return NAMED;
+    for (size_t k = 0; k < COUNT(exchanged); k++) {
+        const struct sync_row *other = row_of_format(exchanged[COUNT(exchanged) - 1 - k]);
+        if (!strcmp(s->format, exchanged[k]) && !memcmp(left, other->registers, SYNC_REGISTERS)) return NAMED;
+    }
     return UNEXPLAINED;
 }
 
