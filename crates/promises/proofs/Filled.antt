@@ -33,12 +33,16 @@ use Rattle.writes.specs.Carried.{requested}
 use Rattle.writes.proofs.Carries.{masked, entries}
 use Rattle.writes.proofs.Image.{image-length, image-at}
 use Rattle.plan.specs.Wanted.{wanted}
-use Rattle.plan.proofs.Shown.{Wanted, each-wanted, shown, picked}
+use Rattle.wiring.specs.declared.Wires.{Wires}
+use Rattle.wiring.specs.declared.Wiring.{Wiring}
+use Rattle.wiring.specs.declared.Wiring.the-variants.{Board, Four, Twelve}
+use Rattle.wiring.specs.Wiring.{wiresOf}
+use Rattle.plan.proofs.Shown.{Wanted, each-wanted, shown, picked, Picked}
 use Rattle.decode.specs.Ends.{Stands}
 use Rattle.decode.proofs.Groups.{window, avi-in, audio-in}
 use Rattle.decode.proofs.Answers.{finished-again}
 use Rattle.plan.specs.Places.{audioPacket, places, Shows}
-use Rattle.promises.specs.Finished.{NeverThree, FinishedFields, Paired}
+use Rattle.promises.specs.Finished.{NeverThree, FinishedFields, Paired, FourShown, SyncsShown, WiringShown}
 use Rattle.bits.proofs.Fields.{field-same}
 use Rattle.writes.proofs.Named.{field, ordered}
 
@@ -95,6 +99,45 @@ avi-zero video = sum-zero 0x82 0x02 0x0D _
 audio-zero : (s : Sound) → (0x84 + 0x01 + 0x0A + total (drop 3 (audioPacket s))) % 256 ≡ 0
 audio-zero s = sum-zero 0x84 0x01 0x0A _
 
+abbrev Both : List ℕ → Wires → Type 0
+Both after m =
+    FourShown after (m .input) (m .depth) (m .style) (m .justification) × SyncsShown after (m .hplacement) (m .hduration) (m .vplacement) (m .vduration)
+
+wiring-shown : (r : Request) (p : Pair) (after : List ℕ) → Picked (Shows after) (places r p) → WiringShown after (r .wiring)
+wiring-shown r p after at = go (r .wiring) refl
+  where
+    n : Wires
+    n = wiresOf (r .wiring)
+
+    four : FourShown after (n .input) (n .depth) (n .style) (n .justification)
+    four = record { input = at 0x15 3 refl; depth = at 0x16 5 refl; style = at 0x16 3 refl; justification = at 0x48 4 refl }
+
+    by4 : (h l m : ℕ) → h ≡ m / 4 → l ≡ m % 4 → h * 4 + l ≡ m
+    by4 h l m x y = omega (arith, x, y)
+
+    by16 : (h l m : ℕ) → h ≡ m / 16 → l ≡ m % 16 → h * 16 + l ≡ m
+    by16 h l m x y = omega (arith, x, y)
+
+    by64 : (h l m : ℕ) → h ≡ m / 64 → l ≡ m % 64 → h * 64 + l ≡ m
+    by64 h l m x y = omega (arith, x, y)
+
+    by256 : (h l m : ℕ) → h ≡ m / 256 → l ≡ m % 256 → h * 256 + l ≡ m
+    by256 h l m x y = omega (arith, x, y)
+
+    syncs : SyncsShown after (n .hplacement) (n .hduration) (n .vplacement) (n .vduration)
+    syncs =
+        record {
+          hplacement = by4 _ _ (n .hplacement) (at 0x30 7 refl) (at 0x31 7 refl);
+          hduration = by16 _ _ (n .hduration) (at 0x31 5 refl) (at 0x32 7 refl);
+          vplacement = by64 _ _ (n .vplacement) (at 0x32 3 refl) (at 0x33 7 refl);
+          vduration = by256 _ _ (n .vduration) (at 0x33 1 refl) (at 0x34 7 refl);
+        }
+
+    go : (w : Wiring) → r .wiring ≡ w → WiringShown after w
+    go Board e = subst (λ (x : Wiring). Both after (wiresOf x)) e (four, syncs)
+    go (Four i d s j) e = subst (λ (x : Wiring). Both after (wiresOf x)) e (four, syncs)
+    go (Twelve i d s j a b c f) e = subst (λ (x : Wiring). Both after (wiresOf x)) e (four, syncs)
+
 pub filled : (input image : List ℕ) → readOf input .refusal ≡ 0
     → (after : List ℕ) → length after ≡ 256 → ((a : ℕ) → a < 256 → getD after a 0 ≡ finished (wanted (readOf input .request)) image a)
     → FinishedFields (readOf input .request) (nctsOf input) after
@@ -115,6 +158,7 @@ filled input image z after sized ends =
       fields = e;
       n = twenty _ _ _ (p .n) (at 0x01 3 refl) (at 0x02 7 refl) (at 0x03 7 refl);
       cts = twenty _ _ _ (p .cts) (at 0x07 3 refl) (at 0x08 7 refl) (at 0x09 7 refl);
+      wiring = wiring-shown r p after at;
       aviSum = rw (v, l, d) (avi-zero (r .video));
       audioSum = rw (va, la, da) (audio-zero (r .sound));
       mode = omega (arith, at 0x18 6 refl, g .mode);

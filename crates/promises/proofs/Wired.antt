@@ -23,7 +23,7 @@ use Rattle.wiring.specs.Kinds.{kinds, noKind, kindOf, rgbIn, mostSync}
 use Rattle.wiring.specs.Wiring.{wiringIn, wires, wiresOf}
 use Rattle.wiring.specs.Tests.{undrawn, syncBeyond, wiringOutside}
 use Rattle.request.specs.Read.{convertsIn}
-use Rattle.promises.specs.EachByte.{inNone, drawn, syncsInside, wiringInside, recoloured, ofWiring}
+use Rattle.promises.specs.EachByte.{inNone, drawn, syncsInside, wiringInside, colourRows, ofWiring}
 use Rattle.promises.proofs.Choices.{alike, choices, chosen}
 
 -- ---- 5
@@ -247,7 +247,7 @@ wired w h t = go (eqb (length w) 0) refl (eqb (length w) 4) refl (eqb (length w)
 
 abbrev converting : List ℕ → Bool
 converting three =
-    Bool·beq (convertsIn (rgbIn (getD three 0 0)) (eqb (getD three 1 0) 0) && eqb (getD three 2 0) 0) (inNone recoloured three)
+    Bool·beq (convertsIn (rgbIn (getD three 0 0)) (eqb (getD three 1 0) 0) && eqb (getD three 2 0) 0) (inNone colourRows three)
 
 abbrev convertingIn : List (List ℕ)
 convertingIn = known ∷ (0 ∷ 1 ∷ 2 ∷ []) ∷ (0 ∷ 25 ∷ []) ∷ []
@@ -257,5 +257,5 @@ unfolding kindOf
 all-converting = refl
 
 pub converts : (i encoding matrix : ℕ) → among i known ≡ true → among encoding (0 ∷ 1 ∷ 2 ∷ []) ≡ true → among matrix (0 ∷ 25 ∷ []) ≡ true
-    → (convertsIn (rgbIn i) (eqb encoding 0) && eqb matrix 0) ≡ inNone recoloured (i ∷ encoding ∷ matrix ∷ [])
+    → (convertsIn (rgbIn i) (eqb encoding 0) && eqb matrix 0) ≡ inNone colourRows (i ∷ encoding ∷ matrix ∷ [])
 converts i encoding matrix a b c = beq-true _ _ (chosen convertingIn converting (i ∷ encoding ∷ matrix ∷ []) refl all-converting (rw (a, b, c)))

@@ -84,8 +84,8 @@ abbrev pub matrixInside : List ℕ → Bool
 matrixInside [] = true
 matrixInside (mode ∷ coefficients) = among mode modeBytes && highInside coefficients
 
--- ---- 6: what goes together, in rows: encoding, link, range, depth byte, edition byte, the count of the sound; and, by the encoding alone, the
--- counts of the matrix, where the input is RGB, IDs 0 and 5, and where it is YCbCr
+-- ---- 6: what goes together, in rows: encoding, link, range, depth byte, edition byte, the count of the sound; and input ID,
+-- encoding, count of the matrix: IDs 0 and 5 are RGB, the others YCbCr
 abbrev pub together : List (List (List ℕ))
 together =
     ((0 ∷ []) ∷ (1 ∷ []) ∷ (0 ∷ 1 ∷ []) ∷ depthBytes ∷ editionBytes ∷ (0 ∷ 3 ∷ []) ∷ []) ∷
@@ -93,8 +93,8 @@ together =
     ((1 ∷ []) ∷ (1 ∷ []) ∷ (0 ∷ []) ∷ (0x00 ∷ 0x10 ∷ 0x20 ∷ []) ∷ editionBytes ∷ (0 ∷ 3 ∷ []) ∷ []) ∷
     ((2 ∷ []) ∷ (1 ∷ []) ∷ (0 ∷ []) ∷ depthBytes ∷ editionBytes ∷ (0 ∷ 3 ∷ []) ∷ []) ∷ []
 
-abbrev pub recoloured : List (List (List ℕ))
-recoloured =
+abbrev pub colourRows : List (List (List ℕ))
+colourRows =
     ((0 ∷ 5 ∷ []) ∷ (0 ∷ []) ∷ (0 ∷ 25 ∷ []) ∷ []) ∷
     ((0 ∷ 5 ∷ []) ∷ (1 ∷ 2 ∷ []) ∷ (25 ∷ []) ∷ []) ∷
     ((1 ∷ 2 ∷ 3 ∷ 4 ∷ 6 ∷ 7 ∷ 8 ∷ []) ∷ (0 ∷ []) ∷ (25 ∷ []) ∷ []) ∷
@@ -139,7 +139,7 @@ module _ (wiring : List ℕ) (vic family encoding link range pixel edition : ℕ
 
   abbrev pub apartTo : Bool
   apartTo =
-      inNone recoloured (getD wiring 0 0 ∷ encoding ∷ length matrix ∷ [])
+      inNone colourRows (getD wiring 0 0 ∷ encoding ∷ length matrix ∷ [])
       || inNone together (encoding ∷ link ∷ range ∷ pixel ∷ edition ∷ length sound ∷ [])
 
   abbrev pub answerTo : ℕ

@@ -9,6 +9,8 @@ use lib.Dec.{eqb}
 use lib.ListN.{length, getD, take, drop}
 use Rattle.bits.specs.Merge.{under, bitsIn}
 use Rattle.registers.specs.Classes.{mandated, named, bits}
+use Rattle.wiring.specs.declared.Wiring.{Wiring}
+use Rattle.wiring.specs.declared.Wiring.the-variants.{Board, Four, Twelve}
 use Rattle.video.specs.declared.Video.{Video}
 use Rattle.clock.specs.declared.Pair.{Pair}
 use Rattle.clock.specs.Answers.{clockOf}
@@ -31,11 +33,31 @@ abbrev pub sumAt : ℕ → ℕ → ℕ → List ℕ → ℕ
 sumAt type a count image =
     type + bitsIn 2 0 (getD image a 0) + bitsIn 4 0 (getD image (a + 1) 0) + total (take count (drop (a + 2) image))
 
+-- the numbers of a wiring section where they stand, whichever they are; of today's board, and of a section without sync values, what stands for them
+pub record FourShown (image : List ℕ) (i d s j : ℕ) : Type 0 where
+  pub input : bitsIn 3 0 (getD image 0x15 0) ≡ i
+  pub depth : bitsIn 5 4 (getD image 0x16 0) ≡ d
+  pub style : bitsIn 3 2 (getD image 0x16 0) ≡ s
+  pub justification : bitsIn 4 3 (getD image 0x48 0) ≡ j
+
+pub record SyncsShown (image : List ℕ) (a b c d : ℕ) : Type 0 where
+  pub hplacement : bitsIn 7 0 (getD image 0x30 0) * 4 + bitsIn 7 6 (getD image 0x31 0) ≡ a
+  pub hduration : bitsIn 5 0 (getD image 0x31 0) * 16 + bitsIn 7 4 (getD image 0x32 0) ≡ b
+  pub vplacement : bitsIn 3 0 (getD image 0x32 0) * 64 + bitsIn 7 2 (getD image 0x33 0) ≡ c
+  pub vduration : bitsIn 1 0 (getD image 0x33 0) * 256 + bitsIn 7 0 (getD image 0x34 0) ≡ d
+
+abbrev pub WiringShown : List ℕ → Wiring → Type 0
+WiringShown image Board = FourShown image 0 3 0 0 × SyncsShown image 0 0 0 0
+WiringShown image (Four input depth style justification) = FourShown image input depth style justification × SyncsShown image 0 0 0 0
+WiringShown image (Twelve input depth style justification a b c d) =
+    FourShown image input depth style justification × SyncsShown image a b c d
+
 -- the finished image of a request whose N and CTS are those of p
 pub record FinishedFields (r : Request) (p : Pair) (image : List ℕ) : Type 0 where
   pub fields : Each (Shows image) (places r p)
   pub n : twentyAt 0x01 image ≡ p .n
   pub cts : twentyAt 0x07 image ≡ p .cts
+  pub wiring : WiringShown image (r .wiring)
   pub mode : bitsIn 6 5 (getD image 0x18 0) < 3
   -- "The checksum byte makes the sum of all bytes zero modulo 256": AVI, the checksum and 13 data bytes; audio, the checksum and 10
   pub aviSum : sumAt 0x82 0x52 14 image % 256 ≡ 0

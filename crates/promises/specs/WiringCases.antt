@@ -4,10 +4,10 @@
 use mathlib.Core.Path.{_≡_}
 use mathlib.Core.List.{List, [], _∷_, _++_, map, flatMap}
 use Prim.Native.Nat.{ℕ, _/_, _%_, _≤_}
-use lib.ListN.{length, set}
+use lib.ListN.{length, replicate, set}
 use Rattle.request.specs.Read.{readOf}
 use Rattle.writes.specs.Rows.{from}
-use Rattle.writes.specs.List.{finished, finishedImage}
+use Rattle.writes.specs.List.{fullList, finished, finishedImage}
 use Rattle.plan.specs.Plan.{planOf}
 use Rattle.decode.specs.Decode.{decodeOf}
 use Rattle.decode.specs.Theorems.{Answered}
@@ -30,9 +30,16 @@ camera1080 input = camera input (88 ∷ 44 ∷ 4 ∷ 5 ∷ [])
 abbrev pub fieldsOf : ℕ → List ℕ
 fieldsOf input = 0x04 ∷ input ∷ 0x02 ∷ 0x01 ∷ 0x00 ∷ []
 
--- the bytes of some registers in the image that a request ends in, from zeros
-abbrev pub leftAt : List ℕ → List ℕ → List ℕ
-leftAt registers input = map (finished (asked input) zeros) registers
+-- the bytes of some registers in the image that a request ends in
+abbrev pub leftAt : List ℕ → List ℕ → List ℕ → List ℕ
+leftAt image registers input = map (finished (asked input) image) registers
+
+-- that image, from zeros; and with another byte in some register
+abbrev pub endOf : List ℕ → List ℕ
+endOf input = finishedImage (asked input) zeros
+
+abbrev pub decodesWith : List ℕ → ℕ × ℕ → ℕ
+decodesWith input change = decodeOf (set (endOf input) (change .0) (change .1)) zeros .refusal
 
 -- Table 32: Hsync placement, Hsync duration, Vsync placement, Vsync duration, of 480i, 576i, 480p, 576p, 720p-60, 720p-50, 1080i-30, 1080i-25,
 -- 1080p-60, 1080p-50, 1080p-24 (Frame Packing); and Table 35: 0x30 to 0x34. The two rows of 720p with frame packing are exchanged in Table 35
@@ -52,12 +59,14 @@ table35 =
     (0x9F ∷ 0x82 ∷ 0xC0 ∷ 0x10 ∷ 0x05 ∷ []) ∷ []
 
 pub record WiringCases : Type 0 where
-  -- the board of the request, with 4:2:2 out: IDs 2, 4 and 8 are accepted; 0x15, 0x16, 0x48; and each reads back, count and all
+  -- the board of the request, with 4:2:2 out: IDs 2, 4 and 8 are accepted; 0x15, 0x16, 0x48; each reads back, count and all
   pub board : map (λ input. planOf (wiredTo 1 (camera1080 input)) zeros zeros .refusal) (2 ∷ 4 ∷ 8 ∷ []) ≡ 0 ∷ 0 ∷ 0 ∷ []
-  pub boardLeaves : map (λ input. leftAt (0x15 ∷ 0x16 ∷ 0x48 ∷ []) (wiredTo 1 (camera1080 input))) (2 ∷ 4 ∷ 8 ∷ [])
+  pub boardLeaves : map (λ input. leftAt zeros (0x15 ∷ 0x16 ∷ 0x48 ∷ []) (wiredTo 1 (camera1080 input))) (2 ∷ 4 ∷ 8 ∷ [])
       ≡ (0x22 ∷ 0x98 ∷ 0x10 ∷ []) ∷ (0x24 ∷ 0x98 ∷ 0x10 ∷ []) ∷ (0x28 ∷ 0x98 ∷ 0x10 ∷ []) ∷ []
   pub boardBack : (room : List ℕ) → 51 ≤ length room
-      → Answered (wiredTo 1 (camera1080 2)) (finishedImage (asked (wiredTo 1 (camera1080 2))) zeros) room
+      → Answered (wiredTo 1 (camera1080 2)) (endOf (wiredTo 1 (camera1080 2))) room
+      × Answered (wiredTo 1 (camera1080 4)) (endOf (wiredTo 1 (camera1080 4))) room
+      × Answered (wiredTo 1 (camera1080 8)) (endOf (wiredTo 1 (camera1080 8))) room
   -- "YCbCr input needs a matrix only for RGB output": to 4:2:2 and to 4:4:4 without one, to RGB 6; "IDs 0 and 5 count as RGB": the other way round
   pub fromYCbCr : map (λ encoding. readOf (wiredTo encoding (camera1080 2)) .refusal) (0 ∷ 1 ∷ 2 ∷ []) ≡ 6 ∷ 0 ∷ 0 ∷ []
   pub fromFive : map (λ encoding. readOf (wiredTo encoding (fieldsOf 5)) .refusal) (0 ∷ 1 ∷ 2 ∷ []) ≡ 0 ∷ 6 ∷ 6 ∷ []
@@ -75,9 +84,13 @@ pub record WiringCases : Type 0 where
   pub countThree : readOf (wiredTo 1 (0x03 ∷ 0x01 ∷ 0x01 ∷ 0x02 ∷ [])) .refusal ≡ 2
   pub inside : readOf (0x0C ∷ 0x02 ∷ 0x01 ∷ 0x02 ∷ 0x02 ∷ 0x00 ∷ []) .refusal ≡ 1
   -- Table 32's sync numbers as Table 35 has them
-  pub syncs : map (λ numbers. leftAt (from 0x30 5) (wiredTo 1 (camera 2 numbers))) table32 ≡ table35
-  -- without embedded syncs they are 0, whatever stood there; today's board: depth 11
-  pub noSyncs : leftAt (from 0x30 5) (wiredTo 1 (fieldsOf 1)) ≡ 0 ∷ 0 ∷ 0 ∷ 0 ∷ 0 ∷ []
-  pub today : leftAt (0x15 ∷ 0x16 ∷ 0x48 ∷ from 0x30 5) (wiredTo 0 (0x00 ∷ [])) ≡ 0x20 ∷ 0x30 ∷ 0 ∷ 0 ∷ 0 ∷ 0 ∷ 0 ∷ 0 ∷ []
-  -- an image that an older version finished, whose depth of the input is 00, decodes to nothing
-  pub older : decodeOf (set (finishedImage (asked (wiredTo 0 (0x00 ∷ []))) zeros) 0x16 0x00) zeros .refusal ≡ 11
+  pub syncs : map (λ numbers. leftAt zeros (from 0x30 5) (wiredTo 1 (camera 2 numbers))) table32 ≡ table35
+  -- without embedded syncs they are 0, though ones stood there; today's board: depth 11
+  pub noSyncs : leftAt (replicate 256 0xFF) (from 0x30 5) (wiredTo 1 (fieldsOf 1)) ≡ 0 ∷ 0 ∷ 0 ∷ 0 ∷ 0 ∷ []
+  pub today : leftAt zeros (0x15 ∷ 0x16 ∷ 0x48 ∷ from 0x30 5) (wiredTo 0 (0x00 ∷ [])) ≡ 0x20 ∷ 0x30 ∷ 0 ∷ 0 ∷ 0 ∷ 0 ∷ 0 ∷ 0 ∷ []
+  -- an image that an older version finished, whose depth of the input is 00, decodes to nothing; so does ID 0 with a depth other than 11, ID 9, and
+  -- of ID 1 a style of 00, a sync value, and its fields with ID 0 in its place
+  pub older : map (decodesWith (wiredTo 0 (0x00 ∷ []))) ((0x16, 0x30) ∷ (0x16, 0x00) ∷ (0x16, 0x10) ∷ (0x15, 0x29) ∷ []) ≡ 0 ∷ 11 ∷ 11 ∷ 11 ∷ []
+  pub strange : map (decodesWith (wiredTo 1 (fieldsOf 1))) ((0x16, 0xA4) ∷ (0x16, 0xA0) ∷ (0x30, 0x01) ∷ (0x15, 0x20) ∷ []) ≡ 0 ∷ 11 ∷ 11 ∷ 11 ∷ []
+  -- "91 pairs": a list with nothing left out
+  pub whole : length (fullList (asked (wiredTo 0 (0x00 ∷ []))) zeros) ≡ 91

@@ -259,12 +259,12 @@ pub fn outside(wiring: Wiring) -> bool
     let n = wires_of(wiring);
     let kind = kind_of(n.input);
     let most = most_sync(kind.count);
-    let drawn = (n.depth < kind.least)
+    let undrawn = (n.depth < kind.least)
         | ((3 < n.depth)
             | ((n.style < kind.first) | ((kind.last < n.style) | (kind.ways < n.justification))));
-    let synced = (most < n.hplacement)
+    let beyond = (most < n.hplacement)
         | ((most < n.hduration) | ((most < n.vplacement) | (most < n.vduration)));
-    drawn | ((count != kind.count) | synced)
+    undrawn | ((count != kind.count) | beyond)
 }
 
 // Whether the input counts as RGB.
