@@ -36,7 +36,7 @@ use Rattle.decode.specs.Decode.{someEnds, decodeRefusal, decodeOf}
 use Rattle.decode.specs.Theorems.{Answered}
 use Rattle.promises.specs.Rules.{asked}
 use Rattle.promises.specs.Worked.{zeros}
-use Rattle.promises.specs.WiringCases.{wiredTo, camera, camera1080, fieldsOf, leftAt, endOf, decodesWith, table32, table35, WiringCases}
+use Rattle.promises.specs.WiringCases.{wiredTo, camera, camera1080, fieldsOf, leftAt, imageOf, decodesWith, table32, table35, WiringCases}
 use Rattle.promises.proofs.Cases.{reads-back}
 
 board : map (λ input. planOf (wiredTo 1 (camera1080 input)) zeros zeros .refusal) (2 ∷ 4 ∷ 8 ∷ []) ≡ 0 ∷ 0 ∷ 0 ∷ []
@@ -62,13 +62,13 @@ unfolding flatMap walk walked
 as-asked input = refl
 
 back : (input : ℕ) → every (λ b. ltb b 256) (wiredTo 1 (camera1080 input)) ≡ true → Accepted input → (room : List ℕ) → 51 ≤ length room
-    → Answered (wiredTo 1 (camera1080 input)) (endOf (wiredTo 1 (camera1080 input))) room
+    → Answered (wiredTo 1 (camera1080 input)) (imageOf (wiredTo 1 (camera1080 input))) room
 back input t a room h = rw (as-asked input) at (reads-back (wiredTo 1 (camera1080 input)) t (a .0) (a .1) room h)
 
 board-back : (room : List ℕ) → 51 ≤ length room
-    → Answered (wiredTo 1 (camera1080 2)) (endOf (wiredTo 1 (camera1080 2))) room
-    × Answered (wiredTo 1 (camera1080 4)) (endOf (wiredTo 1 (camera1080 4))) room
-    × Answered (wiredTo 1 (camera1080 8)) (endOf (wiredTo 1 (camera1080 8))) room
+    → Answered (wiredTo 1 (camera1080 2)) (imageOf (wiredTo 1 (camera1080 2))) room
+    × Answered (wiredTo 1 (camera1080 4)) (imageOf (wiredTo 1 (camera1080 4))) room
+    × Answered (wiredTo 1 (camera1080 8)) (imageOf (wiredTo 1 (camera1080 8))) room
 unfolding flatMap
 board-back room h = (back 2 refl (accepted .0) room h, back 4 refl (accepted .1) room h, back 8 refl (accepted .2) room h)
 

@@ -35,11 +35,11 @@ abbrev pub leftAt : List ℕ → List ℕ → List ℕ → List ℕ
 leftAt image registers input = map (finished (asked input) image) registers
 
 -- that image, from zeros; and with another byte in some register
-abbrev pub endOf : List ℕ → List ℕ
-endOf input = finishedImage (asked input) zeros
+abbrev pub imageOf : List ℕ → List ℕ
+imageOf input = finishedImage (asked input) zeros
 
 abbrev pub decodesWith : List ℕ → ℕ × ℕ → ℕ
-decodesWith input change = decodeOf (set (endOf input) (change .0) (change .1)) zeros .refusal
+decodesWith input change = decodeOf (set (imageOf input) (change .0) (change .1)) zeros .refusal
 
 -- Table 32: Hsync placement, Hsync duration, Vsync placement, Vsync duration, of 480i, 576i, 480p, 576p, 720p-60, 720p-50, 1080i-30, 1080i-25,
 -- 1080p-60, 1080p-50, 1080p-24 (Frame Packing); and Table 35: 0x30 to 0x34. The two rows of 720p with frame packing are exchanged in Table 35
@@ -64,9 +64,9 @@ pub record WiringCases : Type 0 where
   pub boardLeaves : map (λ input. leftAt zeros (0x15 ∷ 0x16 ∷ 0x48 ∷ []) (wiredTo 1 (camera1080 input))) (2 ∷ 4 ∷ 8 ∷ [])
       ≡ (0x22 ∷ 0x98 ∷ 0x10 ∷ []) ∷ (0x24 ∷ 0x98 ∷ 0x10 ∷ []) ∷ (0x28 ∷ 0x98 ∷ 0x10 ∷ []) ∷ []
   pub boardBack : (room : List ℕ) → 51 ≤ length room
-      → Answered (wiredTo 1 (camera1080 2)) (endOf (wiredTo 1 (camera1080 2))) room
-      × Answered (wiredTo 1 (camera1080 4)) (endOf (wiredTo 1 (camera1080 4))) room
-      × Answered (wiredTo 1 (camera1080 8)) (endOf (wiredTo 1 (camera1080 8))) room
+      → Answered (wiredTo 1 (camera1080 2)) (imageOf (wiredTo 1 (camera1080 2))) room
+      × Answered (wiredTo 1 (camera1080 4)) (imageOf (wiredTo 1 (camera1080 4))) room
+      × Answered (wiredTo 1 (camera1080 8)) (imageOf (wiredTo 1 (camera1080 8))) room
   -- "YCbCr input needs a matrix only for RGB output": to 4:2:2 and to 4:4:4 without one, to RGB 6; "IDs 0 and 5 count as RGB": the other way round
   pub fromYCbCr : map (λ encoding. readOf (wiredTo encoding (camera1080 2)) .refusal) (0 ∷ 1 ∷ 2 ∷ []) ≡ 6 ∷ 0 ∷ 0 ∷ []
   pub fromFive : map (λ encoding. readOf (wiredTo encoding (fieldsOf 5)) .refusal) (0 ∷ 1 ∷ 2 ∷ []) ≡ 0 ∷ 6 ∷ 6 ∷ []

@@ -1,6 +1,5 @@
 -- What the code finds of the bodies, by what they ask for. Assumes nothing.
 use mathlib.Core.Path.{_≡_, refl, sym, _∙_}
-use mathlib.Core.Logic.{_≢_}
 use mathlib.Core.Bool.{Bool, true, false, false≢true, cond, not, _&&_}
 use mathlib.Core.List.{List}
 use Prim.Native.Nat.{ℕ}
@@ -19,10 +18,9 @@ use Rattle.matrix.specs.declared.Matrix.{Matrix}
 use Rattle.matrix.specs.Matrix.{matrixOf, noMatrix}
 use Rattle.matrix.specs.Tests.{isAllowed}
 use Rattle.matrix.specs.Read.{allowedMatrix}
-use Rattle.request.specs.declared.Request.{Request}
 use Rattle.request.specs.Sections.{Bodies}
 use Rattle.request.specs.Request.{present}
-use Rattle.request.specs.Read.{emptied, outsideIn, combinedIn, outside, combined, fieldTests, fieldsTests, judged, limitOf, further}
+use Rattle.request.specs.Read.{emptied, outsideIn, combinedIn, outside, combined, fieldTests, fieldsTests, judged}
 use Rattle.request.proofs.Inside.{bodies-inside}
 
 -- a body that is empty is not allowed
@@ -45,16 +43,6 @@ as-present m e = go (present m) refl (isAllowed m) refl e
 
 matrix-read : (b : Bodies) → outside b ≡ false → allowedMatrix (b .matrix) ≡ cond (present (b .matrix)) (matrixOf (b .matrix)) noMatrix
 matrix-read b e = as-present (b .matrix) (bodies-inside b e .matrix)
-
--- the limits say nothing of what is refused; of what is taken they say the number
-pub further-refused : (more : Bool) (n : ℕ) → n ≢ 0 → emptied n ≡ further more (emptied n)
-further-refused true n h = rw (ne-eqb n 0 h)
-further-refused false n h = refl
-
-pub further-taken : (more : Bool) (r : Request)
-    → record { refusal = cond more (limitOf (r .video) (r .sound)) 0; request = r } ≡ further more (record { refusal = 0; request = r })
-further-taken true r = refl
-further-taken false r = refl
 
 -- what is judged, by what the code finds of each body
 module _ (b : Bodies) (w : Wiring) (v : Video) (s : Sound) (l : List ℕ) (t : Bool) (n : ℕ)

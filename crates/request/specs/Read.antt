@@ -1,7 +1,7 @@
 -- What the calls on a request answer, as the code finds it. `Rows` (Theorems) and `ThereAndBack` tie it to document 01's rows
 -- and bytes, `OnSomeImage` (promises) `pairFor` to what is accepted.
 use mathlib.Core.Path.{_≡_}
-use mathlib.Core.Bool.{Bool, true, false, cond, not, _&&_, _||_}
+use mathlib.Core.Bool.{Bool, true, false, not, _&&_, _||_}
 use mathlib.Core.List.{List, [], _∷_}
 use Prim.Native.Nat.{ℕ}
 use lib.Dec.{eqb}
@@ -119,10 +119,6 @@ allowedOf r = answer (lowest (handTests r)) (λ n. n) (limitOf (r .video) (r .so
 -- and rows 17 and 20 of what is known of a request, which stays known
 abbrev pub limited : Checked → Checked
 limited c = record { refusal = answer (c .refusal) (λ n. n) (limitOf (c .request .video) (c .request .sound)); request = c .request }
-
--- the limits too, or not: how the code reads, in one pass
-abbrev pub further : Bool → Checked → Checked
-further more c = cond more (limited c) c
 
 -- a request read from an input: refusals 1 to 6, 17 and 20
 unfoldable pub readOf : List ℕ → Checked

@@ -1,6 +1,5 @@
 // The request: document 01, "The request" and "Refusal numbers"; document 02, requests 01, 02, 06, 10 and 11.
 ghost use mathlib.Core.Path.{_≡_};
-ghost use mathlib.Core.Bool.{cond};
 ghost use Prim.Native.Nat.{ℕ, _<_};
 ghost use lib.ListN.{length, getD};
 ghost use Rattle.refusals.specs.Tests.{lowest};
@@ -11,7 +10,7 @@ ghost use Rattle.wiring.specs.Kinds.{rgbIn};
 ghost use Rattle.wiring.specs.Wiring.{wiresOf};
 ghost use Rattle.request.specs.Request.{rgbOut};
 ghost use Rattle.request.specs.Read.{outsideIn, convertsIn, combinedIn, fieldTests, emptied, judged, limitOf, allowedOf};
-ghost use Rattle.request.specs.Read.{further, askOf, Asks, readOf, Reads, Pairs, PairsInput};
+ghost use Rattle.request.specs.Read.{Asks, readOf, Reads, Pairs, PairsInput};
 ghost use Rattle.request.specs.Theorems.{Rows};
 ghost use Rattle.request.specs.Lengths.{Lengths};
 ghost use Rattle.request.specs.ThereAndBack.{ThereAndBack};
@@ -130,6 +129,47 @@ fn body(s: &[u8], ends: [usize; SECTIONS], k: usize) -> &[u8]
     &s[count + 1..end]
 }
 
+// What the sections ask for, where a walk found them all: rows 4 to 6. The matrix is read last, straight into the answer.
+fn judge(s: &[u8], ends: [usize; SECTIONS]) -> Checked
+    requires { ⌜ EndsAt (now s) ends ⌝ }
+    ensures { λ r. ⌜ r ≡ judged (bodiesIn (walked (now (s .entry)))) ⌝ }
+{
+    let wiring = wiring::wiring_in(body(s, ends, WIRING));
+    let video = video::video_in(body(s, ends, VIDEO));
+    let sound = sound::sound_in(body(s, ends, AUDIO));
+    let section = body(s, ends, MATRIX);
+    let bare = section.len() == 0;
+    let number = fields(wiring, video, sound, bare, !bare & !matrix::fits(section));
+    if number != Refusal::NONE {
+        return refused(number);
+    }
+    let matrix = matrix::read(section);
+    Checked {
+        refusal: Refusal::NONE,
+        request: Request {
+            wiring: wiring,
+            video: video,
+            sound: sound,
+            matrix: matrix,
+        },
+    }
+}
+
+// The request that an input asks for: rows 1 to 6. Where a later row refuses it, it is known.
+pub fn ask(s: &[u8]) -> Checked
+    ensures { λ r. ⌜ Asks (now (s .entry)) r ⌝ }
+{
+    let places = walk(s);
+    if places.refusal != Refusal::NONE {
+        return refused(places.refusal);
+    }
+    let ends = places.ends;
+    if ends[LAST] != s.len() {
+        return refused(Refusal::BYTES_AFTER);
+    }
+    judge(s, ends)
+}
+
 // The limits of a video and a sound: rows 17 and 20.
 pub fn limits(video: Video, sound: Sound) -> u8
     ensures { λ r. ⌜ r ≡ limitOf video sound ⌝ }
@@ -141,69 +181,6 @@ pub fn limits(video: Video, sound: Sound) -> u8
         return Refusal::SOUND_TOO_MUCH;
     }
     Refusal::NONE
-}
-
-// The limits, where they are asked for.
-fn limits_if(more: bool, video: Video, sound: Sound) -> u8
-    ensures { λ r. ⌜ r ≡ cond more (limitOf video sound) 0 ⌝ }
-{
-    if more {
-        return limits(video, sound);
-    }
-    Refusal::NONE
-}
-
-// What the sections ask for, where a walk found them all: rows 4 to 6, and the limits too where `more` says so. What is judged is read once more
-// at the end, straight into the answer: a copy would wait for its bytes.
-fn judge(s: &[u8], ends: [usize; SECTIONS], more: bool) -> Checked
-    requires { ⌜ EndsAt (now s) ends ⌝ }
-    ensures { λ r. ⌜ r ≡ further more (judged (bodiesIn (walked (now (s .entry))))) ⌝ }
-{
-    let wiring = wiring::wiring_in(body(s, ends, WIRING));
-    let video = video::video_in(body(s, ends, VIDEO));
-    let sound = sound::sound_in(body(s, ends, AUDIO));
-    let section = body(s, ends, MATRIX);
-    let bare = section.len() == 0;
-    let number = fields(wiring, video, sound, bare, !bare & !matrix::fits(section));
-    if number != Refusal::NONE {
-        return refused(number);
-    }
-    let limit = limits_if(more, video, sound);
-    let its_wiring = wiring::wiring_in(body(s, ends, WIRING));
-    let its_video = video::video_in(body(s, ends, VIDEO));
-    let its_sound = sound::sound_in(body(s, ends, AUDIO));
-    let its_matrix = matrix::read(section);
-    Checked {
-        refusal: limit,
-        request: Request {
-            wiring: its_wiring,
-            video: its_video,
-            sound: its_sound,
-            matrix: its_matrix,
-        },
-    }
-}
-
-// Rows 1 to 6 of an input, and the limits too where `more` says so.
-fn asked(s: &[u8], more: bool) -> Checked
-    ensures { λ r. ⌜ r ≡ further more (askOf (now (s .entry))) ⌝ }
-{
-    let places = walk(s);
-    if places.refusal != Refusal::NONE {
-        return refused(places.refusal);
-    }
-    let ends = places.ends;
-    if ends[LAST] != s.len() {
-        return refused(Refusal::BYTES_AFTER);
-    }
-    judge(s, ends, more)
-}
-
-// The request that an input asks for: rows 1 to 6. Where a later row refuses it, it is known.
-pub fn ask(s: &[u8]) -> Checked
-    ensures { λ r. ⌜ Asks (now (s .entry)) r ⌝ }
-{
-    asked(s, false)
 }
 
 // A request in hand, nobody's bytes: which of rows 4 to 6, 17 and 20 refuses it, 0 for none.
@@ -230,7 +207,14 @@ pub fn allowed(r: Request) -> u8
 pub fn read(s: &[u8]) -> Checked
     ensures { λ r. ⌜ Reads (now (s .entry)) r ⌝ }
 {
-    asked(s, true)
+    let mut asked = ask(s);
+    if asked.refusal != Refusal::NONE {
+        return asked;
+    }
+    let request = asked.request;
+    let sound = request.sound;
+    asked.refusal = limits(request.video, sound);
+    asked
 }
 
 // N and CTS for a request: row 9.
