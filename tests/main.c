@@ -36,25 +36,25 @@ static int compared(const char *what, const struct face *f, unsigned share) {
 }
 
 /* The same run, with fewer cases, on the model itself and on each wrong library. */
-enum { SHARE = 20 };
+enum { SHARE = 20, CONTROL = 3 * SHARE };
 
 static void put_plain(struct face *f) { f->plan = plain_plan, f->decode = plain_decode, f->vet = plain_vet, f->meter = plain_meter; }
 static void put_rule(struct face *f) { f->plan = rule_plan, f->decode = rule_decode, f->vet = rule_vet; }
 static void put_nothing(struct face *f) { (void)f; }
 static const struct { const char *what; void (*put)(struct face *); unsigned share; int first, end; } right[] = {
     { "the right one", put_nothing, SHARE, ALL, SECTIONS },
-    { "the plain planner, decoder, vet and meter of bench/", put_plain, 5 * SHARE, ALL, SECTIONS },
-    { "the same, N and CTS by the rule", put_rule, 5 * SHARE, ALL, SECTIONS },
-    { "the planner of wrong/fewer.c without a fault", put_right_planner, 5 * SHARE, ALL, SECTIONS },
-    { "the machine of wrong/mark.c without a fault", put_right_machine, 5 * SHARE, ALL, SECTIONS },
-    { "the judge of wrong/vet.c without a fault", put_right_judge, 5 * SHARE, ALL, SECTIONS },
-    { "the library of wrong/chain.c without a fault", put_right_library, 5 * SHARE, ALL, SECTIONS },
-    { "the library of wrong/depth.c without a fault", put_right_depths, 5 * SHARE, ALL, SECTIONS },
-    { "the library of wrong/edition.c without a fault", put_right_editions, 5 * SHARE, ALL, SECTIONS },
-    { "the library of wrong/sound.c without a fault", put_right_sounds, 5 * SHARE, ALL, SECTIONS },
-    { "the library of wrong/wiring.c without a fault", put_right_wirings, 5 * SHARE, ALL, SECTIONS },
-    { "the matrices of wrong/meter.c without a fault", put_right_meter, 5 * SHARE, ON_METER, ON_PIPES },
-    { "the pipe of wrong/pipe.c without a fault", put_right_pipe, 5 * SHARE, ON_PIPES, ON_LISTS },
+    { "the plain planner, decoder, vet and meter of bench/", put_plain, CONTROL, ALL, SECTIONS },
+    { "the same, N and CTS by the rule", put_rule, CONTROL, ALL, SECTIONS },
+    { "the planner of wrong/fewer.c without a fault", put_right_planner, CONTROL, ALL, SECTIONS },
+    { "the machine of wrong/mark.c without a fault", put_right_machine, CONTROL, ALL, SECTIONS },
+    { "the judge of wrong/vet.c without a fault", put_right_judge, CONTROL, ALL, SECTIONS },
+    { "the library of wrong/chain.c without a fault", put_right_library, CONTROL, ALL, SECTIONS },
+    { "the library of wrong/depth.c without a fault", put_right_depths, CONTROL, ALL, SECTIONS },
+    { "the library of wrong/edition.c without a fault", put_right_editions, CONTROL, ALL, SECTIONS },
+    { "the library of wrong/sound.c without a fault", put_right_sounds, CONTROL, ALL, SECTIONS },
+    { "the library of wrong/wiring.c without a fault", put_right_wirings, CONTROL, ALL, SECTIONS },
+    { "the matrices of wrong/meter.c without a fault", put_right_meter, CONTROL, ON_METER, ON_PIPES },
+    { "the pipe of wrong/pipe.c without a fault", put_right_pipe, CONTROL, ON_PIPES, ON_LISTS },
 };
 enum { RIGHT = sizeof right / sizeof right[0] };
 
