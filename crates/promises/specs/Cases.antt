@@ -1,6 +1,7 @@
 -- Document 01, "Marked cases, proved together as one table", the worked example of "What the station's library does", and the lengths that
 -- "The request" says in numbers; with request 01 in: "Count 4 is no longer allowed, cases and example follow"; those of requests 06, 10
--- and 11, and two of request 09. Each has a wiring section of request 02 in front, that of today's board. What each byte of a request is answered stands in `EachByte`, other numbers in `InNumbers`.
+-- and 11, and two of request 09. Each has a wiring section of request 02 in front, that of today's board; other wirings stand in `WiringCases`,
+-- what each byte of a request is answered in `EachByte`, other numbers in `InNumbers`.
 use mathlib.Core.Path.{_≡_}
 use mathlib.Core.Bool.{true, false, cond}
 use mathlib.Core.List.{List, [], _∷_, map}

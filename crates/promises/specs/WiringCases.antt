@@ -92,5 +92,5 @@ pub record WiringCases : Type 0 where
   -- of ID 1 a style of 00, a sync value, and its fields with ID 0 in its place
   pub older : map (decodesWith (wiredTo 0 (0x00 ∷ []))) ((0x16, 0x30) ∷ (0x16, 0x00) ∷ (0x16, 0x10) ∷ (0x15, 0x29) ∷ []) ≡ 0 ∷ 11 ∷ 11 ∷ 11 ∷ []
   pub strange : map (decodesWith (wiredTo 1 (fieldsOf 1))) ((0x16, 0xA4) ∷ (0x16, 0xA0) ∷ (0x30, 0x01) ∷ (0x15, 0x20) ∷ []) ≡ 0 ∷ 11 ∷ 11 ∷ 11 ∷ []
-  -- "91 pairs": a list with nothing left out
+  -- the pairs of a list with nothing left out
   pub whole : length (fullList (asked (wiredTo 0 (0x00 ∷ []))) zeros) ≡ 91

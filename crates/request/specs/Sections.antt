@@ -1,5 +1,5 @@
--- Document 01, "The request": sections "in this order, each after a one-byte count"; document 02, request 02, puts one before them; and "Refusal numbers": how they are walked. `Walks`
--- (Walks) says of each thing that a walk finds what then stands in the input.
+-- Document 01, "The request": sections "in this order, each after a one-byte count", and document 02, request 02, one more before them; and
+-- "Refusal numbers": how they are walked. `Walks` (Walks) says of each thing that a walk finds what then stands in the input.
 use mathlib.Core.Bool.{cond}
 use mathlib.Core.List.{List, [], _∷_}
 use Prim.Native.Nat.{ℕ, suc, _+_, max}
