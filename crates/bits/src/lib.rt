@@ -1,4 +1,6 @@
 // Bits of a byte, chosen by masks. Nothing of the chip.
+#![tactic(auto)]
+
 ghost use Rattle.std.specs.Prelude.{◌≡◌};
 ghost use Rattle.bits.specs.Merge.{merge};
 

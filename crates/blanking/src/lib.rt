@@ -1,4 +1,6 @@
 // Sound that fits into the blanking: document 02, request 10.
+#![tactic(auto)]
+
 ghost use Rattle.std.specs.Prelude.{◌≡◌};
 ghost use Rattle.video.specs.Video.{repetition};
 ghost use Rattle.blanking.specs.Found.{one_row, highest_of, most_of, is_beyond, too_much};
@@ -8,7 +10,7 @@ use sound::Sound;
 use video::Video;
 
 // The highest rate of eight channels, each pixel sent once and twice.
-#[derive(Drop)]
+#[derive(Clone, Copy)]
 pub struct Highest {
     pub once: u8,
     pub twice: u8,

@@ -1,4 +1,6 @@
 // Many cuts, many hands (document 02, request 14): theorems, no code.
+#![tactic(auto)]
+
 ghost use Rattle.chip.specs.declared.Chip.{Chip};
 ghost use Rattle.chains.specs.Below.{Below};
 ghost use Rattle.chains.specs.Theorems.{AnyChain, EveryPoint, LastFinished, LastList, LastAlone};

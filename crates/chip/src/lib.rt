@@ -1,4 +1,6 @@
 // The chip machine: document 01, "The chip machine", and document 02, request 04.
+#![tactic(auto)]
+
 ghost use Rattle.std.specs.Prelude.{◌≡◌, cond, not, ◌&&◌, ◌||◌, ◌++◌, ℕ, ◌+◌, ◌≤◌, eqb, length, get_or, take, drop};
 ghost use Rattle.map.specs.Map.{infoframe_update, coefficient_update};
 ghost use Rattle.chip.specs.declared.Chip.{Chip};
@@ -14,7 +16,7 @@ use refusals::Refusal;
 
 // The state: the register image, the packet buffer, the coefficient buffer, and the mark of a lowered coefficient hold that waits for its
 // Vsync.
-#[derive(Drop)]
+#[derive(Clone, Copy)]
 pub struct Chip {
     pub image: [u8; 256],
     pub packet: [u8; 32],
@@ -23,7 +25,7 @@ pub struct Chip {
 }
 
 // The state that a write hands back, and the number of its refusal, 0 for none.
-#[derive(Drop)]
+#[derive(Clone, Copy)]
 pub struct Wrote {
     pub refusal: u8,
     pub chip: Chip,
@@ -139,7 +141,7 @@ pub fn still_waits(byte: u8, waiting: bool) -> bool
 }
 
 // Whether a byte was stored, and the mark then.
-#[derive(Drop)]
+#[derive(Clone, Copy)]
 pub struct Stored {
     pub done: bool,
     pub waiting: bool,

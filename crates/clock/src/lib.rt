@@ -1,4 +1,6 @@
 // The exact clock fraction, and N and CTS: document 01, "Modes and clocks" and "N and CTS"; document 02, request 06.
+#![tactic(auto)]
+
 ghost use Rattle.std.specs.Prelude.{◌≡◌, ◌<◌, ◌≤◌, ◌+◌, ◌-◌, ◌*◌, min, eqb};
 ghost use Rattle.clock.specs.Clocks.{quarters, times};
 ghost use Rattle.refusals.specs.Rows.{number, clock_above};
@@ -14,7 +16,7 @@ use refusals::Refusal;
 use video::Video;
 
 // A clock in Hz, kept exact: num / den.
-#[derive(Drop)]
+#[derive(Clone, Copy)]
 pub struct Clock {
     pub refusal: u8,
     pub num: u64,
@@ -22,14 +24,14 @@ pub struct Clock {
 }
 
 // A quarter of a pixel clock in Hz, kept exact.
-#[derive(Drop)]
+#[derive(Clone, Copy)]
 pub struct Quarter {
     pub num: u32,
     pub den: u32,
 }
 
 // N and CTS, or the number of a refusal with zeros beside it.
-#[derive(Drop)]
+#[derive(Clone, Copy)]
 pub struct Pair {
     pub refusal: u8,
     pub n: u32,
@@ -37,7 +39,7 @@ pub struct Pair {
 }
 
 // N and CTS, side by side.
-#[derive(Drop)]
+#[derive(Clone, Copy)]
 pub struct NCts {
     pub n: u32,
     pub cts: u32,

@@ -1,4 +1,6 @@
 // Decoding: from a finished image back to the request. Document 01, "Register classes", last paragraph.
+#![tactic(auto)]
+
 ghost use Rattle.std.specs.Prelude.{◌≡◌, ◌||◌, List, ◌∷◌, ℕ, suc, ◌+◌, ◌*◌, ◌<◌, ◌≤◌, get_or, length};
 ghost use Rattle.std.proofs.lemmas.List.Edits.{sets};
 ghost use Rattle.request.specs.declared.Request.{Request};
@@ -23,7 +25,7 @@ use sound::{AUDIO_COUNT, Sound};
 use wiring::{FOUR_COUNT, Wires, Wiring};
 
 // The number of a refusal, 0 for none, and the count of bytes of the request.
-#[derive(Drop)]
+#[derive(Clone, Copy)]
 pub struct Decoded {
     pub refusal: u8,
     pub count: u32,

@@ -1,5 +1,7 @@
 // The small program: one request on standard input, one line on standard output (document 01, "What the station's library does"). It takes
 // its input in parts, as `read` delivers them (document 02, request 08).
+#![tactic(auto)]
+
 ghost use Rattle.std.specs.Prelude.{◌≡◌, ◌≤◌, ◌<◌, length};
 ghost use Rattle.io.specs.Counts.{IsPrefixLen};
 ghost use Rattle.request.specs.Sections.{longest};

@@ -1,4 +1,6 @@
 // What a screen says of itself, and the first wish that fits it: document 02, request 12.
+#![tactic(auto)]
+
 ghost use Rattle.std.specs.Prelude.{◌≡◌, ◌≢◌, true, false, List, map, ℕ, ◌*◌, ◌≤◌, length, replicate};
 ghost use Rattle.lists.specs.Among.{among};
 ghost use Rattle.lists.specs.Find.{some};
@@ -44,7 +46,7 @@ const LINEAR: u8 = 1;
 pub const WISHES: usize = 32;
 
 // What a screen is asked: whether it lists a VIC, and whether it covers a rate and channels.
-#[derive(Drop)]
+#[derive(Clone, Copy)]
 pub enum Ask {
     Vic(u8),
     Pcm { rate: u8, channels: u8 },
@@ -52,7 +54,7 @@ pub enum Ask {
 
 // The VICs that a screen lists, and the rates that it covers with two channels and with eight, a bit each; or the number of a refusal with zeros
 // beside it.
-#[derive(Drop)]
+#[derive(Clone, Copy)]
 pub struct Monitor {
     pub refusal: u8,
     pub vics_low: u32,
@@ -62,7 +64,7 @@ pub struct Monitor {
 }
 
 // The place of a wish, and where its VIC goes in the request; or the number of a refusal with zeros beside it.
-#[derive(Drop)]
+#[derive(Clone, Copy)]
 pub struct Choice {
     pub refusal: u8,
     pub place: u32,

@@ -1,4 +1,6 @@
 // The checksum, and the AVI and audio InfoFrames: document 01, "InfoFrames"; document 02, requests 01, 06 and 11.
+#![tactic(auto)]
+
 ghost use Rattle.std.specs.Prelude.{◌≡◌, ◌%◌, false};
 ghost use Rattle.video.specs.Modes.{mode_of};
 ghost use Rattle.video.specs.Tests.{shown_outside};
@@ -23,14 +25,14 @@ pub const AUDIO_COUNT: u8 = 10;
 pub const AUDIO_FRAME: usize = 4 + AUDIO_COUNT as usize;
 
 // An AVI InfoFrame: header, checksum, payload; or the number of a refusal with zeros beside it.
-#[derive(Drop)]
+#[derive(Clone, Copy)]
 pub struct Avi {
     pub refusal: u8,
     pub bytes: [u8; AVI_FRAME],
 }
 
 // An audio InfoFrame, likewise.
-#[derive(Drop)]
+#[derive(Clone, Copy)]
 pub struct Audio {
     pub refusal: u8,
     pub bytes: [u8; AUDIO_FRAME],

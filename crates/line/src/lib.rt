@@ -1,4 +1,6 @@
 // The small programs' lines: document 01, "What the station's library does", and document 02, request 03.
+#![tactic(auto)]
+
 ghost use Rattle.std.specs.Prelude.{◌≡◌, List, ◌++◌, ℕ, ◌+◌, ◌<◌, ◌≤◌, length};
 ghost use Rattle.line.specs.Line.{audio_checksum, line_of, Lines};
 ghost use Rattle.line.specs.Verdict.{placed_text, PrintsVerdict, Verdicts};
@@ -8,7 +10,7 @@ use refusals::Refusal;
 use sound::Sound;
 
 // What is printed: "accepted" with five numbers, or "refused" with the first.
-#[derive(Drop)]
+#[derive(Clone, Copy)]
 pub struct Line {
     pub refusal: u8,
     pub vic: u8,
@@ -19,7 +21,7 @@ pub struct Line {
 }
 
 // A line at the front of 80 bytes, which are more than any has, and its count.
-#[derive(Drop)]
+#[derive(Clone, Copy)]
 pub struct Printed {
     pub bytes: [u8; 80],
     pub count: usize,

@@ -1,4 +1,6 @@
 // Laws of lists, a byte of a slice, the copy of a slice, and whether two are the same. Nothing of the chip.
+#![tactic(auto)]
+
 ghost use Rattle.std.specs.Prelude.{◌≡◌, get_or};
 ghost use Rattle.lists.specs.Over.{over};
 ghost use Rattle.lists.specs.Same.{same_list};

@@ -1,9 +1,11 @@
 // The main map of the ADV7511 (source document 000, section 5). Document 01: "Addresses and fields are kept as constants of the map".
+#![tactic(auto)]
+
 ghost use Rattle.std.specs.Prelude.{◌≡◌};
 ghost use Rattle.map.specs.Printed.{twins, printed};
 
 // The main register map: its addresses, and the masks and shifts of the fields in them, are constants of this type.
-#[derive(Drop)]
+#[derive(Clone, Copy)]
 pub struct Map {
     pub address: u8,
 }

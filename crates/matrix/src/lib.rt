@@ -1,4 +1,6 @@
 // The colour matrix: 13-bit coefficients, and the preview. Document 01, "Matrix".
+#![tactic(auto)]
+
 ghost use Rattle.std.specs.Prelude.{◌≡◌, List, ℕ, ◌+◌, ◌*◌, ◌%◌, ◌^◌, ◌<◌, ◌≤◌, get_or, length, ℤ};
 ghost use Rattle.std.specs.Int.Signed.{shr_z};
 ghost use Rattle.matrix.specs.declared.Matrix.{Matrix};
@@ -15,7 +17,7 @@ ghost use Rattle.matrix.specs.Preview.{held_within, code_of, output_of, Previews
 use refusals::Refusal;
 
 // What the converter is set to: on or off, the CSC mode, and A1 to A4, B1 to B4, C1 to C4 as fields of 13 bits.
-#[derive(Drop)]
+#[derive(Clone, Copy)]
 pub struct Matrix {
     pub on: u8,
     pub mode: u8,
@@ -23,7 +25,7 @@ pub struct Matrix {
 }
 
 // A previewed pixel, or the number of a refusal with zeros beside it.
-#[derive(Drop)]
+#[derive(Clone, Copy)]
 pub struct Pixel {
     pub refusal: u8,
     pub a: u16,

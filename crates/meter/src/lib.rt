@@ -1,4 +1,6 @@
 // The colour meter's matrix: twelve floats, exactly, as fields of 13 bits with a mode. Document 02, request 07.
+#![tactic(auto)]
+
 ghost use Rattle.std.specs.Prelude.{◌≡◌, true, List, ℕ, ◌*◌, ◌^◌, ◌<◌, ◌≤◌, ℤ, pos, length, Float};
 ghost use Rattle.std.specs.Float.Ieee.Exact.{HasValue};
 ghost use Rattle.std.specs.Float.Ieee.Nearest.{closest};
@@ -16,7 +18,7 @@ use matrix::Matrix;
 use refusals::Refusal;
 
 // The meter's export, in the order of a request's matrix: of each row three factors and an offset.
-#[derive(Drop)]
+#[derive(Clone, Copy)]
 pub struct Meter {
     pub a1: f32,
     pub a2: f32,
@@ -33,21 +35,21 @@ pub struct Meter {
 }
 
 // A matrix, or the number of a refusal with no matrix beside it.
-#[derive(Drop)]
+#[derive(Clone, Copy)]
 pub struct Converted {
     pub refusal: u8,
     pub matrix: Matrix,
 }
 
 // The number of a refusal, 0 for none, and the count of bytes written.
-#[derive(Drop)]
+#[derive(Clone, Copy)]
 pub struct Metered {
     pub refusal: u8,
     pub count: u32,
 }
 
 // A finite float: digits · 2^exponent / 2^149, negative or not.
-#[derive(Drop)]
+#[derive(Clone, Copy)]
 pub struct Parts {
     pub negative: bool,
     pub digits: u64,

@@ -1,4 +1,6 @@
 // Requests through a pipe: document 02, request 08.
+#![tactic(auto)]
+
 ghost use Rattle.std.specs.Prelude.{◌≡◌, true, List, ◌++◌, ℕ, suc, ◌≤◌, length, take};
 ghost use Rattle.request.specs.Sections.{longest};
 ghost use Rattle.pipe.specs.Bytes.{so_far, said_by, answer_byte};
@@ -24,7 +26,7 @@ pub const ACCEPTED: u8 = 255;
 pub const ENOUGH: usize = LONGEST + 1;
 
 // A refusal of the request or 0, whether that is its answer, and the count of an accepted request's bytes; 7 for bytes that are no pipe.
-#[derive(Drop)]
+#[derive(Clone, Copy)]
 pub struct Piped {
     pub refusal: u8,
     pub answered: u8,

@@ -1,4 +1,6 @@
 // Planning: from a request and a register image to the write list. Document 01, "The write list"; document 02, requests 02 and 06.
+#![tactic(auto)]
+
 ghost use Rattle.std.specs.Prelude.{◌≡◌, true, cond, not, ◌&&◌, List, [], ◌∷◌, map, ℕ, ◌+◌, ◌*◌, ◌/◌, ◌%◌, ◌^◌, ◌<◌, ◌≤◌, eqb, get_or, length, replicate};
 ghost use Rattle.writes.specs.Rows.{from};
 ghost use Rattle.map.specs.Map.{output_format_mask, pr_mode_shift, pr_pll_manual_shift, pr_value_manual_shift};
@@ -34,7 +36,7 @@ use video::Video;
 use wiring::Wires;
 
 // The number of a refusal, 0 for none, and the count of pairs written.
-#[derive(Drop)]
+#[derive(Clone, Copy)]
 pub struct Planned {
     pub refusal: u8,
     pub count: u32,

@@ -1,4 +1,6 @@
 // The promises: nothing is computed here. Each function's contract is a theorem about the definitions of the crates below.
+#![tactic(auto)]
+
 ghost use Rattle.std.specs.Prelude.{◌≡◌, List, ℕ, Float};
 ghost use Rattle.request.specs.declared.Request.{Request};
 ghost use Rattle.chip.specs.declared.Chip.{Chip};

@@ -1,11 +1,13 @@
 // A fraction in lowest terms, and the whole quotient of two numbers, by halving and subtraction alone: document 01, "N and CTS", and document
 // 02, request 05. Nothing above this crate knows how they are found.
+#![tactic(auto)]
+
 ghost use Rattle.std.specs.Prelude.{◌≡◌, ◌≢◌, ◌+◌, ◌/◌, ◌%◌};
 ghost use Rattle.ratio.specs.Lowest.{Reduces, LowestTerms};
 ghost use Rattle.ratio.specs.Terms.{divisor_of};
 
 // The fraction u / v.
-#[derive(Drop)]
+#[derive(Clone, Copy)]
 pub struct Ratio {
     pub u: u64,
     pub v: u64,

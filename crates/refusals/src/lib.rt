@@ -1,8 +1,10 @@
 // Document 01, "Refusal numbers", and document 02. 0 is no refusal.
+#![tactic(auto)]
+
 ghost use Rattle.std.specs.Prelude.{◌≡◌, ◌∷◌, map};
 ghost use Rattle.refusals.specs.Rows.{number, order};
 
-#[derive(Drop)]
+#[derive(Clone, Copy)]
 pub struct Refusal {
     pub number: u8,
 }

@@ -1,4 +1,6 @@
 // The class of each bit of the main map: document 01, "Register classes".
+#![tactic(auto)]
+
 ghost use Rattle.std.specs.Prelude.{◌≡◌, ℕ, ◌<◌};
 ghost use Rattle.registers.specs.Classes.{class_at, read_only, named, Rule};
 ghost use Rattle.registers.specs.ByColumns.{Classifies};
@@ -9,7 +11,7 @@ ghost use Rattle.registers.specs.Table14.{Table14};
 mod table;
 
 // Five numbers for each address: the masks of its read-only, mandated, named and free bits, and the mandated bits.
-#[derive(Drop)]
+#[derive(Clone, Copy)]
 pub struct Class {
     pub read_only: u8,
     pub mandated: u8,
@@ -19,7 +21,7 @@ pub struct Class {
 }
 
 // The columns of the table, for a caller that goes through many addresses: the compiler builds a column anew wherever it is named.
-#[derive(Drop)]
+#[derive(Clone, Copy)]
 pub struct ByColumn {
     pub read_only: [u8; 256],
     pub mandated: [u8; 256],

@@ -1,4 +1,6 @@
 // The request: document 01, "The request" and "Refusal numbers"; document 02, requests 01, 02, 06, 10 and 11.
+#![tactic(auto)]
+
 ghost use Rattle.std.specs.Prelude.{◌≡◌, ℕ, ◌<◌, length, get_or, List, [], ◌∷◌};
 ghost use Rattle.refusals.specs.Tests.{lowest};
 ghost use Rattle.request.specs.Sections.{sections, Bodies, in_turn, walked, bodies_in};
@@ -29,7 +31,7 @@ use wiring::Wiring;
 pub mod sections;
 
 // What the sections ask for.
-#[derive(Drop)]
+#[derive(Clone, Copy)]
 pub struct Request {
     pub wiring: Wiring,
     pub video: Video,
@@ -38,7 +40,7 @@ pub struct Request {
 }
 
 // A request and the number of a refusal: beside one of rows 1 to 6 it is an empty request.
-#[derive(Drop)]
+#[derive(Clone, Copy)]
 pub struct Checked {
     pub refusal: u8,
     pub request: Request,

@@ -34,7 +34,7 @@ pub const LONGEST: usize = SECTIONS
 
 // Where the body of each section ends in the input, or the number of a refusal with zeros beside it. A body starts after its count, which
 // stands where the body before it ends.
-#[derive(Drop)]
+#[derive(Clone, Copy)]
 pub struct Places {
     pub refusal: u8,
     pub ends: [usize; SECTIONS],

@@ -1,4 +1,6 @@
 // The audio section of a request and the seven rates: document 01, "The request"; the rates' codes are the register map's.
+#![tactic(auto)]
+
 ghost use Rattle.std.specs.Prelude.{◌≡◌, ◌≤◌};
 ghost use Rattle.sound.specs.Rates.{hertz_of, code_for};
 ghost use Rattle.sound.specs.Coded.{rate_of};
@@ -10,7 +12,7 @@ ghost use Rattle.sound.specs.Theorems.{SoundBody, SoundRange, RateTable};
 pub const AUDIO_COUNT: u8 = 3;
 
 // What the audio section asks for.
-#[derive(Drop)]
+#[derive(Clone, Copy)]
 pub enum Sound {
     Off,
     On {

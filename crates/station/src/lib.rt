@@ -1,4 +1,6 @@
 // The C face: each call is a call of the library, taken apart. No logic. The C declarations are in include/station.h.
+#![tactic(auto)]
+
 ghost use Rattle.station.specs.Face.{StationPlan, StationDecode, StationNcts};
 ghost use Rattle.station.specs.Matrices.{StationPreview, StationMeter};
 ghost use Rattle.station.specs.Pipe.{StationPipeTake, StationPipeEnd};
@@ -8,7 +10,7 @@ mod machine;
 
 // struct station_count
 #[repr(C)]
-#[derive(Drop)]
+#[derive(Clone, Copy)]
 pub struct CountOut {
     pub refusal: u32,
     pub count: u32,
@@ -16,7 +18,7 @@ pub struct CountOut {
 
 // struct station_pair
 #[repr(C)]
-#[derive(Drop)]
+#[derive(Clone, Copy)]
 pub struct PairOut {
     pub refusal: u32,
     pub n: u32,
@@ -25,7 +27,7 @@ pub struct PairOut {
 
 // struct station_pixel
 #[repr(C)]
-#[derive(Drop)]
+#[derive(Clone, Copy)]
 pub struct PixelOut {
     pub refusal: u32,
     pub a: u32,
@@ -35,7 +37,7 @@ pub struct PixelOut {
 
 // struct station_piped
 #[repr(C)]
-#[derive(Drop)]
+#[derive(Clone, Copy)]
 pub struct PipedOut {
     pub refusal: u32,
     pub answered: u32,
@@ -44,7 +46,7 @@ pub struct PipedOut {
 
 // struct station_monitor
 #[repr(C)]
-#[derive(Drop)]
+#[derive(Clone, Copy)]
 pub struct MonitorOut {
     pub refusal: u32,
     pub vics_low: u32,
@@ -55,7 +57,7 @@ pub struct MonitorOut {
 
 // struct station_choice
 #[repr(C)]
-#[derive(Drop)]
+#[derive(Clone, Copy)]
 pub struct ChoiceOut {
     pub refusal: u32,
     pub place: u32,

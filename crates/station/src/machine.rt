@@ -7,7 +7,7 @@ use crate::CountOut;
 
 // struct station_part
 #[repr(C)]
-#[derive(Drop)]
+#[derive(Clone, Copy)]
 pub struct PartOut {
     pub refusal: u32,
     pub held: u32,
@@ -17,7 +17,7 @@ pub struct PartOut {
 
 // struct station_state
 #[repr(C)]
-#[derive(Drop)]
+#[derive(Clone, Copy)]
 pub struct StateOut {
     pub refusal: u32,
     pub mute: u32,
@@ -25,7 +25,7 @@ pub struct StateOut {
 
 // struct station_verdict
 #[repr(C)]
-#[derive(Drop)]
+#[derive(Clone, Copy)]
 pub struct VerdictOut {
     pub refusal: u32,
     pub place: u32,
@@ -33,7 +33,7 @@ pub struct VerdictOut {
 
 // struct station_masks
 #[repr(C)]
-#[derive(Drop)]
+#[derive(Clone, Copy)]
 pub struct ClassOut {
     pub read_only: u32,
     pub mandated: u32,

@@ -1,4 +1,6 @@
 // Reading a write list that a vendor brings: document 02, requests 03 and 04.
+#![tactic(auto)]
+
 ghost use Rattle.std.specs.Prelude.{◌≡◌, false, cond, not, ◌&&◌, ◌||◌, List, [], ℕ, ◌+◌, ◌≤◌, eqb, length, get_or, take, drop};
 ghost use Rattle.lists.specs.Same.{same_list};
 ghost use Rattle.bits.specs.Merge.{under};
@@ -21,7 +23,7 @@ use refusals::Refusal;
 use request::sections::LONGEST;
 
 // The number of the refusal, 0 for none, and with 15 the place of the first bad pair, counted from 0.
-#[derive(Drop)]
+#[derive(Clone, Copy)]
 pub struct Verdict {
     pub refusal: u8,
     pub place: u32,
@@ -31,7 +33,7 @@ pub struct Verdict {
 pub const MOST_PAIRS: usize = 512;
 
 // What is in use: the AVI InfoFrame, the audio InfoFrame and the twelve coefficients.
-#[derive(Drop)]
+#[derive(Clone, Copy)]
 struct Used {
     avi: [u8; Map::AVI_INFOFRAME_COUNT as usize],
     audio: [u8; Map::AUDIO_INFOFRAME_COUNT as usize],
@@ -39,7 +41,7 @@ struct Used {
 }
 
 // A group at a write: its first register, how many they are, and whether its buffer was in use before the write and is after it.
-#[derive(Drop)]
+#[derive(Clone, Copy)]
 struct Moving {
     first: u8,
     count: u8,
@@ -182,7 +184,7 @@ fn is_muted(image: &[u8; 256], packet: &[u8; 32]) -> bool
 }
 
 // A pair that was written: its address, the byte of the packet holds before it, the mark after it, and whether the event follows.
-#[derive(Drop)]
+#[derive(Clone, Copy)]
 struct Pair {
     address: u8,
     held: u8,

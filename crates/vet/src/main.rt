@@ -1,5 +1,7 @@
 // Reading a vendor's list: the registers, the two buffers, the mark and the list on standard input, one line on standard output (document
 // 02, requests 03 and 04).
+#![tactic(auto)]
+
 ghost use Rattle.std.specs.Prelude.{◌≡◌, List, ℕ, ◌<◌, ◌≤◌, length};
 ghost use Rattle.vet.specs.Input.{verdict_of, longest_input, PrintsInput, Inputs};
 

@@ -1,5 +1,7 @@
 // The video section of a request and the listed modes: document 01, "The request" and "Modes and clocks"; document 02, requests 01,
 // 06 and 11.
+#![tactic(auto)]
+
 ghost use Rattle.std.specs.Prelude.{◌≡◌};
 ghost use Rattle.video.specs.Modes.{mode, mode_of, ModeTable};
 ghost use Rattle.video.specs.Video.{video_in, video_body, depth, repetition, ycc_quantisation, content_type, no_video, in_family};
@@ -14,7 +16,7 @@ pub const VIDEO_COUNT: u8 = 7;
 
 // What the video section asks for. `pixel` is the depth byte, with the repetition in its upper half; `edition` is the edition byte, with
 // the quantisation and the content type.
-#[derive(Drop)]
+#[derive(Clone, Copy)]
 pub struct Video {
     pub vic: u8,
     pub family: u8,
@@ -26,7 +28,7 @@ pub struct Video {
 }
 
 // A listed mode. A VIC that is not listed offers no family.
-#[derive(Drop)]
+#[derive(Clone, Copy)]
 pub struct Mode {
     pub vic: u8,
     pub hertz: u32,

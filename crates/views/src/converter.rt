@@ -11,7 +11,7 @@ use matrix::Matrix;
 use refusals::Refusal;
 
 // The number of a refusal, 0 for none, and the count of bytes written.
-#[derive(Drop)]
+#[derive(Clone, Copy)]
 pub struct Count {
     pub refusal: u8,
     pub count: u32,

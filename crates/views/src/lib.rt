@@ -1,5 +1,7 @@
 // The faces of the chip machine over lent slices: a write, a Vsync, what is sent, the mute, the matrix in use. Documents 01, "The chip
 // machine", and 02, request 04.
+#![tactic(auto)]
+
 ghost use Rattle.std.specs.Prelude.{List, ℕ};
 ghost use Rattle.views.specs.Cases.{ViewCases};
 ghost use Rattle.views.specs.Entry.{Lent};

@@ -8,7 +8,7 @@ use map::Map;
 use refusals::Refusal;
 
 // The part of a slice that is sent: held 0, of the image; 1, of the packet buffer. Beside a refusal all are 0.
-#[derive(Drop)]
+#[derive(Clone, Copy)]
 pub struct Part {
     pub refusal: u8,
     pub held: u8,
@@ -17,7 +17,7 @@ pub struct Part {
 }
 
 // The mute bits: 1 muted, 2 open, 0 and 3 neither.
-#[derive(Drop)]
+#[derive(Clone, Copy)]
 pub struct Mute {
     pub refusal: u8,
     pub mute: u8,

@@ -1,4 +1,6 @@
 // The wiring section of a request and the input IDs: document 02, request 02; source document 000, Tables 15 to 28.
+#![tactic(auto)]
+
 ghost use Rattle.std.specs.Prelude.{◌≡◌, ◌<◌};
 ghost use Rattle.wiring.specs.Kinds.{kind, kind_of, most_sync, rgb_in};
 ghost use Rattle.wiring.specs.Wiring.{sync_at, wiring_in, count_of, wires_of};
@@ -12,7 +14,7 @@ pub const FOUR_COUNT: u8 = 4;
 pub const TWELVE_COUNT: u8 = 12;
 
 // What the wiring section says: nothing, of today's board; the four fields; these and the four sync values.
-#[derive(Drop)]
+#[derive(Clone, Copy)]
 pub enum Wiring {
     Board,
     Four {
@@ -34,7 +36,7 @@ pub enum Wiring {
 }
 
 // The numbers that a wiring has in the registers.
-#[derive(Drop)]
+#[derive(Clone, Copy)]
 pub struct Wires {
     pub input: u8,
     pub depth: u8,
@@ -48,7 +50,7 @@ pub struct Wires {
 
 // An input ID: whether it counts as RGB, the count of its section, its lowest depth, its lowest and its highest style, its highest
 // justification.
-#[derive(Drop)]
+#[derive(Clone, Copy)]
 pub struct Kind {
     pub rgb: u8,
     pub count: u8,

@@ -1,5 +1,7 @@
 // The write list of any wanted bytes: its steps, what each write carries, which are left out, the finished image. Document 01, "The write
 // list"; document 02, request 09.
+#![tactic(auto)]
+
 ghost use Rattle.std.specs.Prelude.{◌≡◌, List, [], ◌∷◌, ℕ, ◌+◌, ◌*◌, ◌<◌, ◌≤◌, get_or, length};
 ghost use Rattle.bits.specs.Merge.{merge};
 ghost use Rattle.chip.specs.Machine.{audio, packets, up};

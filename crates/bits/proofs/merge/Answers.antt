@@ -2,11 +2,7 @@
 use mathlib.Core.Path.{sym}
 use borrow.Author.Rules.{rules}
 use Rattle.bits.proofs.Laws.{merge_code}
-use Rattle.bits.proofs.merge.Statement.{statement}
-use Rattle.bits.proofs.merge.Tie as tie
+use Rattle.bits.proofs.merge.Goals as goal
 
-returns : tie.Need-returns
+pub returns : goal.returns
 returns c = sym (merge_code 8 c.args.mask c.args.a c.args.b (search rules))
-
-pub merge-spec : {M : Type 1} → statement M
-merge-spec = tie.close (tie.spec returns)

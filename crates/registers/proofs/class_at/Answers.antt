@@ -3,8 +3,7 @@ use borrow.Author.Rules.{rules}
 use Rattle.registers.specs.declared.Class.{Class}
 use Rattle.registers.specs.Classes.{class}
 use Rattle.registers.proofs.Columns.{at_address}
-use Rattle.registers.proofs.class_at.Statement.{statement}
-use Rattle.registers.proofs.class_at.Tie as tie
+use Rattle.registers.proofs.class_at.Goals as goal
 
 array-read-t6 : tie.Need-array-read-t6
 array-read-t6 c = search rules
@@ -21,14 +20,10 @@ array-read-t21 c = search rules
 array-read-t26 : tie.Need-array-read-t26
 array-read-t26 c = search rules
 
-returns : tie.Need-returns
-returns c =
-    let r = at_address (λ (row : Class). row.read_only) c.args.a in
+pub returns : goal.returns
+returns c = let r = at_address (λ (row : Class). row.read_only) c.args.a in
     let m = at_address (λ (row : Class). row.mandated) c.args.a in
     let n = at_address (λ (row : Class). row.named) c.args.a in
     let f = at_address (λ (row : Class). row.free) c.args.a in
     let b = at_address (λ (row : Class). row.bits) c.args.a in
     λ i. class (r i) (m i) (n i) (f i) (b i)
-
-pub class-at-spec : {M : Type 1} → statement M
-class-at-spec = tie.close (tie.spec array-read-t6 array-read-t11 array-read-t16 array-read-t21 array-read-t26 returns)

@@ -2,12 +2,8 @@
 use mathlib.Core.Path.{refl}
 use Rattle.bits.specs.Merge.{merge}
 use Rattle.registers.specs.Classes.{class_at}
-use Rattle.registers.proofs.table14.Statement.{statement}
-use Rattle.registers.proofs.table14.Tie as tie
+use Rattle.registers.proofs.table14.Goals as goal
 
-returns : tie.Need-returns
+pub returns : goal.returns
 unfolding class_at merge
 returns c = record { rows = refl }
-
-pub table14-spec : {M : Type 1} → statement M
-table14-spec = tie.close (tie.spec returns)

@@ -1,0 +1,6 @@
+-- `sound::in_range` meets its contract, which is the theorem. Assumes nothing.
+use Rattle.sound.proofs.Fits.{in_range_lem}
+use Rattle.sound.proofs.in_range.Goals as goal
+
+pub returns : goal.returns
+returns c = in_range_lem
