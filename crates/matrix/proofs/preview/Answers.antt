@@ -35,13 +35,13 @@ asked c row h =
     (codes _ _ _ c.if-a-b.false, ((rw (matrix-read c) (mode_small body (sym c.fits.ensures ∙ c.if-not-fits.false)), h), λ i. rw (matrix-read c) (fields_small _ i)))
 
 pub output-x-requires : goal.output-x-requires
-output-x-requires c = asked c 0 (lit< tt)
+output-x-requires c = let whole = asked c 0 (lit< tt) in record { a_bound = whole.0; mode_bound = whole.1.0; by_index = whole.1.1 }
 
 pub output-y-requires : goal.output-y-requires
-output-y-requires c = asked (goal.at.output-y-requires c).After-read-m 1 (lit< tt)
+output-y-requires c = let whole = asked (goal.at.output-y-requires c).After-read-m 1 (lit< tt) in record { a_bound = whole.0; mode_bound = whole.1.0; by_index = whole.1.1 }
 
 pub output-z-requires : goal.output-z-requires
-output-z-requires c = asked (goal.at.output-z-requires c).After-read-m 2 (lit< tt)
+output-z-requires c = let whole = asked (goal.at.output-z-requires c).After-read-m 2 (lit< tt) in record { a_bound = whole.0; mode_bound = whole.1.0; by_index = whole.1.1 }
 
 pub returns : goal.returns
 unfolding preview_of
