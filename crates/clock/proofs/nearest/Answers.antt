@@ -1,9 +1,9 @@
 -- `clock::nearest` meets its contract: the lowest terms are those by which the definition computes. Assumes nothing.
+-- what is known of the ratio in lowest terms
 use mathlib.Core.Path.{◌≡◌}
 use Prim.Native.Nat.{ℕ, ◌*◌, ◌≤◌, ◌<◌}
 use native.Mathlib.Nat.{mul-le-mul, mul-pos, div-le_self, le_trans}
 use native.Mathlib.Omega.{arith}
-use borrow.Author.Rules.{rules}
 use Rattle.ratio.specs.declared.Ratio.{Ratio}
 use Rattle.ratio.specs.Lowest.{Reduces}
 use Rattle.ratio.specs.Terms.{top_of, bottom_of}
@@ -12,10 +12,9 @@ use Rattle.ratio.proofs.Multiples.{u_some, v_some}
 use Rattle.clock.specs.declared.Clock.{Clock}
 use Rattle.clock.specs.Bounds.{WithinBounds, num_most, reference_most, parts_most}
 use Rattle.clock.specs.Found.{nearest_of}
-use Rattle.clock.proofs.nearest.Statement.{statement}
-use Rattle.clock.proofs.nearest.Tie as tie
+use Rattle.clock.proofs.nearest.Goals as goal
+use Rattle.clock.proofs.nearest.Goals.{After-reduced-ratio}
 
--- what is known of the ratio in lowest terms
 pub record Known (num parts : ℕ) (r : Ratio) : Type 0 where
   pub top : r.u ≡ top_of num parts
   pub bottom : r.v ≡ bottom_of num parts
@@ -36,31 +35,17 @@ known clock f r s p m l =
       );
     }
 
-ratio : (c : tie.After-reduced) → let p = c.before.before in
-    let a = p.before.args in Known a.clock.num (a.clock.den * p.reference.result) c.reduced.result
+ratio : (c : After-reduced-ratio) → let a = c.args in Known a.clock.num (a.clock.den * c.reference-f.result) c.reduced-ratio.result
 ratio c =
-    let p = c.before.before in
-    let f = p.reference.ensures.1 in
-    known p.before.args.clock p.reference.result c.reduced.result p.before.requires.1 f.0 f.1 c.reduced.ensures
+    let f = c.reference-f.ensures.result_nonzero in
+    known c.args.clock c.reference-f.result c.reduced-ratio.result c.requires.within_bounds f.0 f.1 c.reduced-ratio.ensures
 
-reference-requires : tie.Need-reference-requires
-reference-requires c κs = search rules
+pub overflow_mul-clock : goal.overflow_mul-clock
+overflow_mul-clock c = omega (arith, mul-le-mul c.requires.within_bounds.parts c.reference-f.ensures.result_nonzero.1)
 
-mul-reduced : tie.Need-overflow-mul-reduced
-mul-reduced c = let p = c.before in omega (arith, mul-le-mul p.before.requires.1.parts p.reference.ensures.1.1)
+pub nearest_in-requires : goal.nearest_in-requires
+nearest_in-requires c = record { f_le_reference_most = c.reference-f.ensures.result_nonzero.1; u_nonzero = (ratio c).bounds.0; v_nonzero = (ratio c).bounds.1 }
 
-reduced-requires : tie.Need-reduced-requires
-reduced-requires c κs = search rules
-
-nearest-in-requires : tie.Need-nearest-in-requires
-nearest-in-requires c κs = (c.before.before.reference.ensures.1.1, (ratio c).bounds)
-
-returns : tie.Need-returns
+pub returns : goal.returns
 unfolding nearest_of
-returns c =
-    let r = c.before in
-    rw (c.nearest_in.ensures, (ratio r).top, (ratio r).bottom, r.before.before.reference.ensures.0)
-
-pub nearest-spec : {M : Type 1} → statement M
-nearest-spec =
-    tie.close (tie.spec reference-requires mul-reduced reduced-requires nearest-in-requires returns)
+returns c = rw (c.nearest_in.ensures, (ratio (goal.at.returns c).After-reduced-ratio).top, (ratio (goal.at.returns c).After-reduced-ratio).bottom, c.reference-f.ensures.value)
