@@ -14,7 +14,7 @@ returns-then-most-least c = rw (c.no_pair.ensures, ← c.least_k-least.ensures, 
 
 pub nearest_k-k-requires : goal.nearest_k-k-requires
 nearest_k-k-requires c = let a = c.args in
-    rw c.quotient-below.ensures ((c.requires.v_nonzero.1, c.requires.f_le_reference_most), (below_low a.f a.v, below_high a.f a.v c.requires.v_nonzero.0))
+    rw c.quotient-below.ensures (record { v_le_parts_most = (c.requires.v_nonzero.1, c.requires.f_le_reference_most); v_bound = (below_low a.f a.v, below_high a.f a.v c.requires.v_nonzero.0) })
 
 -- what is taken is in range, so both products are small
 small : (c : After-nearest_k-k) → let a = c.args in (300 * (c.nearest_k-k.result * a.v) ≤ a.f) × (c.nearest_k-k.result * a.u ≤ 1048575)
