@@ -4,8 +4,7 @@ use lib.Count.{count_trailing_zeros}
 use lib.Ieee.{of_bits, of_fields, odd}
 use Rattle.meter.specs.Cases.{MeterCases}
 use Rattle.meter.specs.Found.{signed_field, field_of, field_in, converted, meter_of, meter_buffer}
-use Rattle.meter.proofs.meter_cases.Statement.{statement}
-use Rattle.meter.proofs.meter_cases.Tie as tie
+use Rattle.meter.proofs.meter_cases.Goals as goal
 
 cases : MeterCases
 unfolding of_bits of_fields odd count_trailing_zeros signed_field field_of field_in converted meter_of meter_buffer
@@ -26,8 +25,5 @@ cases = record {
   negative_zero = refl;
 }
 
-returns : tie.Need-returns
+pub returns : goal.returns
 returns c = cases
-
-pub meter-cases-spec : {M : Type 1} → statement M
-meter-cases-spec = tie.close (tie.spec returns)

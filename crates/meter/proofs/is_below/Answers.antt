@@ -1,18 +1,17 @@
 -- `meter::is_below` meets its contract: the comparisons of floats are those of the fractions. Assumes nothing.
-use Rattle.meter.proofs.is_below.Statement.{statement}
-use Rattle.meter.proofs.is_below.Tie as tie
 use mathlib.Core.Path.{◌≡◌, refl, sym, ap, ◌∙◌, subst}
 use mathlib.Core.Bool.{Bool, true, false, ◌&&◌}
 use Prim.Native.Nat.{ℕ, ◌+◌, ◌*◌, ◌^◌, ◌<◌, ◌≤◌}
 use native.Mathlib.Nat.{mul-one, one-mul, mul-pos}
 use native.Mathlib.Omega.{arith}
 use lib.IntN.{pos}
-use lib.Dec.{T, ltb, lt→ltb}
+use lib.Dec.{ltb, lt→ltb}
 use lib.Pow.{pow_pos}
 use lib.Ieee.{Float, nan, inf, fin, up, down, below, lt, neg, of_bits}
 use lib.Ieee.Fits.{down_pos}
 use lib.Ieee.Bits.{is_true}
 use Rattle.meter.specs.Found.{is_below}
+use Rattle.meter.proofs.is_below.Goals as goal
 
 right : (p : Bool) → (p && true) ≡ p
 right true = refl
@@ -36,21 +35,18 @@ between k (fin s m e) =
     ∙ ap (λ (a : ℕ). ltb a (1 * 2 ^ k * down e)) (mul-one (m * up e))
     ∙ ap (λ (n : ℕ). ltb (m * up e) n) b
 
-returns : tie.Need-returns
+pub returns-then-mode-eq0 : goal.returns-then-mode-eq0
 unfolding of_bits neg
-returns c = between 0 c.before.args.x ∙ ap (λ (k : ℕ). is_below c.before.args.x k) (sym c.if1.true)
+returns-then-mode-eq0 c = between 0 c.args.x ∙ ap (λ (k : ℕ). is_below c.args.x k) (sym c.if-mode-eq0.true)
 
-returns-2 : tie.Need-returns-2
+pub returns-then-mode-eq1 : goal.returns-then-mode-eq1
 unfolding of_bits neg
-returns-2 c = between 1 c.before.before.args.x ∙ ap (λ (k : ℕ). is_below c.before.before.args.x k) (sym c.if2.true)
+returns-then-mode-eq1 c = between 1 c.args.x ∙ ap (λ (k : ℕ). is_below c.args.x k) (sym c.if-mode-eq1.true)
 
 two : (k : ℕ) → k ≤ 2 → (k ≡ 0 → ⊥) → (k ≡ 1 → ⊥) → 2 ≡ k
 two k h a b = omega arith
 
-returns-3 : tie.Need-returns-3
+pub returns : goal.returns
 unfolding of_bits neg
-returns-3 c = between 2 c.before.before.args.x ∙ ap (λ (k : ℕ). is_below c.before.before.args.x k)
-    (two c.before.before.args.mode c.before.before.requires c.before.if1.false c.if2.false)
-
-pub is-below-spec : {M : Type 1} → statement M
-is-below-spec = tie.close (tie.spec returns returns-2 returns-3)
+returns c = between 2 c.args.x ∙ ap (λ (k : ℕ). is_below c.args.x k)
+    (two c.args.mode c.requires c.if-mode-eq0.false c.if-mode-eq1.false)
