@@ -16,8 +16,7 @@ use Rattle.request.specs.Sections.{walk, walked}
 use Rattle.request.specs.Read.{outside, combined, judged, read_of, pair_for, ncts_of}
 use Rattle.pipe.specs.Found.{take_of, take_pipe, end_pipe_of, end_pipe}
 use Rattle.pipe.specs.Cases.{PipeCases}
-use Rattle.pipe.proofs.pipe_cases.Statement.{statement}
-use Rattle.pipe.proofs.pipe_cases.Tie as tie
+use Rattle.pipe.proofs.pipe_cases.Goals as goal
 
 cases : PipeCases
 unfolding euclid divisor_of mode_of kind_of wiring_outside video_outside shown_outside video_combined shown_combined tmds clock_of highest_of beyond reference recommended_of nearest_k nearest_in nearest_of exactly coherent_of pair_of fields in_range is_allowed walk walked outside combined judged read_of pair_for ncts_of take_of take_pipe end_pipe_of end_pipe
@@ -47,8 +46,5 @@ cases = record {
   forged = refl;
 }
 
-returns : tie.Need-returns
+pub returns : goal.returns
 returns c = cases
-
-pub pipe-cases-spec : {M : Type 1} → statement M
-pipe-cases-spec = tie.close (tie.spec returns)
