@@ -6,8 +6,8 @@ use lib.Dec.{eqb, ltb}
 use Rattle.bits.proofs.Below.{at_below}
 use Rattle.chip.specs.Write.{two}
 use borrow.Author.Rules.{rules}
-use Rattle.chip.proofs.two_up.Statement.{statement}
-use Rattle.chip.proofs.two_up.Tie as tie
+use Rattle.chip.proofs.two_up.Goals as goal
+use Rattle.chip.proofs.two_up.Goals.{Start}
 
 abbrev found : ℕ → Bool
 found holds = eqb (holds / 16 % 8) 3 || ltb 4 (holds / 16 % 8)
@@ -21,11 +21,8 @@ alike false false e = refl
 found-two : (holds : ℕ) → holds < 256 → found holds ≡ two holds
 found-two holds h = alike (found holds) (two holds) (at_below (λ n. cond (found n) (two n) (not (two n))) 256 holds refl h)
 
-byte : (c : tie.Start) → c.args.holds < 256
+byte : (c : Start) → c.args.holds < 256
 byte c = search rules
 
-returns : tie.Need-returns
+pub returns : goal.returns
 returns c = found-two c.args.holds (byte c)
-
-pub two-up-spec : {M : Type 1} → statement M
-two-up-spec = tie.close (tie.spec returns)

@@ -3,11 +3,7 @@ use mathlib.Core.Path.{sym, ap}
 use Prim.Native.Nat.{ℕ}
 use lib.Dec.{eqb}
 use Rattle.bits.proofs.Laws.{bit_code}
-use Rattle.chip.proofs.is_held.Statement.{statement}
-use Rattle.chip.proofs.is_held.Tie as tie
+use Rattle.chip.proofs.is_held.Goals as goal
 
-returns : tie.Need-returns
+pub returns : goal.returns
 returns c = sym (ap (λ (b : ℕ). eqb b 1) (bit_code 5 c.args.byte))
-
-pub is-held-spec : {M : Type 1} → statement M
-is-held-spec = tie.close (tie.spec returns)
