@@ -3,12 +3,8 @@ use mathlib.Core.Path.{refl}
 use Rattle.bits.specs.Merge.{merge}
 use Rattle.registers.specs.Classes.{class_at}
 use Rattle.writes.specs.List.{decided, is_written, column}
-use Rattle.writes.proofs.keep.Statement.{statement}
-use Rattle.writes.proofs.keep.Tie as tie
+use Rattle.writes.proofs.keep.Goals as goal
 
-returns : tie.Need-returns
+pub returns : goal.returns
 unfolding column class_at decided is_written merge
 returns c = refl
-
-pub keep_spec : {M : Type 1} → statement M
-keep_spec = tie.close (tie.spec returns)
