@@ -2,11 +2,7 @@
 use Rattle.lists.proofs.Decides.{refuted}
 use Rattle.chip.proofs.Writes.{two_up}
 use Rattle.views.proofs.Shown.{shown}
-use Rattle.views.proofs.faces.Statement.{statement}
-use Rattle.views.proofs.faces.Tie as tie
+use Rattle.views.proofs.faces.Goals as goal
 
-returns : tie.Need-returns
+pub returns : goal.returns
 returns c = λ s z none. shown s z (refuted (two_up s.image) none)
-
-pub faces-spec : {M : Type 1} → statement M
-faces-spec = tie.close (tie.spec returns)
