@@ -1,5 +1,5 @@
 -- `plan::on_another_image` meets its contract. Assumes nothing.
-use mathlib.Core.Path.{◌≡◌, refl, ap}
+use mathlib.Core.Path.{refl, ap}
 use mathlib.Core.Logic.{◌≢◌}
 use mathlib.Core.Bool.{not}
 use mathlib.Core.List.{List, ◌∷◌, ◌++◌}
@@ -15,8 +15,7 @@ use Rattle.plan.specs.Rules.{HoldsUp, buffer_rows}
 use Rattle.plan.proofs.Fine.{fine, accepts}
 use Rattle.plan.proofs.Ordered.{holds_up_lem, refusals}
 use Rattle.plan.specs.Another.{AnyOther}
-use Rattle.plan.proofs.on_another_image.Statement.{statement}
-use Rattle.plan.proofs.on_another_image.Tie as tie
+use Rattle.plan.proofs.on_another_image.Goals as goal
 
 on-another : AnyOther
 on-another input room image whole clear =
@@ -32,8 +31,5 @@ on-another input room image whole clear =
           (refusals input b image room).given refl (λ x. x whole)) refl ((holds_up_lem image).fails (ap not clear));
     }
 
-returns : tie.Need-returns
+pub returns : goal.returns
 returns c = on-another
-
-pub on-another-image-spec : {M : Type 1} → statement M
-on-another-image-spec = tie.close (tie.spec returns)
