@@ -1,7 +1,7 @@
 -- The laws of `merge`, over any number of bits. Assumes nothing.
 use mathlib.Core.Path.{◌≡◌, refl, sym, ap, ap₂, ◌∙◌}
 use mathlib.Core.Bool.{Bool, true, false, cond}
-use mathlib.Core.List.{List, [], ◌∷◌}
+use mathlib.Core.List.{[], ◌∷◌}
 use Prim.Native.Nat.{ℕ, zero, suc, ◌+◌, ◌*◌, ◌/◌, ◌%◌, ◌-◌, ◌^◌, min, max, ◌<◌}
 use native.Mathlib.Nat.{not-suc-le-zero, le_of_suc-le-suc, div-one, div-div-eq-div-mul, pow-suc, pow-succ'}
 use native.Mathlib.Omega.{arith}
@@ -9,7 +9,7 @@ use lib.Dec.{eqb}
 use borrow.Author.Tests.{eqb-true, eqb-false}
 use lib.Bits.{bit_and, bit_or, and_step, or_step, and_zero_r}
 use Rattle.bits.specs.Merge.{merge, bit}
-use Rattle.bits.proofs.Truth.{E, zeros, var, by, law, low, high}
+use Rattle.bits.proofs.Truth.{var, by, law, low, high}
 
 -- what a merge hides does not count, whichever side it stands on
 pub merge_left : (k m a b c : ℕ) → merge k m (merge k m a b) c ≡ merge k m a c

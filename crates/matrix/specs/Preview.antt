@@ -1,6 +1,6 @@
 -- Document 01, "Matrix": the preview. `previewOf` follows the code: `PreviewRefusals` ties its refusals to document 01's rows, and
 -- `RoundedDown` and `Clamped` its codes, which are the formula (`rounded`, `heldWithin`).
-use Rattle.std.specs.Prelude.{◌≡◌, Bool, cond, ◌||◌, not, ◌⊎◌, ◌≢◌, List, [], ◌∷◌, ℕ, ◌+◌, ◌*◌, ◌^◌, ◌<◌, ◌≤◌, min, ltb, get_or, ℤ, pos, negsuc, ◌+ℤ◌, ◌*ℤ◌, ◌≤ℤ◌, ◌<ℤ◌}
+use Rattle.std.specs.Prelude.{◌≡◌, Bool, ◌||◌, not, ◌⊎◌, ◌≢◌, List, [], ◌∷◌, ℕ, ◌+◌, ◌*◌, ◌^◌, ◌<◌, ◌≤◌, min, ltb, get_or, ℤ, pos, negsuc, ◌+ℤ◌, ◌*ℤ◌, ◌≤ℤ◌, ◌<ℤ◌}
 use Rattle.std.specs.Int.Signed.{shr_z}
 use Rattle.refusals.specs.Rows.{field_out_of_range, input_above, Condition, ◌when◌, Given}
 use Rattle.refusals.specs.Tests.{Test, ◌if◌, lowest, answer}

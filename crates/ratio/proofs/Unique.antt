@@ -1,6 +1,6 @@
 -- A fraction has lowest terms, and only these. Assumes nothing.
 use mathlib.Core.Path.{◌≡◌, sym, ◌∙◌, subst}
-use Prim.Native.Nat.{ℕ, ◌*◌, ◌<◌, ◌∣◌}
+use Prim.Native.Nat.{ℕ, ◌<◌, ◌∣◌}
 use native.Mathlib.Nat.{mul_comm, one-mul, dvd-mul_right}
 use Rattle.ratio.specs.Lowest.{Lowest, LowestTerms}
 use Rattle.ratio.specs.Terms.{top_of, bottom_of}

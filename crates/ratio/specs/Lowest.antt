@@ -1,7 +1,7 @@
 -- Document 01, "N and CTS": "Each clock ratio is brought to lowest terms", and document 02, request 05: by "halving and subtraction only",
 -- where document 01 has Euclid's rule. `Lowest` is to be believed, and is what the code promises (`Reduces`). `steps` is how the definitions
 -- find it, by Euclid's rule; the code goes another way, and `LowestTerms` says that there is nothing else to find.
-use Rattle.std.specs.Prelude.{◌≡◌, ℕ, ◌*◌, ◌/◌, ◌<◌}
+use Rattle.std.specs.Prelude.{◌≡◌, ℕ, ◌*◌, ◌<◌}
 use Rattle.std.specs.Int.{◌∣◌}
 use Rattle.ratio.specs.declared.Ratio.{Ratio}
 use Rattle.ratio.specs.Terms.{top_of, bottom_of}

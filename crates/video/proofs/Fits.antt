@@ -6,13 +6,13 @@ use mathlib.Core.List.{List, [], ◌∷◌}
 use Prim.Native.Nat.{ℕ, ◌/◌, ◌<◌, ◌≤◌}
 use native.Mathlib.Omega.{arith}
 use lib.Dec.{eqb, ltb, leb}
-use borrow.Author.Tests.{eqb-true, eqb-false, ltb-true, ltb-false, leb-true}
+use borrow.Author.Tests.{eqb-true, eqb-false, ltb-true, leb-true}
 use Rattle.lists.specs.Find.{every}
 use Rattle.lists.proofs.Both.{both_left, both_right}
 use Rattle.lists.proofs.Decides.{Decides, equal, less, opposite, either, together, refuted, at_most}
 use Rattle.video.specs.declared.Mode.{Mode}
 use Rattle.video.specs.declared.Video.{Video}
-use Rattle.video.specs.Modes.{modes, row_of, mode_of, offered}
+use Rattle.video.specs.Modes.{modes, row_of, mode_of}
 use Rattle.video.specs.Video.{depth, repetition, edition_number, ycc_quantisation, content_type, AsksE, EditionOutside, ShownOutside, VideoOutside, PixelOutside}
 use Rattle.video.specs.Video.{FullYCbCr, DeepApart, AskedUnderD, ShownCombined, VideoCombined}
 use Rattle.video.specs.Tests.{edition_outside, shown_outside, video_outside, pixel_outside}

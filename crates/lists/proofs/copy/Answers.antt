@@ -33,14 +33,14 @@ pub loop-i-smaller : goal.loop-i-smaller
 loop-i-smaller c = let h = inside (goal.at.loop-i-smaller c).In-loop-i in omega arith
 
 pub loop-i-preserved : goal.loop-i-preserved
-loop-i-preserved c =     let l = c.loop-i in
+loop-i-preserved c = let l = c.loop-i in
     let a = c.args in
     let h = inside (goal.at.loop-i-preserved c).In-loop-i in
     let k : l.i < length a.out.now = omega arith in
     (omega arith, omega arith, simp length-set l.invariant.2, rw l.invariant.3 (copy_more a.bytes.now a.out.now l.i k h.0))
 
 pub returns : goal.returns
-returns c =     let l = c.loop-i in
+returns c = let l = c.loop-i in
     let a = c.args in
     l.invariant.3 ∙ copy_end a.bytes.now a.out.now l.i l.invariant.0 l.invariant.1
     (rw l.invariant.2 at (one_ends l.i (length a.bytes.now) (length l.out) c.loop-i-test.false))

@@ -11,11 +11,11 @@ pub loop-i-init : goal.loop-i-init
 loop-i-init c = (search rules, refl)
 
 pub loop-i-preserved : goal.loop-i-preserved
-loop-i-preserved c =     let l = c.loop-i in
+loop-i-preserved c = let l = c.loop-i in
     let a = c.args in
     (search rules, more a.a.now a.b.now l.i (search rules) (search rules) l.all l.invariant.1)
 
 pub returns : goal.returns
-returns c =     let l = c.loop-i in
+returns c = let l = c.loop-i in
     let a = c.args in
     whole a.a.now a.b.now l.i (search rules) (search rules) l.all l.invariant.1

@@ -1,6 +1,5 @@
 -- `ratio::quotient` meets its contract: b is doubled up to a, and down again what is left is less than what was tried. Assumes nothing.
 use mathlib.Core.Path.{◌≡◌, refl, sym, ap, ◌∙◌}
-use mathlib.Core.Logic.{⊎_elim}
 use Prim.Native.Nat.{ℕ, suc, ◌*◌, ◌/◌}
 use native.Mathlib.Nat.{div-zero, mul-one, pos_of_ne-zero}
 use native.Mathlib.Omega.{arith}
@@ -46,8 +45,9 @@ pub loop-part-2-preserved : goal.loop-part-2-preserved
 loop-part-2-preserved c = let s = step (goal.at.loop-part-2-preserved c).In-loop-part-2 in
     let part : ℕ = c.loop-part-2.part in
     elim c.if-part-left.branch [
-      then-part-left w ↦ rw (w.left-is, w.q-is) (record { n = s.m; whole = part; size = s.size; half = refl; all = omega arith; less = omega arith })
-    | else-part-left w ↦ rw (w.left-is, w.q-is) (record { n = s.m; whole = part; size = s.size; half = refl; all = s.all; less = omega arith }) ]
+      | then-part-left w ↦ rw (w.left-is, w.q-is) (record { n = s.m; whole = part; size = s.size; half = refl; all = omega arith; less = omega arith })
+      | else-part-left w ↦ rw (w.left-is, w.q-is) (record { n = s.m; whole = part; size = s.size; half = refl; all = s.all; less = omega arith })
+    ]
 
 pub returns : goal.returns
 returns c = let l = c.loop-part-2 in

@@ -3,16 +3,12 @@ use mathlib.Core.Path.{refl, sym, ap}
 use Prim.Native.Nat.{ℕ}
 use lib.Dec.{lit≤}
 use native.Mathlib.Omega.{arith}
-use borrow.Author.Rules.{rules}
 use Rattle.sound.specs.Rates.{rates}
 use Rattle.sound.proofs.Rates.{column, past, table}
 use Rattle.sound.proofs.code_of.Goals as goal
 
 pub returns-then-rate-ge-RATES : goal.returns-then-rate-ge-RATES
 returns-then-rate-ge-RATES c = (sym (ap (λ (r : ℕ × ℕ). r.1) (past rates _ c.if-rate-ge-RATES.true)), lit≤ tt)
-
-array-read-result : tie.Need-array-read-result
-array-read-result c = search rules
 
 pub returns : goal.returns
 returns c = let rate = c.args.rate in

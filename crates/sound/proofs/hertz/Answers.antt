@@ -1,16 +1,12 @@
 -- `sound::hertz` meets its contract: the code's table is the column. Assumes nothing.
 use mathlib.Core.Path.{refl, sym, ap}
 use Prim.Native.Nat.{ℕ}
-use borrow.Author.Rules.{rules}
 use Rattle.sound.specs.Rates.{rates}
 use Rattle.sound.proofs.Rates.{column, past}
 use Rattle.sound.proofs.hertz.Goals as goal
 
 pub returns-then-rate-ge-RATES : goal.returns-then-rate-ge-RATES
 returns-then-rate-ge-RATES c = sym (ap (λ (r : ℕ × ℕ). r.0) (past rates _ c.if-rate-ge-RATES.true))
-
-array-read-result : tie.Need-array-read-result
-array-read-result c = search rules
 
 pub returns : goal.returns
 returns c = column (λ r. r.0) refl rates c.args.rate

@@ -2,4 +2,4 @@
 use Rattle.sound.proofs.outside.Goals as goal
 
 pub returns-in-On : goal.returns-in-On
-returns-in-On c = simp c.sound-1.given.1
+returns-in-On c = simp c.in-On.is

@@ -1,0 +1,32 @@
+-- `matrix::body_of` meets its contract: before turn i the bytes of the first i coefficients are stored. Assumes nothing.
+use mathlib.Core.Path.{◌≡◌, refl, sym, ap, ◌∙◌}
+use mathlib.Core.List.{map}
+use Prim.Native.Nat.{ℕ, ◌%◌}
+use native.Mathlib.Omega.{arith}
+use lib.ListN.{length-map}
+use borrow.Author.Rules.{rules}
+use Rattle.lists.proofs.Emit.{map_at}
+use Rattle.matrix.specs.Coefficient.{low_thirteen, high_byte}
+use Rattle.matrix.proofs.Body.{turn_bytes, whole_matrix}
+use Rattle.matrix.proofs.body_of.Goals as goal
+
+pub loop-i-init : goal.loop-i-init
+loop-i-init c = (search rules, search rules, refl)
+
+pub loop-i-preserved : goal.loop-i-preserved
+loop-i-preserved c = let l = c.loop-i in
+    let cs = c.args.m.coefficients in
+    let at = map_at low_thirteen cs l.i 0 0 (omega arith) in (
+      search rules,
+      search rules,
+      rw l.invariant.2
+          (turn_bytes (map low_thirteen cs) _ 1 l.i _ _ _ _ (rw (length-map cs low_thirteen) (omega arith)) (omega arith) (omega arith)
+          (c.high_byte.ensures ∙ ap high_byte (sym at)) (low _ ∙ ap (λ (n : ℕ). n % 256) (sym at))),
+    )
+  where
+    low : (n : ℕ) → n % 256 ≡ n % 8192 % 256
+    low n = omega arith
+
+pub returns : goal.returns
+returns c = let l = c.loop-i in
+    l.invariant.2 ∙ whole_matrix _ _ l.i (rw (length-map _ low_thirteen) l.invariant.1) (omega arith)
