@@ -1,5 +1,5 @@
 -- Document 01, "Modes and clocks", and document 02, request 06: the clock of a video, kept exact, over its mode, family, depth and repetition.
-use Rattle.std.specs.Prelude.{cond, List, [], ◌∷◌, ℕ, ◌*◌, ◌<◌, eqb, get_or}
+use Rattle.std.specs.Prelude.{cond, [], ◌∷◌, ℕ, ◌*◌, ◌<◌, eqb, get_or}
 use Rattle.ratio.specs.Terms.{top_of, bottom_of}
 use Rattle.video.specs.declared.Video.{Video}
 use Rattle.video.specs.Modes.{mode_of}

@@ -1,6 +1,6 @@
 -- What is proved of the answers: the documents' words for the clock and for the pair that is given, and when the two calls on single fields
 -- are refused.
-use Rattle.std.specs.Prelude.{◌≡◌, ◌↔◌, ◌⊎◌, ◌≢◌, true, false, List, [], ◌∷◌, ◌++◌, ℕ, ◌*◌, ◌<◌, ◌≤◌}
+use Rattle.std.specs.Prelude.{◌≡◌, ◌↔◌, ◌⊎◌, ◌≢◌, true, false, List, [], ◌∷◌, ℕ, ◌*◌, ◌<◌, ◌≤◌}
 use Rattle.refusals.specs.Rows.{mode_not_offered, field_out_of_range, clock_above, no_exact_pair, Condition, ◌when◌, Given}
 use Rattle.ratio.specs.Lowest.{Lowest}
 use Rattle.video.specs.declared.Video.{Video}

@@ -1,7 +1,7 @@
 -- `closest` by its three cases, and shifts: what `meter::nearest` works out. Assumes nothing.
 use mathlib.Core.Path.{◌≡◌, refl, sym, ap, ◌∙◌, subst}
 use Prim.Native.Nat.{ℕ, suc, ◌+◌, ◌-◌, ◌*◌, ◌/◌, ◌%◌, ◌^◌, ◌≤◌, ◌<◌, compare, Ordering}
-use native.Mathlib.Nat.{lt_irrefl, lt_of_le_of_lt, lt_of_lt_of_le, le_trans, le_of_lt, mod-eq_of_lt, div-eq_of_lt, div-mul-le_self, div-add-mod', div-le_self}
+use native.Mathlib.Nat.{lt_irrefl, lt_of_le_of_lt, lt_of_lt_of_le, le_trans, mod-eq_of_lt, div-eq_of_lt, div-mul-le_self, div-add-mod', div-le_self}
 use native.Mathlib.Omega.{arith}
 use mathlib.Core.Bool.{not}
 use lib.Dec.{T, is_le, compare_is_eq, leb→le, nleb→lt, eqb→eq, eqb_refl, eqb, lit≤}

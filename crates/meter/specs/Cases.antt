@@ -2,9 +2,6 @@
 use Rattle.std.specs.Prelude.{◌≡◌, List, [], ◌∷◌, map, ℕ, ◌+◌, ◌*◌, get_or, drop, replicate, set, Float}
 use Rattle.std.specs.Float.{binary32}
 use Rattle.std.specs.Float.Ieee.{of_bits}
-use Rattle.matrix.specs.declared.Matrix.{Matrix}
-use Rattle.meter.specs.declared.Meter.{Meter}
-use Rattle.meter.specs.declared.Converted.{Converted}
 use Rattle.meter.specs.Numbers.{minus_zero, numbers_of}
 use Rattle.meter.specs.Found.{converted, meter_of, meter_buffer}
 

@@ -1,7 +1,7 @@
 -- Where a request is accepted under D, its edition byte alone decides what it is answered. Assumes nothing.
 use mathlib.Core.Path.{◌≡◌, refl, sym, ◌∙◌}
 use mathlib.Core.Logic.{inr}
-use mathlib.Core.Bool.{Bool, true, false, cond, not, ◌&&◌, ◌||◌}
+use mathlib.Core.Bool.{Bool, true, false, cond, ◌&&◌, ◌||◌}
 use lib.Dec.{eqb}
 use Rattle.lists.proofs.Decides.{refuted, confirmed}
 use Rattle.wiring.specs.Kinds.{rgb_in}

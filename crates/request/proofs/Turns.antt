@@ -9,7 +9,7 @@ use lib.ListN.{length, take, drop, get_or, set, length-append, length-drop, drop
 use lib.Seq.{drop-cons, drop-drop, length-take-le, take_all, take-suc-set}
 use borrow.Author.Tests.{le-leb}
 use Rattle.lists.specs.Among.{among}
-use Rattle.request.specs.Sections.{Walk, ends, not_allowed, whole, after, walk, walked, sections}
+use Rattle.request.specs.Sections.{ends, not_allowed, whole, after, walk, walked, sections}
 use Rattle.request.specs.Places.{ends_from, places_of}
 use Rattle.request.proofs.Walks.{joined, joined_ends, joined_refused, joined_whole, joined_more, none_left, cut_short, not_counted}
 use Rattle.request.proofs.Counted.{span}

@@ -1,11 +1,11 @@
 -- What a walk finds, in the words of what stands in the input: over any sections, and of those of a request (`request::in_sections`). No
 -- reader needs it who believes `walk` (Sections).
-use Rattle.std.specs.Prelude.{◌≡◌, ◌↔◌, ◌⊎◌, Bool, true, false, ◌&&◌, List, [], ◌∷◌, ◌++◌, ℕ, ◌≤◌, ◌<◌, get_or, length, take}
+use Rattle.std.specs.Prelude.{◌≡◌, ◌↔◌, ◌⊎◌, Bool, true, false, ◌&&◌, List, [], ◌∷◌, ℕ, ◌≤◌, ◌<◌, get_or, length, take}
 use Rattle.lists.specs.Among.{among}
 use Rattle.wiring.specs.Theorems.{WiringCounted}
 use Rattle.video.specs.Video.{video_count}
 use Rattle.sound.specs.Sound.{audio_count}
-use Rattle.request.specs.Sections.{matrix_count, Bodies, in_turn, by_name, Walk, ends, not_allowed, whole, walk, walked}
+use Rattle.request.specs.Sections.{matrix_count, Bodies, in_turn, by_name, ends, not_allowed, whole, walk, walked}
 use Rattle.request.specs.Bytes.{laid}
 
 -- a body for each section, and each of a count that its section allows

@@ -1,0 +1,7 @@
+-- `request::in_sections` meets its contract, which is the theorem. Assumes nothing.
+use Rattle.request.proofs.Walks.{walks}
+use Rattle.request.proofs.Opened.{request_walks}
+use Rattle.request.proofs.in_sections.Goals as goal
+
+pub returns : goal.returns
+returns c = record { by_index = walks; by_index_2 = request_walks }
