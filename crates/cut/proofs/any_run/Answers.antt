@@ -13,8 +13,7 @@ use Rattle.cut.specs.Vsync.{change_waits, FinishedRun}
 use Rattle.cut.specs.AnyRun.{Good}
 use Rattle.cut.proofs.VsyncsLeave.{Alike, alike_self, alike_write, alike_vsync, before_first}
 use Rattle.cut.proofs.ClausesOfRuns.{nothing_waits}
-use Rattle.cut.proofs.any_run.Statement.{statement}
-use Rattle.cut.proofs.any_run.Tie as tie
+use Rattle.cut.proofs.any_run.Goals as goal
 
 first : (e : Event) (es : List Event) (s : Chip) → IsFair e s × ((happens e s).refusal ≡ 0) → Good es (happens e s).chip → Good (e ∷ es) s
 first e es s p g zero h = p
@@ -47,8 +46,5 @@ idle es s z ws f = go (held (run es s)) refl
     go true q = refl
     go false q = nothing_waits ws es s z f q
 
-returns : tie.Need-returns
+pub returns : goal.returns
 returns c = λ es s. record { before = before_first es s; anywhere = λ g fs e. anywhere es fs s s (alike_self s) e g; idle = idle es s }
-
-pub any-run-spec : {M : Type 1} → statement M
-any-run-spec = tie.close (tie.spec returns)
