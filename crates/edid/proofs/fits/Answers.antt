@@ -5,7 +5,6 @@ use Prim.Native.Nat.{ℕ, ◌+◌}
 use native.Mathlib.Omega.{arith}
 use lib.ListN.{length, set, take, replicate, length-set}
 use lib.Seq.{length-take-le}
-use borrow.Author.Tests.{not-true, not-false}
 use Rattle.edid.specs.Found.{is_shown, is_fitting}
 use Rattle.edid.proofs.Placed.{short, room, in_place_lem, copied}
 use Rattle.edid.proofs.ByByte.{as_long}
@@ -13,7 +12,7 @@ use Rattle.edid.proofs.fits.Goals as goal
 
 pub returns-then-not-is_told : goal.returns-then-not-is_told
 unfolding is_fitting
-returns-then-not-is_told c = rw (sym c.is_told.ensures ∙ not-true _ c.if-not-is_told.true-raw)
+returns-then-not-is_told c = rw (sym c.is_told.ensures ∙ c.if-not-is_told.true)
 
 pub padded-with-requires : goal.padded-with-requires
 padded-with-requires c = let r = c.args.request.now in
@@ -45,7 +44,7 @@ pub returns : goal.returns
 unfolding is_fitting
 returns c = let a = c.args in
     let r = a.request.now in
-    let t = sym c.is_told.ensures ∙ not-false _ c.if-not-is_told.false-raw in
+    let t = sym c.is_told.ensures ∙ c.if-not-is_told.false in
     c.is_shown.ensures
     ∙ ap (is_shown a.bytes.now)
     (ap (λ (l : List ℕ). take (length r) (set (set l a.at a.vic) (a.at + 1) a.family)) c.padded-with.ensures
