@@ -1,5 +1,5 @@
 -- What a Vsync does, as a reader of request 04 would check it: `turn` proves it of `vsyncOf`, which is what `Chip::vsync` promises.
-use Rattle.std.specs.Prelude.{◌≡◌, true, false, List, get_or, take}
+use Rattle.std.specs.Prelude.{◌≡◌, true, false, get_or, take}
 use Rattle.bits.specs.Merge.{bits_in}
 use Rattle.chip.specs.declared.Chip.{Chip}
 use Rattle.chip.specs.Machine.{matrix, converter, registers_of, held, in_use, enable_in_use, mode_in_use}

@@ -25,7 +25,7 @@ use Rattle.sound.specs.declared.Sound.{Sound}
 use Rattle.sound.specs.declared.Sound.TheVariants.{Off, On}
 use Rattle.request.specs.declared.Request.{Request}
 use Rattle.request.specs.declared.Checked.{Checked}
-use Rattle.request.specs.Sections.{Bodies, by_name, Walk, ends, not_allowed, whole, walk, walked, sections}
+use Rattle.request.specs.Sections.{Bodies, by_name, Walk, ends, not_allowed, whole, walked}
 use Rattle.request.specs.Request.{request_in}
 use Rattle.request.specs.Read.{emptied, fields_tests, limits_tests, judged, checked, limit_of, limited, read_of, pair_in, pair_for, ncts_of}
 use Rattle.pipe.specs.Final.{refusal_of}

@@ -2,7 +2,7 @@
 -- by is `Refusals`.
 use Rattle.std.specs.Prelude.{◌≡◌, ◌↔◌, ◌≢◌, true, false, [], ◌∷◌, ℕ, get_or}
 use Rattle.chip.specs.declared.Chip.{Chip}
-use Rattle.chip.specs.Machine.{packets, holds_of, coefficients}
+use Rattle.chip.specs.Machine.{packets, holds_of}
 use Rattle.chip.specs.Write.{two, write_of, vsync_of}
 use Rattle.chip.specs.Step.{TwoUp}
 use Rattle.views.specs.Entry.{marked, Lent, state_of, slices_of, enter_of, turn_of}
