@@ -9,7 +9,7 @@ use lib.ListN.{length, get_or}
 use Rattle.bits.specs.Merge.{bit}
 use Rattle.matrix.specs.Matrix.{fields}
 use Rattle.refusals.specs.Rows.{image_length, holds_up, list_length, bad_pair, bad_end}
-use Rattle.refusals.specs.Tests.{Test, ◌if◌, lowest}
+use Rattle.refusals.specs.Tests.{◌if◌, lowest}
 use Rattle.chip.specs.declared.Chip.{Chip}
 use Rattle.chip.specs.declared.Wrote.{Wrote}
 use Rattle.chip.specs.Machine.{Write, Group, avi, audio, gc, matrix, packets, converter, up, holds_of, registers_of, held, in_use, coefficients, gc_in_use, mute}

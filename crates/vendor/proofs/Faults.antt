@@ -22,7 +22,7 @@ use Rattle.chip.proofs.Writes.{two_up, written_as, holds_stored, stepped}
 use Rattle.writes.specs.List.{is_written}
 use Rattle.cut.specs.Run.{InUse, Either, Between, Fair}
 use Rattle.vendor.specs.Vendor.{pair_at, cut_at, pairs_by, LeavesTwo, shortened, Torn}
-use Rattle.vendor.specs.Found.{taken_by, fair_test, is_last, is_event, is_between, is_turned, is_next, first_fault}
+use Rattle.vendor.specs.Found.{taken_by, fair_test, is_last, is_between, is_turned, first_fault}
 use Rattle.cut.proofs.MendedRun.{lone}
 use Rattle.vendor.proofs.Moved.{between_decides, turned_decides}
 

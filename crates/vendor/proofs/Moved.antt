@@ -1,7 +1,7 @@
 -- What is in use after a write that is taken: a group that the write cannot have moved is as it was, and one that it may have moved is what
 -- stands in its registers. So the code's test of a cut decides it, where the cut before it was as it must be. Assumes nothing.
 use mathlib.Core.Path.{◌≡◌, refl, sym, ap, subst, ◌∙◌}
-use mathlib.Core.Logic.{◌⊎◌, ⊎_map}
+use mathlib.Core.Logic.{⊎_map}
 use mathlib.Core.Bool.{Bool, true, false, false≢true, cond, not, ◌&&◌, ◌||◌}
 use mathlib.Core.List.{List, []}
 use Prim.Native.Nat.{ℕ, ◌+◌, ◌^◌, ◌<◌, ◌≤◌}
