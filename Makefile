@@ -14,7 +14,7 @@
 #   make targets   the archives for other processors, tried under emulators: installs Debian's cross compilers and qemu, some minutes
 #   make helps     writes what --help prints into programs/help, which the scripts of tools/ and host/run show before anything is built
 #   make pages     pages of vendors' lists and of runs, into target/pages: what tests/browser looks at
-#   make clean     takes away what make has built of C; what rt has proved and built (the rest of target/) stays
+#   make clean     takes away what make has built of C; what rt has proved and built stays, and so does the rest of target/
 #   make help      this list
 LIB      = target/staticlib/libstation.a
 EXAMPLE  = $(shell sed -n 's/^ . So \([0-9a-f ]*\) is .*/\1/p' include/station.h)
@@ -105,4 +105,4 @@ target/archive/%/libstation.a: $(PROVED) include/station.h tools/archive
 # An archive that is older than a source is proved and built anew.
 $(LIB): $(PROVED)
 	$(if $(shell command -v rt 2>/dev/null),,$(error The command rt is missing: install the Rattle kit that README.md names, and put its bin folder on the PATH))
-	rt staticlib station
+	tools/library

@@ -1,7 +1,6 @@
 -- The bytes of a list: they keep the image's read-only and free bits, so that the machine stores them as they are, and a list planned on an
 -- image with the same such bits has the same bytes. Of a write a walk sees only what its step decides. Assumes nothing.
 use mathlib.Core.Path.{◌≡◌, refl, sym, ap, subst, subst⁻¹, ◌∙◌}
-use mathlib.Core.Logic.{◌⊎◌, ⊎_elim}
 use mathlib.Core.Bool.{Bool, true, false, cond}
 use mathlib.Core.List.{List, [], ◌∷◌, map}
 use Prim.Native.Nat.{ℕ, zero, suc, ◌+◌, ◌*◌, ◌<◌}
@@ -18,7 +17,6 @@ use Rattle.chip.specs.declared.Chip.{Chip}
 use Rattle.chip.specs.Machine.{Write, ◌gets◌, Buffer, Group, packets, converter}
 use Rattle.chip.specs.Write.{put, stored}
 use Rattle.writes.specs.Steps.{Step, ◌raising◌}
-use Rattle.writes.proofs.Carries.{masked}
 use Rattle.writes.specs.List.{decided, byte, written}
 use Rattle.cut.proofs.MovesOnlyAt.{nexts, walk, nexts_map, walk_map, acts}
 use Rattle.cut.proofs.GroupStays.{store, only, next, quiet, view}

@@ -1,12 +1,12 @@
 -- The twelve coefficients in use, wherever Vsync events fall among writes that are stored as they are: old or new at every cut, if a test
 -- over the writes passes. Assumes nothing.
 use mathlib.Core.Path.{◌≡◌, refl, sym, ap, ap₂, subst, fun_ext, ◌∙◌}
-use mathlib.Core.Logic.{◌⊎◌, inl, inr, ⊎_elim, ⊎_map}
+use mathlib.Core.Logic.{◌⊎◌, inl, ⊎_map}
 use mathlib.Core.Bool.{false≢true, Bool, true, false, not, ◌&&◌, ◌||◌, cond}
 use mathlib.Core.List.{List, [], ◌∷◌, ◌++◌, map}
 use Prim.Native.Nat.{ℕ, zero, suc, ◌+◌}
 use lib.Dec.{eqb, leb, ltb, lit≤, lit<}
-use lib.ListN.{length, get_or, set, take, drop}
+use lib.ListN.{get_or, set, take, drop}
 use lib.Seq.{get_or-set_same, get_or-set_other}
 use borrow.Author.Tests.{eqb-true, eqb-false}
 use Rattle.lists.specs.Those.{those}
@@ -18,7 +18,7 @@ use Rattle.writes.specs.Steps.{Step}
 use Rattle.writes.specs.List.{written}
 use Rattle.cut.specs.Run.{Event, write, vsync, writes_of}
 use Rattle.cut.specs.Vsync.{change_waits, turned_over}
-use Rattle.cut.proofs.MovesOnlyAt.{View, walk, nexts, acts, Faithful, once}
+use Rattle.cut.proofs.MovesOnlyAt.{View, walk, acts, Faithful, once}
 use Rattle.cut.proofs.GroupStays.{store, only, matrix_same, Whole, image_store, size_store, outside_part, part_fills}
 use Rattle.cut.proofs.BytesKept.{clean, Seen, converter_seen}
 

@@ -15,7 +15,7 @@ use Rattle.bits.specs.Merge.{bit}
 use Rattle.chip.specs.declared.Chip.{Chip}
 use Rattle.chip.specs.Machine.{Write, ◌gets◌, matrix, up}
 use Rattle.writes.specs.Steps.{Step, ◌raising◌, steps}
-use Rattle.writes.specs.List.{decided, written, list_with, finished_image, ready}
+use Rattle.writes.specs.List.{decided, written, list_with, finished_image}
 use Rattle.cut.specs.Run.{Event, write, vsync, run, cut, writes_of, writes_by, Fair}
 use Rattle.cut.specs.Vsync.{waited, leaves_hold, FinishedRun}
 use Rattle.cut.specs.Room.{sent}

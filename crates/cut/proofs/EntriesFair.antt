@@ -8,7 +8,6 @@ use lib.Dec.{eqb, ltb}
 use lib.ListN.{length, get_or, length-map, get_or-map}
 use borrow.Author.Tests.{eq-eqb, ltb-true}
 use Rattle.lists.specs.Among.{among}
-use Rattle.lists.specs.Find.{every}
 use Rattle.lists.proofs.Find.{every_at}
 use Rattle.lists.proofs.Those.{of_those}
 use Rattle.chip.specs.Machine.{Write, ◌gets◌, audio, packets, up, holds_of}

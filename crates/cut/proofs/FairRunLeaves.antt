@@ -17,7 +17,7 @@ use Rattle.chip.specs.Write.{put, stored, image_after, refuses, write_of, vsync_
 use Rattle.chip.proofs.Writes.{wrote, written_as}
 use Rattle.writes.specs.List.{is_written}
 use Rattle.writes.proofs.Carries.{masked}
-use Rattle.cut.specs.Run.{Event, write, vsync, happens, run, cut, event, Fair, IsFair, Stays, Untouched}
+use Rattle.cut.specs.Run.{Event, write, vsync, happens, cut, event, Fair, IsFair, Stays, Untouched}
 use Rattle.cut.proofs.BytesKept.{at_set}
 use Rattle.cut.proofs.Repeated.{vsync_image}
 

@@ -1,13 +1,13 @@
 -- A run is finished exactly if a Vsync comes after the write that lowers the hold and before the last. Assumes nothing.
 use mathlib.Core.Path.{◌≡◌, refl, sym, ap, ◌∙◌}
 use mathlib.Core.Logic.{◌↔◌}
-use mathlib.Core.Bool.{false≢true, Bool, true, false, not, ◌&&◌}
+use mathlib.Core.Bool.{false≢true, true, not, ◌&&◌}
 use mathlib.Core.List.{List, [], ◌∷◌, ◌++◌}
 use Prim.Native.Nat.{ℕ, zero, suc, ◌+◌, ◌<◌, suc-le-suc}
 use native.Mathlib.Nat.{not-suc-le-zero, le_of_suc-le-suc, zero-lt-suc, le_refl}
 use native.Mathlib.Omega.{arith}
 use lib.Dec.{eqb}
-use lib.ListN.{length, get_or, take, drop, length-append}
+use lib.ListN.{length, take, drop, length-append}
 use lib.Seq.{take-append-le, take-length}
 use Rattle.lists.proofs.Both.{both_left, both_right}
 use Rattle.chip.specs.Machine.{Write}

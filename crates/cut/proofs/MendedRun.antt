@@ -4,7 +4,7 @@ use mathlib.Core.Path.{◌≡◌, refl, sym, ap, subst, ◌∙◌}
 use mathlib.Core.Logic.{inl}
 use mathlib.Core.Bool.{Bool, true, false, false≢true, not, ◌&&◌, ◌||◌}
 use mathlib.Core.List.{List, [], ◌∷◌}
-use Prim.Native.Nat.{ℕ, zero, suc, ◌<◌, suc-le-suc}
+use Prim.Native.Nat.{ℕ, zero, suc, suc-le-suc}
 use native.Mathlib.Nat.{zero-lt-suc}
 use lib.Dec.{eqb, lit<}
 use lib.ListN.{length, get_or}

@@ -17,7 +17,6 @@ use Rattle.chip.specs.declared.Chip.{Chip}
 use Rattle.chip.specs.Machine.{Write, gc, packets, up, holds_of, gc_in_use, Muted, Open}
 use Rattle.chip.proofs.Writes.{stepped}
 use Rattle.cut.specs.Run.{Event, write, vsync, happens, run, cut, event, writes_of, writes_by, InUse, Careful, Covered}
-use Rattle.chip.specs.Write.{vsync_of}
 use Rattle.cut.proofs.GroupStays.{down_part}
 use Rattle.cut.proofs.Repeated.{vsync_image}
 use Rattle.cut.proofs.VsyncsLeave.{which, before_first}

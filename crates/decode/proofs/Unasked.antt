@@ -1,6 +1,6 @@
 -- A request under E that asks for nothing is accepted under D, and wants the same registers: so each request is accepted with its edition byte
 -- as it is answered, and wants the same. Assumes nothing.
-use mathlib.Core.Path.{◌≡◌, refl, sym, ap, ◌∙◌, subst}
+use mathlib.Core.Path.{◌≡◌, refl, sym, ap, ◌∙◌}
 use mathlib.Core.Bool.{Bool, true, false, cond}
 use Prim.Native.Nat.{ℕ}
 use lib.Dec.{eqb}

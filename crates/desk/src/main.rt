@@ -8,8 +8,8 @@ ghost use Rattle.request.specs.Sections.{longest};
 ghost use Rattle.pipe.specs.Bytes.{fresh, pipe_length};
 ghost use Rattle.desk.specs.Turns.{DeskTurns, SomePart, AllParts, PrintsPipe};
 
-use libc::{STDIN_FILENO, STDOUT_FILENO};
 use pipe::{ENOUGH, PIPE};
+use std::io::{Read, Write};
 
 // A part goes into the pipe. Whether to go on: not after the empty part, the end of the input, and not after an answer.
 fn turn(pipe: &mut [u8], part: &[u8]) -> bool
@@ -20,32 +20,34 @@ fn turn(pipe: &mut [u8], part: &[u8]) -> bool
 }
 
 // What is there to be read, in a room for one byte more than the longest request: that much decides. In a room of no bytes every input would be
-// at its end.
-fn read_part(room: &mut [u8]) -> usize
+// at its end. A read that fails counts as the end too.
+fn read_part(rt: &HostRuntime, room: &mut [u8]) -> usize
     requires { longest < length room.old }
     ensures { IsPrefixLen result room.new }
 {
-    let got = libc::read(STDIN_FILENO, room);
-    io::count(got, room)
+    match rt.stdin().read(room) {
+        Ok(n) => n,
+        Err(_) => 0,
+    }
 }
 
 // It goes into the pipe.
-fn take_some(pipe: &mut [u8]) -> bool
+fn take_some(rt: &HostRuntime, pipe: &mut [u8]) -> bool
     ensures { SomePart pipe.old result pipe.new }
 {
     let mut part = [0u8; ENOUGH];
-    let n = read_part(&mut part);
+    let n = read_part(rt, &mut part);
     turn(pipe, &part[..n])
 }
 
 // All that is to be read goes into a fresh pipe.
-fn take_all(pipe: &mut [u8])
+fn take_all(rt: &HostRuntime, pipe: &mut [u8])
     requires { pipe.old ≡ fresh }
     ensures { AllParts pipe.new }
 {
     let mut more = true;
     while more {
-        more = take_some(pipe);
+        more = take_some(rt, pipe);
     }
 }
 
@@ -59,10 +61,13 @@ fn print(pipe: &mut [u8], line: &mut [u8; 80]) -> usize
     line::print_answer(piped.refusal, &pipe[..piped.count as usize], line)
 }
 
-fn main() {
+fn main(rt: HostRuntime) {
     let mut pipe = [0u8; PIPE];
-    take_all(&mut pipe);
+    take_all(&rt, &mut pipe);
     let mut line = [0u8; 80];
     let count = print(&mut pipe, &mut line);
-    io::write_all(STDOUT_FILENO, &line[..count]);
+    match rt.stdout().write_all(&line[..count]) {
+        Ok(()) => {}
+        Err(_) => {}
+    }
 }

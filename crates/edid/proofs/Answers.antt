@@ -12,7 +12,6 @@ use Rattle.lists.specs.Same.{same_list}
 use Rattle.lists.proofs.Decides.{Decides, equal, less, opposite, either, together, one_fails, restated}
 use Rattle.lists.proofs.Compared.{same_decides}
 use Rattle.bits.specs.Merge.{bit}
-use Rattle.refusals.specs.Tests.{answer}
 use Rattle.refusals.proofs.Tests.{answer_none}
 use Rattle.frames.specs.Frames.{total}
 use Rattle.edid.specs.declared.Monitor.{Monitor}

@@ -1,5 +1,5 @@
 -- Document 02, request 12: rows 21 to 24, "in that order, before any planning refusal", and what it is to give one of them.
-use Rattle.std.specs.Prelude.{◌≡◌, ◌↔◌, ◌≢◌, true, List, [], ◌∷◌, ℕ, ◌<◌, length}
+use Rattle.std.specs.Prelude.{◌≡◌, ◌↔◌, ◌≢◌, true, List, ◌∷◌, ℕ, ◌<◌, length}
 use Rattle.refusals.specs.Rows.{Row, edid_length, edid_sum, edid_block, no_wish_fits, order, in_order, Condition, at, First}
 
 abbrev pub screen_order : List Row

@@ -1,4 +1,4 @@
--- Document 02, request 12: wishes, "each a VIC and family put in its place", and when one fits. What is answered, `chooseOf`, follows the code (Found);
+-- Document 02, request 12: wishes, "each a VIC and family put in its place", and when one fits. What is answered, `choose_of`, follows the code (Found);
 -- `Chooses` (Theorems) says that it is the first that fits.
 use Rattle.std.specs.Prelude.{◌≡◌, ◌≢◌, ◌⊎◌, true, List, [], ◌∷◌, ℕ, ◌*◌, ◌%◌, ◌<◌, get_or, length, drop}
 use Rattle.refusals.specs.Rows.{Condition, ◌when◌, at, edid_length, edid_sum, edid_block, no_wish_fits}

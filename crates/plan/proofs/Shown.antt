@@ -3,8 +3,8 @@
 use mathlib.Core.Path.{◌≡◌, refl, ap, ◌∙◌}
 use mathlib.Core.Logic.{⊎_elim}
 use mathlib.Core.Bool.{Bool, true, false, false≢true, cond, not, ◌&&◌, ◌||◌}
-use mathlib.Core.List.{List, [], ◌∷◌, ◌++◌}
-use Prim.Native.Nat.{ℕ, zero, suc, ◌+◌, ◌-◌, ◌/◌, ◌%◌, ◌<◌, ◌≤◌}
+use mathlib.Core.List.{List, [], ◌∷◌}
+use Prim.Native.Nat.{ℕ, ◌+◌, ◌-◌, ◌/◌, ◌%◌, ◌<◌}
 use native.Mathlib.Omega.{arith}
 use lib.Dec.{eqb, ltb, lit<}
 use lib.ListN.{get_or}
@@ -21,7 +21,7 @@ use Rattle.wiring.proofs.Fits.{wires_fit}
 use Rattle.video.specs.Video.{depth, repetition}
 use Rattle.video.proofs.Fits.{vic_small, encoding_fits, link_fits, range_fits, repetition_fits, depth_fits}
 use Rattle.clock.specs.declared.Pair.{Pair}
-use Rattle.frames.specs.Frames.{checksum_of, avi_frame}
+use Rattle.frames.specs.Frames.{avi_frame}
 use Rattle.sound.proofs.Rates.{table}
 use Rattle.sound.specs.declared.Sound.{Sound}
 use Rattle.sound.specs.declared.Sound.TheVariants.{Off, On}
@@ -34,7 +34,7 @@ use Rattle.writes.specs.List.{decided, is_written, left_up, finished}
 use Rattle.writes.proofs.Named.{is_field, small_address, field}
 use Rattle.plan.specs.Places.{Place, place, places, Shows, Each}
 use Rattle.plan.specs.Places.{with_sound, eight_channels, manual_cts, rate_code_of, in_pr, depth_numbers, in_cc, in_ca}
-use Rattle.plan.specs.Wanted.{placed_at, wanted}
+use Rattle.plan.specs.Wanted.{wanted}
 use Rattle.plan.proofs.Accepted.{pair_twenty}
 use Rattle.plan.proofs.Tidy.{Narrow, tidy, byte_placed, each_placed}
 

@@ -1,12 +1,11 @@
 -- Document 01's named fields, in its notation: the number that a request has in each of them, with the fields that document 02 adds last. No
 -- number comes from writes or from steps. The wanted byte of a register is what stands here (`Wanted`), and the finished image shows it.
-use Rattle.std.specs.Prelude.{◌≡◌, cond, List, [], ◌∷◌, ◌++◌, ℕ, zero, suc, ◌+◌, ◌-◌, ◌*◌, ◌/◌, ◌%◌, ◌^◌, eqb, get_or, replicate}
+use Rattle.std.specs.Prelude.{◌≡◌, cond, List, [], ◌∷◌, ◌++◌, ℕ, zero, suc, ◌+◌, ◌-◌, ◌/◌, ◌%◌, eqb, get_or, replicate}
 use Rattle.lists.specs.Among.{among}
 use Rattle.bits.specs.Merge.{bits_in}
 use Rattle.map.specs.Map.{audio_select_default, audio_mode_default, i2s_format_default}
 use Rattle.wiring.specs.declared.Wires.{Wires}
 use Rattle.wiring.specs.Wiring.{wires_of}
-use Rattle.video.specs.declared.Video.{Video}
 use Rattle.video.specs.Video.{depth, repetition, ycc_quantisation, content_type}
 use Rattle.sound.specs.Rates.{code_for}
 use Rattle.clock.specs.declared.Pair.{Pair}

@@ -1,2 +1,2 @@
-mod First
+pub mod First
 pub mod Tests

@@ -1,4 +1,5 @@
-// The C face: each call is a call of the library, taken apart. No logic. The C declarations are in include/station.h.
+// The C face: each call is a call of the library, taken apart. No logic. The C declarations are in include/station.h; `station_c` exports the
+// calls.
 #![tactic(auto)]
 
 ghost use Rattle.station.specs.Face.{StationPlan, StationDecode, StationNcts};
@@ -6,7 +7,7 @@ ghost use Rattle.station.specs.Matrices.{StationPreview, StationMeter};
 ghost use Rattle.station.specs.Pipe.{StationPipeTake, StationPipeEnd};
 ghost use Rattle.station.specs.Screen.{StationEdid, StationChoose};
 
-mod machine;
+pub mod machine;
 
 // struct station_count
 #[repr(C)]
@@ -65,8 +66,7 @@ pub struct ChoiceOut {
 }
 
 // The write list of a request on an image, as pairs of address and value: refusals 1 to 6, 17, 20 and 7 to 10.
-#[unsafe(no_mangle)]
-pub extern "C" fn station_plan(request: &[u8], image: &[u8], writes: &mut [u8]) -> CountOut
+pub fn station_plan(request: &[u8], image: &[u8], writes: &mut [u8]) -> CountOut
     ensures { StationPlan request.now image.now writes.old result writes.new }
 {
     let planned = plan::plan(request, image, writes);
@@ -77,8 +77,7 @@ pub extern "C" fn station_plan(request: &[u8], image: &[u8], writes: &mut [u8]) 
 }
 
 // The request that ends in an image, family 0: refusals 7, 10 and 11. The count is that of its bytes.
-#[unsafe(no_mangle)]
-pub extern "C" fn station_decode(image: &[u8], request: &mut [u8]) -> CountOut
+pub fn station_decode(image: &[u8], request: &mut [u8]) -> CountOut
     ensures { StationDecode image.now request.old result request.new }
 {
     let decoded = decode::decode(image, request);
@@ -89,8 +88,7 @@ pub extern "C" fn station_decode(image: &[u8], request: &mut [u8]) -> CountOut
 }
 
 // N and CTS over a request: refusals 1 to 6, 17, 20 and 9.
-#[unsafe(no_mangle)]
-pub extern "C" fn station_ncts(request: &[u8]) -> PairOut
+pub fn station_ncts(request: &[u8]) -> PairOut
     ensures { StationNcts request.now result }
 {
     let pair = request::ncts(request);
@@ -102,8 +100,7 @@ pub extern "C" fn station_ncts(request: &[u8]) -> PairOut
 }
 
 // Three codes through a matrix, 25 bytes as the request has them: refusals 5 and 12.
-#[unsafe(no_mangle)]
-pub extern "C" fn station_preview(matrix: &[u8], a: u32, b: u32, c: u32) -> PixelOut
+pub fn station_preview(matrix: &[u8], a: u32, b: u32, c: u32) -> PixelOut
     ensures { StationPreview matrix.now a b c result }
 {
     let pixel = matrix::preview(matrix, a, b, c);
@@ -116,8 +113,7 @@ pub extern "C" fn station_preview(matrix: &[u8], a: u32, b: u32, c: u32) -> Pixe
 }
 
 // A colour meter's twelve numbers as a matrix, 25 bytes as the request has them: refusals 5, 10, 18 and 19.
-#[unsafe(no_mangle)]
-pub extern "C" fn station_meter(numbers: &[f32], matrix: &mut [u8]) -> CountOut
+pub fn station_meter(numbers: &[f32], matrix: &mut [u8]) -> CountOut
     ensures { StationMeter numbers.now matrix.old result matrix.new }
 {
     let metered = meter::take_matrix(numbers, matrix);
@@ -128,8 +124,7 @@ pub extern "C" fn station_meter(numbers: &[f32], matrix: &mut [u8]) -> CountOut
 }
 
 // A part of a request, into a pipe: refusals 2 and 3 at once, and 7 of bytes that are no pipe.
-#[unsafe(no_mangle)]
-pub extern "C" fn station_pipe_take(pipe: &mut [u8], part: &[u8]) -> PipedOut
+pub fn station_pipe_take(pipe: &mut [u8], part: &[u8]) -> PipedOut
     ensures { StationPipeTake pipe.old part.now result pipe.new }
 {
     let piped = pipe::take(pipe, part);
@@ -141,8 +136,7 @@ pub extern "C" fn station_pipe_take(pipe: &mut [u8], part: &[u8]) -> PipedOut
 }
 
 // The end of the input: refusals 1 to 6, 17, 20 and 9, and 7 of bytes that are no pipe.
-#[unsafe(no_mangle)]
-pub extern "C" fn station_pipe_end(pipe: &mut [u8]) -> PipedOut
+pub fn station_pipe_end(pipe: &mut [u8]) -> PipedOut
     ensures { StationPipeEnd pipe.old result pipe.new }
 {
     let piped = pipe::end(pipe);
@@ -154,8 +148,7 @@ pub extern "C" fn station_pipe_end(pipe: &mut [u8]) -> PipedOut
 }
 
 // What a screen says of itself: refusals 21 to 23.
-#[unsafe(no_mangle)]
-pub extern "C" fn station_edid(edid: &[u8]) -> MonitorOut
+pub fn station_edid(edid: &[u8]) -> MonitorOut
     ensures { StationEdid edid.now result }
 {
     let monitor = edid::overview(edid);
@@ -169,8 +162,7 @@ pub extern "C" fn station_edid(edid: &[u8]) -> MonitorOut
 }
 
 // The first wish that fits a request and a screen: refusals 21 to 24.
-#[unsafe(no_mangle)]
-pub extern "C" fn station_choose(edid: &[u8], request: &[u8], wishes: &[u8]) -> ChoiceOut
+pub fn station_choose(edid: &[u8], request: &[u8], wishes: &[u8]) -> ChoiceOut
     ensures { StationChoose edid.now request.now wishes.now result }
 {
     let choice = edid::choose(edid, request, wishes);

@@ -43,8 +43,7 @@ pub struct ClassOut {
 }
 
 // One write of the chip machine: refusals 7 and 13.
-#[unsafe(no_mangle)]
-pub extern "C" fn station_write(
+pub fn station_write(
     image: &mut [u8],
     packet: &mut [u8],
     coefficients: &mut [u8],
@@ -59,8 +58,7 @@ pub extern "C" fn station_write(
 }
 
 // One Vsync of the chip machine: refusal 7.
-#[unsafe(no_mangle)]
-pub extern "C" fn station_vsync(
+pub fn station_vsync(
     image: &mut [u8],
     packet: &mut [u8],
     coefficients: &mut [u8],
@@ -73,8 +71,7 @@ pub extern "C" fn station_vsync(
 }
 
 // Where the packet that is sent stands: refusals 5, 7 and 13.
-#[unsafe(no_mangle)]
-pub extern "C" fn station_sent(image: &[u8], packet: &[u8], which: u32) -> PartOut
+pub fn station_sent(image: &[u8], packet: &[u8], which: u32) -> PartOut
     ensures { StationSent image.now packet.now which result }
 {
     let part = views::sent_part(image, packet, which);
@@ -87,8 +84,7 @@ pub extern "C" fn station_sent(image: &[u8], packet: &[u8], which: u32) -> PartO
 }
 
 // The mute bits: refusals 7 and 13.
-#[unsafe(no_mangle)]
-pub extern "C" fn station_mute(image: &[u8], packet: &[u8]) -> StateOut
+pub fn station_mute(image: &[u8], packet: &[u8]) -> StateOut
     ensures { StationMute image.now packet.now result }
 {
     let bits = views::mute_of(image, packet);
@@ -99,13 +95,7 @@ pub extern "C" fn station_mute(image: &[u8], packet: &[u8]) -> StateOut
 }
 
 // The mode and the twelve coefficients in use, as a request has them: refusals 7 and 10.
-#[unsafe(no_mangle)]
-pub extern "C" fn station_matrix(
-    image: &[u8],
-    coefficients: &[u8],
-    mark: u8,
-    matrix: &mut [u8],
-) -> CountOut
+pub fn station_matrix(image: &[u8], coefficients: &[u8], mark: u8, matrix: &mut [u8]) -> CountOut
     ensures { StationMatrix image.now coefficients.now mark matrix.old result matrix.new }
 {
     let count = views::matrix_in_use(image, coefficients, mark, matrix);
@@ -116,8 +106,7 @@ pub extern "C" fn station_matrix(
 }
 
 // Whether a vendor's list may be run on the chip: refusals 7, 8, 14, 15 and 16; with 15 the place of the first bad pair.
-#[unsafe(no_mangle)]
-pub extern "C" fn station_vet(
+pub fn station_vet(
     image: &[u8],
     packet: &[u8],
     coefficients: &[u8],
@@ -134,8 +123,7 @@ pub extern "C" fn station_vet(
 }
 
 // The class of a register's bits: four masks, and the mandated bits.
-#[unsafe(no_mangle)]
-pub extern "C" fn station_class(address: u8) -> ClassOut
+pub fn station_class(address: u8) -> ClassOut
     ensures { StationClass address result }
 {
     let class = registers::class_at(address);

@@ -3,10 +3,11 @@
 #![tactic(auto)]
 
 ghost use Rattle.std.specs.Prelude.{◌≡◌, List, ℕ, ◌<◌, ◌≤◌, length};
+ghost use Rattle.io.specs.Counts.{IsPrefixLen};
 ghost use Rattle.vet.specs.Input.{verdict_of, longest_input, PrintsInput, Inputs};
 
-use libc::{STDIN_FILENO, STDOUT_FILENO};
 use refusals::Refusal;
+use std::io::{Read, Write};
 use vendor::{MOST_PAIRS, Verdict};
 
 // The bytes before the list, and with them one pair more than the longest list has.
@@ -33,22 +34,43 @@ fn judged(input: &[u8]) -> Verdict
     )
 }
 
+// What is there to be read, at the front of a room: up to its end, or the input's. A read that fails counts as the end too.
+fn read_full(rt: &HostRuntime, room: &mut [u8]) -> usize
+    ensures { IsPrefixLen result room.new }
+{
+    let mut done = 0;
+    while done < room.len() {
+        let n = match rt.stdin().read(&mut room[done..]) {
+            Ok(n) => n,
+            Err(_) => 0,
+        };
+        if n == 0 {
+            break;
+        }
+        done += n;
+    }
+    done
+}
+
 // The line of what is read, in a room for more than the longest input: what follows one byte more changes nothing (`Inputs.enough`).
-fn print(room: &mut [u8], line: &mut [u8; 80]) -> usize
+fn print(rt: &HostRuntime, room: &mut [u8], line: &mut [u8; 80]) -> usize
     requires { longest_input < length room.old }
     ensures prints_input { PrintsInput room.new result line.new }
     ensures upper_bound { result ≤ length line.new }
 {
-    let n = io::read_full(STDIN_FILENO, room);
+    let n = read_full(rt, room);
     let verdict = judged(&room[..n]);
     line::print_verdict(verdict.refusal, verdict.place, line)
 }
 
-fn main() {
+fn main(rt: HostRuntime) {
     let mut room = [0u8; ENOUGH];
     let mut line = [0u8; 80];
-    let count = print(&mut room, &mut line);
-    io::write_all(STDOUT_FILENO, &line[..count]);
+    let count = print(&rt, &mut room, &mut line);
+    match rt.stdout().write_all(&line[..count]) {
+        Ok(()) => {}
+        Err(_) => {}
+    }
 }
 
 // The parts of an input, and what is answered for one that ends before its list, or goes on after the longest.
