@@ -2,16 +2,15 @@
 use mathlib.Core.Path.{◌≡◌, refl, sym, ap, ap₂, subst, ◌∙◌}
 use mathlib.Core.Bool.{true}
 use mathlib.Core.List.{List, [], ◌∷◌}
-use Prim.Native.Nat.{ℕ, suc, ◌+◌, ◌≤◌}
+use Prim.Native.Nat.{ℕ, ◌+◌, ◌≤◌}
 use lib.Dec.{eqb}
-use lib.ListN.{length, get_or, take, drop, set, replicate}
+use lib.ListN.{length, get_or, drop, set, replicate}
 use lib.Seq.{take-length}
 use borrow.Author.Tests.{eqb-true, eq-eqb, le-ltb}
 use Rattle.matrix.specs.Matrix.{Bytes}
 use Rattle.chip.specs.declared.Chip.{Chip}
 use Rattle.chip.specs.Machine.{Write, avi, audio, packets, in_use, coefficients, mode_in_use}
-use Rattle.views.specs.Entry.{Lent, state_of}
-use Rattle.views.specs.Sized.{LentSized}
+use Rattle.views.specs.Entry.{state_of}
 use Rattle.clock.specs.declared.Pair.{Pair}
 use Rattle.request.specs.declared.Request.{Request}
 use Rattle.request.specs.declared.Checked.{Checked}
@@ -23,7 +22,6 @@ use Rattle.request.proofs.Said.{new_video_lem}
 use Rattle.request.proofs.Alone.{accepted_under_d}
 use Rattle.request.specs.Fits.{Fits}
 use Rattle.request.proofs.Fits as request
-use Rattle.plan.specs.Wanted.{wanted}
 use Rattle.plan.specs.declared.Planned.{Planned}
 use Rattle.writes.specs.List.{finished_image, ready}
 use Rattle.writes.proofs.Image.{image_length_lem, image_at}
@@ -31,8 +29,8 @@ use Rattle.plan.specs.Plan.{plan_of}
 use Rattle.plan.proofs.Fine.{Fine, fine, accepts, leaves}
 use Rattle.plan.proofs.Ordered.{refusals}
 use Rattle.cut.specs.Run.{Event, run, cut, writes_of}
-use Rattle.cut.specs.Vsync.{waited, FinishedRun}
-use Rattle.cut.specs.Demand.{to_its_end, Cut, cuts, PlannedAgain, After, Same, Demand3}
+use Rattle.cut.specs.Vsync.{waited}
+use Rattle.cut.specs.Demand.{to_its_end, Cut, cuts, PlannedAgain, After, Demand3}
 use Rattle.cut.proofs.DemandOfGoodLists.{waited_writes}
 use Rattle.cut.proofs.DemandOfWriteList.{holds}
 use Rattle.cut.proofs.ShorterWithin.{made_right_lem}

@@ -51,7 +51,7 @@ use Rattle.chip.specs.Write.{lent_as}
 use Rattle.vendor.specs.Found.{vet_refusal, vet_of}
 use Rattle.promises.specs.Rules.{asked}
 use Rattle.promises.specs.Worked.{zeros, Few, FewDeep, FewEditions}
-use Rattle.promises.specs.Cases.{rgb_over_hdmi, asked16, edition_refusal, done16, eight, MarkedCases}
+use Rattle.promises.specs.Cases.{rgb_over_hdmi, asked16, edition_refusal, eight, MarkedCases}
 
 multiple : (n cts : ℕ) → reference 0 * cts * (clock_of (rgb_over_hdmi 4 1)).den ≡ (clock_of (rgb_over_hdmi 4 1)).num * n → 23296 ∣ n
 unfolding reference tmds clock_of mode_of divisor_of euclid

@@ -29,7 +29,7 @@ use Rattle.sound.specs.Tests.{is_on, sound_outside}
 use Rattle.wiring.specs.Kinds.{rgb_in}
 use Rattle.request.specs.declared.Checked.{Checked}
 use Rattle.request.specs.declared.Request.{Request}
-use Rattle.request.specs.Sections.{sections, Bodies, Walk, whole, walked}
+use Rattle.request.specs.Sections.{sections, Bodies, Walk, walked}
 use Rattle.request.specs.Walks.{fits}
 use Rattle.request.specs.Bytes.{laid}
 use Rattle.request.specs.Request.{present, request_in}

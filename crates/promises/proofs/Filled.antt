@@ -1,10 +1,10 @@
 -- The finished image of an accepted request, and the N and CTS that are answered for it. Assumes nothing.
 use mathlib.Core.Path.{◌≡◌, refl, sym, ap, subst, ◌∙◌}
-use mathlib.Core.Bool.{Bool, false, cond}
+use mathlib.Core.Bool.{Bool, cond}
 use mathlib.Core.List.{List, [], ◌∷◌}
 use Prim.Native.Nat.{ℕ, suc, ◌+◌, ◌*◌, ◌/◌, ◌%◌, ◌<◌, ◌≤◌}
 use native.Mathlib.Omega.{arith}
-use lib.Dec.{eqb, lit<}
+use lib.Dec.{eqb}
 use lib.ListN.{length, get_or, take, drop}
 use borrow.Author.Tests.{eqb-true, eq-eqb, ne_eqb}
 use Rattle.bits.proofs.Below.{at_below}
@@ -28,10 +28,9 @@ use Rattle.lists.proofs.Those.{of_those}
 use Rattle.bits.specs.Merge.{merge, under, bit, bits_in}
 use Rattle.registers.specs.Classes.{class_at}
 use Rattle.chip.specs.Machine.{Write, ◌gets◌}
-use Rattle.writes.specs.List.{decided, is_written, finished, finished_image, full_list, stays, write_list}
+use Rattle.writes.specs.List.{decided, finished, full_list, stays, write_list}
 use Rattle.writes.specs.Carried.{requested}
 use Rattle.writes.proofs.Carries.{masked, entries}
-use Rattle.writes.proofs.Image.{image_length_lem, image_at}
 use Rattle.plan.specs.Wanted.{wanted}
 use Rattle.wiring.specs.declared.Wires.{Wires}
 use Rattle.wiring.specs.declared.Wiring.{Wiring}
@@ -44,7 +43,7 @@ use Rattle.decode.proofs.Answers.{finished_again}
 use Rattle.plan.specs.Places.{audio_packet, places, Shows}
 use Rattle.promises.specs.Finished.{NeverThree, FinishedFields, Paired, FourShown, SyncsShown, WiringShown}
 use Rattle.bits.proofs.Fields.{field_same}
-use Rattle.writes.proofs.Named.{field, ordered}
+use Rattle.writes.proofs.Named.{ordered}
 
 -- ---- N and CTS
 

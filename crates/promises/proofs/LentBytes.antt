@@ -2,7 +2,7 @@
 -- answer along it. Assumes nothing.
 use mathlib.Core.Path.{◌≡◌, refl, sym, ap, subst, ◌∙◌}
 use mathlib.Core.Logic.{◌⊎◌, inl, inr, ⊎_map, ⊎_elim}
-use mathlib.Core.Bool.{Bool, true, false, false≢true, cond, not, ◌&&◌}
+use mathlib.Core.Bool.{Bool, true, false, cond, not, ◌&&◌}
 use mathlib.Core.List.{List, [], ◌∷◌, ◌++◌}
 use Prim.Native.Nat.{ℕ, zero, suc, ◌*◌, ◌<◌, ◌≤◌}
 use native.Mathlib.Nat.{suc-ne-zero}
@@ -18,10 +18,10 @@ use Rattle.frames.specs.Frames.{avi_frame}
 use Rattle.request.specs.declared.Request.{Request}
 use Rattle.request.specs.Read.{read_of}
 use Rattle.chip.specs.declared.Chip.{Chip}
-use Rattle.chip.specs.Machine.{Write, ◌gets◌, avi, audio, matrix, packets, holds_of, registers_of, held, in_use, coefficients, mode_in_use, gc_in_use, Muted, Open, mute}
+use Rattle.chip.specs.Machine.{Write, avi, audio, matrix, packets, holds_of, registers_of, held, in_use, coefficients, mode_in_use, gc_in_use, Muted, Open, mute}
 use Rattle.chip.specs.Write.{two, vsync_of}
 use Rattle.chip.proofs.Writes.{turned}
-use Rattle.views.specs.Entry.{Lent, SliceAnswer, state_of, slices_of, enter_of, turn_of}
+use Rattle.views.specs.Entry.{Lent, SliceAnswer, state_of, slices_of, turn_of}
 use Rattle.views.specs.Sized.{LentSized}
 use Rattle.views.specs.Faces.{Faces}
 use Rattle.views.proofs.Shown as views

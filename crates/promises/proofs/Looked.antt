@@ -4,7 +4,7 @@ use mathlib.Core.Bool.{Bool, true, false, false≢true, beq, cond, ◌||◌}
 use mathlib.Core.List.{List, [], ◌∷◌, ◌++◌, map}
 use Prim.Native.Nat.{ℕ, ◌*◌, ◌<◌, ◌≤◌}
 use lib.Dec.{eqb, ltb}
-use lib.ListN.{length, get_or, take}
+use lib.ListN.{length, take}
 use borrow.Author.Tests.{eqb-true, ltb-false}
 use Rattle.lists.specs.Among.{among}
 use Rattle.lists.specs.Find.{every}
@@ -13,7 +13,7 @@ use Rattle.lists.proofs.Both.{both_left, both_right, beq_true}
 use Rattle.bits.proofs.Below.{at_below}
 use Rattle.refusals.specs.Tests.{answer}
 use Rattle.chip.specs.declared.Chip.{Chip}
-use Rattle.chip.specs.Machine.{Write, audio, packets, up, holds_of}
+use Rattle.chip.specs.Machine.{audio, packets, up, holds_of}
 use Rattle.request.specs.declared.Request.{Request}
 use Rattle.request.specs.Read.{read_of}
 use Rattle.request.specs.Sections.{longest}

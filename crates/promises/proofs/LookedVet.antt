@@ -2,26 +2,23 @@
 -- give the same verdict. Assumes nothing.
 use mathlib.Core.Path.{◌≡◌, refl, sym, ap, subst, ◌∙◌}
 use mathlib.Core.Bool.{Bool, true, false, cond, not, ◌&&◌, ◌||◌}
-use mathlib.Core.List.{List, [], ◌∷◌, ◌++◌, map}
-use Prim.Native.Nat.{ℕ, zero, suc, ◌+◌, ◌*◌, ◌%◌, ◌<◌, ◌≤◌}
+use mathlib.Core.List.{List, [], ◌∷◌, map}
+use Prim.Native.Nat.{ℕ, zero, suc, ◌+◌, ◌%◌, ◌<◌}
 use native.Mathlib.Omega.{arith}
 use lib.Dec.{eqb, ltb}
-use lib.ListN.{length, get_or, set, take, drop, length-take, length-drop, length-set}
+use lib.ListN.{length, get_or, take, drop, length-take, length-drop, length-set}
 use lib.Seq.{ext_get_or, get_or-take, get_or-drop, get_or-set_same, get_or-set_other}
-use borrow.Author.Tests.{eqb-true, eqb-false, eq-eqb, ltb-true, ltb-false}
-use Rattle.lists.specs.Find.{every}
+use borrow.Author.Tests.{eqb-true, eqb-false, eq-eqb, ltb-true}
 use Rattle.lists.proofs.Among.{Stands, stands}
 use Rattle.lists.proofs.Find.{every_at}
-use Rattle.bits.specs.Merge.{bit}
 use Rattle.bits.proofs.Below.{below, at_below}
-use Rattle.matrix.specs.Matrix.{fields}
 use Rattle.refusals.specs.Rows.{image_length, holds_up, two_holds, list_length, bad_pair, bad_end}
-use Rattle.refusals.specs.Tests.{Test, ◌if◌, lowest, answer}
+use Rattle.refusals.specs.Tests.{◌if◌, lowest, answer}
 use Rattle.request.specs.declared.Request.{Request}
 use Rattle.request.specs.Bytes.{request_in_family}
 use Rattle.chip.specs.declared.Chip.{Chip}
 use Rattle.chip.specs.declared.Wrote.{Wrote}
-use Rattle.chip.specs.Machine.{Write, Group, avi, audio, gc, matrix, packets, converter, up, holds_of, registers_of, held, in_use, coefficients, gc_in_use, mute}
+use Rattle.chip.specs.Machine.{Write, avi, audio, gc, matrix, packets, converter, holds_of, registers_of, in_use, coefficients, gc_in_use, mute}
 use Rattle.chip.specs.Write.{lent_as, buffer_after, mark_after, put, stored, image_after, two, refuses, refused_write, write_of, vsync_of}
 use Rattle.views.specs.Entry.{is_sized}
 use Rattle.writes.specs.Rows.{list_rows}

@@ -30,7 +30,7 @@ use Rattle.decode.specs.Ends.{Ends}
 use Rattle.decode.specs.Decode.{decode_of}
 use Rattle.decode.specs.Theorems.{decode_rules}
 use Rattle.decode.proofs.Answers.{exactly, refusals}
-use Rattle.plan.specs.Places.{place, places, Shows, in_q, in_pr, depth_numbers}
+use Rattle.plan.specs.Places.{places, Shows, in_q, in_pr, depth_numbers}
 use Rattle.promises.specs.Finished.{FinishedFields}
 use Rattle.promises.specs.FieldByField.{FieldByField}
 use Rattle.plan.proofs.Shown.{Picked, picked}

@@ -1,6 +1,6 @@
 -- What a wiring section is answered, byte by byte: rows of the table of IDs against the rows in numbers. A code above 3 is told apart from no
 -- other, nor is an ID above 8, so one test over the codes 0 to 4 and the IDs 0 to 9 decides. Assumes nothing.
-use mathlib.Core.Path.{◌≡◌, refl, sym, ap, ◌∙◌, subst}
+use mathlib.Core.Path.{◌≡◌, refl, sym, ◌∙◌, subst}
 use mathlib.Core.Bool.{Bool, true, false, false≢true, cond, not, ◌&&◌, ◌||◌, beq}
 use mathlib.Core.List.{List, [], ◌∷◌}
 use Prim.Native.Nat.{ℕ, ◌+◌, ◌*◌, ◌<◌, ◌≤◌}
@@ -17,8 +17,6 @@ use Rattle.bits.proofs.Below.{below, at_below}
 use Rattle.matrix.specs.Matrix.{Bytes}
 use Rattle.wiring.specs.declared.Kind.{Kind}
 use Rattle.wiring.specs.declared.Wires.{Wires}
-use Rattle.wiring.specs.declared.Wiring.{Wiring}
-use Rattle.wiring.specs.declared.Wiring.TheVariants.{Board, Four, Twelve}
 use Rattle.wiring.specs.Kinds.{kinds, no_kind, kind_of, rgb_in, most_sync}
 use Rattle.wiring.specs.Wiring.{wiring_in, wires, wires_of}
 use Rattle.wiring.specs.Tests.{undrawn, sync_beyond, wiring_outside}

@@ -19,7 +19,7 @@ use Rattle.clock.specs.Found.{nearest_k, nearest_in, nearest_of, exactly, cohere
 use Rattle.blanking.specs.Found.{highest_of, beyond}
 use Rattle.frames.specs.Frames.{total, avi_frame}
 use Rattle.frames.specs.Audio.{audio_frame, audio_off_frame}
-use Rattle.matrix.specs.Matrix.{fields, Bytes}
+use Rattle.matrix.specs.Matrix.{fields}
 use Rattle.matrix.specs.Tests.{in_range, is_allowed, matrix_in_range}
 use Rattle.request.specs.Sections.{walk, walked}
 use Rattle.request.specs.Read.{outside, combined, judged, read_of, allowed_of, pair_for}
@@ -28,7 +28,7 @@ use Rattle.bits.specs.Merge.{merge}
 use Rattle.registers.specs.Classes.{class_at}
 use Rattle.writes.specs.Rows.{from}
 use Rattle.writes.specs.Steps.{middle}
-use Rattle.writes.specs.List.{decided, byte, written, is_written, full_list, finished, finished_image, stands_below, column, flat, already_there}
+use Rattle.writes.specs.List.{decided, byte, written, is_written, full_list, finished, stands_below, column, flat, already_there}
 use Rattle.plan.specs.Wanted.{wanted}
 use Rattle.plan.specs.Plan.{later_refusal, plan_with, buffer_with, plan_of, plan_buffer, stands_in}
 use Rattle.decode.specs.Extract.{extract}

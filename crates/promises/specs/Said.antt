@@ -1,5 +1,5 @@
 -- Demand 3, in what the calls answer over lent slices at each cut of a run.
-use Rattle.std.specs.Prelude.{◌≡◌, ◌⊎◌, cond, ◌&&◌, List, [], ◌∷◌, ◌++◌, ℕ, ◌<◌, ◌≤◌, length, get_or, take, drop}
+use Rattle.std.specs.Prelude.{◌≡◌, ◌⊎◌, cond, ◌&&◌, List, ◌∷◌, ◌++◌, ℕ, ◌<◌, ◌≤◌, length, get_or, take, drop}
 use Rattle.matrix.specs.Coefficient.{coefficient_bytes}
 use Rattle.frames.specs.Frames.{avi_frame}
 use Rattle.request.specs.declared.Request.{Request}
