@@ -1,6 +1,5 @@
 -- Where a chain with its last link finished ends: the last request's, and nothing else but the free bits of the beginning. Assumes nothing.
 use mathlib.Core.Path.{◌≡◌, sym, ap, subst, ◌∙◌}
-use mathlib.Core.Bool.{true}
 use mathlib.Core.List.{List, [], ◌∷◌, ◌++◌, map}
 use Prim.Native.Nat.{ℕ}
 use lib.ListN.{length}
@@ -12,7 +11,6 @@ use Rattle.chip.specs.Machine.{Write}
 use Rattle.views.specs.Entry.{Lent}
 use Rattle.views.specs.Sized.{LentSized}
 use Rattle.views.specs.Theorems.{Entered, EnteredVsync}
-use Rattle.writes.specs.List.{ready}
 use Rattle.plan.specs.Plan.{plan_of}
 use Rattle.decode.specs.Ends.{Ends}
 use Rattle.cut.specs.Run.{Event, run, writes_of, all_in_use, standing}

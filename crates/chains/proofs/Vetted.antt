@@ -1,8 +1,8 @@
 -- A link with a vendor's list, and either kind of link. Assumes nothing.
 use mathlib.Core.Path.{◌≡◌, refl, sym, ap, subst, ◌∙◌}
-use mathlib.Core.Logic.{◌⊎◌, inl, inr, ⊎_elim}
+use mathlib.Core.Logic.{inl, inr, ⊎_elim}
 use mathlib.Core.List.{List}
-use Prim.Native.Nat.{ℕ, ◌<◌, ◌≤◌}
+use Prim.Native.Nat.{ℕ, ◌<◌}
 use lib.Dec.{lit≤}
 use lib.ListN.{length, take, replicate}
 use Rattle.frames.specs.Frames.{avi_frame}
@@ -11,7 +11,7 @@ use Rattle.request.specs.declared.Checked.{Checked}
 use Rattle.request.specs.Read.{read_of}
 use Rattle.request.specs.Bytes.{request_in_family}
 use Rattle.chip.specs.declared.Chip.{Chip}
-use Rattle.chip.specs.Machine.{Write, Group, avi, audio, matrix, packets, registers_of, in_use, Open, mute}
+use Rattle.chip.specs.Machine.{Write, Group, avi, audio, packets, registers_of, in_use, Open, mute}
 use Rattle.chip.specs.Write.{vsync_of}
 use Rattle.writes.specs.List.{pairs_of, finished_image}
 use Rattle.plan.specs.Plan.{plan_of}
