@@ -13,8 +13,7 @@ use Rattle.lists.specs.Find.{some}
 use Rattle.lists.proofs.Both.{both_left, both_right, neither_left, neither_right}
 use Rattle.lists.proofs.Decides.{Decides, equal, less, opposite, either, itself, confirmed}
 use Rattle.refusals.specs.Rows.{at}
-use Rattle.refusals.specs.Tests.{lowest}
-use Rattle.refusals.proofs.Tests.{answer_beside, answer_none, none_in_stages, none_at}
+use Rattle.refusals.proofs.Tests.{answer_beside, answer_none, none_in_stages}
 use Rattle.sound.specs.declared.Sound.{Sound}
 use Rattle.sound.specs.declared.Sound.TheVariants.{Off, On}
 use Rattle.matrix.specs.Matrix.{Bytes}
@@ -29,10 +28,10 @@ use Rattle.edid.specs.declared.Ask.TheVariants.{Vic, Pcm}
 use Rattle.edid.specs.declared.Choice.{Choice}
 use Rattle.edid.specs.Screen.{extension, collection, tells}
 use Rattle.edid.specs.Wish.{Wish, wishes_in, wish_at, in_place, SoundCovered, WishFits, WrongWishes, NoneFits, choose_rules}
-use Rattle.edid.specs.Found.{sound_told, is_shown, is_fitting, first_at, vic_in, vic_at, wrong_wishes, choose_tests, no_choice, choose_of}
+use Rattle.edid.specs.Found.{sound_told, is_shown, is_fitting, first_at, vic_in, vic_at, wrong_wishes, lowest_row, choose_tests, no_choice, choose_of}
 use Rattle.edid.specs.Theorems.{FirstFit, put_at}
 use Rattle.edid.specs.Order.{GivenFirst}
-use Rattle.edid.proofs.Order.{lowest_first, answer_first}
+use Rattle.edid.proofs.Order.{lowest_first, none_at, answer_first}
 use Rattle.edid.proofs.Placed.{placed, room, in_place_lem}
 use Rattle.edid.proofs.Chosen.{unplaced, no_fit}
 use Rattle.edid.proofs.Answers.{wrong_length_lem, wrong_sum_lem, bad_block_lem}
@@ -168,7 +167,7 @@ module _ (e input wishes : List ℕ) where
   choice = record { refusal = 0; place = first_at test (wishes_in wishes); at = vic_at input }
 
   abbrev number : ℕ
-  number = lowest (choose_tests e input wishes)
+  number = lowest_row (choose_tests e input wishes)
 
   pub choose_given : Bytes input → Bytes wishes → GivenFirst (choose_rules e input wishes) (choose_of e input wishes).refusal
   unfolding choose_of
@@ -184,7 +183,7 @@ module _ (e input wishes : List ℕ) where
       b ∙ ap no_choice (sym (ap (λ (c : Choice). c.refusal) b))
 
   module _ (z : (choose_of e input wishes).refusal ≡ 0) where
-    none_given : lowest (choose_tests e input wishes) ≡ 0
+    none_given : lowest_row (choose_tests e input wishes) ≡ 0
     unfolding choose_of
     none_given = (none_in_stages no_choice choice (λ (c : Choice). c.refusal) number refl z).0
 

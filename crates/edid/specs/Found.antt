@@ -2,8 +2,7 @@
 use Rattle.std.specs.Prelude.{◌≡◌, Bool, true, false, cond, not, ◌&&◌, ◌||◌, List, [], ◌∷◌, ℕ, zero, suc, ◌+◌, ◌*◌, ◌%◌, eqb, leb, ltb, length, take}
 use Rattle.lists.specs.Find.{some}
 use Rattle.lists.specs.Same.{same_list}
-use Rattle.refusals.specs.Rows.{edid_length, edid_sum, edid_block, no_wish_fits}
-use Rattle.refusals.specs.Tests.{Test, ◌if◌, lowest, answer}
+use Rattle.refusals.specs.Tests.{answer}
 use Rattle.frames.specs.Frames.{total}
 use Rattle.sound.specs.declared.Sound.{Sound}
 use Rattle.sound.specs.declared.Sound.TheVariants.{Off, On}
@@ -13,8 +12,14 @@ use Rattle.edid.specs.declared.Ask.{Ask}
 use Rattle.edid.specs.declared.Ask.TheVariants.{Vic, Pcm}
 use Rattle.edid.specs.declared.Monitor.{Monitor}
 use Rattle.edid.specs.declared.Choice.{Choice}
+use Rattle.edid.specs.Order.{ScreenRow, screen_number, edid_length, edid_sum, edid_block, no_wish_fits}
 use Rattle.edid.specs.Screen.{block_length, header, base, extension, tag_of, offset_of, collection, Blocks, past_end, blocks, data_blocks, tells}
 use Rattle.edid.specs.Wish.{Wish, wishes_in, most_wishes, in_place}
+
+-- the tests that a call makes, each for a row; it gives the number of the first that is true, 0 for none
+abbrev pub lowest_row : List (ScreenRow × Bool) → ℕ
+lowest_row [] = 0
+lowest_row (t ∷ ts) = cond t.1 (screen_number t.0) (lowest_row ts)
 
 abbrev pub is_past : Blocks → Bool
 is_past past_end = true
@@ -39,11 +44,11 @@ bad_extension ext = wrong_start ext || is_past (data_blocks (collection ext))
 abbrev pub bad_block : List ℕ → Bool
 bad_block edid = not (eqb (length (extension edid)) 0) && bad_extension (extension edid)
 
-abbrev pub edid_tests : List ℕ → List Test
-edid_tests edid = edid_length if not (is_edid edid) ∷ edid_sum if wrong_sum edid ∷ edid_block if bad_block edid ∷ []
+abbrev pub edid_tests : List ℕ → List (ScreenRow × Bool)
+edid_tests edid = (edid_length, not (is_edid edid)) ∷ (edid_sum, wrong_sum edid) ∷ (edid_block, bad_block edid) ∷ []
 
 unfoldable pub edid_refusal : List ℕ → ℕ
-edid_refusal edid = lowest (edid_tests edid)
+edid_refusal edid = lowest_row (edid_tests edid)
 
 -- answers to n questions from one on, as bits of a number
 abbrev pub word_of : (ℕ → Bool) → ℕ → ℕ → ℕ
@@ -106,19 +111,19 @@ vic_at input = cond (ltb longest (length input)) 0 (vic_in (walked input))
 abbrev pub wrong_wishes : List ℕ → Bool
 wrong_wishes wishes = not (eqb (length wishes % 2) 0) || ltb (2 * most_wishes) (length wishes)
 
-abbrev pub choose_tests : List ℕ → List ℕ → List ℕ → List Test
+abbrev pub choose_tests : List ℕ → List ℕ → List ℕ → List (ScreenRow × Bool)
 choose_tests edid input wishes =
-    edid_length if (not (is_edid edid) || wrong_wishes wishes) ∷
-    edid_sum if wrong_sum edid ∷
-    edid_block if bad_block edid ∷
-    no_wish_fits if not (some (is_fitting (collection (extension edid)) input) (wishes_in wishes)) ∷ []
+    (edid_length, not (is_edid edid) || wrong_wishes wishes) ∷
+    (edid_sum, wrong_sum edid) ∷
+    (edid_block, bad_block edid) ∷
+    (no_wish_fits, not (some (is_fitting (collection (extension edid)) input) (wishes_in wishes))) ∷ []
 
 abbrev pub no_choice : ℕ → Choice
 no_choice n = record { refusal = n; place = 0; at = 0 }
 
 unfoldable pub choose_of : List ℕ → List ℕ → List ℕ → Choice
 choose_of edid input wishes =
-    answer (lowest (choose_tests edid input wishes)) no_choice
+    answer (lowest_row (choose_tests edid input wishes)) no_choice
     (record { refusal = 0; place = first_at (is_fitting (collection (extension edid)) input) (wishes_in wishes); at = vic_at input })
 
 abbrev pub ChoosesWish : List ℕ → List ℕ → List ℕ → Choice → Type 0

@@ -5,10 +5,10 @@ use Rattle.std.specs.Prelude.{◌≡◌, ◌≢◌, ◌⊎◌, Bool, cond, ◌&&
 use Rattle.lists.specs.Among.{among}
 use Rattle.lists.specs.Find.{some}
 use Rattle.bits.specs.Merge.{bit, bits_in}
-use Rattle.refusals.specs.Rows.{Condition, ◌when◌, edid_length, edid_sum, edid_block}
 use Rattle.frames.specs.Frames.{total}
 use Rattle.edid.specs.declared.Ask.{Ask}
 use Rattle.edid.specs.declared.Ask.TheVariants.{Vic, Pcm}
+use Rattle.edid.specs.Order.{ScreenCondition, ◌whenever◌, edid_length, edid_sum, edid_block}
 
 -- blocks of 128 bytes, the first of which begins with its header
 abbrev pub block_length : ℕ
@@ -79,8 +79,8 @@ BadExtension ext = (tag_of ext ≢ 2) ⊎ ((1 ≤ offset_of ext) × (offset_of e
 abbrev pub BadBlock : List ℕ → Type 0
 BadBlock edid = (length (extension edid) ≢ 0) × BadExtension (extension edid)
 
-abbrev pub edid_rules : List ℕ → List Condition
-edid_rules edid = edid_length when WrongEdid edid ∷ edid_sum when WrongSum edid ∷ edid_block when BadBlock edid ∷ []
+abbrev pub edid_rules : List ℕ → List ScreenCondition
+edid_rules edid = edid_length whenever WrongEdid edid ∷ edid_sum whenever WrongSum edid ∷ edid_block whenever BadBlock edid ∷ []
 
 -- "short video .. descriptors": the bytes of a video block, of tag 2, each a VIC in [6:0]; [7] says that it is native
 abbrev pub vics_in : Block → List ℕ

@@ -1,13 +1,14 @@
 -- Document 02, request 12: wishes, "each a VIC and family put in its place", and when one fits. What is answered, `choose_of`, follows the code (Found);
 -- `Chooses` (Theorems) says that it is the first that fits.
 use Rattle.std.specs.Prelude.{◌≡◌, ◌≢◌, ◌⊎◌, true, List, [], ◌∷◌, ℕ, ◌*◌, ◌%◌, ◌<◌, get_or, length, drop}
-use Rattle.refusals.specs.Rows.{Condition, ◌when◌, at, edid_length, edid_sum, edid_block, no_wish_fits}
+use Rattle.refusals.specs.Rows.{at}
 use Rattle.sound.specs.declared.Sound.{Sound}
 use Rattle.sound.specs.declared.Sound.TheVariants.{Off, On}
 use Rattle.request.specs.Sections.{Bodies, in_turn, Walk, ends, not_allowed, whole, walked, by_name}
 use Rattle.request.specs.Request.{request_of, ncts_rules}
 use Rattle.request.specs.Bytes.{laid, with_video}
 use Rattle.edid.specs.declared.Ask.TheVariants.{Vic, Pcm}
+use Rattle.edid.specs.Order.{ScreenCondition, ◌whenever◌, edid_length, edid_sum, edid_block, no_wish_fits}
 use Rattle.edid.specs.Screen.{WrongEdid, WrongSum, BadBlock, screen_tells}
 
 pub record Wish : Type 0 where
@@ -61,9 +62,9 @@ wish_at wishes i = get_or (wishes_in wishes) i (record { vic = 0; family = 0 })
 abbrev pub NoneFits : List ℕ → List ℕ → List ℕ → Type 0
 NoneFits edid input wishes = (i : ℕ) → i < length (wishes_in wishes) → WishFits edid input (wish_at wishes i) → ⊥
 
-abbrev pub choose_rules : List ℕ → List ℕ → List ℕ → List Condition
+abbrev pub choose_rules : List ℕ → List ℕ → List ℕ → List ScreenCondition
 choose_rules edid input wishes =
-    edid_length when (WrongEdid edid ⊎ WrongWishes wishes) ∷
-    edid_sum when WrongSum edid ∷
-    edid_block when BadBlock edid ∷
-    no_wish_fits when NoneFits edid input wishes ∷ []
+    edid_length whenever (WrongEdid edid ⊎ WrongWishes wishes) ∷
+    edid_sum whenever WrongSum edid ∷
+    edid_block whenever BadBlock edid ∷
+    no_wish_fits whenever NoneFits edid input wishes ∷ []

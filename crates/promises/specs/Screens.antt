@@ -3,19 +3,19 @@
 use Rattle.std.specs.Prelude.{◌≡◌, ◌≢◌, List, [], ◌∷◌, ℕ}
 use Rattle.edid.specs.declared.Monitor.{Monitor}
 use Rattle.edid.specs.declared.Choice.{Choice}
+use Rattle.edid.specs.Order.{screen_numbers}
 use Rattle.edid.specs.Screen.{edid_rules}
 use Rattle.edid.specs.Wish.{choose_rules}
 use Rattle.edid.specs.Found.{monitor_of, ShowsScreen, choose_of, ChoosesWish}
 use Rattle.station.specs.declared.MonitorOut.{MonitorOut}
 use Rattle.station.specs.declared.ChoiceOut.{ChoiceOut}
 use Rattle.station.specs.Screen.{StationEdid, StationChoose}
-use Rattle.promises.specs.InNumbers.{numbers_in}
 use Rattle.promises.specs.Settled.{Only}
 
 pub record ScreenCalls : Type 0 where
   -- the refusals of each call in their order
-  pub edid : (edid : List ℕ) → numbers_in (edid_rules edid) ≡ 21 ∷ 22 ∷ 23 ∷ []
-  pub choose : (edid input wishes : List ℕ) → numbers_in (choose_rules edid input wishes) ≡ 21 ∷ 22 ∷ 23 ∷ 24 ∷ []
+  pub edid : (edid : List ℕ) → screen_numbers (edid_rules edid) ≡ 21 ∷ 22 ∷ 23 ∷ []
+  pub choose : (edid input wishes : List ℕ) → screen_numbers (choose_rules edid input wishes) ≡ 21 ∷ 22 ∷ 23 ∷ 24 ∷ []
   -- beside a refusal all is 0
   pub station_edid : (edid : List ℕ) (out : MonitorOut) → StationEdid edid out
       → out.refusal ≢ 0 → (out.vics_low ≡ 0) × (out.vics_high ≡ 0) × (out.rates_2 ≡ 0) × (out.rates_8 ≡ 0)

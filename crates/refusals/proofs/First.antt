@@ -11,7 +11,7 @@ use lib.Dec.{eqb}
 use lib.ListN.{length}
 use borrow.Author.Tests.{eqb-true, eqb-false}
 use Rattle.refusals.specs.Rows.{Row, input_ends, count_not_allowed, bytes_after, mode_not_offered, field_out_of_range, combination, number, order, in_order, Condition, at, First, Given}
-use Rattle.refusals.specs.Rows.{image_length, holds_up, no_exact_pair, buffer_short, no_request, input_above, two_holds, list_length, bad_pair, bad_end, clock_above, not_finite, no_mode_fits, sound_too_much, edid_length, edid_sum, edid_block, no_wish_fits}
+use Rattle.refusals.specs.Rows.{image_length, holds_up, no_exact_pair, buffer_short, no_request, input_above, two_holds, list_length, bad_pair, bad_end, clock_above, not_finite, no_mode_fits, sound_too_much}
 
 -- the conditions gone through in order
 abbrev pub Tried : List Condition → ℕ → Type 0
@@ -39,17 +39,13 @@ number_some clock_above = omega arith
 number_some not_finite = omega arith
 number_some no_mode_fits = omega arith
 number_some sound_too_much = omega arith
-number_some edid_length = omega arith
-number_some edid_sum = omega arith
-number_some edid_block = omega arith
-number_some no_wish_fits = omega arith
 
 -- what fails at the first and at each of the others fails everywhere
 shift : (r : Condition) (rs : List Condition) (n : ℕ) → (r.When → ⊥) → ((i : ℕ) → i < n → (at rs i).When → ⊥) → (i : ℕ) → i < suc n → (at (r ∷ rs) i).When → ⊥
 shift r rs n x f zero h a = x a
 shift r rs n x f (suc i) h a = f i (le_of_suc-le-suc h) a
 
-pub first : (rules : List Condition) (given : ℕ) → Tried rules given → given ≢ 0 → First rules given
+first : (rules : List Condition) (given : ℕ) → Tried rules given → given ≢ 0 → First rules given
 first [] given t n = absurd (n t)
 first (r ∷ rs) given (inl h) n =
     record { place = 0; within = zero-lt-suc (length rs); numbered = h.1; applies = h.0; earlier = λ i l a. not-suc-le-zero l }
@@ -63,12 +59,12 @@ first (r ∷ rs) given (inr h) n =
       earlier = shift r rs e.place h.0 e.earlier;
     }
 
-pub none_applies : (rules : List Condition) (given : ℕ) → Tried rules given → given ≡ 0 → (i : ℕ) → i < length rules → (at rules i).When → ⊥
+none_applies : (rules : List Condition) (given : ℕ) → Tried rules given → given ≡ 0 → (i : ℕ) → i < length rules → (at rules i).When → ⊥
 none_applies [] given t z = λ i h a. not-suc-le-zero h
 none_applies (r ∷ rs) given (inl h) z = absurd (number_some r.row (sym h.1 ∙ z))
 none_applies (r ∷ rs) given (inr h) z = shift r rs (length rs) h.0 (none_applies rs given h.1 z)
 
-pub none_given : (rules : List Condition) (given : ℕ) → Tried rules given → ((i : ℕ) → i < length rules → (at rules i).When → ⊥) → given ≡ 0
+none_given : (rules : List Condition) (given : ℕ) → Tried rules given → ((i : ℕ) → i < length rules → (at rules i).When → ⊥) → given ≡ 0
 none_given [] given t f = t
 none_given (r ∷ rs) given (inl h) f = absurd (f 0 (zero-lt-suc (length rs)) h.0)
 none_given (r ∷ rs) given (inr h) f = none_given rs given h.1 (λ i l. f (suc i) (omega arith))

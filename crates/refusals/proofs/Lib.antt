@@ -1,2 +1,2 @@
-pub mod First
+mod First
 pub mod Tests

@@ -26,7 +26,7 @@ Decided [] (c ∷ cs) = ⊥
 Decided (t ∷ ts) [] = ⊥
 Decided (t ∷ ts) (c ∷ cs) = (t.row ≡ c.row) × Decides t.found c.When × (t.found ≡ false → Decided ts cs)
 
-pub in_turn_lem : (tests : List Test) (rules : List Condition) → Decided tests rules → Tried rules (lowest tests)
+in_turn_lem : (tests : List Test) (rules : List Condition) → Decided tests rules → Tried rules (lowest tests)
 in_turn_lem [] [] d = refl
 in_turn_lem [] (c ∷ cs) d = absurd d
 in_turn_lem (t ∷ ts) [] d = absurd d

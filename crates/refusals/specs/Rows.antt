@@ -6,7 +6,6 @@ use Rattle.std.specs.Prelude.{◌≡◌, ◌↔◌, ◌≢◌, Bool, true, false
 pub data Row : Type 0 where
   input_ends count_not_allowed bytes_after mode_not_offered field_out_of_range combination : Row
   image_length holds_up no_exact_pair buffer_short no_request input_above two_holds list_length bad_pair bad_end clock_above not_finite no_mode_fits sound_too_much : Row
-  edid_length edid_sum edid_block no_wish_fits : Row
 
 abbrev pub number : Row → ℕ
 number input_ends = 1
@@ -29,10 +28,6 @@ number clock_above = 17
 number not_finite = 18
 number no_mode_fits = 19
 number sound_too_much = 20
-number edid_length = 21
-number edid_sum = 22
-number edid_block = 23
-number no_wish_fits = 24
 
 -- "Checked in this order"; 14, 15 and 16 "in that order, after 7 and 8"; 17 "after 6 and before 7", and 20 after it; 18 and 19 in the order in which request
 -- 07 names them
