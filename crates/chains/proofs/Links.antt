@@ -87,7 +87,7 @@ muted_one t h = omega (arith, h.0, h.1)
 pub open_two : (t : Chip) → Open t → mute t ≡ 2
 open_two t h = omega (arith, h.0, h.1)
 
--- what a link owes: its events are fair and taken, each packet is one of the three, and the mute is as `muteAfter` has it
+-- what a link owes: its events are fair and taken, each packet is one of the three, and the mute is as `mute_after` has it
 pub record Moved (u : Chip) (c : Cut) (new : InUse) : Type 0 where
   pub good : Good c.events u
   pub three : Three u new (cut c.events u c.place)

@@ -66,7 +66,7 @@ abbrev pub ◌gets◌ : ℕ → ℕ → Write
 address gets value = record { address = address; value = value }
 
 -- "While it is up the buffer is sent; when down, the registers", but for a lowered hold that waits: the bytes of a group that the chip goes
--- by. (Of the matrix's first byte only the coefficient bits count: see `enableInUse` and `modeInUse`.)
+-- by. (Of the matrix's first byte only the coefficient bits count: see `enable_in_use` and `mode_in_use`.)
 unfoldable pub in_use : Buffer → Group → Chip → List ℕ
 in_use b g s = cond (b.waits s || up g (holds_of b s.image)) (take g.count (b.bytes s)) (registers_of g s.image)
 

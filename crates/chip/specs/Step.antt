@@ -1,4 +1,4 @@
--- What one write does, as a reader of document 01 and of request 04 would check it: `step` proves it of `writeOf`, which is what
+-- What one write does, as a reader of document 01 and of request 04 would check it: `step` proves it of `write_of`, which is what
 -- `Chip::write` promises. `MachineCases` (Cases) has it in bare numbers.
 use Rattle.std.specs.Prelude.{◌≡◌, ◌≢◌, ◌⊎◌, Bool, true, false, cond, not, ◌&&◌, ◌||◌, List, [], ◌∷◌, ◌++◌, ℕ, ◌<◌, eqb, length, get_or, drop}
 use Rattle.lists.specs.Find.{every}
@@ -53,7 +53,7 @@ pub record OneWrite (address value : ℕ) (s : Chip) (number : ℕ) (t : Chip) :
   -- "lowering the coefficient hold acts at the next Vsync": a fall sets the mark, a rise drops it, and a hold that stays leaves it
   pub mark : t.waiting ≡ cond (held t) (held s && s.waiting) (held s || s.waiting)
 
--- whatever the state and the write: an image of 256 bytes, and `writeOf`
+-- whatever the state and the write: an image of 256 bytes, and `write_of`
 abbrev pub AnyStep : Type 0
 AnyStep = (s : Chip) → length s.image ≡ 256 → (address value : ℕ)
     → let wrote : Wrote = write_of s address value in OneWrite address value s wrote.refusal wrote.chip

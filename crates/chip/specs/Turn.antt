@@ -1,4 +1,4 @@
--- What a Vsync does, as a reader of request 04 would check it: `turn` proves it of `vsyncOf`, which is what `Chip::vsync` promises.
+-- What a Vsync does, as a reader of request 04 would check it: `turn` proves it of `vsync_of`, which is what `Chip::vsync` promises.
 use Rattle.std.specs.Prelude.{◌≡◌, true, false, get_or, take}
 use Rattle.bits.specs.Merge.{bits_in}
 use Rattle.chip.specs.declared.Chip.{Chip}

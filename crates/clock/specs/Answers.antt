@@ -14,7 +14,7 @@ use Rattle.clock.specs.Clocks.{limit, tmds}
 abbrev pub above_limit : Clock → Bool
 above_limit clock = ltb (limit * clock.den) clock.num
 
--- the tests of rows 4, 5 and 17; they decide the conditions of `clockRules` (`ClockRefusals`)
+-- the tests of rows 4, 5 and 17; they decide the conditions of `clock_rules` (`ClockRefusals`)
 abbrev pub clock_tests : Video → List Test
 clock_tests video =
     mode_not_offered if not (offered video) ∷

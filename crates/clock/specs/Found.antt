@@ -30,7 +30,7 @@ slow_quarter hertz =
 unfoldable pub quarter_of : ℕ → ℕ → Quarter
 quarter_of hertz family = cond (eqb family 0) (quarter (hertz / 4) 1) (slow_quarter hertz)
 
--- so many of these quarters; for a mode that is offered, that is `tmdsOf`, as the contract of `clock::clock_of` needs it
+-- so many of these quarters; for a mode that is offered, that is `tmds_of`, as the contract of `clock::clock_of` needs it
 abbrev pub found_clock : ℕ → ℕ → ℕ → ℕ → Clock
 found_clock hertz family depth repetition =
     record {
@@ -74,7 +74,7 @@ coherent_of clock rate =
     let r : NCts = recommended_of clock rate in
     cond (exactly clock rate r.n r.cts) (the_pair r.n r.cts) (nearest_of clock rate)
 
--- the tests of rows 4, 5, 17 and 9, a line for each; they decide the conditions of `pairRules` (`ClockRefusals`)
+-- the tests of rows 4, 5, 17 and 9, a line for each; they decide the conditions of `pair_rules` (`ClockRefusals`)
 abbrev pub pair_tests : Video → ℕ → ℕ → List Test
 pair_tests video rate coherent =
     mode_not_offered if not (offered video) ∷

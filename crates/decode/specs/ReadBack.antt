@@ -1,4 +1,4 @@
--- A finished image reads back, as decoding proves it before demand 2 says it of the planning entry (`Demand2.readBack`).
+-- A finished image reads back, as decoding proves it before demand 2 says it of the planning entry (`Demand2.read_back`).
 use Rattle.std.specs.Prelude.{◌≡◌, List, ℕ, ◌<◌, ◌≤◌, length, get_or}
 use Rattle.matrix.specs.Matrix.{Bytes}
 use Rattle.request.specs.Sections.{longest}

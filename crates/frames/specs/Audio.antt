@@ -1,5 +1,5 @@
--- Document 01, "InfoFrames": the audio frame, as the call on single fields answers it. Of the packet that is sent `AnyCut.newAudio` speaks, by
--- `audioPacket` (plan).
+-- Document 01, "InfoFrames": the audio frame, as the call on single fields answers it. Of the packet that is sent `AnyCut.new_audio` speaks, by
+-- `audio_packet` (plan).
 use Rattle.std.specs.Prelude.{ℕ, ◌-◌, cond, List, [], ◌∷◌, replicate, ◌==◌}
 use Rattle.frames.specs.Frames.{frame}
 

@@ -59,7 +59,7 @@ under_d = in_edition 0x00
 -- of a video that fits
 pub record Editions (v : Video) : Type 0 where
   -- "Shown to a reader that knows only D, an E packet yields the same colour, aspect and VIC": what the D packet of the same video yields,
-  -- which fits too. Of the packets that the chip sends for two requests, `TwoReaders.shownToD` (promises) says it in bytes.
+  -- which fits too. Of the packets that the chip sends for two requests, `TwoReaders.shown_to_d` (promises) says it in bytes.
   pub same : read_by_d (avi_packet v) ≡ read_by_d (avi_packet (under_d v))
   pub fits : VideoFits (under_d v)
   -- and that is what was asked; a reader that knows E finds the quantisation and the content type too

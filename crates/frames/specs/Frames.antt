@@ -1,4 +1,4 @@
--- Document 01, "InfoFrames": the checksum and the AVI frame (the audio frame: `Audio`, and `audioPacket` of plan); Q is document 02's, request 01, PR request 06's, and the
+-- Document 01, "InfoFrames": the checksum and the AVI frame (the audio frame: `Audio`, and `audio_packet` of plan); Q is document 02's, request 01, PR request 06's, and the
 -- bits above PR request 11's.
 use Rattle.std.specs.Prelude.{ℕ, ◌+◌, ◌-◌, ◌*◌, ◌%◌, cond, List, [], ◌∷◌, ◌++◌, replicate, ◌==◌, slice_index}
 use Rattle.video.specs.declared.Mode.{Mode}

@@ -1,4 +1,4 @@
--- `shr_z` rounds down, and `heldWithin` holds within 0 to 4095.
+-- `shr_z` rounds down, and `held_within` holds within 0 to 4095.
 -- Assumes nothing.
 use mathlib.Core.Path.{refl, ap}
 use Prim.Native.Nat.{ℕ, zero, suc, ◌*◌, ◌/◌, ◌≤◌}

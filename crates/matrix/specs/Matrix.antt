@@ -1,4 +1,4 @@
--- Document 01, "The request" (Matrix) and "Matrix": CSC mode, then A1 to A4, B1 to B4, C1 to C4. The code reads a body by `isAllowed` and
+-- Document 01, "The request" (Matrix) and "Matrix": CSC mode, then A1 to A4, B1 to B4, C1 to C4. The code reads a body by `is_allowed` and
 -- `fields`; `Numbers` ties both to the document's words, `Allowed` and `number_at`.
 use Rattle.std.specs.Prelude.{◌≡◌, List, [], ◌∷◌, ℕ, ◌+◌, ◌*◌, ◌<◌, ◌≤◌, ℤ, get_or, length, drop}
 use Rattle.matrix.specs.declared.Matrix.{Matrix}

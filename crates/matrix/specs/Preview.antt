@@ -1,5 +1,5 @@
--- Document 01, "Matrix": the preview. `previewOf` follows the code: `PreviewRefusals` ties its refusals to document 01's rows, and
--- `RoundedDown` and `Clamped` its codes, which are the formula (`rounded`, `heldWithin`).
+-- Document 01, "Matrix": the preview. `preview_of` follows the code: `PreviewRefusals` ties its refusals to document 01's rows, and
+-- `RoundedDown` and `Clamped` its codes, which are the formula (`rounded`, `held_within`).
 use Rattle.std.specs.Prelude.{◌≡◌, Bool, ◌||◌, not, ◌⊎◌, ◌≢◌, List, [], ◌∷◌, ℕ, ◌+◌, ◌*◌, ◌^◌, ◌<◌, ◌≤◌, min, ltb, get_or, ℤ, pos, negsuc, ◌+ℤ◌, ◌*ℤ◌, ◌≤ℤ◌, ◌<ℤ◌}
 use Rattle.std.specs.Int.Signed.{shr_z}
 use Rattle.refusals.specs.Rows.{field_out_of_range, input_above, Condition, ◌when◌, Given}

@@ -1,4 +1,4 @@
--- How the code tests the coefficients of a request: `Numbers` ties `isAllowed` to document 01's words, and `InHand` (request) `matrixInRange`
+-- How the code tests the coefficients of a request: `Numbers` ties `is_allowed` to document 01's words, and `InHand` (request) `matrix_in_range`
 -- to it; `Sent` and `SaidByBytes` tie the two bytes of a coefficient to its 13 bits.
 use Rattle.std.specs.Prelude.{◌≡◌, ◌↔◌, Bool, true, ◌&&◌, ◌||◌, List, [], ◌∷◌, ℕ, zero, suc, ◌%◌, eqb, leb, ltb, get_or, length, drop}
 use Rattle.lists.specs.Same.{same_list}

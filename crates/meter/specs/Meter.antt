@@ -1,5 +1,5 @@
--- Document 02, request 07: what a meter's export is refused by, and the matrix that it becomes. What is answered, `converted`, `meterOf` and
--- `meterBuffer`, follows the code (Found).
+-- Document 02, request 07: what a meter's export is refused by, and the matrix that it becomes. What is answered, `converted`, `meter_of` and
+-- `meter_buffer`, follows the code (Found).
 use Rattle.std.specs.Prelude.{◌≡◌, ◌≢◌, true, false, List, [], ◌∷◌, ℕ, ◌<◌, ◌≤◌, get_or, length, take, drop, Float}
 use Rattle.std.specs.Float.Ieee.Scale.{finite}
 use Rattle.refusals.specs.Rows.{field_out_of_range, buffer_short, not_finite, no_mode_fits, Condition, ◌when◌, Given}

@@ -1,5 +1,5 @@
 -- Document 02, request 08: what a pipe answers, of any bytes that are lent as one, and however a request is cut. What is answered, `take_of` and
--- `endPipeOf`, and what is left, `takePipe` and `endPipe`, follow the code (Found).
+-- `end_pipe_of`, and what is left, `take_pipe` and `end_pipe`, follow the code (Found).
 use Rattle.std.specs.Prelude.{◌≡◌, ◌≢◌, ◌↔◌, ◌⊎◌, List, [], ◌∷◌, ◌++◌, ℕ, ◌<◌, ◌≤◌, length, get_or, take}
 use Rattle.refusals.specs.Tests.{answer}
 use Rattle.request.specs.Sections.{longest}

@@ -1,5 +1,5 @@
 -- What planning answers and leaves in the buffer, as the code makes it. `PlanRefusals` (Rules) ties the refusals to document 01's rows,
--- `Demand2.listed` (promises) the count and the buffer to the list; `InHand` (request) and `ExactlyWhen` (decode) are about `standsIn`.
+-- `Demand2.listed` (promises) the count and the buffer to the list; `InHand` (request) and `ExactlyWhen` (decode) are about `stands_in`.
 use Rattle.std.specs.Prelude.{◌≡◌, Bool, not, ◌&&◌, List, [], ◌∷◌, ◌++◌, ℕ, eqb, ltb, length}
 use Rattle.refusals.specs.Rows.{image_length, holds_up, no_exact_pair, buffer_short}
 use Rattle.refusals.specs.Tests.{Test, ◌if◌, lowest, answer}

@@ -1,5 +1,5 @@
 -- Documents 01, "The request", "Refusal numbers" and "Modes and clocks", and 02, requests 01, 02, 06, 10 and 11, in bare numbers: for each byte of
--- a request, whatever else is asked, what is answered for each of its values. But for `read_of` and `nctsOf`, of which it speaks, the file has numbers alone.
+-- a request, whatever else is asked, what is answered for each of its values. But for `read_of` and `ncts_of`, of which it speaks, the file has numbers alone.
 use Rattle.std.specs.Prelude.{◌≡◌, ◌≢◌, Bool, true, false, cond, not, ◌&&◌, ◌||◌, List, [], ◌∷◌, ◌++◌, ℕ, ◌+◌, ◌*◌, ◌<◌, eqb, get_or, length, take, drop}
 use Rattle.lists.specs.Among.{among}
 use Rattle.lists.specs.Find.{every}

@@ -11,7 +11,7 @@ use Rattle.plan.specs.Plan.{plan_of}
 use Rattle.station.specs.declared.PipedOut.{PipedOut}
 use Rattle.station.specs.Pipe.{StationPipeTake, StationPipeEnd}
 
--- demand 1: what any bytes make of a part and of the end (`kept`, `keptAtEnd`); and of the exported calls, beside a refusal a count of zero, every
+-- demand 1: what any bytes make of a part and of the end (`kept`, `kept_at_end`); and of the exported calls, beside a refusal a count of zero, every
 -- byte as it was but for the answer's, and that one too where there is no answer
 pub record PipeRefusals (pipe part : List ℕ) : Type 0 where
   pub any : AnyPipe pipe part

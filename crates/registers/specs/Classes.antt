@@ -1,5 +1,5 @@
 -- Document 01, "Register classes": the class of each bit of the 256 registers of the main map, and the table's rule.
--- The register map (section 5) and Table 14 of source document 000 fill it, by `byPrecedence`. `registers::rule` is `Rule` of each row.
+-- The register map (section 5) and Table 14 of source document 000 fill it, by `by_precedence`. `registers::rule` is `Rule` of each row.
 use Rattle.std.specs.Prelude.{◌≡◌, List, [], ◌∷◌, ℕ, zero, suc, ◌+◌, ◌<◌, ◌≤◌, get_or}
 use Rattle.bits.specs.Merge.{bit}
 use Rattle.registers.specs.declared.Class.{Class}

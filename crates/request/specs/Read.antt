@@ -1,5 +1,5 @@
 -- What the calls on a request answer, as the code finds it. `Rows` (Theorems) and `ThereAndBack` tie it to document 01's rows
--- and bytes, `OnSomeImage` (promises) `pairFor` to what is accepted.
+-- and bytes, `OnSomeImage` (promises) `pair_for` to what is accepted.
 use Rattle.std.specs.Prelude.{◌≡◌, Bool, true, false, not, ◌&&◌, ◌||◌, List, [], ◌∷◌, ℕ, eqb, length}
 use Rattle.clock.specs.declared.Pair.{Pair}
 use Rattle.wiring.specs.declared.Wiring.{Wiring}
@@ -62,7 +62,7 @@ is_not_allowed ends = false
 is_not_allowed not_allowed = true
 is_not_allowed (whole bodies rest) = false
 
--- the stages, a line for each row: they decide the conditions of `readRules` (`Rows`)
+-- the stages, a line for each row: they decide the conditions of `read_rules` (`Rows`)
 abbrev pub bytes_tests : Walk → List Test
 bytes_tests w =
     input_ends if is_ends w ∷

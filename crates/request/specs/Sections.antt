@@ -6,7 +6,7 @@ use Rattle.wiring.specs.Kinds.{four_count, twelve_count}
 use Rattle.video.specs.Video.{video_count}
 use Rattle.sound.specs.Sound.{audio_count}
 
--- "Video, count .." (`videoCount`); "Audio, count 0 or 3" (`audioCount`); "Matrix, count 0 or 25"
+-- "Video, count .." (`video_count`); "Audio, count 0 or 3" (`audio_count`); "Matrix, count 0 or 25"
 abbrev pub matrix_count : ℕ
 matrix_count = 25
 

@@ -1,4 +1,4 @@
--- How decoding makes a wiring of the numbers that stand in the registers: the ID says which count. `WiringRange` ties it to `wiresOf`.
+-- How decoding makes a wiring of the numbers that stand in the registers: the ID says which count. `WiringRange` ties it to `wires_of`.
 use Rattle.std.specs.Prelude.{cond, eqb}
 use Rattle.wiring.specs.declared.Wires.{Wires}
 use Rattle.wiring.specs.declared.Wiring.{Wiring}

@@ -1,4 +1,4 @@
--- The columns of the code, three of the registers. No theorem speaks of them: `Lists` and `standsWhole`, the contracts of `write_list` and
+-- The columns of the code, three of the registers. No theorem speaks of them: `Lists` and `stands_whole`, the contracts of `write_list` and
 -- `stands`, speak of `written` and `finished`, to which proofs/Columns ties them.
 use Rattle.std.specs.Prelude.{cond, List, ℕ, get_or}
 use Rattle.std.specs.Int.Bits.{bit_xor}

@@ -1,6 +1,6 @@
 -- Document 01, "The write list", and request 09 of document 02: the list and the finished image, as the code makes them; `want a` is the
 -- byte whose named bits are wanted in register a. `Order` and `Entries` tie the full list to the document's words, `Fewer` what is left out
--- of it, which three always stay included (`Fewer.nine`), `Clauses.registers` (cut) and `BitByBit` (decode) the image. `flat` and `pairsOf`, pairs as
+-- of it, which three always stay included (`Fewer.nine`), `Clauses.registers` (cut) and `BitByBit` (decode) the image. `flat` and `pairs_of`, pairs as
 -- bytes and back, are to be read here; `ready` is row 8's (`AnyCut.again`).
 use Rattle.std.specs.Prelude.{◌≡◌, Bool, true, cond, not, ◌&&◌, ◌||◌, List, [], ◌∷◌, ◌++◌, map, ℕ, zero, suc, ◌+◌, eqb, leb, ltb, length, get_or, drop}
 use Rattle.lists.specs.Among.{among}

@@ -1,5 +1,5 @@
 -- The list as the code stores it, part after part, from the closed bytes (`closed` of Columns). No theorem speaks of it: proofs/Parts ties
--- it to `writeList`, of which `Lists`, the contract of `write_list`, speaks.
+-- it to `write_list`, of which `Lists`, the contract of `write_list`, speaks.
 use Rattle.std.specs.Prelude.{◌≡◌, not, cond, List, [], ◌∷◌, ◌++◌, map, ℕ, ◌+◌, ◌-◌, ◌*◌, eqb, length, get_or}
 use Rattle.std.proofs.lemmas.List.Edits.{sets}
 use Rattle.lists.specs.Those.{those}
