@@ -3,49 +3,38 @@
 
 ghost use Rattle.std.specs.Prelude.{◌≡◌};
 ghost use Rattle.video.specs.Video.{repetition};
-ghost use Rattle.blanking.specs.Found.{one_row, highest_of, most_of, is_beyond, too_much};
+ghost use Rattle.blanking.specs.Found.{highest_of, most_of, is_beyond, too_much};
 ghost use Rattle.blanking.specs.Theorems.{Timed, Standard, RoomRule};
 
 use sound::Sound;
 use video::Video;
 
 // The highest rate of eight channels, each pixel sent once and twice.
-#[derive(Clone, Copy)]
+#[derive(Clone, Copy, Debug, PartialEq, Eq)]
 pub struct Highest {
     pub once: u8,
     pub twice: u8,
 }
 
-// A row of the table.
-fn row(once: u8, twice: u8) -> Highest
-    ensures { result ≡ one_row once twice }
-{
-    Highest {
-        once: once,
-        twice: twice,
-    }
-}
-
 // The row of a VIC: in a mode that is not named all fit.
+#[rattlefmt::skip]
+#[tactic(auto, unfolding(crate::specs::Found::highest_of))]
 fn highest_of(vic: u8) -> Highest
     ensures { result ≡ highest_of vic }
 {
     match vic {
-        1 => row(2, 6),
-        2 => row(2, 5),
-        3 => row(2, 5),
-        17 => row(2, 5),
-        18 => row(2, 5),
-        _ => row(6, 6),
+        1 => Highest { once: 2, twice: 6 },
+        2 | 3 | 17 | 18 => Highest { once: 2, twice: 5 },
+        _ => Highest { once: 6, twice: 6 },
     }
 }
 
 // The highest rate of eight channels in a mode, by the repetition.
-fn most_of(vic: u8, repetition: u8) -> u8
-    ensures { result ≡ most_of vic repetition }
+fn most_of(video: Video) -> u8
+    ensures { result ≡ most_of video.vic (repetition video) }
 {
-    let row = highest_of(vic);
-    match repetition {
+    let row = highest_of(video.vic);
+    match video::repetition(video) {
         0 => row.once,
         1 => row.twice,
         _ => 6,
@@ -56,23 +45,17 @@ fn most_of(vic: u8, repetition: u8) -> u8
 fn is_beyond(video: Video, rate: u8, channels: u8) -> bool
     ensures { result ≡ is_beyond video.vic (repetition video) rate channels }
 {
-    if channels != 8 {
-        return false;
-    }
-    most_of(video.vic, video.pixel / 16) < rate
+    channels == 8 && most_of(video) < rate
 }
 
 // Row 20: more sound than fits into the blanking of the mode.
+#[tactic(auto, unfolding(crate::specs::Found::beyond))]
 pub fn too_much(video: Video, sound: Sound) -> bool
     ensures { result ≡ too_much video sound }
 {
     match sound {
         Sound::Off => false,
-        Sound::On {
-            rate,
-            channels,
-            coherent: _,
-        } => is_beyond(video, rate, channels),
+        Sound::On { rate, channels, .. } => is_beyond(video, rate, channels),
     }
 }
 

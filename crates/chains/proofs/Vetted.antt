@@ -7,7 +7,7 @@ use lib.Dec.{lit≤}
 use lib.ListN.{length, take, replicate}
 use Rattle.frames.specs.Frames.{avi_frame}
 use Rattle.request.specs.declared.Request.{Request}
-use Rattle.request.specs.declared.Checked.{Checked}
+use Rattle.request.specs.Numbered.{Checked}
 use Rattle.request.specs.Read.{read_of}
 use Rattle.request.specs.Bytes.{request_in_family}
 use Rattle.chip.specs.declared.Chip.{Chip}

@@ -19,7 +19,7 @@ use Rattle.bits.specs.Merge.{bit}
 use Rattle.bits.proofs.Laws.{merge_bit, bit_code, two_bits_code}
 use Rattle.registers.specs.Classes.{read_only}
 use Rattle.chip.specs.declared.Chip.{Chip}
-use Rattle.chip.specs.declared.Wrote.{Wrote}
+use Rattle.chip.specs.Numbered.{Wrote}
 use Rattle.chip.specs.Machine.{Group, Buffer, avi, audio, gc, matrix, packets, converter, up, registers_of, holds_of, held, in_use}
 use Rattle.chip.specs.Write.{filled, buffer_after, mark_as, put, vsync_of, lent_as, stored, image_after, two, refuses, write_tests, refused_write, write_of, holds_after, Stores}
 use Rattle.chip.specs.Step.{TwoUp, write_rules, rises, Keeps, OneWrite}

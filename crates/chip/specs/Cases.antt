@@ -2,7 +2,7 @@
 -- then in use. Every byte tells its place, so that no two can be exchanged.
 use Rattle.std.specs.Prelude.{◌≡◌, Bool, true, false, List, [], ◌∷◌, ◌++◌, map, ℕ, zero, suc, ◌+◌, set, replicate}
 use Rattle.chip.specs.declared.Chip.{Chip}
-use Rattle.chip.specs.declared.Wrote.{Wrote}
+use Rattle.chip.specs.Numbered.{Wrote}
 use Rattle.chip.specs.Machine.{Write, ◌gets◌, avi, audio, packets, in_use, coefficients, gc_in_use, enable_in_use, mode_in_use}
 use Rattle.chip.specs.Write.{lent_as, write_of, vsync_of}
 

@@ -1,4 +1,6 @@
 pub mod Machine
+pub mod Groups
+pub mod Numbered
 pub mod Write
 pub mod Step
 pub mod Turn

@@ -6,7 +6,7 @@ use Rattle.bits.specs.Merge.{bit}
 use Rattle.refusals.specs.Rows.{two_holds, Condition, ◌when◌, Given}
 use Rattle.registers.specs.Classes.{read_only}
 use Rattle.chip.specs.declared.Chip.{Chip}
-use Rattle.chip.specs.declared.Wrote.{Wrote}
+use Rattle.chip.specs.Numbered.{Wrote}
 use Rattle.chip.specs.Machine.{Group, Buffer, avi, audio, gc, matrix, packets, converter, up, registers_of, holds_of, held}
 use Rattle.chip.specs.Write.{image_after, write_of}
 

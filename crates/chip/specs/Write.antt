@@ -6,7 +6,7 @@ use Rattle.registers.specs.Classes.{read_only}
 use Rattle.refusals.specs.Rows.{two_holds}
 use Rattle.refusals.specs.Tests.{Test, ◌if◌, lowest, answer}
 use Rattle.chip.specs.declared.Chip.{Chip}
-use Rattle.chip.specs.declared.Wrote.{Wrote}
+use Rattle.chip.specs.Numbered.{Wrote}
 use Rattle.chip.specs.Machine.{Group, Buffer, avi, audio, gc, matrix, packets, converter, holds_of, up, registers_of, held}
 
 -- "A hold going 0 to 1 copies that packet's registers, as they stood before the write, to the packet buffer" ("a packet fills its front,

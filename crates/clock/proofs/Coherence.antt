@@ -11,8 +11,8 @@ use borrow.Author.Tests.{eqb-true, eqb-false, le-ltb}
 use Rattle.refusals.specs.Rows.{no_exact_pair}
 use Rattle.refusals.specs.Tests.{◌if◌, lowest, answer}
 use Rattle.video.specs.declared.Video.{Video}
-use Rattle.clock.specs.declared.Clock.{Clock}
-use Rattle.clock.specs.declared.Pair.{Pair}
+use Rattle.clock.specs.Numbered.{Clock}
+use Rattle.clock.specs.Numbered.{Pair}
 use Rattle.clock.specs.Answers.{clock_of}
 use Rattle.clock.specs.Pairs.{reference, Exact, recommended_of, Coherent}
 use Rattle.clock.specs.Answers.{the_pair, no_pair, other}

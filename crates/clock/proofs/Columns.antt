@@ -1,48 +1,25 @@
--- The code's columns of the recommended pairs are those of the definition's rows, their clocks in lowest terms. Assumes nothing.
+-- The code's rows of the recommended pairs are the definition's, their clocks in lowest terms. Assumes nothing.
 use mathlib.Core.Path.{◌≡◌, refl, sym}
 use mathlib.Core.Logic.{◌≢◌}
-use mathlib.Core.Bool.{Bool, true, false, ◌&&◌}
-use mathlib.Core.List.{List, [], ◌∷◌, map, ◌++◌}
-use Prim.Native.Nat.{ℕ, ◌+◌, ◌*◌, ◌/◌, ◌%◌, ◌<◌, ◌∣◌}
-use native.Mathlib.Omega.{arith}
+use mathlib.Core.Bool.{Bool, true, false, cond, ◌&&◌}
+use mathlib.Core.List.{List, [], ◌∷◌, map}
+use Prim.Native.Nat.{ℕ, ◌*◌, ◌<◌, ◌∣◌}
 use lib.Dec.{eqb, ltb}
 use lib.ListN.{get_or}
 use borrow.Author.Tests.{eqb-true, eqb-false, eq-eqb, ltb-true}
+use Rattle.std.specs.Prelude.{Option, Some, unwrap_or, option_map, find}
+use Rattle.lists.specs.Find.{every}
 use Rattle.lists.proofs.Both.{both_left, both_right}
-use Rattle.bits.proofs.Below.{below, at_below}
-use Rattle.ratio.specs.Terms.{divisor_of, euclid, top_of, bottom_of}
+use Rattle.ratio.specs.Terms.{top_of, bottom_of}
 use Rattle.ratio.proofs.Divisor.{in_lowest}
 use Rattle.ratio.proofs.Unique.{only}
-use Rattle.clock.specs.declared.Clock.{Clock}
+use Rattle.clock.specs.declared.Hertz.{Hertz}
 use Rattle.clock.specs.declared.NCts.{NCts}
+use Rattle.clock.specs.declared.Row.{Row}
+use Rattle.clock.specs.Numbered.{Clock, clock_known}
 use Rattle.clock.specs.Tables.{Recommended, recommended, pair}
-
--- the row at a place
-abbrev pub norow : Recommended
-norow = record { num = 0; den = 0; n = []; cts = [] }
-
-abbrev pub row_at : ℕ → Recommended
-row_at i = get_or recommended i norow
-
-abbrev pub pair_at : ℕ → ℕ → NCts
-pair_at i rate = pair (get_or (row_at i).n rate 0) (get_or (row_at i).cts rate 0)
-
--- the clocks
-abbrev pub nums : List ℕ
-nums = 3600000000 ∷ 25200000 ∷ 27000000 ∷ 27027000 ∷ 54000000 ∷ 54054000 ∷ 6750000000 ∷ 74250000 ∷ 13500000000 ∷ 148500000 ∷ []
-
-abbrev pub dens : List ℕ
-dens = 143 ∷ 1 ∷ 1 ∷ 1 ∷ 1 ∷ 1 ∷ 91 ∷ 1 ∷ 91 ∷ 1 ∷ []
-
--- each is its row's, in lowest terms
-abbrev in_terms : ℕ → Bool
-in_terms i =
-    ltb 0 (row_at i).den
-    && (eqb (top_of (row_at i).num (row_at i).den) (get_or nums i 0) && eqb (bottom_of (row_at i).num (row_at i).den) (get_or dens i 0))
-
-all_terms : below in_terms 10 ≡ true
-unfolding divisor_of euclid
-all_terms = refl
+use Rattle.clock.specs.Rows.{is_of}
+use Rattle.clock.specs.Pairs.{recommended_in, recommended_of}
 
 -- a clock in lowest terms is a row's exactly if its two numbers are the row's in lowest terms
 module _ (clock : Clock) (l : (d : ℕ) → d ∣ clock.num → d ∣ clock.den → d ≡ 1) (num den : ℕ) (h : 0 < den) where
@@ -64,46 +41,33 @@ module _ (clock : Clock) (l : (d : ℕ) → d ∣ clock.num → d ∣ clock.den 
           rw (eq-eqb _ _ w.0, eq-eqb _ _ w.1)
       go false e = both _ _ refl refl (eqb-false _ _ e)
 
-pub at_row : (clock : Clock) → ((d : ℕ) → d ∣ clock.num → d ∣ clock.den → d ≡ 1) → (i : ℕ) → i < 10
-    → eqb (clock.num * (row_at i).den) ((row_at i).num * clock.den) ≡ (eqb clock.num (get_or nums i 0) && eqb clock.den (get_or dens i 0))
-at_row clock l i h =
-    let t : in_terms i ≡ true = at_below in_terms 10 i all_terms h in
-    let some : Bool = ltb 0 (row_at i).den in
-    let u = both_right some _ t in
-    let top : Bool = eqb (top_of (row_at i).num (row_at i).den) (get_or nums i 0) in
-    let p : top_of (row_at i).num (row_at i).den ≡ get_or nums i 0 = eqb-true _ _ (both_left top _ u) in
-    let q : bottom_of (row_at i).num (row_at i).den ≡ get_or dens i 0 = eqb-true _ _ (both_right top _ u) in
-    rw (← p, ← q) (same_clock clock l (row_at i).num (row_at i).den (ltb-true _ _ (both_left some _ t)))
+-- a row as the code has it, and the pair in it
+abbrev pub in_terms : Recommended → Row
+in_terms r = record { clock = record { num = top_of r.num r.den; den = bottom_of r.num r.den }; n = r.n; cts = r.cts }
 
--- N and CTS, seven to a row
-abbrev joined : List (List ℕ) → List ℕ
-joined [] = []
-joined (l ∷ ls) = l ++ joined ls
+abbrev pub pair_in : ℕ → Row → NCts
+pair_in rate row = pair (get_or row.n rate 0) (get_or row.cts rate 0)
 
-abbrev pub ns : List ℕ
-ns = joined (map (λ r. r.n) recommended)
+abbrev has_bottom : Recommended → Bool
+has_bottom r = ltb 0 r.den
 
-abbrev pub ctss : List ℕ
-ctss = joined (map (λ r. r.cts) recommended)
+all_bottoms : every has_bottom recommended ≡ true
+all_bottoms = refl
 
-n_place : (p : ℕ) → p < 70 → get_or ns p 0 ≡ get_or (row_at (p / 7)).n (p % 7) 0
-n_place p h = eqb-true _ _ (at_below (λ p. eqb (get_or ns p 0) (get_or (row_at (p / 7)).n (p % 7) 0)) 70 p refl h)
+module _ (clock : Hertz) (l : (d : ℕ) → d ∣ clock.num → d ∣ clock.den → d ≡ 1) (rate : ℕ) where
+  either : (b : Bool) (row : Row) (o : Option Row) (rest : NCts) → unwrap_or (option_map (pair_in rate) o) (pair 0 0) ≡ rest
+      → unwrap_or (option_map (pair_in rate) (cond b (Some row) o)) (pair 0 0) ≡ cond b (pair_in rate row) rest
+  either true row o rest e = refl
+  either false row o rest e = e
 
-cts_place : (p : ℕ) → p < 70 → get_or ctss p 0 ≡ get_or (row_at (p / 7)).cts (p % 7) 0
-cts_place p h = eqb-true _ _ (at_below (λ p. eqb (get_or ctss p 0) (get_or (row_at (p / 7)).cts (p % 7) 0)) 70 p refl h)
+  -- of any rows: the first whose clock it is
+  looked_up : (rows : List Recommended) → every has_bottom rows ≡ true
+      → unwrap_or (option_map (pair_in rate) (find (is_of clock) (map in_terms rows))) (pair 0 0) ≡ recommended_in rows (clock_known clock) rate
+  looked_up [] e = refl
+  looked_up (r ∷ rs) e =
+      rw (same_clock (clock_known clock) l r.num r.den (ltb-true _ _ (both_left (has_bottom r) _ e)))
+      (either (is_of clock (in_terms r)) (in_terms r) _ _ (looked_up rs (both_right (has_bottom r) _ e)))
 
-module _ (i rate : ℕ) (hi : i < 10) (hr : rate < 7) where
-  place : i * 7 + rate < 70
-  place = omega arith
-
-  row : (i * 7 + rate) / 7 ≡ i
-  row = omega arith
-
-  column : (i * 7 + rate) % 7 ≡ rate
-  column = omega arith
-
-  pub n_at : get_or ns (i * 7 + rate) 0 ≡ get_or (row_at i).n rate 0
-  n_at = rw (row, column) at (n_place (i * 7 + rate) place)
-
-  pub cts_at : get_or ctss (i * 7 + rate) 0 ≡ get_or (row_at i).cts rate 0
-  cts_at = rw (row, column) at (cts_place (i * 7 + rate) place)
+  pub the_recommended : unwrap_or (option_map (pair_in rate) (find (is_of clock) (map in_terms recommended))) (pair 0 0) ≡ recommended_of (clock_known clock) rate
+  unfolding recommended_of
+  the_recommended = looked_up recommended all_bottoms

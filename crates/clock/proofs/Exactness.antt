@@ -6,13 +6,14 @@ use Prim.Native.Nat.{ℕ, ◌*◌, ◌/◌, ◌<◌, ◌≤◌}
 use native.Mathlib.Nat.{mul_assoc, mul_comm, mul-pos}
 use native.Mathlib.Omega.{arith}
 use lib.Dec.{ltb}
-use borrow.Author.Tests.{leb-true, le-leb, eqb-true, eq-eqb, ltb-true, ltb-false}
+use borrow.Author.Tests.{leb-true, le-leb, lt-leb, eqb-true, eq-eqb, ltb-true, ltb-false}
 use Rattle.ratio.specs.Terms.{top_of, bottom_of}
 use Rattle.ratio.proofs.Multiples.{meets, multiple, u_some, v_some}
-use Rattle.clock.specs.declared.Clock.{Clock}
+use Rattle.clock.specs.Numbered.{Clock}
 use Rattle.clock.specs.Pairs.{reference, Exact, far}
 use Rattle.clock.specs.Answers.{the_pair, no_pair}
 use Rattle.clock.specs.Found.{exactly, nearest_k, nearest_in, nearest_of, least_k, most_k}
+use Rattle.clock.proofs.Rates.{reference_some}
 use Rattle.clock.proofs.Range.{least_in, most_in, between, best, below_low, below_high, Better}
 
 all_four : (a b c d : Bool) → (a && b && c && d) ≡ true → (a ≡ true) × (b ≡ true) × (c ≡ true) × (d ≡ true)
@@ -36,6 +37,11 @@ pub exactly_of : (clock : Clock) (rate n cts : ℕ) → Exact clock rate n cts �
 unfolding exactly
 exactly_of clock rate n cts x =
     rw (le-leb _ _ x.least, le-leb _ _ x.most, le-leb _ _ x.fits, eq-eqb _ _ x.equation)
+
+-- N 0 is not in range
+pub none_of_zero : (clock : Clock) (rate : ℕ) → rate < 7 → exactly clock rate 0 0 ≡ false
+unfolding exactly
+none_of_zero clock rate h = rw (lt-leb _ _ (reference_some rate h))
 
 abbrev pub None : Clock → ℕ → Type 0
 None clock rate = (n cts : ℕ) → Exact clock rate n cts → ⊥

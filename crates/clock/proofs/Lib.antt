@@ -4,4 +4,5 @@ pub mod Range
 pub mod Exactness
 pub mod Offered
 pub mod Coherence
+pub mod Told
 pub mod Rows

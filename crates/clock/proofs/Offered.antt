@@ -2,7 +2,7 @@
 -- repetitions. Assumes nothing.
 use mathlib.Core.Path.{◌≡◌, refl, sym, ap, ◌∙◌}
 use mathlib.Core.Logic.{◌↔◌, inl, inr}
-use mathlib.Core.Bool.{Bool, true, false, false≢true, cond, not, ◌&&◌, ◌||◌, beq}
+use mathlib.Core.Bool.{Bool, true, false, cond, not, ◌&&◌, ◌||◌, beq}
 use Prim.Native.Nat.{ℕ, ◌*◌, ◌<◌, ◌≤◌}
 use native.Mathlib.Nat.{mul-le-mul_left, le_trans}
 use native.Mathlib.Omega.{arith}
@@ -24,7 +24,7 @@ use Rattle.video.specs.Modes.{modes, mode_of, row_of, unlisted, offered}
 use Rattle.video.specs.Video.{depth, repetition, in_family, PixelOutside}
 use Rattle.video.specs.Tests.{pixel_outside}
 use Rattle.video.proofs.Fits.{is_pixel_outside}
-use Rattle.clock.specs.declared.Clock.{Clock}
+use Rattle.clock.specs.Numbered.{Clock}
 use Rattle.clock.specs.Clocks.{tmds_top, tmds_bottom, tmds_of, tmds, limit, AboveLimit}
 use Rattle.clock.specs.Answers.{above_limit, clock_tests, no_clock, clock_of}
 use Rattle.clock.specs.Bounds.{den_most, WithinBounds}
@@ -180,36 +180,6 @@ is_tmds video z = answer_none no_clock (tmds video) (lowest (clock_tests video))
 
 pub sized : (video : Video) → (clock_of video).refusal ≡ 0 → WithinBounds (clock_of video)
 sized video z = let t = taken video z in rw (is_tmds video z) (sized_in video t.offered t.inside t.within)
-
--- the number by its three tests, and what it says of them
-abbrev pub number_of : Bool → Bool → Bool → ℕ
-number_of o p a = cond (not o) 4 (cond p 5 (cond a 17 0))
-
--- 4 is given exactly where the mode is not offered
-pub fourth : (o p a : Bool) → number_of o p a ≡ 4 → o ≡ false
-fourth false p a e = refl
-fourth true true a e = absurd (omega arith)
-fourth true false true e = absurd (omega arith)
-fourth true false false e = absurd (omega arith)
-
-pub not_fourth : (o p a : Bool) → (number_of o p a ≡ 4 → ⊥) → o ≡ true
-not_fourth true p a n = refl
-not_fourth false p a n = absurd (n refl)
-
--- past 4 and 5
-pub later : (o p a : Bool) → (eqb (number_of o p a) 4 || eqb (number_of o p a) 5) ≡ false → (o ≡ true) × (p ≡ false)
-later false p a f = absurd (false≢true (sym f))
-later true true a f = absurd (false≢true (sym f))
-later true false a f = (refl, refl)
-
--- and then 17 is given, or none
-pub above : (a : Bool) → (number_of true false a ≡ 0 → ⊥) → a ≡ true
-above true n = refl
-above false n = absurd (n refl)
-
-pub not_above : (a : Bool) → number_of true false a ≡ 0 → a ≡ false
-not_above true z = absurd (omega arith)
-not_above false z = refl
 
 -- ---- the theorem
 

@@ -103,3 +103,11 @@ below_high f v h =
     let m : 0 < 1000 * v = omega arith in
     let l : f < f / (1000 * v) * (1000 * v) + 1000 * v = lt-div-mul-add m in
     omega (arith, inner 1000 (f / (1000 * v)) v, next_times (f / (1000 * v)) v)
+
+-- what is taken where there is a k in range is in range, so both products are small
+module _ (f u v below : ℕ) (hu : 0 < u) (hv : 0 < v) (h : least_k f v ≤ most_k f u v) where
+  pub small_n : 300 * (nearest_k f v (least_k f v) (most_k f u v) below * v) ≤ f
+  small_n = ((most_in f u v _ hu hv).0 (between f v _ _ below h).1).0
+
+  pub small_cts : nearest_k f v (least_k f v) (most_k f u v) below * u ≤ 1048575
+  small_cts = ((most_in f u v _ hu hv).0 (between f v _ _ below h).1).1

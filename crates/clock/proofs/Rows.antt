@@ -12,8 +12,8 @@ use Rattle.lists.proofs.Decides.{Decides, failing, equal, less, either, together
 use Rattle.refusals.specs.Rows.{Condition, Given}
 use Rattle.refusals.specs.Tests.{Test, lowest}
 use Rattle.refusals.proofs.Tests.{Decided, lowest_given, none_at, answer_given, answer_beside}
-use Rattle.clock.specs.declared.Clock.{Clock}
-use Rattle.clock.specs.declared.Pair.{Pair}
+use Rattle.clock.specs.Numbered.{Clock}
+use Rattle.clock.specs.Numbered.{Pair}
 use Rattle.video.specs.declared.Video.{Video}
 use Rattle.video.specs.Modes.{offered}
 use Rattle.video.specs.Tests.{pixel_outside}

@@ -6,8 +6,8 @@ use Rattle.refusals.specs.Tests.{Test, ◌if◌, lowest, answer}
 use Rattle.video.specs.declared.Video.{Video}
 use Rattle.video.specs.Modes.{offered}
 use Rattle.video.specs.Tests.{pixel_outside}
-use Rattle.clock.specs.declared.Clock.{Clock}
-use Rattle.clock.specs.declared.Pair.{Pair}
+use Rattle.clock.specs.Numbered.{Clock}
+use Rattle.clock.specs.Numbered.{Pair}
 use Rattle.clock.specs.Tables.{other_row}
 use Rattle.clock.specs.Clocks.{limit, tmds}
 
@@ -24,6 +24,10 @@ clock_tests video =
 -- a refusal has its number, and zeros beside it
 abbrev pub no_clock : ℕ → Clock
 no_clock number = record { refusal = number; num = 0; den = 0 }
+
+-- a clock however fast: rows 4 and 5 alone
+unfoldable pub clock_asked : Video → Clock
+clock_asked video = answer (lowest (mode_not_offered if not (offered video) ∷ field_out_of_range if pixel_outside video ∷ [])) no_clock (tmds video)
 
 unfoldable pub clock_of : Video → Clock
 clock_of video = answer (lowest (clock_tests video)) no_clock (tmds video)

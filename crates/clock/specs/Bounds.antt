@@ -1,8 +1,8 @@
 -- Bounds, so that no product overflows: the one place where the largest numbers stand. No promise rests on them: they are what the private
--- functions of `clock` ask for.
-use Rattle.std.specs.Prelude.{◌≡◌, ℕ, ◌+◌, ◌*◌, ◌/◌, ◌<◌, ◌≤◌}
+-- types of `clock` hold to.
+use Rattle.std.specs.Prelude.{◌≡◌, ℕ, ◌*◌, ◌<◌, ◌≤◌}
 use Rattle.std.specs.Int.{◌∣◌}
-use Rattle.clock.specs.declared.Clock.{Clock}
+use Rattle.clock.specs.Numbered.{Clock}
 use Rattle.clock.specs.Clocks.{limit, tmds_bottom}
 
 -- a clock's two numbers: what divides it is at most the fraction's bottom, and the clock is at most the limit
@@ -12,22 +12,16 @@ den_most = tmds_bottom 1
 abbrev pub num_most : ℕ
 num_most = limit * den_most
 
--- the rate in Hz; 128·fs; N, which is at most 128·fs/300
+-- the rate in Hz; 128·fs
 abbrev pub rate_most : ℕ
 rate_most = 192000
 
 abbrev pub reference_most : ℕ
 reference_most = 128 * rate_most
 
-abbrev pub n_most : ℕ
-n_most = reference_most / 300
-
--- what divides clock / (128·fs); one step of N beyond 128·fs/1000
+-- what divides clock / (128·fs)
 abbrev pub parts_most : ℕ
 parts_most = den_most * reference_most
-
-abbrev pub step_most : ℕ
-step_most = reference_most + parts_most
 
 -- a clock that is answered; it is in lowest terms too
 pub record WithinBounds (clock : Clock) : Type 0 where

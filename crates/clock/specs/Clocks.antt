@@ -4,7 +4,7 @@ use Rattle.ratio.specs.Terms.{top_of, bottom_of}
 use Rattle.video.specs.declared.Video.{Video}
 use Rattle.video.specs.Modes.{mode_of}
 use Rattle.video.specs.Video.{depth, repetition}
-use Rattle.clock.specs.declared.Clock.{Clock}
+use Rattle.clock.specs.Numbered.{Clock}
 
 -- "The clock that N and CTS rest on is the TMDS clock, which is the pixel clock times 5/4 or 3/2": so many quarters at 24, 30 and 36 bits
 abbrev pub quarters : ℕ → ℕ

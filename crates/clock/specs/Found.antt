@@ -7,9 +7,9 @@ use Rattle.video.specs.declared.Video.{Video}
 use Rattle.video.specs.Modes.{offered}
 use Rattle.video.specs.Tests.{pixel_outside}
 use Rattle.ratio.specs.Terms.{top_of, bottom_of}
-use Rattle.clock.specs.declared.Clock.{Clock}
+use Rattle.clock.specs.Numbered.{Clock}
 use Rattle.clock.specs.declared.NCts.{NCts}
-use Rattle.clock.specs.declared.Pair.{Pair}
+use Rattle.clock.specs.Numbered.{Pair}
 use Rattle.clock.specs.declared.Quarter.{Quarter}
 use Rattle.clock.specs.Clocks.{quarters, times, tmds}
 use Rattle.clock.specs.Answers.{above_limit, clock_of}

@@ -1,5 +1,7 @@
+pub mod Numbered
 pub mod Clocks
 pub mod Bounds
+pub mod Rows
 pub mod Tables
 pub mod Pairs
 pub mod Answers

@@ -1,9 +1,9 @@
 -- Document 01, "N and CTS": what a pair for coherent audio is, and which one is given.
 use Rattle.std.specs.Prelude.{◌≡◌, ◌↔◌, ◌≢◌, cond, List, [], ◌∷◌, ℕ, ◌+◌, ◌-◌, ◌*◌, ◌≤◌, eqb, get_or}
 use Rattle.sound.specs.Rates.{hertz_of}
-use Rattle.clock.specs.declared.Clock.{Clock}
+use Rattle.clock.specs.Numbered.{Clock}
 use Rattle.clock.specs.declared.NCts.{NCts}
-use Rattle.clock.specs.declared.Pair.{Pair}
+use Rattle.clock.specs.Numbered.{Pair}
 use Rattle.clock.specs.Tables.{pair, Recommended, recommended}
 
 -- 128·fs

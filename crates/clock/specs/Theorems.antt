@@ -6,8 +6,8 @@ use Rattle.ratio.specs.Lowest.{Lowest}
 use Rattle.video.specs.declared.Video.{Video}
 use Rattle.video.specs.Modes.{mode_of, offered}
 use Rattle.video.specs.Video.{depth, repetition, in_family, PixelOutside}
-use Rattle.clock.specs.declared.Clock.{Clock}
-use Rattle.clock.specs.declared.Pair.{Pair}
+use Rattle.clock.specs.Numbered.{Clock}
+use Rattle.clock.specs.Numbered.{Pair}
 use Rattle.clock.specs.Clocks.{tmds_top, tmds_bottom, tmds, limit, AboveLimit}
 use Rattle.clock.specs.Answers.{clock_of}
 use Rattle.clock.specs.Pairs.{NoExact, Coherent}

@@ -1,87 +1,124 @@
 // The exact clock fraction, and N and CTS: document 01, "Modes and clocks" and "N and CTS"; document 02, request 06.
 #![tactic(auto)]
 
-ghost use Rattle.std.specs.Prelude.{◌≡◌, ◌<◌, ◌≤◌, ◌+◌, ◌-◌, ◌*◌, min, eqb};
+ghost use Rattle.std.specs.Prelude.{◌≡◌, ◌<◌, ◌≤◌, ◌+◌, ◌*◌, ◌^◌, cond, eqb, unwrap_or, IfOk, find, option_map};
+ghost use Rattle.clock.specs.Rows.{is_of};
 ghost use Rattle.clock.specs.Clocks.{quarters, times};
 ghost use Rattle.refusals.specs.Rows.{number, clock_above};
-ghost use Rattle.clock.specs.Answers.{no_clock, clock_of, GivesClock};
-ghost use Rattle.clock.specs.Bounds.{WithinBounds, num_most, reference_most, parts_most, step_most};
+ghost use Rattle.clock.specs.Numbered.{clock_known, clock_told, pair_told};
+ghost use Rattle.clock.specs.Answers.{no_clock, clock_asked, above_limit, clock_of, GivesClock, the_pair, audio_off};
+ghost use Rattle.clock.specs.Bounds.{WithinBounds, num_most, reference_most, parts_most};
+ghost use Rattle.clock.specs.Tables.{pair};
 ghost use Rattle.clock.specs.Pairs.{reference, recommended_of};
-ghost use Rattle.clock.specs.Answers.{the_pair, no_pair, audio_off};
-ghost use Rattle.clock.specs.Found.{quarter, slow_quarter, quarter_of};
-ghost use Rattle.clock.specs.Found.{nearest_k, least_k, most_k, nearest_in, nearest_of, exactly, coherent_of, GivesPair};
+ghost use Rattle.clock.specs.Found.{quarter, slow_quarter, quarter_of, nearest_k, least_k, most_k, nearest_in, nearest_of, exactly};
+ghost use Rattle.clock.specs.Found.{coherent_of, GivesPair};
 ghost use Rattle.clock.specs.Theorems.{ClockRule, PairRule, ClockRefusals};
 
 use refusals::Refusal;
 use video::Video;
 
 // A clock in Hz, kept exact: num / den.
-#[derive(Clone, Copy)]
-pub struct Clock {
-    pub refusal: u8,
+#[derive(Clone, Copy, Debug, PartialEq, Eq)]
+pub struct Hertz {
     pub num: u64,
     pub den: u64,
 }
 
 // A quarter of a pixel clock in Hz, kept exact.
-#[derive(Clone, Copy)]
+// Kept, no plainer: a struct of its own beside `Hertz` and `ratio::Ratio`. One generic fraction would say neither what is counted nor that a
+// quarter fits 32 bits, and `clock_known`, `quarter` and `Reduces` name their three.
+#[derive(Clone, Copy, Debug, PartialEq, Eq)]
 pub struct Quarter {
     pub num: u32,
     pub den: u32,
 }
 
-// N and CTS, or the number of a refusal with zeros beside it.
-#[derive(Clone, Copy)]
-pub struct Pair {
-    pub refusal: u8,
-    pub n: u32,
-    pub cts: u32,
-}
-
 // N and CTS, side by side.
-#[derive(Clone, Copy)]
+#[derive(Clone, Copy, Debug, PartialEq, Eq)]
 pub struct NCts {
     pub n: u32,
     pub cts: u32,
 }
 
-// Tables 80 to 82 of source document 000, in the rows of the definition: the clock in Hz as a fraction in lowest terms, and N and CTS at the
-// rates 0 to 6.
+// A row of the recommended pairs: the clock in lowest terms, and N and CTS at the rates 0 to 6.
+// Kept, the proof did not close: two arrays. As one of `NCts`, or of pairs of numbers, a row of the static could not be borrowed.
+struct Row {
+    clock: Hertz,
+    n: [u32; 7],
+    cts: [u32; 7],
+}
+
+// Tables 80 to 82 of source document 000, in the rows of the definition.
 #[rattlefmt::skip]
-const NUMS: [u64; 10] = [
-    3600000000, 25200000, 27000000, 27027000, 54000000, 54054000, 6750000000, 74250000, 13500000000, 148500000,
+static ROWS: [Row; 10] = [
+    // 25.2/1.001 MHz
+    Row {
+        clock: Hertz { num: 3600000000, den: 143 },
+        n: [4576, 7007, 6864, 14014, 13728, 28028, 27456],
+        cts: [28125, 31250, 28125, 31250, 28125, 31250, 28125],
+    },
+    // 25.2 MHz
+    Row {
+        clock: Hertz { num: 25200000, den: 1 },
+        n: [4096, 6272, 6144, 12544, 12288, 25088, 24576],
+        cts: [25200, 28000, 25200, 28000, 25200, 28000, 25200],
+    },
+    // 27 MHz
+    Row {
+        clock: Hertz { num: 27000000, den: 1 },
+        n: [4096, 6272, 6144, 12544, 12288, 25088, 24576],
+        cts: [27000, 30000, 27000, 30000, 27000, 30000, 27000],
+    },
+    // 27·1.001 MHz
+    Row {
+        clock: Hertz { num: 27027000, den: 1 },
+        n: [4096, 6272, 6144, 12544, 12288, 25088, 24576],
+        cts: [27027, 30030, 27027, 30030, 27027, 30030, 27027],
+    },
+    // 54 MHz
+    Row {
+        clock: Hertz { num: 54000000, den: 1 },
+        n: [4096, 6272, 6144, 12544, 12288, 25088, 24576],
+        cts: [54000, 60000, 54000, 60000, 54000, 60000, 54000],
+    },
+    // 54·1.001 MHz
+    Row {
+        clock: Hertz { num: 54054000, den: 1 },
+        n: [4096, 6272, 6144, 12544, 12288, 25088, 24576],
+        cts: [54054, 60060, 54054, 60060, 54054, 60060, 54054],
+    },
+    // 74.25/1.001 MHz
+    Row {
+        clock: Hertz { num: 6750000000, den: 91 },
+        n: [11648, 17836, 11648, 35672, 23296, 71344, 46592],
+        cts: [210937, 234375, 140625, 234375, 140625, 234375, 140625],
+    },
+    // 74.25 MHz
+    Row {
+        clock: Hertz { num: 74250000, den: 1 },
+        n: [4096, 6272, 6144, 12544, 12288, 25088, 24576],
+        cts: [74250, 82500, 74250, 82500, 74250, 82500, 74250],
+    },
+    // 148.5/1.001 MHz
+    Row {
+        clock: Hertz { num: 13500000000, den: 91 },
+        n: [11648, 8918, 5824, 17836, 11648, 35672, 23296],
+        cts: [421875, 234375, 140625, 234375, 140625, 234375, 140625],
+    },
+    // 148.5 MHz
+    Row {
+        clock: Hertz { num: 148500000, den: 1 },
+        n: [4096, 6272, 6144, 12544, 12288, 25088, 24576],
+        cts: [148500, 165000, 148500, 165000, 148500, 165000, 148500],
+    },
 ];
 
-#[rattlefmt::skip]
-const DENS: [u64; 10] = [143, 1, 1, 1, 1, 1, 91, 1, 91, 1];
-
-#[rattlefmt::skip]
-const NS: [u32; 70] = [
-    4576, 7007, 6864, 14014, 13728, 28028, 27456, // 25.2/1.001 MHz
-    4096, 6272, 6144, 12544, 12288, 25088, 24576, // 25.2
-    4096, 6272, 6144, 12544, 12288, 25088, 24576, // 27
-    4096, 6272, 6144, 12544, 12288, 25088, 24576, // 27·1.001
-    4096, 6272, 6144, 12544, 12288, 25088, 24576, // 54
-    4096, 6272, 6144, 12544, 12288, 25088, 24576, // 54·1.001
-    11648, 17836, 11648, 35672, 23296, 71344, 46592, // 74.25/1.001
-    4096, 6272, 6144, 12544, 12288, 25088, 24576, // 74.25
-    11648, 8918, 5824, 17836, 11648, 35672, 23296, // 148.5/1.001
-    4096, 6272, 6144, 12544, 12288, 25088, 24576, // 148.5
-];
-
-#[rattlefmt::skip]
-const CTSS: [u32; 70] = [
-    28125, 31250, 28125, 31250, 28125, 31250, 28125, // 25.2/1.001 MHz
-    25200, 28000, 25200, 28000, 25200, 28000, 25200, // 25.2
-    27000, 30000, 27000, 30000, 27000, 30000, 27000, // 27
-    27027, 30030, 27027, 30030, 27027, 30030, 27027, // 27·1.001
-    54000, 60000, 54000, 60000, 54000, 60000, 54000, // 54
-    54054, 60060, 54054, 60060, 54054, 60060, 54054, // 54·1.001
-    210937, 234375, 140625, 234375, 140625, 234375, 140625, // 74.25/1.001
-    74250, 82500, 74250, 82500, 74250, 82500, 74250, // 74.25
-    421875, 234375, 140625, 234375, 140625, 234375, 140625, // 148.5/1.001
-    148500, 165000, 148500, 165000, 148500, 165000, 148500, // 148.5
-];
+// The row of a clock, if it has one.
+fn row_of(rows: &[Row], clock: Hertz) -> Option<&Row>
+    ensures { option_map (λ row. row.now) result ≡ find (is_of clock) rows.now }
+{
+    rows.iter().find(|row| row.clock == clock)
+}
 
 // N of the "Other" row.
 const OTHERS: [u32; 7] = [4096, 6272, 6144, 12544, 12288, 25088, 24576];
@@ -92,7 +129,7 @@ const LIMIT: u64 = 225000000;
 fn fraction(num: u32, den: u32) -> Quarter
     ensures { result ≡ quarter num den }
 {
-    Quarter { num: num, den: den }
+    Quarter { num, den }
 }
 
 // A quarter of a mode's clock in family 1, in lowest terms, by its clock in family 0. A mode with another clock wants a row here; without it
@@ -111,13 +148,14 @@ fn slow_quarter(hertz: u32) -> Quarter
 }
 
 // The same in either family.
+#[tactic(auto, unfolding(crate::specs::Found::quarter_of))]
 fn quarter_of(hertz: u32, family: u8) -> Quarter
     ensures { result ≡ quarter_of hertz family }
 {
-    if family == 0 {
-        return fraction(hertz / 4, 1);
+    match family {
+        0 => fraction(hertz / 4, 1),
+        _ => slow_quarter(hertz),
     }
-    slow_quarter(hertz)
 }
 
 // How many quarters a depth and a repetition make of it.
@@ -125,7 +163,7 @@ fn parts(depth: u8, repetition: u8) -> u64
     requires { (depth ≤ 2) × (repetition ≤ 2) }
     ensures { (result ≡ quarters depth * times repetition) × (result ≤ 24) }
 {
-    let quarters = 4 + depth as u64;
+    let quarters = 4 + u64::from(depth);
     match repetition {
         0 => quarters,
         1 => 2 * quarters,
@@ -133,276 +171,229 @@ fn parts(depth: u8, repetition: u8) -> u64
     }
 }
 
-// A refusal, with zeros beside it.
-fn no_clock(number: u8) -> Clock
-    ensures { result ≡ no_clock number }
+// The clock of a video, however fast: refusals 4 and 5.
+#[tactic(auto, using(crate::proofs::Offered::found_clock_lem), unfolding(crate::specs::Answers::clock_asked))]
+fn asked(video: Video) -> Result<Hertz, Refusal>
+    ensures told { clock_told result ≡ clock_asked video }
+    ensures small { IfOk result (λ clock. clock.den < 2 ^ 32) }
 {
-    Clock {
-        refusal: number,
-        num: 0,
-        den: 0,
+    let row = video::mode_of(video.vic);
+    if row.families <= video.family {
+        return Err(Refusal::ModeNotOffered);
+    }
+    if video::pixel_outside(video) {
+        return Err(Refusal::FieldOutOfRange);
+    }
+    let quarter = quarter_of(row.hertz, video.family);
+    let many = parts(video::depth(video), video::repetition(video));
+    Ok(Hertz {
+        num: u64::from(quarter.num) * many,
+        den: u64::from(quarter.den),
+    })
+}
+
+impl Hertz {
+    // The clock, where it is at most the limit: refusal 17.
+    fn within_limit(self) -> Result<Hertz, Refusal>
+        requires { self.den < 2 ^ 32 }
+        ensures { clock_told result ≡ cond (above_limit (clock_known self)) (no_clock (number clock_above)) (clock_known self) }
+    {
+        if LIMIT * self.den < self.num {
+            Err(Refusal::ClockAbove)
+        } else {
+            Ok(self)
+        }
     }
 }
 
 // The clock of a video: refusals 4, 5 and 17.
-pub fn clock_of(video: Video) -> Clock
-    ensures { GivesClock video result }
+#[tactic(auto, unfolding(crate::specs::Answers::clock_of, crate::specs::Answers::clock_asked))]
+pub fn clock_of(video: Video) -> Result<Hertz, Refusal>
+    ensures { GivesClock video (clock_told result) }
 {
-    let family = video.family;
-    let row = video::mode_of(video.vic);
-    if row.families <= family {
-        return no_clock(Refusal::MODE_NOT_OFFERED);
-    }
-    if video::pixel_outside(video) {
-        return no_clock(Refusal::FIELD_OUT_OF_RANGE);
-    }
-    let depth = video::depth(video);
-    let repetition = video::repetition(video);
-    let quarter = quarter_of(row.hertz, family);
-    let many = parts(depth, repetition);
-    let num = quarter.num as u64 * many;
-    let den = quarter.den as u64;
-    if LIMIT * den < num {
-        return no_clock(Refusal::CLOCK_ABOVE);
-    }
-    Clock {
-        refusal: Refusal::NONE,
-        num: num,
-        den: den,
-    }
+    asked(video)?.within_limit()
 }
 
 // Row 17 of a video alone: where each pixel is sent once no clock is above the limit, and none need be made.
+#[tactic(auto, using(crate::proofs::Offered::once_within))]
 pub fn is_above(video: Video) -> bool
     ensures { result ≡ eqb (clock_of video).refusal (number clock_above) }
 {
-    if video.pixel < 16 {
-        return false;
+    16 <= video.pixel && matches!(clock_of(video), Err(Refusal::ClockAbove))
+}
+
+// The exact pairs of a clock and a rate are N = k·v and CTS = k·u: `reference` is 128·fs, and u/v is clock / (128·fs) in lowest terms.
+#[derive(Clone, Copy)]
+struct Multiples {
+    reference: u64,
+    u: u64,
+    v: u64,
+    ghost reference_bound: { reference ≤ reference_most },
+    ghost u_nonzero: { (0 < u) × (u ≤ num_most) },
+    ghost v_nonzero: { (0 < v) × (v ≤ parts_most) },
+}
+
+impl Multiples {
+    // The first k whose N is in range.
+    fn least_k(self) -> u64
+        ensures { result ≡ least_k self.reference self.v }
+    {
+        ratio::quotient(self.reference + (1500 * self.v - 1), 1500 * self.v)
     }
-    let clock = clock_of(video);
-    clock.refusal == Refusal::CLOCK_ABOVE
-}
 
-// 128·fs
-fn reference(rate: u8) -> u64
-    requires { rate < 7 }
-    ensures value { result ≡ reference rate }
-    ensures result_nonzero { (0 < result) × (result ≤ reference_most) }
-{
-    128 * sound::hertz(rate) as u64
-}
+    // The last k whose N is in range and whose CTS is at most 1,048,575.
+    fn most_k(self) -> u64
+        ensures { result ≡ most_k self.reference self.u self.v }
+    {
+        let range = ratio::quotient(self.reference, 300 * self.v);
+        range.min(ratio::quotient(1048575, self.u))
+    }
 
-// The recommended pair for a clock and rate; N 0 where there is none. The clocks are named before the loop, since a constant is built anew
-// wherever it is named.
-fn recommended_pair(clock: Clock, rate: u8) -> NCts
-    requires rate_bound { rate < 7 }
-    requires within_bounds { WithinBounds clock }
-    ensures { result ≡ recommended_of clock rate }
-{
-    let nums = NUMS;
-    let dens = DENS;
-    let mut i: usize = 0;
-    while i < 10 {
-        if (clock.num == nums[i]) & (clock.den == dens[i]) {
-            let place = i * 7 + rate as usize;
-            return NCts {
-                n: NS[place],
-                cts: CTSS[place],
-            };
+    // k of the nearest pair, where `below` is the last k with k·v at most f/1000.
+    #[tactic(auto, unfolding(crate::specs::Found::nearest_k))]
+    fn nearest_k(self, least: u64, most: u64, below: u64) -> u64
+        requires { (1000 * (below * self.v) ≤ self.reference) × (self.reference ≤ 1000 * ((below + 1) * self.v)) }
+        ensures { result ≡ nearest_k self.reference self.v least most below }
+    {
+        if most <= below {
+            most
+        } else if below < least {
+            least
+        } else {
+            let after = 1000 * ((below + 1) * self.v) - self.reference;
+            let before = self.reference - 1000 * (below * self.v);
+            if after < before { below + 1 } else { below }
         }
-        i = i + 1;
     }
-    NCts { n: 0, cts: 0 }
-}
 
-// The test of an exact pair.
-fn exactly(clock: Clock, rate: u8, n: u32, cts: u32) -> bool
-    requires rate_bound { rate < 7 }
-    requires within_bounds { WithinBounds clock }
-    ensures { result ≡ exactly clock rate n cts }
-{
-    let f = reference(rate);
-    if 1500 * (n as u64) < f {
-        return false;
-    }
-    if f < 300 * (n as u64) {
-        return false;
-    }
-    if cts > 1048575 {
-        return false;
-    }
-    f * (cts as u64) * clock.den == clock.num * (n as u64)
-}
-
-// The smaller of two numbers.
-fn lesser(a: u64, b: u64) -> u64
-    ensures { result ≡ min a b }
-{
-    if a < b {
-        return a;
-    }
-    b
-}
-
-// How far below f/1000 the number n lies, in thousandths.
-fn below_by(f: u64, n: u64) -> u64
-    requires { (1000 * n ≤ f) × (f ≤ reference_most) }
-    ensures { result ≡ f - 1000 * n }
-{
-    f - 1000 * n
-}
-
-// How far above f/1000 it lies, likewise.
-fn above_by(f: u64, n: u64) -> u64
-    requires { (f ≤ 1000 * n) × (n ≤ step_most) }
-    ensures { result ≡ 1000 * n - f }
-{
-    1000 * n - f
-}
-
-// k of the nearest pair, where `below` is the last k with k·v at most f/1000.
-fn nearest_k(f: u64, v: u64, least: u64, most: u64, below: u64) -> u64
-    requires v_le_parts_most { (v ≤ parts_most) × (f ≤ reference_most) }
-    requires v_bound { (1000 * (below * v) ≤ f) × (f ≤ 1000 * ((below + 1) * v)) }
-    ensures { result ≡ nearest_k f v least most below }
-{
-    if most <= below {
-        return most;
-    }
-    if below < least {
-        return least;
-    }
-    let after = above_by(f, (below + 1) * v);
-    let before = below_by(f, below * v);
-    if after < before {
-        return below + 1;
-    }
-    below
-}
-
-// The first k whose N is in range.
-fn least_k(f: u64, v: u64) -> u64
-    requires f_le_reference_most { f ≤ reference_most }
-    requires v_nonzero { (0 < v) × (v ≤ parts_most) }
-    ensures { result ≡ least_k f v }
-{
-    ratio::quotient(f + (1500 * v - 1), 1500 * v)
-}
-
-// The last k whose N is in range and whose CTS is at most 1,048,575.
-fn most_k(f: u64, u: u64, v: u64) -> u64
-    requires { (0 < u) × (0 < v) × (v ≤ parts_most) }
-    ensures { result ≡ most_k f u v }
-{
-    let range = ratio::quotient(f, 300 * v);
-    let fits = ratio::quotient(1048575, u);
-    lesser(range, fits)
-}
-
-// The nearest of the pairs (k·v, k·u), or refusal 9.
-fn nearest_in(f: u64, u: u64, v: u64) -> Pair
-    requires f_le_reference_most { f ≤ reference_most }
-    requires u_nonzero { (0 < u) × (u ≤ num_most) }
-    requires v_nonzero { (0 < v) × (v ≤ parts_most) }
-    ensures { result ≡ nearest_in f u v }
-{
-    let least = least_k(f, v);
-    let most = most_k(f, u, v);
-    if most < least {
-        return no_pair(Refusal::NO_EXACT_PAIR);
-    }
-    let below = ratio::quotient(f, 1000 * v);
-    let k = nearest_k(f, v, least, most, below);
-    the_pair((k * v) as u32, (k * u) as u32)
-}
-
-// The exact pair whose N is nearest to 128·fs/1000, or refusal 9.
-fn nearest(clock: Clock, rate: u8) -> Pair
-    requires rate_bound { rate < 7 }
-    requires within_bounds { WithinBounds clock }
-    ensures { result ≡ nearest_of clock rate }
-{
-    let f = reference(rate);
-    let ratio = ratio::reduced(clock.num, clock.den * f);
-    nearest_in(f, ratio.u, ratio.v)
-}
-
-// N and CTS for coherent audio.
-fn coherent_pair(clock: Clock, rate: u8) -> Pair
-    requires rate_bound { rate < 7 }
-    requires within_bounds { WithinBounds clock }
-    ensures { result ≡ coherent_of clock rate }
-{
-    let best = recommended_pair(clock, rate);
-    if exactly(clock, rate, best.n, best.cts) {
-        return the_pair(best.n, best.cts);
-    }
-    nearest(clock, rate)
-}
-
-// A refusal, with zeros beside it.
-fn no_pair(number: u8) -> Pair
-    ensures { result ≡ no_pair number }
-{
-    Pair {
-        refusal: number,
-        n: 0,
-        cts: 0,
+    // The nearest of the pairs, or refusal 9.
+    #[tactic(auto, using(crate::proofs::Range::small_n, crate::proofs::Range::small_cts), unfolding(crate::specs::Found::nearest_in))]
+    fn nearest(self) -> Result<NCts, Refusal>
+        ensures { pair_told result ≡ nearest_in self.reference self.u self.v }
+    {
+        let least = self.least_k();
+        let most = self.most_k();
+        if most < least {
+            return Err(Refusal::NoExactPair);
+        }
+        let below = ratio::quotient(self.reference, 1000 * self.v);
+        let k = self.nearest_k(least, most, below);
+        Ok(NCts {
+            n: (k * self.v) as u32,
+            cts: (k * self.u) as u32,
+        })
     }
 }
 
-// A pair, with no refusal.
-fn the_pair(n: u32, cts: u32) -> Pair
-    ensures { result ≡ the_pair n cts }
-{
-    Pair {
-        refusal: Refusal::NONE,
-        n: n,
-        cts: cts,
+// A clock that is answered, and a rate of audio.
+#[derive(Clone, Copy)]
+struct Sampled {
+    clock: Hertz,
+    rate: u8,
+    ghost rate_bound: { rate < 7 },
+    ghost within_bounds: { WithinBounds (clock_known clock) },
+}
+
+impl Sampled {
+    // 128·fs
+    #[tactic(auto, unfolding(crate::specs::Pairs::reference))]
+    fn reference(self) -> u64
+        ensures value { result ≡ reference self.rate }
+        ensures result_nonzero { (0 < result) × (result ≤ reference_most) }
+    {
+        128 * u64::from(sound::hertz(self.rate))
+    }
+
+    // The recommended pair, where there is one.
+    fn recommended_pair(self) -> Option<NCts>
+        ensures { unwrap_or result (pair 0 0) ≡ recommended_of (clock_known self.clock) self.rate }
+    {
+        let row = row_of(&ROWS, self.clock)?;
+        let rate = usize::from(self.rate);
+        Some(NCts {
+            n: row.n[rate],
+            cts: row.cts[rate],
+        })
+    }
+
+    // The test of an exact pair.
+    #[tactic(auto, unfolding(crate::specs::Found::exactly))]
+    fn exactly(self, pair: NCts) -> bool
+        ensures { result ≡ exactly (clock_known self.clock) self.rate pair.n pair.cts }
+    {
+        let f = self.reference();
+        let n = u64::from(pair.n);
+        let in_range = f <= 1500 * n && 300 * n <= f && pair.cts <= 1048575;
+        in_range && f * u64::from(pair.cts) * self.clock.den == self.clock.num * n
+    }
+
+    // The exact pair whose N is nearest to 128·fs/1000, or refusal 9.
+    #[tactic(auto, unfolding(crate::specs::Found::nearest_of))]
+    fn nearest(self) -> Result<NCts, Refusal>
+        ensures { pair_told result ≡ nearest_of (clock_known self.clock) self.rate }
+    {
+        let reference = self.reference();
+        let ratio = ratio::reduced(self.clock.num, self.clock.den * reference);
+        Multiples {
+            reference,
+            u: ratio.u,
+            v: ratio.v,
+        }
+        .nearest()
+    }
+
+    // N and CTS for coherent audio, or refusal 9.
+    #[tactic(auto, using(crate::proofs::Exactness::none_of_zero), unfolding(crate::specs::Found::coherent_of))]
+    fn coherent_pair(self) -> Result<NCts, Refusal>
+        ensures { pair_told result ≡ coherent_of (clock_known self.clock) self.rate }
+    {
+        match self.recommended_pair() {
+            Some(pair) if self.exactly(pair) => Ok(pair),
+            _ => self.nearest(),
+        }
     }
 }
 
 // N and CTS on single fields: refusals 4, 5, 17 and 9.
-pub fn pair_of(video: Video, rate: u8, coherent: u8) -> Pair
-    ensures { GivesPair video rate coherent result }
+#[tactic(auto, using(crate::proofs::Told::early), unfolding(crate::specs::Found::pair_of, crate::specs::Answers::clock_asked))]
+pub fn pair_of(video: Video, rate: u8, coherent: u8) -> Result<NCts, Refusal>
+    ensures { GivesPair video rate coherent (pair_told result) }
 {
-    let clock = clock_of(video);
-    let number = clock.refusal;
-    if (number == Refusal::MODE_NOT_OFFERED) | (number == Refusal::FIELD_OUT_OF_RANGE) {
-        return no_pair(number);
+    let clock = asked(video)?;
+    if rate > 6 || coherent > 1 {
+        return Err(Refusal::FieldOutOfRange);
     }
-    if rate > 6 {
-        return no_pair(Refusal::FIELD_OUT_OF_RANGE);
-    }
-    if coherent > 1 {
-        return no_pair(Refusal::FIELD_OUT_OF_RANGE);
-    }
-    if number != Refusal::NONE {
-        return no_pair(Refusal::CLOCK_ABOVE);
-    }
+    let clock = clock.within_limit()?;
     if coherent == 1 {
-        return coherent_pair(clock, rate);
+        Sampled { clock, rate }.coherent_pair()
+    } else {
+        Ok(NCts {
+            n: OTHERS[usize::from(rate)],
+            cts: 0,
+        })
     }
-    the_pair(OTHERS[rate as usize], 0)
 }
 
 // N and CTS where audio is off.
-pub fn audio_off() -> Pair
-    ensures { result ≡ audio_off }
+pub fn audio_off() -> NCts
+    ensures { the_pair result.n result.cts ≡ audio_off }
 {
-    the_pair(6144, 0)
+    NCts { n: 6144, cts: 0 }
 }
 
 // The clock that is answered: exact, in lowest terms, at most the limit.
+#[tactic(auto, using(crate::proofs::Offered::rule))]
 pub fn clock_rule()
     ensures { ClockRule }
 {}
 
 // What is proved of the answers: which pair is given, and the refusals of the two calls on single fields.
+#[tactic(auto, using(crate::proofs::Coherence::rule))]
 pub fn pair_rule()
     ensures { PairRule }
 {}
 
+#[tactic(auto, using(crate::proofs::Rows::refusals))]
 pub fn clock_refusals()
     ensures { ClockRefusals }
 {}

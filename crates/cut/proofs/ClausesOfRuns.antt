@@ -16,7 +16,7 @@ use Rattle.bits.specs.Merge.{under}
 use Rattle.registers.specs.Classes.{free}
 use Rattle.matrix.specs.Matrix.{fields}
 use Rattle.chip.specs.declared.Chip.{Chip}
-use Rattle.chip.specs.declared.Wrote.{Wrote}
+use Rattle.chip.specs.Numbered.{Wrote}
 use Rattle.chip.specs.Machine.{Write, ◌gets◌, Group, avi, audio, matrix, packets, converter, up, registers_of, holds_of, held, in_use, coefficients, Muted}
 use Rattle.chip.specs.Write.{write_of, vsync_of}
 use Rattle.chip.proofs.Writes.{stepped, turned, at_once_lem}

@@ -8,7 +8,7 @@ use Prim.Native.Nat.{ℕ, zero, suc, ◌<◌}
 use native.Mathlib.Nat.{not-suc-le-zero, le_of_suc-le-suc}
 use lib.ListN.{length, get_or, set, take}
 use Rattle.chip.specs.declared.Chip.{Chip}
-use Rattle.chip.specs.declared.Wrote.{Wrote}
+use Rattle.chip.specs.Numbered.{Wrote}
 use Rattle.chip.specs.Machine.{Write, ◌gets◌, avi, audio, gc, packets, up, holds_of}
 use Rattle.chip.specs.Write.{put, stored, image_after, two, refuses, write_of}
 use Rattle.chip.proofs.Writes.{written_as}

@@ -13,7 +13,7 @@ use Rattle.bits.specs.Merge.{merge}
 use Rattle.bits.proofs.Laws.{merge_left}
 use Rattle.registers.specs.Classes.{read_only}
 use Rattle.chip.specs.declared.Chip.{Chip}
-use Rattle.chip.specs.declared.Wrote.{Wrote}
+use Rattle.chip.specs.Numbered.{Wrote}
 use Rattle.chip.specs.Machine.{Group, matrix, packets, converter, up, holds_of, held}
 use Rattle.chip.specs.Write.{lent_as, put, stored, image_after, two, refuses, write_of, vsync_of}
 use Rattle.chip.proofs.Writes.{written_as, allowed, stepped}

@@ -20,7 +20,7 @@ use Rattle.bits.specs.Merge.{merge}
 use Rattle.map.specs.Map as reg
 use Rattle.registers.specs.Classes.{read_only}
 use Rattle.chip.specs.declared.Chip.{Chip}
-use Rattle.chip.specs.declared.Wrote.{Wrote}
+use Rattle.chip.specs.Numbered.{Wrote}
 use Rattle.chip.specs.Machine.{Write, ◌gets◌, audio, packets, up, holds_of}
 use Rattle.chip.specs.Write.{put, stored, write_of}
 use Rattle.chip.proofs.Writes.{written_as, allowed}

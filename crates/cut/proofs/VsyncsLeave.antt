@@ -7,7 +7,7 @@ use Prim.Native.Nat.{ℕ, zero, suc, ◌<◌, suc-le-suc}
 use native.Mathlib.Nat.{not-suc-le-zero, le_of_suc-le-suc, zero-lt-suc, suc-ne-zero}
 use lib.ListN.{length, get_or, take}
 use Rattle.chip.specs.declared.Chip.{Chip}
-use Rattle.chip.specs.declared.Wrote.{Wrote}
+use Rattle.chip.specs.Numbered.{Wrote}
 use Rattle.chip.specs.Machine.{Write, ◌gets◌, Group, packets, in_use, gc_in_use, Muted, Open}
 use Rattle.chip.specs.Write.{lent_as, put, refuses, write_of, vsync_of}
 use Rattle.chip.proofs.Writes.{wrote, written_as}

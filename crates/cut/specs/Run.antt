@@ -6,7 +6,7 @@ use Rattle.map.specs.Map as reg
 use Rattle.registers.specs.Classes.{read_only, mandated, free, bits}
 use Rattle.matrix.specs.Matrix.{fields}
 use Rattle.chip.specs.declared.Chip.{Chip}
-use Rattle.chip.specs.declared.Wrote.{Wrote}
+use Rattle.chip.specs.Numbered.{Wrote}
 use Rattle.chip.specs.Machine.{Write, ◌gets◌, avi, audio, matrix, packets, registers_of, in_use, coefficients, Muted}
 use Rattle.chip.specs.Write.{write_of, vsync_of}
 use Rattle.writes.specs.Rows.{is_written}

@@ -22,7 +22,7 @@ use Rattle.video.proofs.Fits.{family_small}
 use Rattle.matrix.specs.Matrix.{fields, no_matrix}
 use Rattle.matrix.proofs.Pairs.{fields_small, length_fields}
 use Rattle.request.specs.declared.Request.{Request}
-use Rattle.request.specs.declared.Checked.{Checked}
+use Rattle.request.specs.Numbered.{Checked}
 use Rattle.request.specs.Sections.{longest}
 use Rattle.request.specs.Read.{read_of}
 use Rattle.request.specs.Bytes.{as_bytes, request_in_family, answered_as}
@@ -30,11 +30,11 @@ use Rattle.request.specs.ThereAndBack.{Shaped}
 use Rattle.request.specs.Fits.{Fits}
 use Rattle.plan.specs.Wanted.{wanted}
 use Rattle.writes.specs.List.{byte, decided, written, is_written, finished}
-use Rattle.decode.specs.declared.Decoded.{Decoded}
+use Rattle.decode.specs.Numbered.{Decoded, not_decoded}
 use Rattle.decode.specs.Ends.{Acceptable, Stands, Ends}
 use Rattle.decode.specs.Extract.{bits_at, matrix_in, data_in, extract}
 use Rattle.writes.specs.List.{stands_below}
-use Rattle.decode.specs.Decode.{some_ends, decode_tests, decode_refusal, not_decoded, decode_of, decoded_buffer}
+use Rattle.decode.specs.Decode.{some_ends, decode_tests, decode_refusal, decode_of, decoded_buffer}
 use Rattle.decode.specs.Theorems.{Answered, ExactlyWhen, AtMostOne, decode_rules, Refusals}
 use Rattle.decode.specs.ReadBack.{Ran, ReadBack}
 use Rattle.request.proofs.Fits.{fits, twelve_there}

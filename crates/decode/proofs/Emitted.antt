@@ -1,15 +1,18 @@
 -- Bytes stored section by section. `sets d at xs` of lib.Seq is d with xs stored from index at. Assumes nothing.
---     one_more      a byte more of a body
+--     body_laid     a body in its place
 --     emitted       sections one after another are the bytes of a request
 use mathlib.Core.Path.{◌≡◌, refl, sym, ap, ap₂, ◌∙◌}
 use mathlib.Core.Bool.{Bool, true, false, cond}
 use mathlib.Core.List.{List, [], ◌∷◌}
-use Prim.Native.Nat.{ℕ, suc, ◌+◌, ◌≤◌, ◌<◌}
-use native.Mathlib.Numerals.{add-one}
+use Prim.Native.Nat.{ℕ, suc, ◌+◌, ◌-◌, ◌≤◌}
 use native.Mathlib.Omega.{arith}
 use lib.Dec.{eqb, lit≤}
-use lib.ListN.{length, get_or, take, set, length-append}
-use lib.Seq.{sets, take-suc, take_all, length-take-le}
+use lib.ListN.{length, take, drop, length-append, length-drop, drop_of_length-le}
+use lib.Seq.{sets, sets-eq, take_all, drop-drop}
+use Rattle.std.proofs.lemmas.List.{append_assoc, append-nil}
+use borrow.Rule.Slice.PartMut.{put_mid}
+use Rattle.lists.specs.Over.{over}
+use Rattle.lists.proofs.Copied.{over_front}
 use Rattle.lists.proofs.Emit.{sets_append, sets_front}
 use Rattle.wiring.specs.declared.Wiring.{Wiring}
 use Rattle.wiring.specs.declared.Wiring.TheVariants.{Board, Four, Twelve}
@@ -28,16 +31,12 @@ use Rattle.request.specs.Bytes.{laid, matrix_body, bodies_of, as_bytes}
 use Rattle.request.specs.Sections as sections
 use Rattle.decode.specs.Decode.{in_front}
 
-pub one_more : (body d : List ℕ) (at i n : ℕ) → i < length body → at + i ≡ n
-    → set (sets d at (take i body)) n (get_or body i 0) ≡ sets d at (take (i + 1) body)
-one_more body d at i n h e =
-    let l : length (take i body) ≡ i = length-take-le i body (omega arith) in
-    rw (add-one, take-suc body i 0 h, sets_append (take i body) (get_or body i 0 ∷ []) d at, l, e)
-
--- after the last: the count and the body
-pub whole_section : (body d : List ℕ) (place start i n : ℕ) → start ≡ place + 1 → length body ≤ i
-    → sets (set d place n) start (take i body) ≡ sets d place (n ∷ body)
-whole_section body d place start i n e h = rw (e, add-one, take_all i body h)
+pub body_laid : (d body : List ℕ) (at k : ℕ) → k ≡ length d - at → at + length body ≤ length d
+    → put_mid at k d (over body (take k (drop at d))) ≡ sets d at body
+body_laid d body at k e h =
+    let n : length (drop at d) ≤ k = omega (arith, length-drop at d) in
+    let m : length body ≤ length (drop at d) = omega (arith, length-drop at d) in
+    simp (take_all k (drop at d) n, over_front body (drop at d) m, drop_of_length-le (drop at d) n, append-nil, sets-eq body d at h, append_assoc, drop-drop)
 
 -- sections stored one after another, from a place on
 abbrev pub in_turn : List ℕ → ℕ → List (List ℕ) → List ℕ
@@ -51,12 +50,12 @@ emitted d place (b ∷ bs) =
 
 -- ---- a request
 
-pub wiring_room : (w : Wiring) → length (wiring_body w) ≤ twelve_count
+wiring_room : (w : Wiring) → length (wiring_body w) ≤ twelve_count
 wiring_room Board = lit≤ tt
 wiring_room (Four i d s j) = lit≤ tt
 wiring_room (Twelve i d s j a b c e) = lit≤ tt
 
-pub audio_room : (s : Sound) → length (audio_body s) ≤ audio_count
+audio_room : (s : Sound) → length (audio_body s) ≤ audio_count
 audio_room Off = lit≤ tt
 audio_room (On rate channels coherent) = lit≤ tt
 

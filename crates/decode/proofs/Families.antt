@@ -12,7 +12,7 @@ use Rattle.video.specs.Tests.{shown_outside, video_outside, shown_combined, vide
 use Rattle.video.proofs.Fits.{is_pixel_outside, pixel_inside}
 use Rattle.video.specs.Video as video
 use Rattle.video.specs.Modes.{mode_of, offered}
-use Rattle.clock.specs.declared.Pair.{Pair}
+use Rattle.clock.specs.Numbered.{Pair}
 use Rattle.clock.specs.Clocks.{tmds}
 use Rattle.clock.specs.Answers.{above_limit}
 use Rattle.clock.proofs.Offered.{families}

@@ -11,9 +11,9 @@ use Rattle.request.specs.Sections.{longest}
 use Rattle.request.specs.Bytes.{as_bytes, request_in_family}
 use Rattle.request.proofs.Fits.{coefficients_small, twelve_there}
 use Rattle.plan.specs.Plan.{stands_in}
-use Rattle.decode.specs.declared.Decoded.{Decoded}
+use Rattle.decode.specs.Numbered.{Decoded, not_decoded}
 use Rattle.decode.specs.Extract.{matrix_in, extract}
-use Rattle.decode.specs.Decode.{is_coherent, some_ends, decode_refusal, not_decoded, decode_of, in_front, decoded_buffer}
+use Rattle.decode.specs.Decode.{is_coherent, some_ends, decode_refusal, decode_of, in_front, decoded_buffer}
 use Rattle.decode.proofs.Answers.{shaped}
 use Rattle.decode.proofs.Families.{spared}
 

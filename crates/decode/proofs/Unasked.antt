@@ -6,7 +6,7 @@ use Prim.Native.Nat.{ℕ}
 use lib.Dec.{eqb}
 use borrow.Author.Tests.{eqb-true}
 use Rattle.video.specs.Video.{answered_edition}
-use Rattle.clock.specs.declared.Pair.{Pair}
+use Rattle.clock.specs.Numbered.{Pair}
 use Rattle.clock.specs.Clocks.{tmds}
 use Rattle.clock.specs.Answers.{clock_of}
 use Rattle.clock.specs.Found.{pair_of}
@@ -14,7 +14,7 @@ use Rattle.frames.specs.Frames.{avi_frame}
 use Rattle.sound.specs.declared.Sound.{Sound}
 use Rattle.sound.specs.declared.Sound.TheVariants.{Off, On}
 use Rattle.request.specs.declared.Request.{Request}
-use Rattle.request.specs.declared.Checked.{Checked}
+use Rattle.request.specs.Numbered.{Checked}
 use Rattle.request.specs.Read.{pair_in, pair_for}
 use Rattle.request.specs.ThereAndBack.{request_in_edition}
 use Rattle.request.specs.Fits.{Fits}

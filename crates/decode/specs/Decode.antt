@@ -7,7 +7,7 @@ use Rattle.sound.specs.declared.Sound.TheVariants.{Off, On}
 use Rattle.request.specs.Sections.{longest}
 use Rattle.request.specs.Bytes.{as_bytes, request_in_family}
 use Rattle.plan.specs.Plan.{size_tests, buffer_tests, stands_in}
-use Rattle.decode.specs.declared.Decoded.{Decoded}
+use Rattle.decode.specs.Numbered.{Decoded, not_decoded}
 use Rattle.decode.specs.Extract.{extract}
 
 -- sound that is coherent: only its N and CTS differ between the families, so the code tries the second with no other
@@ -25,10 +25,6 @@ decode_tests image buffer = size_tests image ++ buffer_tests longest buffer ++ n
 
 unfoldable pub decode_refusal : List ℕ → List ℕ → ℕ
 decode_refusal image buffer = lowest (decode_tests image buffer)
-
--- a refusal has its number and count 0
-abbrev pub not_decoded : ℕ → Decoded
-not_decoded number = record { refusal = number; count = 0 }
 
 unfoldable pub decode_of : List ℕ → List ℕ → Decoded
 decode_of image buffer = answer (decode_refusal image buffer) not_decoded (record { refusal = 0; count = length (as_bytes (extract image)) })

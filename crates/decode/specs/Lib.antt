@@ -1,3 +1,4 @@
+pub mod Numbered
 pub mod Ends
 pub mod Extract
 pub mod Decode

@@ -4,14 +4,12 @@
 ghost use Rattle.std.specs.Prelude.{◌≡◌, ◌||◌, List, ◌∷◌, ℕ, suc, ◌+◌, ◌*◌, ◌<◌, ◌≤◌, get_or, length};
 ghost use Rattle.std.proofs.lemmas.List.Edits.{sets};
 ghost use Rattle.request.specs.declared.Request.{Request};
-ghost use Rattle.wiring.specs.Kinds.{twelve_count};
-ghost use Rattle.wiring.specs.Wiring.{wiring_body};
-ghost use Rattle.sound.specs.Sound.{audio_count, audio_body};
-ghost use Rattle.request.specs.Sections.{matrix_count, longest};
-ghost use Rattle.request.specs.Bytes.{matrix_body, as_bytes, request_in_family};
+ghost use Rattle.request.specs.Sections.{longest};
+ghost use Rattle.request.specs.Bytes.{as_bytes, request_in_family};
 ghost use Rattle.plan.specs.Plan.{stands_in};
 ghost use Rattle.decode.specs.Extract.{wires_in, sound_in, matrix_in, depth_of, extract};
-ghost use Rattle.decode.specs.Decode.{in_front, is_coherent, not_decoded, Decodes};
+ghost use Rattle.decode.specs.Numbered.{decoded_told};
+ghost use Rattle.decode.specs.Decode.{in_front, is_coherent, Decodes};
 ghost use Rattle.decode.specs.Theorems.{ExactlyWhen, BitByBit, AtMostOne, Refusals};
 ghost use Rattle.decode.specs.ReadBack.{ReadBack};
 
@@ -21,24 +19,21 @@ use matrix::Matrix;
 use refusals::Refusal;
 use request::Request;
 use request::sections::LONGEST;
-use sound::{AUDIO_COUNT, Sound};
-use wiring::{FOUR_COUNT, Wires, Wiring};
+use sound::Sound;
+use std::array;
+use wiring::{Wires, Wiring};
 
-// The number of a refusal, 0 for none, and the count of bytes of the request.
-#[derive(Clone, Copy)]
-pub struct Decoded {
-    pub refusal: u8,
-    pub count: u32,
-}
-
-const DEPTHS: [u8; 16] = [0, 3, 3, 3, 3, 1, 2, 3, 3, 3, 3, 3, 3, 3, 3, 3];
-
-// The depth of a code.
+// The depth of a code; 3 for a code that is none.
+// Kept, what may not change: 3 and no `None`, for `depth_of` (Extract) has it, and the request that is made of it is refused by row 5.
 fn depth_of(code: u8) -> u8
-    requires { code < 16 }
     ensures { result ≡ depth_of code }
 {
-    DEPTHS[code as usize]
+    match code {
+        0 => 0,
+        5 => 1,
+        6 => 2,
+        _ => 3,
+    }
 }
 
 // A number of which one register has the high bits and another the low ones.
@@ -46,25 +41,16 @@ fn joined(high: u8, width: u16, low: u8) -> u16
     requires { width ≤ 256 }
     ensures { (result ≡ high * width + low) × (high < 256) × (low < 256) }
 {
-    high as u16 * width + low as u16
+    u16::from(high) * width + u16::from(low)
 }
 
 // The numbers of the wiring; a sync value lies in two registers.
-fn wires_in(image: &[u8]) -> Wires
-    requires { length image.now ≡ 256 }
+fn wires_in(image: &[u8; 256]) -> Wires
     ensures { result ≡ wires_in image.now }
 {
     let syncs = Map::SYNC_GENERATION as usize;
     let format = image[Map::VIDEO_INPUT_CFG1 as usize];
-    let a = image[syncs];
-    let b = image[syncs + 1];
-    let c = image[syncs + 2];
-    let d = image[syncs + 3];
-    let e = image[syncs + 4];
-    let hplacement = joined(a, 4, b / 64 % 4);
-    let hduration = joined(b % 64, 16, c / 16 % 16);
-    let vplacement = joined(c % 16, 64, d / 4 % 64);
-    let vduration = joined(d % 4, 256, e);
+    let [a, b, c, d, e]: [u8; 5] = array::from_fn(|i| image[syncs + i]);
     Wires {
         input: image[Map::I2S_FREQ_ID_CFG as usize] % 16,
         depth: (format >> Map::INPUT_COLOR_DEPTH_SHIFT) % 4,
@@ -72,66 +58,58 @@ fn wires_in(image: &[u8]) -> Wires
         justification: (image[Map::VIDEO_INPUT_CFG2 as usize]
             >> Map::VIDEO_INPUT_JUSTIFICATION_SHIFT)
             % 4,
-        hplacement: hplacement,
-        hduration: hduration,
-        vplacement: vplacement,
-        vduration: vduration,
+        hplacement: joined(a, 4, b / 64 % 4),
+        hduration: joined(b % 64, 16, c / 16 % 16),
+        vplacement: joined(c % 16, 64, d / 4 % 64),
+        vduration: joined(d % 4, 256, e),
     }
 }
 
-fn sound_in(image: &[u8]) -> Sound
-    requires { length image.now ≡ 256 }
+fn sound_in(image: &[u8; 256]) -> Sound
     ensures { result ≡ sound_in image.now }
 {
     if image[Map::PACKET_ENABLE1 as usize] / Map::AUDIO_SAMPLE_PACKET_ENABLE_MASK % 2 == 0 {
-        return Sound::Off;
-    }
-    let code = (image[Map::I2S_FREQ_ID_CFG as usize] >> Map::I2S_SAMPLING_FREQUENCY_SHIFT) % 16;
-    let rate = sound::rate_of(code);
-    Sound::On {
-        rate: rate,
-        channels: image[Map::AUDIO_INFOFRAME_BYTE1 as usize] % 8 + 1,
-        coherent: image[Map::AUDIO_SOURCE as usize] / Map::CTS_SELECT_MASK % 2,
+        Sound::Off
+    } else {
+        let code = (image[Map::I2S_FREQ_ID_CFG as usize] >> Map::I2S_SAMPLING_FREQUENCY_SHIFT) % 16;
+        Sound::On {
+            rate: sound::rate_of(code),
+            channels: image[Map::AUDIO_INFOFRAME_BYTE1 as usize] % 8 + 1,
+            coherent: image[Map::AUDIO_SOURCE as usize] / Map::CTS_SELECT_MASK % 2,
+        }
     }
 }
 
-fn matrix_in(image: &[u8]) -> Matrix
-    requires { length image.now ≡ 256 }
+fn matrix_in(image: &[u8; 256]) -> Matrix
     ensures { result ≡ matrix_in image.now }
 {
-    let first = image[Map::CSC as usize];
-    if first / Map::CSC_ENABLE_MASK % 2 == 0 {
-        return matrix::none();
-    }
     let start = Map::CSC as usize;
     let end = start + Map::CSC_COUNT as usize;
-    let fields = matrix::twelve(&image[start..end]);
-    Matrix {
-        on: 1,
-        mode: (first >> Map::CSC_SCALING_FACTOR_SHIFT) % 4,
-        coefficients: fields,
+    let first = image[start];
+    if first / Map::CSC_ENABLE_MASK % 2 == 0 {
+        matrix::none()
+    } else {
+        Matrix {
+            on: 1,
+            mode: (first >> Map::CSC_SCALING_FACTOR_SHIFT) % 4,
+            coefficients: matrix::twelve(&image[start..end]),
+        }
     }
 }
 
 // The request that the image's registers name, in family 0, and under D where nothing of E is asked for.
-fn extract(image: &[u8]) -> Request
-    requires { length image.now ≡ 256 }
+fn extract(image: &[u8; 256]) -> Request
     ensures { result ≡ extract image.now }
 {
-    let wires = wires_in(image);
-    let wiring = wiring::wiring_named(wires);
-    let sound = sound_in(image);
-    let matrix = matrix_in(image);
     let link = image[Map::HDCP_HDMI_CFG as usize] / Map::HDMI_DVI_MODE_SELECT_MASK % 2;
     let depth = depth_of(image[Map::GC_DEPTH as usize] % 16);
     let start = Map::AVI_INFOFRAME_BYTE1 as usize;
     let end = start + AVI_COUNT as usize;
-    let video = frames::video_named(link, depth, &image[start..end]);
     Request {
-        wiring: wiring,
-        video: video,
-        sound: sound,
-        matrix: matrix,
+        wiring: wiring::wiring_named(wires_in(image)),
+        video: frames::video_named(link, depth, &image[start..end]),
+        sound: sound_in(image),
+        matrix: matrix_in(image),
     }
 }
 
@@ -141,35 +119,26 @@ fn section(buffer: &mut [u8], place: usize, body: &[u8]) -> usize
     ensures value { result ≡ place + suc (length body.now) }
     ensures buffer_after { buffer.new ≡ sets buffer.old place (length body.now ∷ body.now) }
 {
-    buffer[place] = body.len() as u8;
     let start = place + 1;
-    let mut i: usize = 0;
-    while i < body.len() {
-        buffer[start + i] = body[i];
-        i = i + 1;
-    }
-    start + i
+    buffer[place] = body.len() as u8;
+    lists::copy(body, &mut buffer[start..]);
+    start + body.len()
 }
 
-fn wiring_section(buffer: &mut [u8], place: usize, wiring: Wiring) -> usize
-    requires { place + suc twelve_count ≤ length buffer.old }
-    ensures value { result ≡ place + suc (length (wiring_body wiring)) }
-    ensures buffer_after { buffer.new ≡ sets buffer.old place (length (wiring_body wiring) ∷ wiring_body wiring) }
+// The bytes of a request at the front of the buffer, section after section, and their count.
+fn emit(q: Request, buffer: &mut [u8]) -> usize
+    requires { (longest ≤ length buffer.old) × ((i : ℕ) → get_or q.matrix.coefficients i 0 < 8192) × (length q.matrix.coefficients ≡ 12) }
+    ensures value { (result ≡ length (as_bytes q)) × (result ≤ longest) }
+    ensures buffer_after { buffer.new ≡ in_front (as_bytes q) buffer.old }
 {
-    match wiring {
-        Wiring::Board => {
-            let body = [0u8; FOUR_COUNT as usize];
-            section(buffer, place, &body[..0])
-        }
+    let after_wiring = match q.wiring {
+        Wiring::Board => section(buffer, 0, &[]),
         Wiring::Four {
             input,
             depth,
             style,
             justification,
-        } => {
-            let body = [input, depth, style, justification];
-            section(buffer, place, &body)
-        }
+        } => section(buffer, 0, &[input, depth, style, justification]),
         Wiring::Twelve {
             input,
             depth,
@@ -180,87 +149,39 @@ fn wiring_section(buffer: &mut [u8], place: usize, wiring: Wiring) -> usize
             vplacement,
             vduration,
         } => {
-            let body = [
-                input,
-                depth,
-                style,
-                justification,
-                (hplacement / 256) as u8,
-                (hplacement % 256) as u8,
-                (hduration / 256) as u8,
-                (hduration % 256) as u8,
-                (vplacement / 256) as u8,
-                (vplacement % 256) as u8,
-                (vduration / 256) as u8,
-                (vduration % 256) as u8,
-            ];
-            section(buffer, place, &body)
+            let [a, b] = hplacement.to_be_bytes();
+            let [c, d] = hduration.to_be_bytes();
+            let [e, f] = vplacement.to_be_bytes();
+            let [g, h] = vduration.to_be_bytes();
+            let body = [input, depth, style, justification, a, b, c, d, e, f, g, h];
+            section(buffer, 0, &body)
         }
-    }
-}
-
-fn audio_section(buffer: &mut [u8], place: usize, sound: Sound) -> usize
-    requires { place + suc audio_count ≤ length buffer.old }
-    ensures value { result ≡ place + suc (length (audio_body sound)) }
-    ensures buffer_after { buffer.new ≡ sets buffer.old place (length (audio_body sound) ∷ audio_body sound) }
-{
-    match sound {
-        Sound::Off => {
-            let body = [0u8; AUDIO_COUNT as usize];
-            section(buffer, place, &body[..0])
-        }
+    };
+    let after_video = section(buffer, after_wiring, &video::video_body(q.video));
+    let after_audio = match q.sound {
+        Sound::Off => section(buffer, after_video, &[]),
         Sound::On {
             rate,
             channels,
             coherent,
-        } => {
-            let body = [rate, channels, coherent];
-            section(buffer, place, &body)
-        }
+        } => section(buffer, after_video, &[rate, channels, coherent]),
+    };
+    // Kept, the proof did not close: made in the else alone, what the sections before left has to be told once for each end.
+    let matrix = matrix::body_of(q.matrix);
+    if q.matrix.on == 0 {
+        section(buffer, after_audio, &[])
+    } else {
+        section(buffer, after_audio, &matrix)
     }
-}
-
-fn matrix_section(buffer: &mut [u8], place: usize, m: Matrix) -> usize
-    requires { (place + suc matrix_count ≤ length buffer.old) × ((i : ℕ) → get_or m.coefficients i 0 < 8192) }
-    ensures value { result ≡ place + suc (length (matrix_body m)) }
-    ensures buffer_after { buffer.new ≡ sets buffer.old place (length (matrix_body m) ∷ matrix_body m) }
-{
-    let body = matrix::body_of(m);
-    if m.on == 0 {
-        return section(buffer, place, &body[..0]);
-    }
-    section(buffer, place, &body)
-}
-
-// The bytes of a request at the front of the buffer, a line for each section, and their count.
-fn emit(q: Request, buffer: &mut [u8]) -> usize
-    requires { (longest ≤ length buffer.old) × ((i : ℕ) → get_or q.matrix.coefficients i 0 < 8192) × (length q.matrix.coefficients ≡ 12) }
-    ensures value { (result ≡ length (as_bytes q)) × (result ≤ longest) }
-    ensures buffer_after { buffer.new ≡ in_front (as_bytes q) buffer.old }
-{
-    let video = video::video_body(q.video);
-    let wiring = q.wiring;
-    let sound = q.sound;
-    let matrix = q.matrix;
-    let after_wiring = wiring_section(buffer, 0, wiring);
-    let after_video = section(buffer, after_wiring, &video);
-    let after_audio = audio_section(buffer, after_video, sound);
-    matrix_section(buffer, after_audio, matrix)
 }
 
 // The request in a family.
 fn in_family(q: Request, family: u8) -> Request
     ensures { result ≡ request_in_family family q }
 {
-    let video = video::in_family(q.video, family);
-    let wiring = q.wiring;
-    let sound = q.sound;
-    let matrix = q.matrix;
     Request {
-        wiring: wiring,
-        video: video,
-        sound: sound,
-        matrix: matrix,
+        video: video::in_family(q.video, family),
+        ..q
     }
 }
 
@@ -268,60 +189,31 @@ fn in_family(q: Request, family: u8) -> Request
 fn is_coherent(sound: Sound) -> bool
     ensures { result ≡ is_coherent sound }
 {
-    match sound {
-        Sound::Off => false,
-        Sound::On {
-            rate: _,
-            channels: _,
-            coherent,
-        } => coherent == 1,
-    }
+    matches!(sound, Sound::On { coherent: 1, .. })
 }
 
 // Whether the request, in one of its families, is accepted on some image and stands in this one. Where the sound is not coherent, the second
 // family wants what the first does.
-fn ends(q: Request, image: &[u8]) -> bool
+fn ends(q: Request, image: &[u8; 256]) -> bool
     ensures { result ≡ (stands_in (request_in_family 0 q) image.now || stands_in (request_in_family 1 q) image.now) }
 {
-    let sound = q.sound;
-    if plan::stands(in_family(q, 0), image) {
-        return true;
-    }
-    if !is_coherent(sound) {
-        return false;
-    }
-    plan::stands(in_family(q, 1), image)
+    plan::stands(in_family(q, 0), image)
+        || (is_coherent(q.sound) && plan::stands(in_family(q, 1), image))
 }
 
-// A refusal: its number, and no byte.
-fn refused(number: u8) -> Decoded
-    ensures { result ≡ not_decoded number }
+// The request that ends in an image, in a lent buffer, and the count of its bytes: refusals 7, 10 and 11.
+pub fn decode(image: &[u8], buffer: &mut [u8]) -> Result<u32, Refusal>
+    ensures { Decodes image.now buffer.old (decoded_told result) buffer.new }
 {
-    Decoded {
-        refusal: number,
-        count: 0,
-    }
-}
-
-// The request that ends in an image, in a lent buffer: refusals 7, 10 and 11.
-pub fn decode(image: &[u8], buffer: &mut [u8]) -> Decoded
-    ensures { Decodes image.now buffer.old result buffer.new }
-{
-    if image.len() != 256 {
-        return refused(Refusal::IMAGE_LENGTH);
-    }
+    let image: &[u8; 256] = image.try_into().map_err(|_| Refusal::ImageLength)?;
     if buffer.len() < LONGEST {
-        return refused(Refusal::BUFFER_SHORT);
+        return Err(Refusal::BufferShort);
     }
     let q = extract(image);
     if !ends(q, image) {
-        return refused(Refusal::NO_REQUEST);
+        return Err(Refusal::NoRequest);
     }
-    let count = emit(q, buffer);
-    Decoded {
-        refusal: Refusal::NONE,
-        count: count as u32,
-    }
+    Ok(emit(q, buffer) as u32)
 }
 
 // "Decoding answers a request exactly when .."

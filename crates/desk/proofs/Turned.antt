@@ -1,8 +1,8 @@
 -- The turns of the program's loop: parts go into the pipe, and each that goes on leaves more bytes there. Assumes nothing.
 use mathlib.Core.Path.{◌≡◌, refl, sym, ap, subst, ◌∙◌}
-use mathlib.Core.Bool.{Bool, true, false, cond, not}
+use mathlib.Core.Bool.{Bool, true, false, not}
 use mathlib.Core.List.{List, [], ◌∷◌, ◌++◌}
-use Prim.Native.Nat.{ℕ, suc, ◌-◌, ◌<◌}
+use Prim.Native.Nat.{ℕ, ◌-◌, ◌<◌}
 use native.Mathlib.Omega.{arith}
 use lib.Dec.{eqb}
 use lib.ListN.{length}
@@ -55,9 +55,5 @@ module _ (pipe : List ℕ) (more : Bool) (left : List ℕ) (r : Reading pipe) (s
         stopped = ap (λ (p : List ℕ). goes_on p s.part) (sym r.taken) ∙ sym s.turned.0 ∙ e;
       }
 
-  pub fewer : cond more (suc (longest - count_in left)) 0 < suc (longest - count_in pipe)
-  fewer = go more refl
-    where
-      go : (b : Bool) → more ≡ b → cond b (suc (longest - count_in left)) 0 < suc (longest - count_in pipe)
-      go true e = let g = grown e in omega (arith, g.1, g.0.one.counted)
-      go false e = omega arith
+  pub fewer : more ≡ true → longest - count_in left < longest - count_in pipe
+  fewer e = let g = grown e in omega (arith, g.1, g.0.one.counted)

@@ -5,18 +5,21 @@
 ghost use Rattle.std.specs.Prelude.{◌≡◌, ◌≤◌, ◌<◌, length};
 ghost use Rattle.io.specs.Counts.{IsPrefixLen};
 ghost use Rattle.request.specs.Sections.{longest};
+ghost use Rattle.pipe.specs.Numbered.{piped_told};
 ghost use Rattle.pipe.specs.Bytes.{fresh, pipe_length};
 ghost use Rattle.desk.specs.Turns.{DeskTurns, SomePart, AllParts, PrintsPipe};
 
-use pipe::{ENOUGH, PIPE};
+use line::Text;
+use pipe::{ENOUGH, PIPE, Said};
+use refusals::Refusal;
 use std::io::{Read, Write};
 
 // A part goes into the pipe. Whether to go on: not after the empty part, the end of the input, and not after an answer.
 fn turn(pipe: &mut [u8], part: &[u8]) -> bool
     ensures { DeskTurns pipe.old part.now result pipe.new }
 {
-    let piped = pipe::take(pipe, part);
-    (part.len() != 0) & (piped.answered == 0)
+    let said = pipe::take(pipe, part);
+    !part.is_empty() && matches!(said, Said::NoPipe | Said::Open)
 }
 
 // What is there to be read, in a room for one byte more than the longest request: that much decides. In a room of no bytes every input would be
@@ -25,10 +28,7 @@ fn read_part(rt: &HostRuntime, room: &mut [u8]) -> usize
     requires { longest < length room.old }
     ensures { IsPrefixLen result room.new }
 {
-    match rt.stdin().read(room) {
-        Ok(n) => n,
-        Err(_) => 0,
-    }
+    rt.stdin().read(room).unwrap_or(0)
 }
 
 // It goes into the pipe.
@@ -45,29 +45,32 @@ fn take_all(rt: &HostRuntime, pipe: &mut [u8])
     requires { pipe.old ≡ fresh }
     ensures { AllParts pipe.new }
 {
-    let mut more = true;
-    while more {
-        more = take_some(rt, pipe);
+    while take_some(rt, pipe) {}
+}
+
+// The number of the refusal, 0 for none, and the count of an accepted request's bytes.
+fn in_numbers(said: Said) -> (u8, u8)
+    ensures { (result.0 ≡ (piped_told said).refusal) × (result.1 ≡ (piped_told said).count) }
+{
+    match said {
+        Said::NoPipe => (Refusal::ImageLength.into(), 0),
+        Said::Open => (0, 0),
+        Said::Accepted { count } => (0, count),
+        Said::Refused { number } => (number, 0),
     }
 }
 
 // The end, and the line of the answer.
-fn print(pipe: &mut [u8], line: &mut [u8; 80]) -> usize
+fn print(pipe: &mut [u8]) -> Text
     requires { length pipe.old ≡ pipe_length }
-    ensures prints_pipe { PrintsPipe pipe.old result line.new }
-    ensures upper_bound { result ≤ length line.new }
+    ensures { PrintsPipe pipe.old result.count result.bytes }
 {
-    let piped = pipe::end(pipe);
-    line::print_answer(piped.refusal, &pipe[..piped.count as usize], line)
+    let (refusal, count) = in_numbers(pipe::end(pipe));
+    line::print_answer(refusal, &pipe[..count as usize])
 }
 
 fn main(rt: HostRuntime) {
     let mut pipe = [0u8; PIPE];
     take_all(&rt, &mut pipe);
-    let mut line = [0u8; 80];
-    let count = print(&mut pipe, &mut line);
-    match rt.stdout().write_all(&line[..count]) {
-        Ok(()) => {}
-        Err(_) => {}
-    }
+    let _ = rt.stdout().write_all(print(&mut pipe).as_bytes());
 }

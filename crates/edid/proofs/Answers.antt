@@ -7,21 +7,21 @@ use Prim.Native.Nat.{ℕ, zero, suc, ◌+◌, ◌-◌, ◌*◌, ◌/◌, ◌%◌
 use native.Mathlib.Omega.{arith}
 use lib.Dec.{eqb, leb}
 use lib.ListN.{length, take}
-use borrow.Author.Tests.{leb-true, leb-false, eqb-true}
+use borrow.Author.Tests.{leb-true, leb-false}
 use Rattle.lists.specs.Same.{same_list}
 use Rattle.lists.proofs.Decides.{Decides, equal, less, opposite, either, together, one_fails, restated}
 use Rattle.lists.proofs.Compared.{same_decides}
 use Rattle.bits.specs.Merge.{bit}
-use Rattle.refusals.proofs.Tests.{answer_none}
+use Rattle.refusals.proofs.Tests.{numbered, answer_none}
 use Rattle.frames.specs.Frames.{total}
-use Rattle.edid.specs.declared.Monitor.{Monitor}
+use Rattle.edid.specs.Numbered.{Monitor}
 use Rattle.edid.specs.declared.Ask.TheVariants.{Vic, Pcm}
 use Rattle.edid.specs.Screen.{header, base, extension, tag_of, offset_of, collection, Blocks, past_end, blocks, data_blocks, WrongEdid, WrongSum, BadExtension, BadBlock, edid_rules, tells, screen_tells}
 use Rattle.edid.specs.Found.{is_past, is_edid_length, is_edid, wrong_sum, bad_extension, bad_block, edid_tests, edid_refusal, ask_at, word_in, no_monitor, overview_of, monitor_of}
 use Rattle.edid.specs.Theorems.{Overview}
 use Rattle.edid.specs.Order.{GivenFirst}
 use Rattle.edid.proofs.Order.{lowest_first}
-use Rattle.edid.proofs.Words.{each_bit, past}
+use Rattle.edid.proofs.Words.{no_bit, each_bit, past}
 
 at_most : (m n : ℕ) → Decides (leb m n) (m ≤ n)
 at_most m n = record { passes = leb-true m n; fails = λ f h. omega (arith, leb-false m n f) }
@@ -61,11 +61,7 @@ edid_given e = lowest_first (edid_tests e) (edid_rules e) refl ((refl, wrong_len
 module _ (e : List ℕ) where
   refusal_is : (monitor_of e).refusal ≡ edid_refusal e
   unfolding monitor_of
-  refusal_is = go (eqb (edid_refusal e) 0) refl
-    where
-      go : (b : Bool) → eqb (edid_refusal e) 0 ≡ b → (cond b (overview_of (collection (extension e))) (no_monitor (edid_refusal e))).refusal ≡ edid_refusal e
-      go true t = sym (eqb-true (edid_refusal e) 0 t)
-      go false t = refl
+  refusal_is = numbered no_monitor (overview_of (collection (extension e))) (λ (m : Monitor). m.refusal) (edid_refusal e) (λ _. refl) refl
 
   -- either zeros, or the overview's words
   kind : (monitor_of e ≡ overview_of (collection (extension e))) ⊎ (monitor_of e ≡ no_monitor (edid_refusal e))
@@ -86,10 +82,6 @@ double j w = let e : 2 * w / 2 ≡ w = omega arith in rw e
 
 even : (w : ℕ) → bit 0 (2 * w) ≡ 0
 even w = omega arith
-
-no_bit : (k : ℕ) → bit k 0 ≡ 0
-no_bit zero = refl
-no_bit (suc k) = no_bit k
 
 module _ (e : List ℕ) where
   abbrev bytes : List ℕ

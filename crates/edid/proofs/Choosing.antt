@@ -5,10 +5,10 @@ use mathlib.Core.Bool.{Bool, true, false, cond, not, true≢false, false≢true,
 use mathlib.Core.List.{List, [], ◌∷◌}
 use Prim.Native.Nat.{ℕ, zero, suc, ◌+◌, ◌%◌, ◌<◌, suc-le-suc}
 use native.Mathlib.Omega.{arith}
-use lib.Dec.{eqb, ltb}
+use lib.Dec.{eqb}
 use lib.ListN.{length, get_or, set}
 use lib.Seq.{get_or-set_same, get_or-set_other, set_out}
-use borrow.Author.Tests.{eqb-true, eqb-false, eq-eqb, ltb-true, ltb-false, not-true, not-false}
+use borrow.Author.Tests.{eqb-true, eqb-false, eq-eqb, not-true, not-false}
 use Rattle.lists.specs.Find.{some}
 use Rattle.lists.proofs.Both.{both_left, both_right, neither_left, neither_right}
 use Rattle.lists.proofs.Decides.{Decides, equal, less, opposite, either, itself, confirmed}
@@ -17,7 +17,7 @@ use Rattle.refusals.proofs.Tests.{answer_beside, answer_none, none_in_stages}
 use Rattle.sound.specs.declared.Sound.{Sound}
 use Rattle.sound.specs.declared.Sound.TheVariants.{Off, On}
 use Rattle.matrix.specs.Matrix.{Bytes}
-use Rattle.clock.specs.declared.Pair.{Pair}
+use Rattle.clock.specs.Numbered.{Pair}
 use Rattle.clock.specs.Answers.{no_pair}
 use Rattle.request.specs.declared.Request.{Request}
 use Rattle.request.specs.Sections.{walked}
@@ -25,7 +25,7 @@ use Rattle.request.specs.Request.{request_of, ncts_rules}
 use Rattle.request.specs.Read.{ask_of, read_of, limit_of, pair_for, ncts_of}
 use Rattle.request.proofs.Coherent.{rows}
 use Rattle.edid.specs.declared.Ask.TheVariants.{Vic, Pcm}
-use Rattle.edid.specs.declared.Choice.{Choice}
+use Rattle.edid.specs.Numbered.{Choice}
 use Rattle.edid.specs.Screen.{extension, collection, tells}
 use Rattle.edid.specs.Wish.{Wish, wishes_in, wish_at, in_place, SoundCovered, WishFits, WrongWishes, NoneFits, choose_rules}
 use Rattle.edid.specs.Found.{sound_told, is_shown, is_fitting, first_at, vic_in, vic_at, wrong_wishes, lowest_row, choose_tests, no_choice, choose_of}
@@ -33,23 +33,12 @@ use Rattle.edid.specs.Theorems.{FirstFit, put_at}
 use Rattle.edid.specs.Order.{GivenFirst}
 use Rattle.edid.proofs.Order.{lowest_first, none_at, answer_first}
 use Rattle.edid.proofs.Placed.{placed, room, in_place_lem}
-use Rattle.edid.proofs.Chosen.{unplaced, no_fit}
+use Rattle.edid.proofs.Rows.{unplaced, no_fit}
 use Rattle.edid.proofs.Answers.{wrong_length_lem, wrong_sum_lem, bad_block_lem}
 
 -- bytes, with another one stored
 set_bytes : (l : List ℕ) (i a : ℕ) → Bytes l → a < 256 → Bytes (set l i a)
-set_bytes l i a f h j = go (eqb j i) refl
-  where
-    go : (b : Bool) → eqb j i ≡ b → get_or (set l i a) j 0 < 256
-    go false e = rw (get_or-set_other l i j a 0 (eqb-false j i e)) (f j)
-    go true e = inside (ltb i (length l)) refl
-      where
-        q : j ≡ i
-        q = eqb-true j i e
-
-        inside : (t : Bool) → ltb i (length l) ≡ t → get_or (set l i a) j 0 < 256
-        inside true t = rw (q, get_or-set_same l i a 0 (ltb-true i (length l) t)) h
-        inside false t = rw (set_out l i a (ltb-false i (length l) t)) (f j)
+set_bytes l i a f h j = let k = f j in grind (arith, get_or-set_same {A = ℕ}, get_or-set_other {A = ℕ}, set_out {A = ℕ})
 
 pub in_bytes : (w : Wish) (input : List ℕ) → Bytes input → w.vic < 256 → w.family < 256 → Bytes (in_place w input)
 in_bytes w input f v k = go (eqb (vic_in (walked input)) 0) refl

@@ -1,18 +1,22 @@
 -- A collection cut into blocks by their lengths: block by block, as a loop finds them. Assumes nothing.
-use mathlib.Core.Path.{◌≡◌, refl, sym, ap, ◌∙◌}
+use mathlib.Core.Path.{◌≡◌, refl, sym, ◌∙◌}
 use mathlib.Core.Bool.{Bool, true, false, cond, false≢true}
 use mathlib.Core.List.{List, [], ◌∷◌}
-use Prim.Native.Nat.{ℕ, zero, suc, ◌+◌, ◌-◌, ◌%◌, ◌/◌, ◌<◌, ◌≤◌}
+use Prim.Native.Nat.{ℕ, zero, suc, ◌%◌, ◌/◌, ◌<◌, ◌≤◌}
 use native.Mathlib.Omega.{arith}
 use native.Mathlib.Nat.{div-one}
 use lib.Dec.{leb}
-use lib.ListN.{length, take, drop, get_or, length-drop}
-use lib.Seq.{drop-drop}
-use borrow.Author.Tests.{le-leb, lt-leb, leb-true, leb-false}
-use Rattle.lists.proofs.Find.{next}
+use lib.ListN.{length, take, drop, length-drop}
+use borrow.Author.Tests.{le-leb, lt-leb}
+use Rattle.std.specs.Prelude.{Result, Ok, Err}
+use Rattle.std.specs.List.{IsSplitAt}
 use Rattle.bits.specs.Merge.{bits_in}
-use Rattle.edid.specs.Screen.{Block, Blocks, past_end, blocks, before, cut_up, data_blocks, blocks_of}
+use Rattle.refusals.specs.declared.Refusal.{Refusal}
+use Rattle.refusals.specs.declared.Refusal.TheVariants.{EdidBlock}
+use Rattle.lists.specs.Find.{some}
+use Rattle.edid.specs.Screen.{Block, Blocks, past_end, blocks, before, blocks_of, cut_up, data_blocks}
 use Rattle.edid.specs.Found.{is_past}
+use Rattle.edid.specs.Code.{Answers}
 
 -- the low bits of a byte
 pub low : (k n : ℕ) → n / 1 % k ≡ n % k
@@ -43,40 +47,46 @@ begun head bytes =
     let e = enough (length bytes) (length (drop (head % 32) bytes)) (drop (head % 32) bytes) (omega (arith, length-drop (head % 32) bytes)) (omega arith) in
     rw (low 32 head, e)
 
-pub past_before : (b : Block) (bs : Blocks) → is_past (before b bs) ≡ is_past bs
-past_before b past_end = refl
-past_before b (blocks bs) = refl
+-- what is answered of bytes, by the first block of them
+module _ (test : Block → Bool) where
+  behind_first : (b : Block) (bs : Blocks) (r : Result Bool Refusal) → test b ≡ false → Answers test bs r → Answers test (before b bs) r
+  behind_first b past_end r f a = a
+  behind_first b (blocks bs) r f a = rw f a
 
-pub of_before : (b : Block) (bs : Blocks) → is_past bs ≡ false → blocks_of (before b bs) ≡ b ∷ blocks_of bs
-of_before b past_end e = absurd (false≢true (sym e))
-of_before b (blocks bs) e = refl
+  at_first : (b : Block) (bs : Blocks) → test b ≡ true → Answers test (before b bs) (Ok true)
+  at_first b past_end t = λ h. absurd (false≢true (sym (h b) ∙ t))
+  at_first b (blocks bs) t = rw t
 
--- at a place
-module _ (bytes : List ℕ) (at : ℕ) (h : at < length bytes) where
-  head : ℕ
-  head = get_or bytes at 0
+  pub at_end : (bytes : List ℕ) → length bytes ≡ 0 → Answers test (data_blocks bytes) (Ok false)
+  unfolding cut_up
+  at_end [] h = refl
+  at_end (head ∷ bytes) h = absurd (omega (arith, h))
 
-  left : List ℕ
-  left = drop (at + 1) bytes
+  module _ (bytes : List ℕ) (head : ℕ) (behind : List ℕ) (e : bytes ≡ head ∷ behind) where
+    pub cut_off : length behind < head % 32 → (r : Result Bool Refusal) → r ≡ Err EdidBlock → Answers test (data_blocks bytes) r
+    cut_off h r p = rw (e, begun head behind, lt-leb (head % 32) (length behind) h) (λ _. p)
 
-  from_here : data_blocks (drop at bytes)
-      ≡ cond (leb (head % 32) (length left)) (before (first head left) (data_blocks (drop (head % 32) left))) past_end
-  unfolding head left
-  from_here = ap data_blocks (next bytes at 0 h) ∙ begun (get_or bytes at 0) (drop (at + 1) bytes)
+    module _ (small : head < 256) (body rest : List ℕ) (s : IsSplitAt behind (head % 32) body rest) where
+      opened : data_blocks bytes ≡ before (record { tag = head / 32; body = body }) (data_blocks rest)
+      opened =
+          let t : head / 32 % 8 ≡ head / 32 = omega (arith, small) in
+          rw (e, begun head behind, le-leb (head % 32) (length behind) s.0, s.1, s.2, t)
 
-  pub runs_past : length bytes - (at + 1) < get_or bytes at 0 % 32 → data_blocks (drop at bytes) ≡ past_end
-  unfolding head left
-  runs_past k = from_here ∙ rw (lt-leb (head % 32) (length left) (omega (arith, length-drop (at + 1) bytes)))
+      pub found : test (record { tag = head / 32; body = body }) ≡ true → Answers test (data_blocks bytes) (Ok true)
+      found t = rw opened (at_first (record { tag = head / 32; body = body }) (data_blocks rest) t)
 
-  pub goes_on_lem : get_or bytes at 0 % 32 ≤ length bytes - (at + 1)
-      → data_blocks (drop at bytes) ≡ before (first (get_or bytes at 0) (drop (at + 1) bytes)) (data_blocks (drop (at + 1 + get_or bytes at 0 % 32) bytes))
-  unfolding head left
-  goes_on_lem k = from_here ∙ rw (le-leb (head % 32) (length left) (omega (arith, length-drop (at + 1) bytes)), drop-drop)
+      pub passed_over : test (record { tag = head / 32; body = body }) ≡ false → (r : Result Bool Refusal) → Answers test (data_blocks rest) r → Answers test (data_blocks bytes) r
+      passed_over f r a = rw opened (behind_first (record { tag = head / 32; body = body }) (data_blocks rest) r f a)
 
--- where no block runs past the end, the one at a place does not
-pub within : (bytes : List ℕ) (at : ℕ) → at < length bytes → is_past (data_blocks (drop at bytes)) ≡ false → get_or bytes at 0 % 32 ≤ length bytes - (at + 1)
-within bytes at h e = go (leb (get_or bytes at 0 % 32) (length bytes - (at + 1))) refl
-  where
-    go : (b : Bool) → leb (get_or bytes at 0 % 32) (length bytes - (at + 1)) ≡ b → get_or bytes at 0 % 32 ≤ length bytes - (at + 1)
-    go true t = leb-true _ _ t
-    go false t = absurd (false≢true (sym e ∙ ap is_past (runs_past bytes at h (leb-false _ _ t))))
+-- what is answered of a whole collection; and of one where nothing passes
+pub of_whole : (test : Block → Bool) (bs : Blocks) (r : Result Bool Refusal) → is_past bs ≡ false → Answers test bs r → r ≡ Ok (some test (blocks_of bs))
+of_whole test past_end r f a = absurd (false≢true (sym f))
+of_whole test (blocks bs) r f a = a
+
+pub runs_past : (bs : Blocks) (e : Refusal) → Answers (λ b. false) bs (Err e) → (is_past bs ≡ true) × (e ≡ EdidBlock)
+runs_past past_end e a = let h = a (λ b. refl) in (refl, cc)
+runs_past (blocks bs) e a = cc
+
+pub all_there : (bs : Blocks) (t : Bool) → Answers (λ b. false) bs (Ok t) → is_past bs ≡ false
+all_there past_end t a = let h = a (λ b. refl) in cc
+all_there (blocks bs) t a = refl

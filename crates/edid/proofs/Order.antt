@@ -11,7 +11,7 @@ use lib.ListN.{length, get_or}
 use Rattle.lists.proofs.Decides.{Decides}
 use Rattle.refusals.specs.Tests.{answer}
 use Rattle.refusals.proofs.Tests.{numbered}
-use Rattle.edid.specs.Order.{ScreenRow, edid_length, edid_sum, edid_block, no_wish_fits, screen_number, screen_order, ScreenCondition, screen_numbers, some_in_order, screen_at, FirstScreen, GivenFirst}
+use Rattle.edid.specs.Order.{ScreenRow, edid_length, screen_number, screen_order, ScreenCondition, screen_numbers, some_in_order, screen_at, FirstScreen, GivenFirst}
 use Rattle.edid.specs.Found.{lowest_row}
 
 -- the conditions gone through in order
@@ -20,10 +20,7 @@ Tried [] given = given ≡ 0
 Tried (r ∷ rs) given = (r.When × (given ≡ screen_number r.row)) ⊎ ((r.When → ⊥) × Tried rs given)
 
 number_some : (r : ScreenRow) → screen_number r ≢ 0
-number_some edid_length = omega arith
-number_some edid_sum = omega arith
-number_some edid_block = omega arith
-number_some no_wish_fits = omega arith
+number_some r h = grind arith
 
 -- what fails at the first and at each of the others fails everywhere
 shift : (r : ScreenCondition) (rs : List ScreenCondition) (n : ℕ) → (r.When → ⊥) → ((i : ℕ) → i < n → (screen_at rs i).When → ⊥) → (i : ℕ) → i < suc n → (screen_at (r ∷ rs) i).When → ⊥
@@ -79,11 +76,7 @@ lowest_first tests rules o d =
 
 -- past a test where nothing is given
 past : (t : ScreenRow × Bool) (ts : List (ScreenRow × Bool)) → lowest_row (t ∷ ts) ≡ 0 → (t.1 ≡ false) × (lowest_row ts ≡ 0)
-past t ts = go t.1 refl
-  where
-    go : (b : Bool) → t.1 ≡ b → cond b (screen_number t.0) (lowest_row ts) ≡ 0 → (t.1 ≡ false) × (lowest_row ts ≡ 0)
-    go true e z = absurd (number_some t.0 z)
-    go false e z = (e, z)
+past t ts z = let k = number_some t.0 in (grind arith, grind arith)
 
 -- each test is false where nothing is given; past the end there is none that is true
 pub none_at : (ts : List (ScreenRow × Bool)) (i : ℕ) → lowest_row ts ≡ 0 → (get_or ts i (edid_length, false)).1 ≡ false

@@ -1,21 +1,24 @@
 -- Where the VIC stands: by the places that a walk answers; and a wish that is put there is the request with that VIC and family. Assumes nothing.
 use mathlib.Core.Path.{◌≡◌, refl, sym, ap, subst, ◌∙◌}
 use mathlib.Core.Logic.{◌≢◌}
-use mathlib.Core.Bool.{Bool, true, false}
 use mathlib.Core.List.{List, [], ◌∷◌, ◌++◌}
 use Prim.Native.Nat.{ℕ, suc, ◌+◌, ◌<◌, ◌≤◌}
 use native.Mathlib.Omega.{arith}
-use lib.Dec.{ltb}
+use Rattle.std.proofs.lemmas.Bool.Decides.{nat_tests}
 use lib.ListN.{get_or, length, set, take, length-append}
-use lib.Seq.{take-set-lt, take_at}
-use borrow.Author.Tests.{ltb-false}
+use lib.Seq.{length-take-le}
 use Rattle.request.specs.Sections.{Bodies, Walk, ends, not_allowed, whole, walked, in_turn, by_name}
+use Rattle.refusals.specs.declared.Refusal.{Refusal}
+use Rattle.std.specs.Prelude.{Option, None, Result, Ok, Err}
+use Rattle.std.specs.Result.{result_ok}
+use Rattle.request.specs.Numbered.{BodyEnds, places_told}
+use Rattle.refusals.proofs.Told.{refusal_some}
 use Rattle.request.specs.Places.{ends_from, places_of}
 use Rattle.request.specs.Bytes.{laid}
 use Rattle.request.specs.Walks.{Sectioned}
-use Rattle.lists.specs.Over.{over}
-use Rattle.lists.proofs.Copied.{over_front}
 use Rattle.request.proofs.Opened.{request_walks}
+use Rattle.lists.specs.Over.{over}
+use Rattle.lists.proofs.Copied.{over_whole}
 use Rattle.edid.specs.Wish.{Wish, wished, placed_in, in_place}
 use Rattle.edid.specs.Found.{vic_in, vic_at}
 
@@ -34,6 +37,15 @@ place input z = go (walked input) refl z
     go ends e z = absurd (omega (arith, z))
     go not_allowed e z = absurd (omega (arith, z))
     go (whole bodies rest) e z = first_end bodies ((request_walks input).each bodies rest e)
+
+-- and by what the call answers
+module _ (input : List ℕ) where
+  pub no_place_told : (r : Result (List ℕ) Refusal) → places_told r ≡ places_of (walked input) → ◌≡◌ {A = Option (List ℕ)} (result_ok r) None → vic_in (walked input) ≡ 0
+  no_place_told (Ok l) h n = cc
+  no_place_told (Err e) h n = no_place (walked input) (λ z. refusal_some e (ap (λ (p : BodyEnds). p.refusal) h ∙ z))
+
+  pub place_told : (l : List ℕ) → record { refusal = 0; ends = l } ≡ places_of (walked input) → get_or l 0 0 + 1 ≡ vic_in (walked input)
+  place_told l h = ap (λ (p : BodyEnds). get_or p.ends 0 0 + 1) h ∙ place input (sym (ap (λ (p : BodyEnds). p.refusal) h))
 
 -- two bytes behind some others
 beside : (wi : List ℕ) (n v f : ℕ) (t : List ℕ) (x y : ℕ)
@@ -93,11 +105,7 @@ module _ (input : List ℕ) (n : vic_in (walked input) ≢ 0) where
 -- the place that the code works with: that of an input which is no longer than any request
 module _ (input : List ℕ) (at : ℕ) (e : vic_at input ≡ at) (n : at ≢ 0) where
   some_place : (length input ≤ 51) × (vic_in (walked input) ≡ at)
-  some_place = go (ltb 51 (length input)) refl
-    where
-      go : (t : Bool) → ltb 51 (length input) ≡ t → (length input ≤ 51) × (vic_in (walked input) ≡ at)
-      go true q = absurd (n (sym e ∙ rw q))
-      go false q = (ltb-false 51 (length input) q, sym (rw q) ∙ e)
+  some_place = (grind (arith, nat_tests), grind (arith, nat_tests))
 
   pub short : length input ≤ 51
   short = some_place.0
@@ -113,14 +121,9 @@ module _ (input : List ℕ) (at : ℕ) (e : vic_at input ≡ at) (n : at ≢ 0) 
       let s : suc at ≡ at + 1 = omega arith in
       rw (sym s) (subst (λ (k : ℕ). set (set input k w.vic) (suc k) w.family ≡ in_place w input) some_place.1 (placed input there w))
 
-  -- a copy in a longer room
-  pub copied : (zeros : List ℕ) → 51 ≤ length zeros → (x y : ℕ)
-      → take (length input) (set (set (over input zeros) at x) (at + 1) y) ≡ set (set input at x) (at + 1) y
-  copied zeros h x y =
-      let r = room in
-      let a : at < length input = omega arith in
-      let f : take (length input) (over input zeros) ≡ input = ap (take (length input)) (over_front input zeros (omega (arith, short))) ∙ take_at input _ (length input) refl in
-      take-set-lt (length input) (set (over input zeros) at x) (at + 1) y r ∙ ap (λ (l : List ℕ). set l (at + 1) y) (take-set-lt (length input) (over input zeros) at x a ∙ ap (λ (l : List ℕ). set l at x) f)
+-- a copy of it
+pub copied : (input out : List ℕ) → length input ≤ length out → over input (take (length input) out) ≡ input
+copied input out h = over_whole input (take (length input) out) (sym (length-take-le (length input) out h))
 
 pub bounded : (input : List ℕ) → vic_in (walked input) ≤ length input
 bounded input = go (walked input) refl

@@ -31,7 +31,7 @@ use Rattle.edid.specs.Wish.{Wish, wished, placed_in, in_place, SoundCovered, Wis
 use Rattle.edid.specs.Found.{monitor_of, vic_in}
 use Rattle.edid.specs.Theorems.{wished_video, InPlace, vic_bit, SoundBit, SeenToFit, Chooses}
 use Rattle.edid.proofs.Placed.{sectioned}
-use Rattle.edid.proofs.Chosen.{as_long, not_whole, unplaced}
+use Rattle.edid.proofs.Rows.{as_long, not_whole, unplaced}
 use Rattle.edid.proofs.Answers.{overview}
 use Rattle.edid.proofs.Choosing.{read_none, said, accepts, choose_given, nothing_beside, first_fit, put_there, inside, accepted_there}
 
@@ -76,8 +76,7 @@ in_place_lem w input = record { request = request_there w input; length = as_lon
 
 -- the VIC of a request that is accepted with a wish is the wish's
 one_set : (b : Bool) → ◌≡◌ {A = ℕ} (cond b 1 0) 1 → b ≡ true
-one_set true e = refl
-one_set false e = absurd (omega (arith, e))
+one_set b e = grind arith
 
 module _ (e input : List ℕ) (w : Wish) (m : (monitor_of e).refusal ≡ 0) (z : (ncts_of (in_place w input)).refusal ≡ 0) where
   abbrev i : List ℕ

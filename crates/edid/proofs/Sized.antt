@@ -1,72 +1,38 @@
 -- The lengths of an EDID and of its extension, by the tests of rows 21 to 23. Assumes nothing.
-use mathlib.Core.Path.{◌≡◌, refl, sym}
-use mathlib.Core.Logic.{◌≢◌, ◌⊎◌, inl, inr, ⊎_elim}
-use mathlib.Core.Bool.{Bool, true, false, cond, not, false≢true, ◌&&◌, ◌||◌}
+use mathlib.Core.Path.{◌≡◌, refl, sym, ap, ◌∙◌}
+use mathlib.Core.Logic.{◌≢◌}
+use mathlib.Core.Bool.{true, false}
 use mathlib.Core.List.{List, [], ◌∷◌}
-use Prim.Native.Nat.{ℕ, ◌≤◌, ◌<◌, ◌-◌}
+use Prim.Native.Nat.{ℕ, ◌≤◌, ◌<◌, ◌-◌, ◌%◌}
 use native.Mathlib.Omega.{arith}
-use lib.Dec.{eqb, leb, ltb}
+use Rattle.std.proofs.lemmas.Bool.Decides.{nat_tests}
 use lib.ListN.{length, take, drop, length-drop}
-use lib.Seq.{take_all}
-use borrow.Author.Tests.{eqb-true, ltb-false, lt-ltb, le-ltb}
-use Rattle.lists.proofs.Both.{both_left, neither_right}
-use Rattle.edid.specs.Screen.{extension, tag_of, revision_of, offset_of, collection, cut_up, data_blocks}
-use Rattle.edid.specs.Found.{is_past, is_edid_length, is_edid, wrong_start, bad_block, wrong_sum, edid_refusal}
-
--- a slice from a place on is what stands behind it
-pub behind : (k : ℕ) (l : List ℕ) → take (length l - k) (drop k l) ≡ drop k l
-behind k l = take_all (length l - k) (drop k l) (omega (arith, length-drop k l))
-
--- neither of two, and one of them
-pub neither : (a b : Bool) → (not a && not b) ≡ true → (a || b) ≡ false
-neither true b t = absurd (false≢true t)
-neither false true t = absurd (false≢true t)
-neither false false t = refl
-
-pub one_of : (a b : Bool) → (not a && not b) ≡ false → (a || b) ≡ true
-one_of true b f = refl
-one_of false true f = refl
-one_of false false f = sym f
-
-one : (a b : Bool) → (a || b) ≡ true → (a ≡ true) ⊎ (b ≡ true)
-one true b t = inl refl
-one false b t = inr t
+use borrow.Author.Tests.{lt-ltb, le-ltb, eq-eqb, ne_eqb}
+use Rattle.std.specs.Prelude.{Result, Ok, Err, MatchResult}
+use Rattle.edid.specs.declared.Collection.{Collection}
+use Rattle.refusals.specs.declared.Refusal.{Refusal}
+use Rattle.refusals.specs.declared.Refusal.TheVariants.{EdidBlock}
+use Rattle.refusals.specs.Numbered.{refusal_number}
+use Rattle.frames.specs.Frames.{total}
+use Rattle.edid.specs.Screen.{base, extension, revision_of, offset_of, collection, cut_up, data_blocks}
+use Rattle.edid.specs.Found.{is_past, is_edid, wrong_start, bad_extension, wrong_sum, edid_refusal}
 
 module _ (e : List ℕ) where
-  pub of_length : is_edid_length e ≡ true → (length e ≡ 128) ⊎ (length e ≡ 256)
-  of_length t = ⊎_elim (λ a. inl (eqb-true (length e) 128 a)) (λ b. inr (eqb-true (length e) 256 b)) (one (eqb (length e) 128) (eqb (length e) 256) t)
-
-  pub long : is_edid_length e ≡ true → 128 ≤ length e
-  long t = ⊎_elim (λ a. omega (arith, a)) (λ b. omega (arith, b)) (of_length t)
-
-  pub sized : is_edid e ≡ true → is_edid_length e ≡ true
-  sized t = both_left (is_edid_length e) _ t
-
   pub extended : is_edid e ≡ true → length (extension e) ≢ 0 → length (extension e) ≡ 128
-  extended t n =
-      ⊎_elim (λ a. absurd (n (omega (arith, a, length-drop 128 e)))) (λ b. omega (arith, b, length-drop 128 e)) (of_length (sized t))
+  extended t n = grind (arith, nat_tests, length-drop 128 e)
 
-  pub there : is_edid e ≡ true → length e ≢ 128 → length (extension e) ≢ 0
-  there t n z = ⊎_elim n (λ b. omega (arith, z, b, length-drop 128 e)) (of_length (sized t))
+  -- an extension that is shorter than a block is not there
+  pub missing : is_edid e ≡ true → length (extension e) < 128 → length (extension e) ≡ 0
+  missing t h = grind (arith, nat_tests, length-drop 128 e)
 
-  pub unextended : length e ≡ 128 → length (extension e) ≡ 0
-  unextended l = omega (arith, l, length-drop 128 e)
+-- no extension has no data blocks
+pub none_there : (ext : List ℕ) → length ext ≡ 0 → (ext ≡ collection ext) × (is_past (data_blocks ext) ≡ false)
+unfolding cut_up
+none_there [] h = (refl, refl)
+none_there (a ∷ ext) h = absurd (omega (arith, h))
 
--- the offset, where the start is right
-pub offset_small : (ext : List ℕ) → wrong_start ext ≡ false → offset_of ext ≤ 127
-offset_small ext f =
-    let two = neither_right (not (eqb (tag_of ext) 2)) ((leb 1 (offset_of ext) && leb (offset_of ext) 3) || ltb 127 (offset_of ext)) f in
-    ltb-false 127 (offset_of ext) (neither_right (leb 1 (offset_of ext) && leb (offset_of ext) 3) (ltb 127 (offset_of ext)) two)
-
--- no data blocks: no extension, an old one, and one whose offset is below 4
+-- the data blocks of an extension whose start is right: none in an old one, nor with an offset below 4
 module _ (ext : List ℕ) where
-  pub none_there : length ext ≡ 0 → ext ≡ collection ext
-  none_there l = go ext l
-    where
-      go : (x : List ℕ) → length x ≡ 0 → x ≡ collection x
-      go [] h = refl
-      go (a ∷ x) h = absurd (omega (arith, h))
-
   pub old : revision_of ext < 3 → [] ≡ collection ext
   old h = rw (lt-ltb (revision_of ext) 3 h)
 
@@ -76,38 +42,54 @@ module _ (ext : List ℕ) where
   pub new : 3 ≤ revision_of ext → take (offset_of ext - 4) (drop 4 ext) ≡ collection ext
   new h = rw (le-ltb (revision_of ext) 3 h)
 
--- an EDID that is not refused
-module _ (e : List ℕ) (z : edid_refusal e ≡ 0) where
-  passed : (a b c : Bool) → ◌≡◌ {A = ℕ} (cond (not a) 21 (cond b 22 (cond c 23 0))) 0 → (a ≡ true) × (c ≡ false)
-  passed true true c h = absurd (omega (arith, h))
-  passed true false true h = absurd (omega (arith, h))
-  passed true false false h = (refl, refl)
-  passed false b c h = absurd (omega (arith, h))
+module _ (ext : List ℕ) (f : wrong_start ext ≡ false) where
+  pub is_good : (bytes : List ℕ) → is_past (data_blocks bytes) ≡ false → bytes ≡ collection ext → (bad_extension ext ≡ false) × (bytes ≡ collection ext)
+  is_good bytes p e = (rw (f, sym e) p, e)
 
-  pub is_one : is_edid e ≡ true
+  pub is_bad : (bytes : List ℕ) → is_past (data_blocks bytes) ≡ true → bytes ≡ collection ext → bad_extension ext ≡ true
+  is_bad bytes p e = rw (f, sym e) p
+
+-- the sums of the two blocks
+module _ (e : List ℕ) where
+  pub first_wrong : total (base e) % 256 ≢ 0 → wrong_sum e ≡ true
+  first_wrong n = rw (ne_eqb (total (base e) % 256) 0 n)
+
+  pub second_wrong : total (base e) % 256 ≡ 0 → total (extension e) % 256 ≢ 0 → wrong_sum e ≡ true
+  second_wrong z n = rw (eq-eqb (total (base e) % 256) 0 z, ne_eqb (total (extension e) % 256) 0 n)
+
+  pub sums_right : total (base e) % 256 ≡ 0 → total (extension e) % 256 ≡ 0 → wrong_sum e ≡ false
+  sums_right z y = rw (eq-eqb (total (base e) % 256) 0 z, eq-eqb (total (extension e) % 256) 0 y)
+
+-- which row refuses an EDID, by what the tests find
+module _ (e : List ℕ) where
+  pub wrong_length : is_edid e ≡ false → edid_refusal e ≡ 21
   unfolding edid_refusal
-  is_one = (passed (is_edid e) (wrong_sum e) (bad_block e) z).0
+  wrong_length f = rw f
 
-  pub not_bad : bad_block e ≡ false
-  unfolding edid_refusal
-  not_bad = (passed (is_edid e) (wrong_sum e) (bad_block e) z).1
+  module _ (t : is_edid e ≡ true) where
+    pub wrong_total : wrong_sum e ≡ true → edid_refusal e ≡ 22
+    unfolding edid_refusal
+    wrong_total s = rw (t, s)
 
-  -- its offset, where it has an extension; and that its blocks are whole
-  kind : (n s p : Bool) → (not n && (s || p)) ≡ false → (n ≡ true) ⊎ ((s ≡ false) × (p ≡ false))
-  kind true s p f = inl refl
-  kind false true p f = absurd (false≢true (sym f))
-  kind false false p f = inr (refl, f)
+    module _ (s : wrong_sum e ≡ false) where
+      pub alone : length (extension e) ≡ 0 → edid_refusal e ≡ 0
+      unfolding edid_refusal
+      alone z = rw (t, s, eq-eqb (length (extension e)) 0 z)
 
-  kinds : (length (extension e) ≡ 0) ⊎ ((wrong_start (extension e) ≡ false) × (is_past (data_blocks (collection (extension e))) ≡ false))
-  kinds = ⊎_elim (λ a. inl (eqb-true (length (extension e)) 0 a)) inr (kind (eqb (length (extension e)) 0) (wrong_start (extension e)) (is_past (data_blocks (collection (extension e)))) not_bad)
+      module _ (n : length (extension e) ≢ 0) where
+        pub spoiled : bad_extension (extension e) ≡ true → edid_refusal e ≡ 23
+        unfolding edid_refusal
+        spoiled b = rw (t, s, ne_eqb (length (extension e)) 0 n, b)
 
-  no_bytes : (x : List ℕ) → length x ≡ 0 → x ≡ []
-  no_bytes [] h = refl
-  no_bytes (a ∷ x) h = absurd (omega (arith, h))
+        pub unspoiled : bad_extension (extension e) ≡ false → edid_refusal e ≡ 0
+        unfolding edid_refusal
+        unspoiled b = rw (t, s, ne_eqb (length (extension e)) 0 n, b)
 
-  pub small_offset : offset_of (extension e) ≤ 127
-  small_offset = ⊎_elim (λ a. rw (no_bytes (extension e) a) (omega arith)) (λ b. offset_small (extension e) b.0) kinds
-
-  pub whole_blocks : is_past (data_blocks (collection (extension e))) ≡ false
-  unfolding cut_up
-  whole_blocks = ⊎_elim (λ a. rw (no_bytes (extension e) a)) (λ b. b.1) kinds
+      -- an extension that is there, as its blocks are read
+      pub as_read : (ext : List ℕ) → ext ≡ extension e → length ext ≡ 128 → (r : Result Collection Refusal)
+          → MatchResult r (λ c. (bad_extension ext ≡ false) × (c.bytes.now ≡ collection ext)) (λ x. (bad_extension ext ≡ true) × (x ≡ EdidBlock))
+          → MatchResult r (λ c. (edid_refusal e ≡ 0) × (c.bytes.now ≡ collection (extension e))) (λ x. (edid_refusal e ≢ 0) × (refusal_number x ≡ edid_refusal e))
+      as_read ext q l (Ok c) m = (unspoiled (omega (arith, l, ap length q)) (rw q at m.0), rw q at m.1)
+      as_read ext q l (Err x) m =
+          let k : edid_refusal e ≡ 23 = spoiled (omega (arith, l, ap length q)) (rw q at m.0) in
+          (omega (arith, k), ap refusal_number m.1 ∙ sym k)

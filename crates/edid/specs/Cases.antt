@@ -1,8 +1,8 @@
 -- Marked cases of request 12, in bare numbers.
 use Rattle.std.specs.Prelude.{◌≡◌, List, [], ◌∷◌, ◌++◌, map, ℕ, ◌+◌, ◌-◌, length, take, set, replicate}
 use Rattle.frames.specs.Frames.{checksum_of}
-use Rattle.edid.specs.declared.Monitor.{Monitor}
-use Rattle.edid.specs.declared.Choice.{Choice}
+use Rattle.edid.specs.Numbered.{Monitor}
+use Rattle.edid.specs.Numbered.{Choice}
 use Rattle.edid.specs.Found.{monitor_of, choose_of}
 
 -- a base block that says nothing: its header, zeros, and the byte that makes its sum zero

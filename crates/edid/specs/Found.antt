@@ -1,7 +1,9 @@
 -- How the code looks into an EDID, and finds the first wish that fits. `Overview` and `Chooses` (Theorems) tie it to document 02's words.
-use Rattle.std.specs.Prelude.{◌≡◌, Bool, true, false, cond, not, ◌&&◌, ◌||◌, List, [], ◌∷◌, ℕ, zero, suc, ◌+◌, ◌*◌, ◌%◌, eqb, leb, ltb, length, take}
+use Rattle.std.specs.Prelude.{◌≡◌, Result, Bool, true, false, cond, not, ◌&&◌, ◌||◌, List, [], ◌∷◌, ℕ, zero, suc, ◌+◌, ◌*◌, ◌%◌, eqb, leb, ltb, length, take}
 use Rattle.lists.specs.Find.{some}
 use Rattle.lists.specs.Same.{same_list}
+use Rattle.refusals.specs.declared.Refusal.{Refusal}
+use Rattle.refusals.specs.Numbered.{told}
 use Rattle.refusals.specs.Tests.{answer}
 use Rattle.frames.specs.Frames.{total}
 use Rattle.sound.specs.declared.Sound.{Sound}
@@ -10,8 +12,10 @@ use Rattle.request.specs.Sections.{Walk, ends, not_allowed, whole, walked, by_na
 use Rattle.request.specs.Read.{read_of, ncts_of}
 use Rattle.edid.specs.declared.Ask.{Ask}
 use Rattle.edid.specs.declared.Ask.TheVariants.{Vic, Pcm}
-use Rattle.edid.specs.declared.Monitor.{Monitor}
-use Rattle.edid.specs.declared.Choice.{Choice}
+use Rattle.edid.specs.declared.Screen.{Screen}
+use Rattle.edid.specs.declared.Chosen.{Chosen}
+use Rattle.edid.specs.Numbered.{Monitor}
+use Rattle.edid.specs.Numbered.{Choice}
 use Rattle.edid.specs.Order.{ScreenRow, screen_number, edid_length, edid_sum, edid_block, no_wish_fits}
 use Rattle.edid.specs.Screen.{block_length, header, base, extension, tag_of, offset_of, collection, Blocks, past_end, blocks, data_blocks, tells}
 use Rattle.edid.specs.Wish.{Wish, wishes_in, most_wishes, in_place}
@@ -64,6 +68,10 @@ word_in bytes channels from n = word_of (λ k. tells bytes (ask_at channels k)) 
 
 abbrev pub no_monitor : ℕ → Monitor
 no_monitor n = record { refusal = n; vics_low = 0; vics_high = 0; rates_2 = 0; rates_8 = 0 }
+
+-- what an overview says in numbers
+abbrev pub monitor_told : Result Screen Refusal → Monitor
+monitor_told = told (λ s. record { refusal = 0; vics_low = s.vics_low; vics_high = s.vics_high; rates_2 = s.rates_2; rates_8 = s.rates_8 }) no_monitor
 
 -- VICs 1 to 31, 32 to 63; rates 0 to 6 with two channels, and with eight
 abbrev pub overview_of : List ℕ → Monitor
@@ -120,6 +128,10 @@ choose_tests edid input wishes =
 
 abbrev pub no_choice : ℕ → Choice
 no_choice n = record { refusal = n; place = 0; at = 0 }
+
+-- what a choice says in numbers
+abbrev pub choice_told : Result Chosen Refusal → Choice
+choice_told = told (λ c. record { refusal = 0; place = c.place; at = c.at }) no_choice
 
 unfoldable pub choose_of : List ℕ → List ℕ → List ℕ → Choice
 choose_of edid input wishes =

@@ -12,7 +12,7 @@ use Rattle.request.specs.Bytes.{on_video}
 use Rattle.request.specs.Read.{ncts_of}
 use Rattle.edid.specs.Order.{GivenFirst}
 use Rattle.edid.specs.declared.Ask.TheVariants.{Vic, Pcm}
-use Rattle.edid.specs.declared.Monitor.{Monitor}
+use Rattle.edid.specs.Numbered.{Monitor}
 use Rattle.edid.specs.Screen.{edid_rules, Block, past_end, blocks, data_blocks, screen_tells}
 use Rattle.edid.specs.Wish.{Wish, wishes_in, wish_at, in_place, WishFits, choose_rules}
 use Rattle.edid.specs.Found.{no_monitor, monitor_of, no_choice, choose_of}

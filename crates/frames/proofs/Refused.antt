@@ -10,8 +10,8 @@ use Rattle.video.specs.Modes.{mode_of}
 use Rattle.video.specs.Video.{in_edition}
 use Rattle.video.specs.Tests.{edition_outside, shown_outside, asked_under_d, shown_combined}
 use Rattle.video.proofs.Fits.{is_edition_outside, is_shown_outside, is_under_d, is_shown_combined, is_listed}
-use Rattle.frames.specs.declared.Avi.{Avi}
-use Rattle.frames.specs.declared.Audio.{Audio}
+use Rattle.frames.specs.Numbered.{Avi}
+use Rattle.frames.specs.Numbered.{Audio}
 use Rattle.frames.specs.Frames.{avi_frame}
 use Rattle.frames.specs.Answers.{no_avi, no_audio, avi_tests, channels_tests, avi_of, audio_of}
 use Rattle.frames.specs.Theorems.{avi_rules, audio_rules, FrameRefusals}

@@ -1,12 +1,14 @@
 -- What the two calls on single fields answer, as the code finds it: tied to document 01's rows by `FrameRefusals`.
-use Rattle.std.specs.Prelude.{◌≡◌, ℕ, not, ◌&&◌, List, [], ◌∷◌, replicate, ◌==◌}
+use Rattle.std.specs.Prelude.{◌≡◌, ℕ, Result, not, ◌&&◌, List, [], ◌∷◌, replicate, ◌==◌}
 use Rattle.refusals.specs.Rows.{mode_not_offered, field_out_of_range, combination}
+use Rattle.refusals.specs.declared.Refusal.{Refusal}
+use Rattle.refusals.specs.Numbered.{told}
 use Rattle.refusals.specs.Tests.{Test, ◌if◌, lowest, answer}
 use Rattle.video.specs.declared.Video.{Video}
 use Rattle.video.specs.Modes.{mode_of}
 use Rattle.video.specs.Tests.{shown_outside, shown_combined}
-use Rattle.frames.specs.declared.Avi.{Avi}
-use Rattle.frames.specs.declared.Audio.{Audio}
+use Rattle.frames.specs.Numbered.{Avi}
+use Rattle.frames.specs.Numbered.{Audio}
 use Rattle.frames.specs.Frames.{avi_count, avi_frame}
 use Rattle.frames.specs.Named.{framed}
 use Rattle.frames.specs.Audio.{audio_data_bytes, audio_frame}
@@ -17,6 +19,13 @@ no_avi number = record { refusal = number; bytes = replicate (framed avi_count) 
 
 abbrev pub no_audio : ℕ → Audio
 no_audio number = record { refusal = number; bytes = replicate (framed audio_data_bytes) 0 }
+
+-- what an answer says in numbers: the frame's bytes, or what stands beside the number of a refusal
+abbrev pub avi_told : Result (List ℕ) Refusal → Avi
+avi_told = told (λ bytes. record { refusal = 0; bytes = bytes }) no_avi
+
+abbrev pub audio_told : Result (List ℕ) Refusal → Audio
+audio_told = told (λ bytes. record { refusal = 0; bytes = bytes }) no_audio
 
 -- the AVI frame: the tests of rows 4, 5 and 6
 abbrev pub avi_tests : Video → List Test

@@ -1,14 +1,13 @@
 // The checksum, and the AVI and audio InfoFrames: document 01, "InfoFrames"; document 02, requests 01, 06 and 11.
 #![tactic(auto)]
 
-ghost use Rattle.std.specs.Prelude.{◌≡◌, ◌%◌, false};
+ghost use Rattle.std.specs.Prelude.{◌≡◌, ◌%◌, ◌<◌, false, get_or, take, drop};
 ghost use Rattle.video.specs.Modes.{mode_of};
 ghost use Rattle.video.specs.Tests.{shown_outside};
-ghost use Rattle.frames.specs.Frames.{total, checksum_of, frame, colorimetry, quantisation, repeats};
-ghost use Rattle.frames.specs.Frames.{avi_frame};
+ghost use Rattle.frames.specs.Frames.{total, checksum_of, frame, colorimetry, quantisation, repeats, avi_frame};
 ghost use Rattle.frames.specs.Audio.{audio_header, audio_payload, audio_off_frame};
 ghost use Rattle.frames.specs.Named.{edition_named, video_named};
-ghost use Rattle.frames.specs.Answers.{no_avi, GivesAvi, GivesAudio};
+ghost use Rattle.frames.specs.Answers.{avi_told, audio_told, GivesAvi, GivesAudio};
 ghost use Rattle.frames.specs.Theorems.{Checksum, FrameRefusals, NamedBack};
 ghost use Rattle.frames.specs.Editions.{BothEditions};
 
@@ -24,69 +23,55 @@ pub const AUDIO_COUNT: u8 = 10;
 
 pub const AUDIO_FRAME: usize = 4 + AUDIO_COUNT as usize;
 
-// An AVI InfoFrame: header, checksum, payload; or the number of a refusal with zeros beside it.
-#[derive(Clone, Copy)]
-pub struct Avi {
-    pub refusal: u8,
-    pub bytes: [u8; AVI_FRAME],
-}
-
-// An audio InfoFrame, likewise.
-#[derive(Clone, Copy)]
-pub struct Audio {
-    pub refusal: u8,
-    pub bytes: [u8; AUDIO_FRAME],
-}
-
 // The sum of the bytes, modulo 256.
 pub fn sum(s: &[u8]) -> u8
     ensures { result ≡ total s.now % 256 }
 {
-    let mut t: u8 = 0;
-    let mut i: usize = 0;
-    while i < s.len() {
-        t = std::num::wrapping_add_u8(t, s[i]);
-        i = i + 1;
-    }
-    t
+    s.iter().fold(0u8, |t, x| t.wrapping_add(*x))
 }
 
 // The byte that makes the sum of all zero modulo 256.
 pub fn checksum(s: &[u8]) -> u8
     ensures { result ≡ checksum_of s.now }
 {
-    std::num::wrapping_sub_u8(0, sum(s))
+    0u8.wrapping_sub(sum(s))
+}
+
+// A frame: a header of three bytes and a payload, with the checksum where a 0 stands between them.
+fn with_checksum<const N: usize>(mut bytes: [u8; N]) -> [u8; N]
+    requires { (3 < N) × (get_or bytes 3 0 ≡ 0) }
+    ensures { result ≡ frame (take 3 bytes.entry) (drop 4 bytes.entry) }
+{
+    bytes[3] = checksum(&bytes);
+    bytes
 }
 
 // C of the AVI InfoFrame.
 fn colour(mode: Mode, encoding: u8) -> u8
     ensures { result ≡ colorimetry mode encoding }
 {
-    if encoding == 0 {
-        return 0;
+    match encoding {
+        0 => 0,
+        _ => mode.colorimetry,
     }
-    mode.colorimetry
 }
 
 // Q of the AVI InfoFrame.
 fn quantised(video: Video) -> u8
     ensures { result ≡ quantisation video }
 {
-    if video.encoding != 0 {
-        return 0;
+    match (video.encoding, video.range) {
+        (0, 0) => 1,
+        (0, _) => 2,
+        _ => 0,
     }
-    if video.range == 0 {
-        return 1;
-    }
-    2
 }
 
 // PR of the AVI InfoFrame.
 fn repeated(video: Video) -> u8
     ensures { result ≡ repeats video }
 {
-    let repetition = video::repetition(video);
-    match repetition {
+    match video::repetition(video) {
         1 => 1,
         2 => 3,
         _ => 0,
@@ -94,60 +79,40 @@ fn repeated(video: Video) -> u8
 }
 
 // The AVI InfoFrame of a video, and its mode.
+// Kept, no plainer: the mode stands beside the video that names it, for `avi_of` has looked it up already. A struct of the two would be made and
+// opened once.
 fn avi_frame(video: Video, mode: Mode) -> [u8; AVI_FRAME]
     requires { (mode ≡ mode_of video.vic) × (shown_outside video ≡ false) }
     ensures { result ≡ avi_frame video }
 {
-    let encoding = video.encoding;
-    let vic = video.vic;
-    let colour = colour(mode, encoding);
-    let q = quantised(video);
-    let repeats = repeated(video);
+    let first = video.encoding * 32 + 16;
+    let second = colour(mode, video.encoding) * 64 + mode.aspect * 16 + 8;
+    let third = quantised(video) * 4;
     let ycc = video::ycc_quantisation(video);
     let content = video::content_type(video);
-    let aspect = mode.aspect;
-    let first = encoding * 32 + 16;
-    let second = colour * 64 + aspect * 16 + 8;
-    let third = q * 4;
+    let repeats = repeated(video);
     let fifth = ycc * 64 + content * 16 + repeats;
-    let mut bytes = [
-        0x82, 0x02, AVI_COUNT, 0, first, second, third, vic, fifth, 0, 0, 0, 0, 0, 0, 0, 0,
-    ];
-    let sum = checksum(&bytes);
-    bytes[3] = sum;
-    bytes
-}
-
-// A refusal: its number, and zeros.
-fn no_avi(number: u8) -> Avi
-    ensures { result ≡ no_avi number }
-{
-    Avi {
-        refusal: number,
-        bytes: [0u8; AVI_FRAME],
-    }
+    with_checksum([
+        0x82, 0x02, AVI_COUNT, 0, first, second, third, video.vic, fifth, 0, 0, 0, 0, 0, 0, 0, 0,
+    ])
 }
 
 // The AVI InfoFrame of a video: refusals 4, 5 and 6.
-pub fn avi_of(video: Video) -> Avi
-    ensures { GivesAvi video result }
+#[tactic(auto, unfolding(crate::specs::Answers::avi_of))]
+pub fn avi_of(video: Video) -> Result<[u8; AVI_FRAME], Refusal>
+    ensures { GivesAvi video (avi_told result) }
 {
-    let vic = video.vic;
-    let mode = video::mode_of(vic);
+    let mode = video::mode_of(video.vic);
     if mode.families == 0 {
-        return no_avi(Refusal::MODE_NOT_OFFERED);
+        return Err(Refusal::ModeNotOffered);
     }
     if video::shown_outside(video) {
-        return no_avi(Refusal::FIELD_OUT_OF_RANGE);
+        return Err(Refusal::FieldOutOfRange);
     }
     if video::shown_combined(video) {
-        return no_avi(Refusal::COMBINATION);
+        return Err(Refusal::Combination);
     }
-    let bytes = avi_frame(video, mode);
-    Avi {
-        refusal: Refusal::NONE,
-        bytes: bytes,
-    }
+    Ok(avi_frame(video, mode))
 }
 
 // The edition byte, by data byte 5.
@@ -163,20 +128,15 @@ fn edition_named(fifth: u8) -> u8
 pub fn video_named(link: u8, depth: u8, bytes: &[u8]) -> Video
     ensures { result ≡ video_named link depth bytes.now }
 {
-    let first = lists::byte_at(bytes, 0);
-    let third = lists::byte_at(bytes, 2);
-    let vic = lists::byte_at(bytes, 3);
     let fifth = lists::byte_at(bytes, 4);
-    let pixel = (fifth % 16 + 1) / 2 * 16 + depth % 16;
-    let edition = edition_named(fifth);
     Video {
-        vic: vic,
+        vic: lists::byte_at(bytes, 3),
         family: 0,
-        encoding: first / 32 % 4,
-        link: link,
-        range: third / 8 % 2,
-        pixel: pixel,
-        edition: edition,
+        encoding: lists::byte_at(bytes, 0) / 32 % 4,
+        link,
+        range: lists::byte_at(bytes, 2) / 8 % 2,
+        pixel: (fifth % 16 + 1) / 2 * 16 + depth % 16,
+        edition: edition_named(fifth),
     }
 }
 
@@ -184,7 +144,7 @@ pub fn video_named(link: u8, depth: u8, bytes: &[u8]) -> Video
 fn audio_frame(count: u8, allocation: u8) -> [u8; AUDIO_FRAME]
     ensures { result ≡ frame audio_header (audio_payload count allocation) }
 {
-    let mut bytes = [
+    with_checksum([
         0x84,
         0x01,
         AUDIO_COUNT,
@@ -199,37 +159,23 @@ fn audio_frame(count: u8, allocation: u8) -> [u8; AUDIO_FRAME]
         0,
         0,
         0,
-    ];
-    let sum = checksum(&bytes);
-    bytes[3] = sum;
-    bytes
+    ])
 }
 
-// The audio InfoFrame of 2 or 8 channels.
-pub fn audio_of(channels: u8) -> Audio
-    ensures { GivesAudio channels result }
+// The audio InfoFrame of 2 or 8 channels: refusal 5.
+#[tactic(auto, unfolding(crate::specs::Answers::audio_of, crate::specs::Audio::audio_frame))]
+pub fn audio_of(channels: u8) -> Result<[u8; AUDIO_FRAME], Refusal>
+    ensures { GivesAudio channels (audio_told result) }
 {
-    if channels == 2 {
-        let bytes = audio_frame(1, 0x00);
-        return Audio {
-            refusal: Refusal::NONE,
-            bytes: bytes,
-        };
-    }
-    if channels == 8 {
-        let bytes = audio_frame(7, 0x13);
-        return Audio {
-            refusal: Refusal::NONE,
-            bytes: bytes,
-        };
-    }
-    Audio {
-        refusal: Refusal::FIELD_OUT_OF_RANGE,
-        bytes: [0u8; AUDIO_FRAME],
+    match channels {
+        2 => Ok(audio_frame(1, 0x00)),
+        8 => Ok(audio_frame(7, 0x13)),
+        _ => Err(Refusal::FieldOutOfRange),
     }
 }
 
 // The audio InfoFrame where sound is off.
+#[tactic(auto, unfolding(crate::specs::Audio::audio_off_frame))]
 pub fn audio_off() -> [u8; AUDIO_FRAME]
     ensures { result ≡ audio_off_frame }
 {

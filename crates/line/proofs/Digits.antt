@@ -49,6 +49,10 @@ short (suc k) n h = go (ltb n 10) refl (short k (n / 10))
         let s : n / 10 < 10 ^ suc k = omega (arith, pow-suc 10 (suc k)) in
         rw (large n (ltb-false n 10 e), length-append) (omega (arith, ih s))
 
+-- a number of 32 bits has at most ten digits
+pub ten : (n : ℕ) → n < 2 ^ 32 → length (decimal n) ≤ 10
+ten n h = short 9 n (omega arith)
+
 said_append : (n : ℕ) (ds es : List ℕ) → said n (ds ++ es) ≡ said (said n ds) es
 said_append n [] es = refl
 said_append n (d ∷ ds) es = said_append (n * 10 + d) ds es

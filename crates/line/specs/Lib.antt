@@ -1,3 +1,4 @@
+pub mod Numbered
 pub mod Line
 pub mod Verdict
 pub mod Words

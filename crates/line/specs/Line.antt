@@ -3,7 +3,7 @@
 use Rattle.std.specs.Prelude.{◌≡◌, List, ℕ, ◌<◌, get_or, take}
 use Rattle.refusals.specs.Rows.{Given}
 use Rattle.refusals.specs.Tests.{answer}
-use Rattle.clock.specs.declared.Pair.{Pair}
+use Rattle.clock.specs.Numbered.{Pair}
 use Rattle.frames.specs.Audio.{audio_off_frame}
 use Rattle.frames.specs.Answers.{avi_of, audio_of}
 use Rattle.matrix.specs.Matrix.{Bytes}
@@ -13,7 +13,7 @@ use Rattle.request.specs.declared.Request.{Request}
 use Rattle.request.specs.Sections.{longest, walked}
 use Rattle.request.specs.Request.{ncts_rules}
 use Rattle.request.specs.Read.{read_of, ncts_of}
-use Rattle.line.specs.declared.Line.{Line}
+use Rattle.line.specs.Numbered.{Line}
 
 -- the checksums that the small program prints: byte 3 of each frame
 abbrev pub audio_checksum : Sound → ℕ

@@ -4,9 +4,9 @@ use Rattle.std.specs.Prelude.{◌≡◌, cond, List, [], ◌∷◌, ◌++◌, ma
 use Prim.Native.Char.{code}
 use Prim.Native.String.{String, [] as none, ◌∷◌ as ◌then◌}
 use Rattle.std.proofs.lemmas.List.Edits.{sets}
-use Rattle.line.specs.declared.Line.{Line}
+use Rattle.line.specs.Numbered.{Line, Printed}
 use Rattle.line.specs.Line.{line_of}
-use Rattle.line.specs.declared.Printed.{Printed}
+use Rattle.line.specs.declared.buffer.Text.{Text}
 
 -- a text, letter by letter
 abbrev pub ascii : String → List ℕ
@@ -41,9 +41,10 @@ refused_text number = (ascii "refused " ++ decimal number) ++ ascii "\n"
 abbrev pub text_of : Line → List ℕ
 text_of l = cond (eqb l.refusal 0) (accepted_text l) (refused_text l.refusal)
 
--- how the code writes: some bytes from a place on, and the place after them
-abbrev pub StoresText : List ℕ → ℕ → List ℕ → ℕ → List ℕ → Type 0
-StoresText before at bytes next after = (next ≡ at + length bytes) × (after ≡ sets before at bytes)
+-- how the code writes: some bytes are added to a line
+pub record AddsText (before : Text) (bytes : List ℕ) (after : Text) : Type 0 where
+  pub count : after.count ≡ before.count + length bytes
+  pub stored : after.bytes ≡ sets before.bytes before.count bytes
 
 -- the line of an input
 abbrev pub line_text : List ℕ → List ℕ

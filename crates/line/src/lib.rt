@@ -1,30 +1,28 @@
 // The small programs' lines: document 01, "What the station's library does", and document 02, request 03.
 #![tactic(auto)]
 
-ghost use Rattle.std.specs.Prelude.{◌≡◌, List, ◌++◌, ℕ, ◌+◌, ◌<◌, ◌≤◌, length};
+mod buffer;
+
+ghost use Rattle.std.specs.Prelude.{◌≡◌, List, [], ◌∷◌, ◌++◌, ℕ, ◌+◌, ◌<◌, ◌≤◌, length, take};
+ghost use Rattle.line.specs.Numbered.{shown_line, line_told, text_told};
 ghost use Rattle.line.specs.Line.{audio_checksum, line_of, Lines};
 ghost use Rattle.line.specs.Verdict.{placed_text, PrintsVerdict, Verdicts};
-ghost use Rattle.line.specs.Words.{digit, decimal, hex, accepted_text, refused_text, StoresText, text_of, line_bytes, Prints, PrintsAnswer, Numeral};
+ghost use Rattle.line.specs.Words.{digit, decimal, hex, accepted_text, refused_text, AddsText, text_of, line_bytes, Prints, PrintsAnswer, Numeral};
 
+pub use buffer::Text;
+use clock::NCts;
+use frames::{AUDIO_FRAME, AVI_FRAME};
 use refusals::Refusal;
 use sound::Sound;
 
-// What is printed: "accepted" with five numbers, or "refused" with the first.
+// What is printed of an accepted request: its mode, N and CTS, and the checksums of its two frames.
 #[derive(Clone, Copy)]
-pub struct Line {
-    pub refusal: u8,
-    pub vic: u8,
-    pub n: u32,
-    pub cts: u32,
-    pub avi: u8,
-    pub audio: u8,
-}
-
-// A line at the front of 80 bytes, which are more than any has, and its count.
-#[derive(Clone, Copy)]
-pub struct Printed {
-    pub bytes: [u8; 80],
-    pub count: usize,
+struct Shown {
+    vic: u8,
+    n: u32,
+    cts: u32,
+    avi: u8,
+    audio: u8,
 }
 
 // The checksum of the audio InfoFrame that a sound asks for.
@@ -32,209 +30,189 @@ fn audio_checksum(sound: Sound) -> u8
     ensures { result ≡ audio_checksum sound }
 {
     match sound {
-        Sound::Off => {
-            let bytes = frames::audio_off();
-            bytes[3]
+        Sound::Off => frames::audio_off()[3],
+        Sound::On { channels, .. } => frames::audio_of(channels).unwrap_or([0; AUDIO_FRAME])[3],
+    }
+}
+
+// The numbers of a request's line, or its refusal.
+#[tactic(auto, using(crate::proofs::Given::refused_first, crate::proofs::Given::refused_last))]
+fn line_of(s: &[u8]) -> Result<Shown, Refusal>
+    ensures { line_told result ≡ line_of s.now }
+{
+    let request = request::read(s)?.within()?;
+    let NCts { n, cts } = request::pair_for(request)?;
+    Ok(Shown {
+        vic: request.video.vic,
+        n,
+        cts,
+        avi: frames::avi_of(request.video).unwrap_or([0; AVI_FRAME])[3],
+        audio: audio_checksum(request.sound),
+    })
+}
+
+// Kept, the proof did not close: `impl fmt::Write` proves, but of a `write!` std says which bytes it wrote only where it ends in `Ok`, and nothing says
+// that it does where they fit.
+impl Text {
+    // No line yet.
+    fn new() -> Text
+        ensures { text_told result ≡ line_bytes [] }
+    {
+        Text {
+            bytes: [0; 80],
+            count: 0,
         }
-        Sound::On {
-            rate: _,
-            channels,
-            coherent: _,
-        } => {
-            let frame = frames::audio_of(channels);
-            let bytes = frame.bytes;
-            bytes[3]
+    }
+
+    // A text.
+    fn text(&mut self, letters: &[u8])
+        requires { self.old.count + length letters.now ≤ 80 }
+        ensures { AddsText self.old letters.now self.new }
+    {
+        let end = self.count + letters.len();
+        self.bytes[self.count..end].copy_from_slice(letters);
+        self.count = end;
+    }
+
+    // A digit, 0 to 15.
+    fn digit(&mut self, n: u8)
+        requires { (self.old.count < 80) × (n < 16) }
+        ensures { AddsText self.old (digit n ∷ []) self.new }
+    {
+        self.bytes[self.count] = b"0123456789abcdef"[n as usize];
+        self.count += 1;
+    }
+
+    // A number in decimal.
+    fn decimal(&mut self, n: u32)
+        requires { self.old.count + length (decimal n) ≤ 80 }
+        ensures { AddsText self.old (decimal n) self.new }
+    {
+        if n < 10 {
+            self.digit(n as u8);
+        } else {
+            self.decimal(n / 10);
+            self.digit((n % 10) as u8);
         }
     }
-}
 
-// The numbers of a request's line.
-fn line_of(s: &[u8]) -> Line
-    ensures { result ≡ line_of s.now }
-{
-    let checked = request::read(s);
-    let pair = request::ncts(s);
-    if pair.refusal != Refusal::NONE {
-        return Line {
-            refusal: pair.refusal,
-            vic: 0,
-            n: 0,
-            cts: 0,
-            avi: 0,
-            audio: 0,
-        };
+    // A name, and a number in decimal.
+    #[tactic(auto, using(crate::proofs::Digits::ten))]
+    fn named(&mut self, name: &[u8], n: u32)
+        requires { self.old.count + length name.now + 10 ≤ 80 }
+        ensures adds { AddsText self.old (name.now ++ decimal n) self.new }
+        ensures upper_bound { self.new.count ≤ self.old.count + length name.now + 10 }
+    {
+        self.text(name);
+        self.decimal(n);
     }
-    let request = checked.request;
-    let video = request.video;
-    let frame = frames::avi_of(video);
-    let bytes = frame.bytes;
-    let sound = request.sound;
-    let audio = audio_checksum(sound);
-    Line {
-        refusal: Refusal::NONE,
-        vic: video.vic,
-        n: pair.n,
-        cts: pair.cts,
-        avi: bytes[3],
-        audio: audio,
+
+    // A name, and a checksum as two lower-case hex digits.
+    fn checked(&mut self, name: &[u8], byte: u8)
+        requires { self.old.count + length name.now + 2 ≤ 80 }
+        ensures adds { AddsText self.old (name.now ++ hex byte) self.new }
+        ensures value { self.new.count ≡ self.old.count + length name.now + 2 }
+    {
+        self.text(name);
+        self.digit(byte / 16);
+        self.digit(byte % 16);
     }
-}
 
-// A digit, 0 to 15.
-fn digit(n: u8) -> u8
-    requires { n < 16 }
-    ensures { result ≡ digit n }
-{
-    let digits = b"0123456789abcdef";
-    digits[n as usize]
-}
-
-// A number in decimal, from a place on. The place after it is handed back.
-fn decimal(out: &mut [u8; 80], at: usize, n: u32) -> usize
-    requires { at + length (decimal n) ≤ 80 }
-    ensures { StoresText out.old at (decimal n) result out.new }
-{
-    if n < 10 {
-        out[at] = digit(n as u8);
-        return at + 1;
+    // The line alone, with no byte after it.
+    pub fn as_bytes(&self) -> &[u8]
+        ensures { result.now ≡ take self.now.count self.now.bytes }
+    {
+        &self.bytes[..self.count]
     }
-    let next = decimal(out, at, n / 10);
-    out[next] = digit((n % 10) as u8);
-    next + 1
-}
-
-// A text, from a place on.
-fn text(out: &mut [u8; 80], at: usize, letters: &[u8]) -> usize
-    requires { at + length letters.now ≤ 80 }
-    ensures { StoresText out.old at letters.now result out.new }
-{
-    let mut i: usize = 0;
-    while i < letters.len() {
-        out[at + i] = letters[i];
-        i = i + 1;
-    }
-    at + i
-}
-
-// A name, and a number in decimal.
-fn named(out: &mut [u8; 80], at: usize, name: &[u8], n: u32) -> usize
-    requires { at + length name.now + 10 ≤ 80 }
-    ensures stores_text { StoresText out.old at (name.now ++ decimal n) result out.new }
-    ensures upper_bound { result ≤ at + length name.now + 10 }
-{
-    let next = text(out, at, name);
-    decimal(out, next, n)
-}
-
-// A name, and a checksum as two lower-case hex digits.
-fn checked(out: &mut [u8; 80], at: usize, name: &[u8], byte: u8) -> usize
-    requires { at + length name.now + 2 ≤ 80 }
-    ensures stores_text { StoresText out.old at (name.now ++ hex byte) result out.new }
-    ensures value { result ≡ at + length name.now + 2 }
-{
-    let next = text(out, at, name);
-    out[next] = digit(byte / 16);
-    out[next + 1] = digit(byte % 16);
-    next + 2
 }
 
 // The line of an accepted request.
-fn accepted(out: &mut [u8; 80], line: Line) -> usize
-    ensures stores_text { StoresText out.old 0 (accepted_text line) result out.new }
-    ensures upper_bound { result ≤ 80 }
+fn accepted(line: Shown) -> Text
+    ensures { text_told result ≡ line_bytes (accepted_text (shown_line line)) }
 {
-    let vic = named(out, 0, b"accepted vic ", line.vic as u32);
-    let n = named(out, vic, b" n ", line.n);
-    let cts = named(out, n, b" cts ", line.cts);
-    let avi = checked(out, cts, b" avi ", line.avi);
-    let audio = checked(out, avi, b" audio ", line.audio);
-    text(out, audio, b"\n")
+    let mut out = Text::new();
+    out.named(b"accepted vic ", line.vic as u32);
+    out.named(b" n ", line.n);
+    out.named(b" cts ", line.cts);
+    out.checked(b" avi ", line.avi);
+    out.checked(b" audio ", line.audio);
+    out.text(b"\n");
+    out
 }
 
 // The line of a refused one.
-fn refused(out: &mut [u8; 80], number: u8) -> usize
-    ensures stores_text { StoresText out.old 0 (refused_text number) result out.new }
-    ensures upper_bound { result ≤ 80 }
+fn refused(number: u8) -> Text
+    ensures { text_told result ≡ line_bytes (refused_text number) }
 {
-    let end = named(out, 0, b"refused ", number as u32);
-    text(out, end, b"\n")
-}
-
-// What is printed of a line.
-fn text_of(line: Line) -> Printed
-    ensures value { result ≡ line_bytes (text_of line) }
-    ensures count_bound { result.count ≤ 80 }
-{
-    let mut out = [0u8; 80];
-    if line.refusal == 0 {
-        let count = accepted(&mut out, line);
-        return Printed {
-            bytes: out,
-            count: count,
-        };
-    }
-    let count = refused(&mut out, line.refusal);
-    Printed {
-        bytes: out,
-        count: count,
-    }
-}
-
-// What the small program prints of an input, at the front of the lent bytes, and its count.
-pub fn print(s: &[u8], out: &mut [u8; 80]) -> usize
-    ensures prints { Prints s.now result out.new }
-    ensures upper_bound { result ≤ length out.new }
-{
-    let text = text_of(line_of(s));
-    let bytes = text.bytes;
-    *out = bytes;
-    text.count
-}
-
-// What is printed of a request that came in parts: the line of its refusal, or that of the request.
-pub fn print_answer(refusal: u8, request: &[u8], out: &mut [u8; 80]) -> usize
-    ensures prints_answer { PrintsAnswer refusal request.now result out.new }
-    ensures upper_bound { result ≤ length out.new }
-{
-    if refusal == Refusal::NONE {
-        return print(request, out);
-    }
-    let blank = [0u8; 80];
-    *out = blank;
-    refused(out, refusal)
+    let mut out = Text::new();
+    out.named(b"refused ", number as u32);
+    out.text(b"\n");
+    out
 }
 
 // The line of a vendor's list that is refused for one of its pairs.
-fn placed(out: &mut [u8; 80], number: u8, place: u32) -> usize
-    ensures stores_text { StoresText out.old 0 (placed_text number place) result out.new }
-    ensures upper_bound { result ≤ 80 }
+fn placed(number: u8, place: u32) -> Text
+    ensures { text_told result ≡ line_bytes (placed_text number place) }
 {
-    let at = named(out, 0, b"refused ", number as u32);
-    let end = named(out, at, b" at ", place);
-    text(out, end, b"\n")
+    let mut out = Text::new();
+    out.named(b"refused ", number as u32);
+    out.named(b" at ", place);
+    out.text(b"\n");
+    out
 }
 
-// What is printed of a verdict on a vendor's list, at the front of the lent bytes, and its count.
-pub fn print_verdict(refusal: u8, place: u32, out: &mut [u8; 80]) -> usize
-    ensures prints_verdict { PrintsVerdict refusal place result out.new }
-    ensures upper_bound { result ≤ length out.new }
+// What is printed of a line.
+fn text_of(line: Result<Shown, Refusal>) -> Text
+    ensures { text_told result ≡ line_bytes (text_of (line_told line)) }
 {
-    *out = [0u8; 80];
-    if refusal == Refusal::NONE {
-        return text(out, 0, b"accepted\n");
+    match line {
+        Ok(shown) => accepted(shown),
+        Err(refusal) => refused(refusal.into()),
     }
-    if refusal == Refusal::BAD_PAIR {
-        return placed(out, refusal, place);
+}
+
+// What the small program prints of an input.
+pub fn print(s: &[u8]) -> Text
+    ensures { Prints s.now result.count result.bytes }
+{
+    text_of(line_of(s))
+}
+
+// What is printed of a request that came in parts: the line of its refusal, or that of the request.
+// Kept, no plainer: the refusal is a number, for a pipe that is anybody's bytes may answer with any.
+pub fn print_answer(refusal: u8, request: &[u8]) -> Text
+    ensures { PrintsAnswer refusal request.now result.count result.bytes }
+{
+    if refusal == 0 {
+        return print(request);
     }
-    refused(out, refusal)
+    refused(refusal)
+}
+
+// What is printed of a verdict on a vendor's list.
+// Kept, no plainer: the verdict comes as two numbers, for `vendor` does not stand below this crate.
+pub fn print_verdict(refusal: u8, place: u32) -> Text
+    ensures { PrintsVerdict refusal place result.count result.bytes }
+{
+    if refusal == 0 {
+        let mut text = Text::new();
+        text.text(b"accepted\n");
+        return text;
+    }
+    if refusal == u8::from(Refusal::BadPair) {
+        return placed(refusal, place);
+    }
+    refused(refusal)
 }
 
 // A number in decimal is its numeral.
+#[tactic(auto, using(crate::proofs::Digits::numerals))]
 pub fn numerals()
     ensures { (n : ℕ) → Numeral n }
 {}
 
 // What the line refuses, and that one byte more than the longest request decides it.
+#[tactic(auto, using(crate::proofs::Given::lines))]
 pub fn lines()
     ensures { (input : List ℕ) → Lines input }
 {}

@@ -1,6 +1,7 @@
 -- A loop that copies one list over the front of another, and what its contract comes to.
 --     copy_more, copy_end    one element more, and after the last
 --     one_ends               a test for more that fails: one of the two is at its end
+--     over_shorter           the front of the first, as far as the shorter goes, and then the rest of the second
 --     over_front             where the first is the shorter: its elements, and then the rest of the second
 --     over_whole             where the two are as long: the first
 --     over_part              a part of a slice over the front
@@ -9,14 +10,14 @@ use mathlib.Core.Path.{◌≡◌, refl, sym, ap, ◌∙◌}
 use mathlib.Core.Logic.{◌⊎◌, inl, inr, ⊎_map}
 use mathlib.Core.Bool.{Bool, true, false, ◌&&◌}
 use mathlib.Core.List.{List, [], ◌∷◌, ◌++◌, append-nil}
-use Prim.Native.Nat.{ℕ, zero, suc, ◌+◌, ◌-◌, ◌≤◌, ◌<◌}
+use Prim.Native.Nat.{ℕ, zero, suc, ◌+◌, ◌-◌, ◌≤◌, ◌<◌, min}
 use native.Mathlib.Nat.{not-suc-le-zero, le_of_suc-le-suc}
 use native.Mathlib.Numerals.{add-one}
 use native.Mathlib.Omega.{arith}
 use lib.Dec.{ltb}
 use lib.ListN.{length, get_or, take, drop, set, drop_of_length-le, length-drop}
 use lib.Seq.{take-suc, take_all, drop-cons, set_at, append_snoc, length-take-le}
-use borrow.Author.Tests.{ltb-false}
+use borrow.Author.Tests.{ltb-true, ltb-false}
 use Rattle.lists.specs.Over.{over}
 
 pub copy_more : (s d : List ℕ) (i : ℕ) → i < length d → i < length s
@@ -40,6 +41,14 @@ one_ends i m n e = go (ltb i m) refl e
     go : (b : Bool) → ltb i m ≡ b → (b && ltb i n) ≡ false → (m ≤ i) ⊎ (n ≤ i)
     go true p e = inr (ltb-false i n e)
     go false p e = inl (ltb-false i m p)
+
+-- as far as the shorter of the two goes
+pub over_shorter : (s d : List ℕ) (n : ℕ) → n ≡ min (length s) (length d) → take n s ++ drop n d ≡ over s d
+over_shorter s d n e = copy_end s d n (omega arith) (omega arith) (go (ltb (length s) (length d)) refl)
+  where
+    go : (b : Bool) → ltb (length s) (length d) ≡ b → (length s ≤ n) ⊎ (length d ≤ n)
+    go true p = let h = ltb-true _ _ p in inl (omega arith)
+    go false p = let h = ltb-false _ _ p in inr (omega arith)
 
 pub over_front : (s d : List ℕ) → length s ≤ length d → over s d ≡ s ++ drop (length s) d
 over_front s d h = sym (copy_end s d (length s) (omega arith) h (inl (omega arith))) ∙ rw (take_all (length s) s (omega arith))

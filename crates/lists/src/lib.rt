@@ -9,10 +9,10 @@ ghost use Rattle.lists.specs.Same.{same_list};
 pub fn copy(bytes: &[u8], out: &mut [u8])
     ensures { out.new ≡ over bytes.now out.old }
 {
-    let mut i: usize = 0;
-    while (i < bytes.len()) & (i < out.len()) {
+    // Kept, what may not change: the archive calls memcpy and memset alone (docs/ABI.md), and copy_from_slice calls memmove. Of what a loop over
+    // `out.iter_mut().zip(bytes)` wrote a proof knows no values.
+    for i in 0..bytes.len().min(out.len()) {
         out[i] = bytes[i];
-        i = i + 1;
     }
 }
 
@@ -20,13 +20,12 @@ pub fn copy(bytes: &[u8], out: &mut [u8])
 pub fn byte_at(s: &[u8], i: usize) -> u8
     ensures { result ≡ get_or s.now i 0 }
 {
-    if s.len() <= i {
-        return 0;
-    }
-    s[i]
+    s.get(i).copied().unwrap_or(0)
 }
 
-// Whether two slices hold the same bytes. All are looked at, which is the faster way for some twenty bytes that are the same.
+// Whether two slices hold the same bytes. All are looked at.
+// Kept, for speed: the planner compares rows of lengths that the compiler knows, and `==` is a call for each of them, 13 ns for 5.
+#[tactic(auto, using(crate::proofs::Compared::unequal))]
 pub fn same(a: &[u8], b: &[u8]) -> bool
     ensures { result ≡ same_list a.now b.now }
 {
@@ -34,23 +33,16 @@ pub fn same(a: &[u8], b: &[u8]) -> bool
         return false;
     }
     let mut all = true;
-    let mut i = 0;
-    while i < a.len() {
-        all = all & (a[i] == b[i]);
-        i = i + 1;
+    for (x, y) in a.iter().zip(b) {
+        all &= *x == *y;
     }
     all
 }
 
 // Whether two arrays hold the same twelve numbers.
+// Kept, no plainer: one function for any type would be `==` again, and the theorems on bytes and on fields speak of `same_list`, over numbers.
 pub fn same_numbers(a: [u16; 12], b: [u16; 12]) -> bool
     ensures { result ≡ same_list a b }
 {
-    let mut all = true;
-    let mut i = 0;
-    while i < 12 {
-        all = all & (a[i] == b[i]);
-        i = i + 1;
-    }
-    all
+    a == b
 }

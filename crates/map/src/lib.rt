@@ -5,6 +5,7 @@ ghost use Rattle.std.specs.Prelude.{◌≡◌};
 ghost use Rattle.map.specs.Printed.{twins, printed};
 
 // The main register map: its addresses, and the masks and shifts of the fields in them, are constants of this type.
+// Kept, what may not change: a type whose values are never built, for docs/HOUSE.md, F5, asks for associated constants of a map type.
 #[derive(Clone, Copy)]
 pub struct Map {
     pub address: u8,
@@ -247,8 +248,8 @@ impl Map {
 
 // Every constant of the map: it is its twin, and what is printed.
 pub fn constants() -> [u8; 97]
-    ensures value { result ≡ twins }
-    ensures value_2 { result ≡ printed }
+    ensures as_defined { result ≡ twins }
+    ensures as_printed { result ≡ printed }
 {
     [
         Map::N0,

@@ -4,7 +4,8 @@ pub mod Pairs
 pub mod Body
 pub mod Held
 pub mod Numbers
-pub mod Codes
+pub mod Previewed
 pub mod Differences
 pub mod Unsigned
 pub mod Rounding
+pub mod Made

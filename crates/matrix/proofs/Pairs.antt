@@ -1,21 +1,24 @@
--- A body, coefficient by coefficient: what a turn of a loop over them leaves.
+-- A body, coefficient by coefficient, and fields of 13 bits.
 -- Assumes nothing.
-use mathlib.Core.Path.{◌≡◌, refl, sym, ap, ap₂, ◌∙◌}
+use mathlib.Core.Path.{◌≡◌, refl, ap, ap₂, ◌∙◌}
 use mathlib.Core.Bool.{true, ◌&&◌}
-use mathlib.Core.List.{List, [], ◌∷◌, ◌++◌, append-nil}
+use mathlib.Core.List.{List, [], ◌∷◌, ◌++◌}
 use Prim.Native.Nat.{ℕ, zero, suc, ◌+◌, ◌*◌, ◌/◌, ◌<◌, ◌≤◌}
 use native.Mathlib.Numerals.{add-one}
 use native.Mathlib.Omega.{arith}
-use lib.Dec.{eqb, leb, lit<}
+use lib.Dec.{eqb, leb, ltb, lit<}
+use native.Mathlib.Nat.{le_refl}
 use borrow.Author.Tests.{eqb-true, leb-true}
-use lib.ListN.{length, get_or, take, drop, set, drop_of_length-le}
-use lib.Seq.{drop-cons, take-suc-set, append_snoc, take_all}
+use lib.ListN.{get_or-append, length-append, length, get_or, drop, drop_of_length-le}
+use lib.Seq.{get_or-append_seam, drop-cons}
 use Rattle.lists.proofs.Both.{both_left, both_right}
 use Rattle.matrix.specs.Coefficient.{word, low_thirteen, coefficient_bytes}
 use Rattle.matrix.specs.Tests.{within}
 use Rattle.matrix.specs.Matrix.{fields, word_at, no_matrix}
-use Rattle.matrix.specs.Tests.{in_range, is_allowed}
+use Rattle.matrix.specs.Tests.{in_range, is_allowed, small_fields}
 use Rattle.matrix.proofs.Signs.{carried}
+use Rattle.std.specs.List.{list_all}
+use Rattle.std.specs.Simd.{first_chunks}
 
 -- what is left of a body from coefficient i on
 abbrev pub rest : List ℕ → ℕ → List ℕ
@@ -40,26 +43,18 @@ pub fields_more : (body : List ℕ) (i : ℕ) → 2 * i + 2 < length body → fi
 unfolding fields
 fields_more body i h = ap fields (next body i h)
 
+-- the pairs of a list
+pub pairs_range : (k : ℕ) (l : List ℕ) → length l ≡ k * 2 → list_all (λ p. within (word (get_or p 0 0) (get_or p 1 0))) (first_chunks 2 k l) ≡ in_range l
+unfolding in_range
+pairs_range zero [] e = refl
+pairs_range zero (x ∷ l) e = absurd (omega (arith, e))
+pairs_range (suc k) [] e = absurd (omega (arith, e))
+pairs_range (suc k) (x ∷ []) e = absurd (omega (arith, e))
+pairs_range (suc k) (x ∷ y ∷ l) e = ap (λ b. within (word x y) && b) (pairs_range k l (omega (arith, e)))
+
 pub range_end : (body : List ℕ) (i : ℕ) → length body ≤ 2 * i + 1 → in_range (rest body i) ≡ true
 unfolding in_range
 range_end body i h = ap in_range (drop_of_length-le body h)
-
--- a turn stores the field of one pair more: what is stored, and what is left to store, is the whole
-pub fields_turn : (out bytes : List ℕ) (i v : ℕ) → i < length out → 2 * i + 1 < length bytes → v ≡ low_thirteen (word (get_or bytes (2 * i) 0) (get_or bytes (2 * i + 1) 0))
-    → take (i + 1) (set out i v) ++ fields (drop (2 * (i + 1)) bytes) ≡ take i out ++ fields (drop (2 * i) bytes)
-unfolding fields
-fields_turn out bytes i v h l e =
-    let f : 2 * (i + 1) ≡ suc (suc (2 * i)) = omega arith in
-    ap (λ (n : ℕ). take n (set out i v) ++ fields (drop (2 * (i + 1)) bytes)) (add-one i)
-    ∙ ap (λ (s : List ℕ). s ++ fields (drop (2 * (i + 1)) bytes)) (take-suc-set out i v h)
-    ∙ append_snoc (take i out) v (fields (drop (2 * (i + 1)) bytes))
-    ∙ ap₂ (λ (n : ℕ) (s : List ℕ). take i out ++ n ∷ fields s) (e ∙ ap (λ (n : ℕ). low_thirteen (word (get_or bytes (2 * i) 0) (get_or bytes n 0))) (add-one (2 * i)))
-    (ap (λ (n : ℕ). drop n bytes) f)
-    ∙ ap (λ (s : List ℕ). take i out ++ fields s) (sym (two_left bytes (2 * i) (omega arith)))
-
-pub fields_all : (out bytes : List ℕ) (i : ℕ) → length out ≤ i → length bytes ≤ 2 * i → take i out ++ fields (drop (2 * i) bytes) ≡ out
-unfolding fields
-fields_all out bytes i h l = rw (drop_of_length-le bytes l, take_all i out h) (append-nil out)
 
 -- what a is_allowed body is
 module _ (body : List ℕ) (s : is_allowed body ≡ true) where
@@ -102,3 +97,22 @@ pub fields_said : (cs : List ℕ) → ((i : ℕ) → get_or cs i 0 < 8192) → f
 unfolding fields
 fields_said [] h = refl
 fields_said (c ∷ cs) h = rw ((carried c (h 0)).same, fields_said cs (λ i. h (suc i)))
+
+-- fields that have 13 bits, and one more
+pub small_push : (xs : List ℕ) (x : ℕ) → small_fields (xs ++ x ∷ []) (length (xs ++ x ∷ [])) ≡ (small_fields xs (length xs) && ltb x 8192)
+small_push xs x = rw (length-append xs (x ∷ []), add-one, get_or-append_seam xs x [] 0) (ap (λ b. b && ltb x 8192) (kept (length xs) (le_refl _)))
+  where
+    kept : (n : ℕ) → n ≤ length xs → small_fields (xs ++ x ∷ []) n ≡ small_fields xs n
+    kept zero h = refl
+    kept (suc n) h = ap₂ (λ b k. b && ltb k 8192) (kept n (omega arith)) (get_or-append xs (x ∷ []) 0 n (omega arith))
+
+-- fields got one by one of their pairs
+pub fields_at : (l : List ℕ) (i : ℕ) → 2 * i + 1 < length l → get_or (fields l) i 0 ≡ low_thirteen (word (get_or l (2 * i) 0) (get_or l (2 * i + 1) 0))
+unfolding fields
+fields_at [] i h = absurd (omega (arith, h))
+fields_at (x ∷ []) i h = absurd (omega (arith, h))
+fields_at (x ∷ y ∷ l) zero h = refl
+fields_at (x ∷ y ∷ l) (suc i) h =
+    let e : 2 * suc i ≡ suc (suc (2 * i)) = omega arith in
+    let f : 2 * suc i + 1 ≡ suc (suc (2 * i + 1)) = omega arith in
+    rw (f, e) (fields_at l i (omega arith))

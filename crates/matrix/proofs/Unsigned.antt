@@ -3,14 +3,13 @@
 use mathlib.Core.Path.{◌≡◌, refl, sym, ◌∙◌}
 use mathlib.Core.Bool.{Bool, true, false, cond}
 use Prim.Native.Nat.{ℕ, ◌+◌, ◌-◌, ◌*◌, ◌/◌, ◌%◌, ◌^◌, ◌<◌, ◌≤◌, min}
-use native.Mathlib.Nat.{mul-sub, mul_comm, zero-mul, le_trans, mul-le-mul_left, mul-le-mul_right}
+use native.Mathlib.Nat.{mod-eq_of_lt, mul-sub, mul_comm, le_trans, mul-le-mul_left, mul-le-mul_right}
 use native.Mathlib.Omega.{arith}
 use lib.Dec.{ltb}
+use lib.Pow.{pow_mono}
 use lib.IntN.{ℤ, pos, negsuc, sub_ℕ}
 use lib.Signed.{shr_z}
 use borrow.Author.Tests.{ltb-true, ltb-false}
-use mir.Syntax.{w64}
-use mir.Val.{Fits}
 use Rattle.matrix.specs.Coefficient.{value_of}
 use Rattle.matrix.specs.Preview.{held_within, code_of}
 use Rattle.matrix.proofs.Differences.{Differs, of_sub, plus, times, scaled}
@@ -42,12 +41,12 @@ unsigned a b c mode h1 h2 h3 h4 =
     rounded (scaled (2 ^ mode) (plus (plus (plus (times a (value h1)) (times b (value h2))) (times c (value h3))) (scaled 4096 (value h4))))
     ∙ rw (less, e)
 
--- a sum that is not above what was added
-pub under : (p q n : ℕ) → p ≤ q → min ((p - q) * n / 4096) 4095 ≡ 0
-under p q n h = let e : p - q ≡ 0 = omega arith in rw (e, zero-mul)
-
 pub product : (x y m n : ℕ) → x ≤ m → y ≤ n → x * y ≤ m * n
 product x y m n h k = le_trans (mul-le-mul_right y h) (mul-le-mul_left m k)
 
-pub fits : (x y : ℕ) → x ≤ 2 ^ 27 → y ≤ 4 → Fits w64 (x * y)
-fits x y h k = omega (arith, product x y (2 ^ 27) 4 h k)
+power_small : (mode : ℕ) → mode ≤ 2 → 2 ^ mode ≤ 4
+power_small mode h = pow_mono h
+
+-- a shift that loses nothing
+pub shifted : (x mode : ℕ) → x ≤ 2 ^ 27 → mode ≤ 2 → x * 2 ^ mode % 2 ^ 64 ≡ x * 2 ^ mode
+shifted x mode h k = mod-eq_of_lt (omega (arith, product x (2 ^ mode) (2 ^ 27) 4 h (power_small mode k)))

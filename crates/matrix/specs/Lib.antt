@@ -5,4 +5,5 @@ pub mod Matrix
 pub mod Numbers
 pub mod Body
 pub mod Read
+pub mod Numbered
 pub mod Preview

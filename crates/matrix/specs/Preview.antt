@@ -5,7 +5,7 @@ use Rattle.std.specs.Int.Signed.{shr_z}
 use Rattle.refusals.specs.Rows.{field_out_of_range, input_above, Condition, ◌when◌, Given}
 use Rattle.refusals.specs.Tests.{Test, ◌if◌, lowest, answer}
 use Rattle.matrix.specs.declared.Matrix.{Matrix}
-use Rattle.matrix.specs.declared.Pixel.{Pixel}
+use Rattle.matrix.specs.Numbered.{Pixel}
 use Rattle.matrix.specs.Coefficient.{value_of}
 use Rattle.matrix.specs.Matrix.{matrix_of, Allowed}
 use Rattle.matrix.specs.Tests.{is_allowed}

@@ -1,73 +1,56 @@
 // The colour matrix: 13-bit coefficients, and the preview. Document 01, "Matrix".
 #![tactic(auto)]
 
-ghost use Rattle.std.specs.Prelude.{◌≡◌, List, ℕ, ◌+◌, ◌*◌, ◌%◌, ◌^◌, ◌<◌, ◌≤◌, get_or, length, ℤ};
+ghost use Rattle.std.specs.Prelude.{◌≡◌, List, ℕ, ◌+◌, ◌*◌, ◌%◌, ◌^◌, ◌<◌, ◌≤◌, get_or, length, ℤ, ◌&&◌, eqb, leb};
 ghost use Rattle.std.specs.Int.Signed.{shr_z};
 ghost use Rattle.matrix.specs.declared.Matrix.{Matrix};
 ghost use Rattle.matrix.specs.Coefficient.{word, low_thirteen, high_byte};
 ghost use Rattle.matrix.specs.Twos.{TwosComplement};
-ghost use Rattle.matrix.specs.Tests.{Sent, SaidByBytes};
-ghost use Rattle.matrix.specs.Matrix.{no_matrix, word_at, Bytes};
+ghost use Rattle.matrix.specs.Matrix.{no_matrix, Bytes};
 ghost use Rattle.matrix.specs.Numbers.{Numbers};
 ghost use Rattle.matrix.specs.Body.{body_of, Whole, BodyBack};
-ghost use Rattle.matrix.specs.Tests.{is_allowed, small_fields, matrix_in_range};
+ghost use Rattle.matrix.specs.Tests.{is_allowed, small_fields, matrix_in_range, Sent, SaidByBytes};
 ghost use Rattle.matrix.specs.Read.{twelve_of, allowed_matrix};
-ghost use Rattle.matrix.specs.Preview.{held_within, code_of, output_of, Previews, PreviewRefusals, RoundedDown, Clamped};
+ghost use Rattle.matrix.specs.Numbered.{pixel_told};
+ghost use Rattle.matrix.specs.Preview.{held_within, code_of, above, Previews, PreviewRefusals, RoundedDown, Clamped};
 
 use refusals::Refusal;
+use std::array;
 
 // What the converter is set to: on or off, the CSC mode, and A1 to A4, B1 to B4, C1 to C4 as fields of 13 bits.
-#[derive(Clone, Copy)]
+// Kept, what may not change: `on` and `mode` are bytes, for `in_range` judges any matrix in hand, whatever its `on` and `mode`
+// (`matrix_in_range`, `InHand` of request).
+#[derive(Clone, Copy, Debug, PartialEq, Eq)]
 pub struct Matrix {
     pub on: u8,
     pub mode: u8,
     pub coefficients: [u16; 12],
 }
 
-// A previewed pixel, or the number of a refusal with zeros beside it.
-#[derive(Clone, Copy)]
-pub struct Pixel {
-    pub refusal: u8,
+// A previewed pixel.
+#[derive(Clone, Copy, Debug, PartialEq, Eq)]
+pub struct Codes {
     pub a: u16,
     pub b: u16,
     pub c: u16,
-}
-
-fn wide(x: u8) -> u16
-    ensures { (result ≡ x) × (result < 256) }
-{
-    x as u16
-}
-
-// The two bytes of coefficient i, high byte first.
-fn pair(body: &[u8], i: usize) -> u16
-    requires { 2 * i + 2 < length body.now }
-    ensures { result ≡ word_at body.now i }
-{
-    wide(body[2 * i + 1]) * 256 + wide(body[2 * i + 2])
 }
 
 // The field of two bytes, high byte first: their low 13 bits.
 pub fn field_of(high: u8, low: u8) -> u16
     ensures { result ≡ low_thirteen (word high low) }
 {
-    (wide(high) * 256 + wide(low)) % 8192
+    u16::from_be_bytes([high, low]) % 8192
 }
 
 // The twelve fields of 24 bytes; zeros where they are not 24.
+// Kept, what may not change: zeros and no `Option`. `twelve_of` says them, and no public function asks for a length or learns to fail.
 pub fn twelve(bytes: &[u8]) -> [u16; 12]
     ensures { result ≡ twelve_of bytes.now }
 {
-    let mut out = [0u16; 12];
-    if bytes.len() != 24 {
-        return out;
-    }
-    let mut i: usize = 0;
-    while i < 12 {
-        out[i] = field_of(bytes[2 * i], bytes[2 * i + 1]);
-        i = i + 1;
-    }
-    out
+    let Ok(bytes) = <&[u8; 24]>::try_from(bytes) else {
+        return [0; 12];
+    };
+    array::from_fn(|i| field_of(bytes[2 * i], bytes[2 * i + 1]))
 }
 
 // The high byte of a field, of its 13 bits carried to 16.
@@ -76,10 +59,7 @@ pub fn high_byte(bits: u16) -> u8
 {
     let field = bits % 8192;
     let high = (field / 256) as u8;
-    if field < 4096 {
-        return high;
-    }
-    high + 224
+    if field < 4096 { high } else { high + 224 }
 }
 
 // Whether a matrix section's body is in range: 25 bytes, mode, coefficients.
@@ -89,48 +69,34 @@ pub fn fits(body: &[u8]) -> bool
     if body.len() != 25 {
         return false;
     }
-    if 2 < body[0] {
-        return false;
-    }
-    let mut i: usize = 0;
-    while i < 12 {
-        let bits = pair(body, i);
-        if !((bits < 4096) | (61440 <= bits)) {
-            return false;
-        }
-        i = i + 1;
-    }
-    true
+    let (pairs, _) = body[1..].as_chunks::<2>();
+    let in_range = pairs.iter().all(|pair| {
+        let bits = u16::from_be_bytes(*pair);
+        bits < 4096 || 61440 <= bits
+    });
+    body[0] <= 2 && in_range
 }
 
-// Whether twelve fields have 13 bits each. All are looked at, which is the faster way.
+// Whether twelve fields have 13 bits each.
+// Kept, for speed: a `fold` over all. `all`, which stops at the first that has more, is the slower way.
 fn are_small(k: [u16; 12]) -> bool
     ensures { result ≡ small_fields k 12 }
 {
-    (k[0] < 8192)
-        & (k[1] < 8192)
-        & (k[2] < 8192)
-        & (k[3] < 8192)
-        & (k[4] < 8192)
-        & (k[5] < 8192)
-        & (k[6] < 8192)
-        & (k[7] < 8192)
-        & (k[8] < 8192)
-        & (k[9] < 8192)
-        & (k[10] < 8192)
-        & (k[11] < 8192)
+    k.iter().fold(true, |all, field| all & (*field < 8192))
+}
+
+// Whether a matrix in hand is on, in a mode that there is, and its fields have 13 bits each.
+fn is_on(m: Matrix) -> bool
+    ensures { result ≡ (eqb m.on 1 && leb m.mode 2 && small_fields m.coefficients 12) }
+{
+    m.on == 1 && m.mode <= 2 && are_small(m.coefficients)
 }
 
 // Whether a matrix in hand is none, or one that a request may have.
 pub fn in_range(m: Matrix) -> bool
     ensures { result ≡ matrix_in_range m }
 {
-    let nothing = none();
-    let fields = m.coefficients;
-    let others = nothing.coefficients;
-    let off = (m.on == 0) & (m.mode == nothing.mode) & lists::same_numbers(fields, others);
-    let on = (m.on == 1) & (m.mode <= 2) & are_small(fields);
-    off | on
+    m == none() || is_on(m)
 }
 
 // The matrix of a body that fits; no matrix of one that does not.
@@ -140,16 +106,16 @@ pub fn read(body: &[u8]) -> Matrix
     if !fits(body) {
         return none();
     }
-    let mode = body[0];
-    let fields = twelve(&body[1..]);
     Matrix {
         on: 1,
-        mode: mode,
-        coefficients: fields,
+        mode: body[0],
+        coefficients: twelve(&body[1..]),
     }
 }
 
 // No matrix: converter off.
+// Kept, what may not change: a matrix and no `Option`. `no_matrix` is what the chip's registers hold, and what `read` answers of any bytes
+// (`allowed_matrix`).
 pub fn none() -> Matrix
     ensures { result ≡ no_matrix }
 {
@@ -164,14 +130,13 @@ pub fn none() -> Matrix
 pub fn body_of(m: Matrix) -> [u8; 25]
     ensures { result ≡ body_of m }
 {
-    let fields = m.coefficients;
-    let mut out = [0u8; 25];
+    let mut out = [0; 25];
     out[0] = m.mode;
-    let mut i: usize = 0;
-    while i < 12 {
-        out[1 + 2 * i] = high_byte(fields[i]);
-        out[2 + 2 * i] = (fields[i] % 256) as u8;
-        i = i + 1;
+    // Kept, for speed: a `for`. A `map` into pairs took twice as many instructions.
+    for i in 0..12 {
+        let field = m.coefficients[i];
+        out[1 + 2 * i] = high_byte(field);
+        out[2 + 2 * i] = (field % 256) as u8;
     }
     out
 }
@@ -181,7 +146,7 @@ fn raise(field: u16) -> u64
     requires { field < 8192 }
     ensures { (result ≡ (field + 4096) % 8192) × (result < 8192) }
 {
-    ((field + 4096) % 8192) as u64
+    u64::from((field + 4096) % 8192)
 }
 
 // A code times a raised field.
@@ -189,82 +154,60 @@ fn times(x: u32, field: u16) -> u64
     requires { (x ≤ 4095) × (field < 8192) }
     ensures { (result ≡ x * ((field + 4096) % 8192)) × (result < 2 ^ 25) }
 {
-    (x as u64) * raise(field)
+    u64::from(x) * raise(field)
 }
 
-fn power(mode: u8) -> u64
-    requires { mode ≤ 2 }
-    ensures { (result ≡ 2 ^ mode) × (result ≤ 4) }
-{
-    if mode == 0 {
-        return 1;
-    }
-    if mode == 1 {
-        return 2;
-    }
-    4
+// Three codes, none above 4095.
+#[derive(Clone, Copy)]
+struct Inputs {
+    a: u32,
+    b: u32,
+    c: u32,
+    ghost small: { (a ≤ 4095) × (b ≤ 4095) × (c ≤ 4095) },
 }
 
-// Three codes through the four fields of one row.
-fn code(a: u32, b: u32, c: u32, k1: u16, k2: u16, k3: u16, k4: u16, mode: u8) -> u16
-    requires a_bound { (a ≤ 4095) × (b ≤ 4095) × (c ≤ 4095) × (mode ≤ 2) }
-    requires k1_bound { (k1 < 8192) × (k2 < 8192) × (k3 < 8192) × (k4 < 8192) }
-    ensures { result ≡ code_of a b c k1 k2 k3 k4 mode }
-{
-    let sum = times(a, k1) + times(b, k2) + times(c, k3) + raise(k4) * 4096;
-    let added = ((a as u64) + (b as u64) + (c as u64) + 4096) * 4096;
-    if sum <= added {
-        return 0;
+impl Inputs {
+    // Through the four fields of one row.
+    fn code(self, row: [u16; 4], mode: u8) -> u16
+        requires mode_bound { mode ≤ 2 }
+        requires k1_bound { (get_or row 0 0 < 8192) × (get_or row 1 0 < 8192) × (get_or row 2 0 < 8192) × (get_or row 3 0 < 8192) }
+        ensures { result ≡ code_of self.a self.b self.c (get_or row 0 0) (get_or row 1 0) (get_or row 2 0) (get_or row 3 0) mode }
+    {
+        let sum = times(self.a, row[0])
+            + times(self.b, row[1])
+            + times(self.c, row[2])
+            + raise(row[3]) * 4096;
+        let added = (u64::from(self.a) + u64::from(self.b) + u64::from(self.c) + 4096) * 4096;
+        let up = (sum.saturating_sub(added) << mode) / 4096;
+        up.min(4095) as u16
     }
-    let up = (sum - added) * power(mode) / 4096;
-    if 4095 < up {
-        return 4095;
-    }
-    up as u16
 }
 
-// Three codes through row 0, 1 or 2.
-fn output(m: Matrix, row: usize, a: u32, b: u32, c: u32) -> u16
-    requires a_bound { (a ≤ 4095) × (b ≤ 4095) × (c ≤ 4095) }
-    requires mode_bound { (m.mode ≤ 2) × (row < 3) }
-    requires by_index { (i : ℕ) → get_or m.coefficients i 0 < 8192 }
-    ensures { result ≡ output_of m row a b c }
+// Whether an input is above 4095.
+fn above(a: u32, b: u32, c: u32) -> bool
+    ensures { result ≡ above a b c }
 {
-    let k = m.coefficients;
-    let at = 4 * row;
-    code(a, b, c, k[at], k[at + 1], k[at + 2], k[at + 3], m.mode)
+    4095 < a || 4095 < b || 4095 < c
 }
 
 // Three codes through the matrix of a body: refusals 5 and 12.
-pub fn preview(body: &[u8], a: u32, b: u32, c: u32) -> Pixel
-    ensures { Previews body.now a b c result }
+pub fn preview(body: &[u8], a: u32, b: u32, c: u32) -> Result<Codes, Refusal>
+    ensures { Previews body.now a b c (pixel_told result) }
 {
     if !fits(body) {
-        return Pixel {
-            refusal: Refusal::FIELD_OUT_OF_RANGE,
-            a: 0,
-            b: 0,
-            c: 0,
-        };
+        return Err(Refusal::FieldOutOfRange);
     }
-    if (4095 < a) | (4095 < b) | (4095 < c) {
-        return Pixel {
-            refusal: Refusal::INPUT_ABOVE,
-            a: 0,
-            b: 0,
-            c: 0,
-        };
+    if above(a, b, c) {
+        return Err(Refusal::InputAbove);
     }
     let m = read(body);
-    let x = output(m, 0, a, b, c);
-    let y = output(m, 1, a, b, c);
-    let z = output(m, 2, a, b, c);
-    Pixel {
-        refusal: Refusal::NONE,
-        a: x,
-        b: y,
-        c: z,
-    }
+    let [a1, a2, a3, a4, b1, b2, b3, b4, c1, c2, c3, c4] = m.coefficients;
+    let inputs = Inputs { a, b, c };
+    Ok(Codes {
+        a: inputs.code([a1, a2, a3, a4], m.mode),
+        b: inputs.code([b1, b2, b3, b4], m.mode),
+        c: inputs.code([c1, c2, c3, c4], m.mode),
+    })
 }
 
 // Two's complement, there and back at every width: 13 bits, and the request's 16.

@@ -17,8 +17,8 @@ use Rattle.refusals.specs.Tests.{lowest, answer}
 use Rattle.refusals.proofs.Tests.{numbered, answer_none, answer_some}
 use Rattle.matrix.specs.declared.Matrix.{Matrix}
 use Rattle.matrix.specs.Body.{body_of}
-use Rattle.meter.specs.declared.Converted.{Converted}
-use Rattle.meter.specs.Found.{fields_in, is_field, fits_in, smallest_mode, in_mode, number_tests, not_converted, converted}
+use Rattle.meter.specs.Numbered.{Converted}
+use Rattle.meter.specs.Found.{fields_in, fits_in, smallest_mode, in_mode, number_tests, not_converted, converted}
 use Rattle.meter.specs.Found.{meter_tests, meter_refused, meter_of, meter_buffer, Meters}
 
 abbrev pub with_fields : ℕ → List ℕ → Converted
@@ -27,12 +27,7 @@ with_fields mode fields = record { refusal = 0; matrix = record { on = 1; mode =
 abbrev taken : ℕ → List Float → Converted
 taken mode l = with_fields mode (fields_in mode l)
 
--- what a test of the fields found is a test of the mode
-pub tested : (mode : ℕ) (l : List Float) {fields : List ℕ} {found answer : Bool} → fields ≡ fields_in mode l → found ≡ every is_field fields
-    → found ≡ answer → fits_in mode l ≡ answer
-tested mode l e f a = ap (every is_field) (sym e) ∙ sym f ∙ a
-
--- and one that does not fit is one more that does not
+-- what holds of those before, and of one more
 pub one_more : (P : ℕ → Type 0) (n : ℕ) → ((k : ℕ) → k < n → P k) → P n → (k : ℕ) → k < n + 1 → P k
 one_more P n f p k h = go (eqb k n) refl
   where

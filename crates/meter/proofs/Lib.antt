@@ -4,6 +4,7 @@ pub mod Twelve
 pub mod Answers
 pub mod Whole
 pub mod Fields
+pub mod Held
 pub mod Modes
 pub mod Rule
 pub mod Scaled

@@ -37,6 +37,14 @@ from_length mode j (x ∷ l) = ap suc (from_length mode (suc j) l)
 pub fields_length : (mode : ℕ) (l : List Float) → length (fields_in mode l) ≡ length l
 fields_length mode l = from_length mode 0 l
 
+-- one that is no field
+pub unfit : (mode : ℕ) (l : List Float) (i : ℕ) → i < length l → is_field (field_in mode (is_offset i) (number_of l i)) ≡ false → fits_in mode l ≡ false
+unfit mode l i h e = go (fits_in mode l) refl
+  where
+    go : (b : Bool) → fits_in mode l ≡ b → b ≡ false
+    go true t = sym (every_at is_field (fields_in mode l) i 0 t (omega (arith, fields_length mode l))) ∙ ap is_field (field_at mode l i h) ∙ e
+    go false t = refl
+
 pub each_small : (cs : List ℕ) → every is_field cs ≡ true → (i : ℕ) → get_or cs i 0 < 8192
 each_small cs t i = go cs i (λ j h. ltb-true _ _ (every_at is_field cs j 0 t h))
   where

@@ -28,8 +28,8 @@ use Rattle.matrix.proofs.Numbers.{numbers}
 use Rattle.matrix.proofs.Pairs.{length_bytes}
 use Rattle.matrix.proofs.Signs.{twos}
 use Rattle.meter.specs.declared.Meter.{Meter}
-use Rattle.meter.specs.declared.Converted.{Converted}
-use Rattle.meter.specs.declared.Metered.{Metered}
+use Rattle.meter.specs.Numbered.{Converted}
+use Rattle.meter.specs.Numbered.{Metered}
 use Rattle.meter.specs.Numbers.{numbers_of, number_of, Rounded}
 use Rattle.meter.specs.Found.{fields_in, fits_in, fits_none, smallest_mode, in_mode, number_tests, not_converted, converted, meter_tests, meter_refused, meter_of, meter_buffer}
 use Rattle.meter.specs.Meter.{number_rules, meter_rules, Taken, ConvertRule, MeterRule}

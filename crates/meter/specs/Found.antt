@@ -1,5 +1,5 @@
 -- How the code finds a meter's matrix. `MeterRule` (Meter) ties what it answers to document 02's words.
-use Rattle.std.specs.Prelude.{◌≡◌, ◌⊎◌, Bool, true, false, cond, not, ◌||◌, List, [], ◌∷◌, ℕ, suc, ◌-◌, ◌*◌, ◌%◌, ◌^◌, ◌<◌, ◌≤◌, eqb, leb, ltb, length, Float}
+use Rattle.std.specs.Prelude.{Option, Some, None, ◌≡◌, ◌⊎◌, Bool, true, false, cond, not, ◌||◌, List, [], ◌∷◌, ℕ, suc, ◌-◌, ◌*◌, ◌%◌, ◌^◌, ◌<◌, ◌≤◌, eqb, leb, ltb, length, Float}
 use Rattle.std.specs.Float.{nan, inf, fin}
 use Rattle.std.specs.Float.Ieee.{up, down}
 use Rattle.std.specs.Float.Ieee.Nearest.{closest}
@@ -12,8 +12,8 @@ use Rattle.refusals.specs.Tests.{Test, ◌if◌, lowest, answer}
 use Rattle.matrix.specs.declared.Matrix.{Matrix}
 use Rattle.matrix.specs.Matrix.{no_matrix}
 use Rattle.matrix.specs.Body.{body_of}
-use Rattle.meter.specs.declared.Converted.{Converted}
-use Rattle.meter.specs.declared.Metered.{Metered}
+use Rattle.meter.specs.Numbered.{Converted}
+use Rattle.meter.specs.Numbered.{Metered}
 use Rattle.meter.specs.Numbers.{is_offset}
 
 -- what a finite float's bits hold: digits of at most 24 bits, whose leading one is there unless the exponent is the least
@@ -60,8 +60,16 @@ fields_in mode numbers = fields_from mode 0 numbers
 abbrev pub is_field : ℕ → Bool
 is_field n = ltb n 8192
 
+-- the field that a call hands out, and none for what is no field
+abbrev pub as_field : ℕ → Option ℕ
+as_field n = cond (is_field n) (Some n) None
+
 abbrev pub fits_in : ℕ → List Float → Bool
 fits_in mode numbers = every is_field (fields_in mode numbers)
+
+-- and all twelve
+abbrev pub as_fields : ℕ → List Float → Option (List ℕ)
+as_fields mode numbers = cond (fits_in mode numbers) (Some (fields_in mode numbers)) None
 
 abbrev pub fits_none : List Float → Bool
 fits_none numbers = not (fits_in 0 numbers || fits_in 1 numbers || fits_in 2 numbers)

@@ -1,22 +1,33 @@
 -- What each call answers, and what it leaves, case by case. Assumes nothing.
 use mathlib.Core.Path.{◌≡◌, refl, sym, ap, subst, ◌∙◌}
 use mathlib.Core.Logic.{◌≢◌, inl, inr}
-use mathlib.Core.Bool.{Bool, true, false, ◌||◌}
+use mathlib.Core.Bool.{Bool, true, false, cond}
 use mathlib.Core.List.{List, ◌++◌}
 use Prim.Native.Nat.{ℕ, suc, ◌≤◌}
 use native.Mathlib.Omega.{arith}
 use lib.Dec.{eqb, leb}
 use lib.ListN.{length, take, set}
 use lib.Seq.{take_all}
-use borrow.Author.Tests.{ne_eqb, leb-true, leb-false}
+use borrow.Author.Tests.{ne_eqb, eqb-false, leb-true, leb-false}
+use Rattle.std.specs.Prelude.{Result, Ok, Err}
 use Rattle.lists.specs.Over.{over}
+use Rattle.refusals.specs.declared.Refusal.{Refusal}
+use Rattle.refusals.specs.Numbered.{given_by}
+use Rattle.clock.specs.declared.NCts.{NCts}
+use Rattle.clock.specs.Numbered.{Pair, pair_told}
+use Rattle.request.specs.Read.{PairsInput}
 use Rattle.request.specs.Sections.{longest}
 use Rattle.request.proofs.Cut.{lengths}
 use Rattle.pipe.specs.Final.{refusal_of}
-use Rattle.pipe.specs.Bytes.{count_in, so_far, refused, not_yet, said_by, with_answer}
+use Rattle.pipe.specs.Bytes.{answer_byte, count_in, so_far, refused, not_yet, said_by, with_answer}
 use Rattle.pipe.specs.Found.{is_open, answer_there, early, kept, end_byte}
 use Rattle.pipe.specs.Found.{take_of, take_pipe, end_pipe_of, end_pipe, TakesPart, EndsPipe}
-use Rattle.pipe.proofs.Early.{TwoOrThree, long, early_is, is_early, not_early}
+use Rattle.pipe.proofs.Early.{TwoOrThree, long, early_is, early_some, early_none}
+
+-- the number that N and CTS gives
+pub by_pair : (input : List ℕ) (r : Result NCts Refusal) → PairsInput input (pair_told r) → given_by r ≡ refusal_of input
+by_pair input (Ok x) e = ap (λ (p : Pair). p.refusal) e
+by_pair input (Err x) e = ap (λ (p : Pair). p.refusal) e
 
 -- not open: what stands there is said, and no byte is changed
 pub taking_nothing : (pipe part : List ℕ) → is_open pipe ≡ false → TakesPart pipe part (answer_there pipe) pipe
@@ -26,6 +37,14 @@ taking_nothing pipe part f = (rw f, rw f)
 pub ending_nothing : (pipe : List ℕ) → is_open pipe ≡ false → EndsPipe pipe (answer_there pipe) pipe
 unfolding end_pipe_of end_pipe
 ending_nothing pipe f = (rw f, rw f)
+
+-- the byte that remembers an answer is not 0
+pub answer_byte_some : (n byte : ℕ) → byte ≡ answer_byte n → byte ≢ 0
+answer_byte_some n byte h = go (eqb n 0) refl h
+  where
+    go : (b : Bool) → eqb n 0 ≡ b → byte ≡ cond b 255 n → byte ≢ 0
+    go true e h z = omega (arith, h, z)
+    go false e h z = eqb-false n 0 e (sym h ∙ z)
 
 -- the end of an open one
 pub ending : (pipe : List ℕ) → is_open pipe ≡ true → EndsPipe pipe (said_by (end_byte pipe) (count_in pipe)) (with_answer pipe (end_byte pipe))
@@ -66,12 +85,14 @@ module _ (pipe part front : List ℕ) (n : ℕ) (t : is_open pipe ≡ true)
   of_all : n ≡ refusal_of (so_far pipe ++ part)
   of_all = e ∙ ap refusal_of f ∙ decides (so_far pipe ++ part)
 
-  pub judged_early : (eqb n 2 || eqb n 3) ≡ true → TakesPart pipe part (refused n) (with_answer pipe n)
-  judged_early b = taking_early pipe part n t of_all (is_early n b)
+  pub judged_early : (k : ℕ) → k ≡ early n → k ≢ 0 → TakesPart pipe part (refused k) (with_answer pipe k)
+  judged_early k h some =
+      let m = early_some n (λ z. some (h ∙ z)) in
+      rw (h ∙ early_is n m) (taking_early pipe part n t of_all m)
 
-  pub judged_on : (r : ℕ) → r ≡ length front → (eqb n 2 || eqb n 3) ≡ false → TakesPart pipe part not_yet (set (over front pipe) longest r)
-  judged_on r l b =
-      let none : TwoOrThree (refusal_of (so_far pipe ++ part)) → ⊥ = λ h. not_early n b (subst TwoOrThree (sym of_all) h) in
+  pub judged_on : (r : ℕ) → r ≡ length front → 0 ≡ early n → TakesPart pipe part not_yet (set (over front pipe) longest r)
+  judged_on r l z =
+      let none : TwoOrThree (refusal_of (so_far pipe ++ part)) → ⊥ = λ h. early_none n (sym z) (subst TwoOrThree (sym of_all) h) in
       let whole : front ≡ so_far pipe ++ part = f ∙ take_all (suc longest) (so_far pipe ++ part) (no_longer none) in
       let m = taking_on pipe part t none in
       (m.0, ap (λ (s : List ℕ). set (over s pipe) longest r) whole ∙ ap (set (over (so_far pipe ++ part) pipe) longest) (l ∙ ap length whole) ∙ m.1)

@@ -11,7 +11,7 @@ use lib.Seq.{take-set-le, get_or-set_same, get_or-set_other}
 use borrow.Author.Tests.{eqb-true, eqb-false, eq-eqb, ne_eqb}
 use Rattle.request.specs.Sections.{longest, walk, walked}
 use Rattle.request.specs.Read.{read_of, ncts_of}
-use Rattle.pipe.specs.declared.Piped.{Piped}
+use Rattle.pipe.specs.Numbered.{Piped}
 use Rattle.pipe.specs.Final.{refusal_of, Final}
 use Rattle.pipe.specs.Bytes.{count_in, answer_in, so_far, fresh, refused, accepted, not_yet, said_by, answer_byte, with_answer}
 use Rattle.pipe.specs.Found.{is_pipe}

@@ -5,7 +5,7 @@
 --     deciding  the byte that decides
 use mathlib.Core.Path.{◌≡◌, refl, sym, ap, subst, ◌∙◌}
 use mathlib.Core.Logic.{◌≢◌, ◌⊎◌, inl, inr}
-use mathlib.Core.Bool.{Bool, true, false, false≢true, ◌||◌}
+use mathlib.Core.Bool.{Bool, true, false, cond, ◌||◌}
 use mathlib.Core.List.{List, [], ◌∷◌, ◌++◌, append-nil}
 use Prim.Native.Nat.{ℕ, zero, suc, ◌≤◌, ◌<◌}
 use native.Mathlib.Omega.{arith}
@@ -76,19 +76,26 @@ pub early_is : (n : ℕ) → TwoOrThree n → early n ≡ n
 early_is n (inl e) = rw e
 early_is n (inr e) = rw e
 
-pub is_early : (n : ℕ) → (eqb n 2 || eqb n 3) ≡ true → TwoOrThree n
+is_early : (n : ℕ) → (eqb n 2 || eqb n 3) ≡ true → TwoOrThree n
 is_early n t = go (eqb n 2) refl t
   where
     go : (b : Bool) → eqb n 2 ≡ b → (b || eqb n 3) ≡ true → TwoOrThree n
     go true e t = inl (eqb-true n 2 e)
     go false e t = inr (eqb-true n 3 t)
 
-pub not_early : (n : ℕ) → (eqb n 2 || eqb n 3) ≡ false → TwoOrThree n → ⊥
-not_early n t e = false≢true (other e)
+pub early_some : (n : ℕ) → early n ≢ 0 → TwoOrThree n
+early_some n = go (eqb n 2 || eqb n 3) refl
   where
-    other : TwoOrThree n → false ≡ true
-    other (inl e) = sym (subst (λ (m : ℕ). (eqb m 2 || eqb m 3) ≡ false) e t)
-    other (inr e) = sym (subst (λ (m : ℕ). (eqb m 2 || eqb m 3) ≡ false) e t)
+    go : (b : Bool) → (eqb n 2 || eqb n 3) ≡ b → cond b n 0 ≢ 0 → TwoOrThree n
+    go true t h = is_early n t
+    go false t h = absurd (h refl)
+
+pub early_none : (n : ℕ) → early n ≡ 0 → TwoOrThree n → ⊥
+early_none n z h = none h (sym (early_is n h) ∙ z)
+  where
+    none : TwoOrThree n → n ≡ 0 → ⊥
+    none (inl e) z = omega arith
+    none (inr e) z = omega arith
 
 -- zeros enough change it
 zeros : (n : ℕ) → Bytes (replicate n 0)

@@ -13,7 +13,7 @@ use Rattle.lists.specs.Over.{over}
 use Rattle.lists.proofs.Copied.{over_front}
 use Rattle.refusals.specs.Tests.{answer}
 use Rattle.request.specs.Sections.{longest}
-use Rattle.pipe.specs.declared.Piped.{Piped}
+use Rattle.pipe.specs.Numbered.{Piped}
 use Rattle.pipe.specs.Final.{refusal_of}
 use Rattle.pipe.specs.Bytes.{pipe_length, count_in, answer_in, so_far, refused, accepted, not_yet, no_pipe, said_by, answer_byte, with_answer}
 use Rattle.pipe.specs.Found.{is_pipe, is_open, answer_there, given_at, kept, end_byte}

@@ -2,20 +2,23 @@
 use mathlib.Core.Path.{◌≡◌, refl, sym, ap, ◌∙◌}
 use mathlib.Core.Logic.{◌≢◌, ◌⊎◌, inl, inr}
 use mathlib.Core.Bool.{Bool, true, false, ◌&&◌}
-use mathlib.Core.List.{List, ◌++◌}
-use Prim.Native.Nat.{ℕ, suc, ◌+◌, ◌-◌, ◌≤◌}
+use mathlib.Core.List.{List, [], ◌++◌, append-nil, append_assoc}
+use Prim.Native.Nat.{ℕ, suc, ◌+◌, ◌-◌, ◌≤◌, min}
 use native.Mathlib.Omega.{arith}
-use lib.Dec.{eqb, leb}
-use lib.ListN.{length, take, length-append}
-use lib.Seq.{paste, take-paste, take-append-add, take_all, length-take-le}
-use borrow.Author.Tests.{eqb-true, leb-true, eq-eqb, ne_eqb, le-leb}
+use lib.Dec.{eqb, leb, ltb}
+use lib.ListN.{length, take, drop, length-append, length-drop, drop_of_length-le}
+use borrow.Rule.Slice.PartMut.{put_mid, mid_of, post_of}
+use lib.Seq.{paste, take-paste, take-append-add, take_all, length-take-le, drop-drop}
+use borrow.Author.Tests.{eqb-true, leb-true, ltb-true, ltb-false, eq-eqb, ne_eqb, le-leb}
+use Rattle.lists.specs.Over.{over}
 use Rattle.lists.proofs.Both.{both_left, both_right}
+use Rattle.lists.proofs.Copied.{over_shorter}
 use Rattle.request.specs.Sections.{longest}
 use Rattle.pipe.specs.Bytes.{pipe_length, count_in, answer_in, so_far}
 use Rattle.pipe.specs.Found.{is_pipe, is_open}
 
 -- after the last turn: all the bytes, or as many as there is room for
-pub as_many : (room : ℕ) (d : List ℕ) (at : ℕ) (bytes : List ℕ) (i : ℕ) → length d ≡ room → i ≤ length bytes → at + i ≤ room
+as_many : (room : ℕ) (d : List ℕ) (at : ℕ) (bytes : List ℕ) (i : ℕ) → length d ≡ room → i ≤ length bytes → at + i ≤ room
     → (room - at ≤ i) ⊎ (length bytes ≤ i) → take (at + i) (paste d at bytes i) ≡ take room (take at d ++ bytes)
 as_many room d at bytes i l h k e = take-paste d at bytes i (omega arith) h ∙ sym (go e)
   where
@@ -29,6 +32,21 @@ as_many room d at bytes i l h k e = take-paste d at bytes i (omega arith) h ∙ 
     go (inr f) =
         rw (take_all i bytes f)
         (take_all room (take at d ++ bytes) (omega (arith, m, length-append (take at d) bytes)))
+
+-- as the code puts them there
+pub put_behind : (room at i : ℕ) (d bytes out : List ℕ) → length d ≡ room → at ≤ room → out ≡ over bytes (mid_of at (room - at) d)
+    → i ≡ min (length bytes) (room - at) → take (at + i) (put_mid at (room - at) d out) ≡ take room (take at d ++ bytes)
+put_behind room at i d bytes out l h e m =
+    let k : length (drop at d) ≡ room - at = rw (length-drop at d, l) in
+    let f = ap (over bytes) (take_all (room - at) (drop at d) (omega arith)) in
+    let o : out ≡ take i bytes ++ drop (at + i) d = e ∙ f ∙ sym (over_shorter bytes (drop at d) i (omega arith)) ∙ rw drop-drop in
+    let p : post_of at (room - at) d ≡ [] = drop_of_length-le (drop at d) (omega arith) in
+    let q : put_mid at (room - at) d out ≡ paste d at bytes i = rw (o, p, append-nil, append_assoc) in
+    rw q (as_many room d at bytes i l (omega arith) (omega arith) (go (ltb (length bytes) (room - at)) refl))
+  where
+    go : (b : Bool) → ltb (length bytes) (room - at) ≡ b → (room - at ≤ i) ⊎ (length bytes ≤ i)
+    go true p = let h = ltb-true _ _ p in inr (omega arith)
+    go false p = let h = ltb-false _ _ p in inl (omega arith)
 
 -- what the test of a pipe says
 pub of_length : (pipe : List ℕ) → is_pipe pipe ≡ true → length pipe ≡ pipe_length
@@ -58,9 +76,9 @@ pub length_so_far : (pipe : List ℕ) → is_pipe pipe ≡ true → length (so_f
 length_so_far pipe t = length-take-le (count_in pipe) pipe (omega (arith, of_length pipe t, counted pipe t))
 
 -- the bytes so far put at the front, and a part behind them
-pub two : (pipe part d d₁ d₂ : List ℕ) (n r : ℕ) → is_pipe pipe ≡ true → length d ≡ suc longest → length d₁ ≡ length d
-    → take n d₁ ≡ take (length d) (so_far pipe) → take r d₂ ≡ take (length d₁) (take n d₁ ++ part)
+pub two : (pipe part d₁ d₂ : List ℕ) (n r : ℕ) → is_pipe pipe ≡ true
+    → take n d₁ ≡ take (suc longest) (so_far pipe) → take r d₂ ≡ take (suc longest) (take n d₁ ++ part)
     → take r d₂ ≡ take (suc longest) (so_far pipe ++ part)
-two pipe part d d₁ d₂ n r t l m first second =
-    let f : take n d₁ ≡ so_far pipe = first ∙ take_all (length d) (so_far pipe) (omega (arith, length_so_far pipe t, counted pipe t)) in
-    second ∙ ap (λ (k : ℕ). take k (take n d₁ ++ part)) (m ∙ l) ∙ ap (λ (s : List ℕ). take (suc longest) (s ++ part)) f
+two pipe part d₁ d₂ n r t first second =
+    let f : take n d₁ ≡ so_far pipe = first ∙ take_all (suc longest) (so_far pipe) (omega (arith, length_so_far pipe t, counted pipe t)) in
+    second ∙ ap (λ (s : List ℕ). take (suc longest) (s ++ part)) f

@@ -14,8 +14,8 @@ use Rattle.lists.proofs.Both.{both_left, both_right}
 use Rattle.refusals.specs.Rows.{number}
 use Rattle.refusals.specs.Tests.{Test, lowest, answer}
 use Rattle.video.specs.declared.Video.{Video}
-use Rattle.clock.specs.declared.Clock.{Clock}
-use Rattle.clock.specs.declared.Pair.{Pair}
+use Rattle.clock.specs.Numbered.{Clock}
+use Rattle.clock.specs.Numbered.{Pair}
 use Rattle.clock.specs.declared.NCts.{NCts}
 use Rattle.clock.specs.Pairs.{reference, recommended_of}
 use Rattle.clock.specs.Answers.{the_pair, no_pair, other}
@@ -24,10 +24,10 @@ use Rattle.clock.specs.Found.{pair_tests, nearest_k, least_k, most_k, nearest_in
 use Rattle.sound.specs.declared.Sound.{Sound}
 use Rattle.sound.specs.declared.Sound.TheVariants.{Off, On}
 use Rattle.request.specs.declared.Request.{Request}
-use Rattle.request.specs.declared.Checked.{Checked}
+use Rattle.request.specs.Numbered.{Checked, emptied}
 use Rattle.request.specs.Sections.{Bodies, by_name, Walk, ends, not_allowed, whole, walked}
 use Rattle.request.specs.Request.{request_in}
-use Rattle.request.specs.Read.{emptied, fields_tests, limits_tests, judged, checked, limit_of, limited, read_of, pair_in, pair_for, ncts_of}
+use Rattle.request.specs.Read.{fields_tests, limits_tests, judged, checked, limit_of, limited, read_of, pair_in, pair_for, ncts_of}
 use Rattle.pipe.specs.Final.{refusal_of}
 
 -- none of rows 1 to 3, and a number of a byte that is not 255

@@ -3,7 +3,7 @@ use Rattle.std.specs.Prelude.{cond, List, ℕ, suc, ◌+◌, eqb, get_or, take, 
 use Rattle.refusals.specs.Rows.{number, image_length}
 use Rattle.refusals.specs.Tests.{answer}
 use Rattle.request.specs.Sections.{longest}
-use Rattle.pipe.specs.declared.Piped.{Piped}
+use Rattle.pipe.specs.Numbered.{Piped}
 
 -- room for the longest request, and then two bytes: the count of the bytes so far, and the answer
 abbrev pub pipe_length : ℕ

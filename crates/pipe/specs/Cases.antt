@@ -1,6 +1,6 @@
 -- Marked cases of request 08, in bare numbers.
 use Rattle.std.specs.Prelude.{◌≡◌, List, [], ◌∷◌, ◌++◌, map, ℕ, take, drop, replicate, set}
-use Rattle.pipe.specs.declared.Piped.{Piped}
+use Rattle.pipe.specs.Numbered.{Piped}
 use Rattle.pipe.specs.Final.{refusal_of}
 use Rattle.pipe.specs.Bytes.{pipe_length, fresh}
 use Rattle.pipe.specs.Found.{take_of, take_pipe, end_pipe_of, end_pipe}

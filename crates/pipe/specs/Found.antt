@@ -4,7 +4,7 @@ use Rattle.lists.specs.Over.{over}
 use Rattle.refusals.specs.Rows.{number, count_not_allowed, bytes_after}
 use Rattle.refusals.specs.Tests.{answer}
 use Rattle.request.specs.Sections.{longest}
-use Rattle.pipe.specs.declared.Piped.{Piped}
+use Rattle.pipe.specs.Numbered.{Piped}
 use Rattle.pipe.specs.Final.{refusal_of}
 use Rattle.pipe.specs.Bytes.{pipe_length, count_in, answer_in, with_answer, so_far, refused, not_yet, no_pipe, answer_byte, said_by}
 

@@ -1,3 +1,4 @@
+pub mod Numbered
 pub mod Final
 pub mod Bytes
 pub mod Found

@@ -3,7 +3,7 @@
 use Rattle.std.specs.Prelude.{◌≡◌, ◌≢◌, ◌↔◌, ◌⊎◌, List, [], ◌∷◌, ◌++◌, ℕ, ◌<◌, ◌≤◌, length, get_or, take}
 use Rattle.refusals.specs.Tests.{answer}
 use Rattle.request.specs.Sections.{longest}
-use Rattle.pipe.specs.declared.Piped.{Piped}
+use Rattle.pipe.specs.Numbered.{Piped}
 use Rattle.pipe.specs.Final.{refusal_of, Final}
 use Rattle.pipe.specs.Bytes.{pipe_length, count_in, answer_in, with_answer, so_far, fresh}
 use Rattle.pipe.specs.Bytes.{refused, accepted, not_yet, no_pipe, answer_byte, said_by}

@@ -1,17 +1,20 @@
--- What planning answers for a request that was read, row by row. Assumes nothing.
-use mathlib.Core.Path.{◌≡◌, refl, ap, subst}
+-- What planning answers for a request that was read, row by row, and for an input. Assumes nothing.
+use mathlib.Core.Path.{◌≡◌, refl, ap, subst, ◌∙◌}
 use mathlib.Core.Logic.{◌≢◌}
 use mathlib.Core.Bool.{true, false}
 use mathlib.Core.List.{List}
 use Prim.Native.Nat.{ℕ, ◌<◌, ◌≤◌}
 use lib.ListN.{length, get_or}
 use borrow.Author.Tests.{eq-eqb, ne_eqb, lt-ltb, le-ltb}
+use Rattle.refusals.specs.declared.Refusal.{Refusal}
+use Rattle.refusals.specs.Numbered.{refusal_number}
 use Rattle.request.specs.declared.Request.{Request}
-use Rattle.request.specs.Read.{pair_for}
+use Rattle.request.specs.Read.{read_of, pair_for}
+use Rattle.request.proofs.Numbers.{read_refuses, read_gives}
 use Rattle.writes.specs.List.{ready, Lists}
-use Rattle.plan.specs.declared.Planned.{Planned}
+use Rattle.plan.specs.Numbered.{Planned}
 use Rattle.plan.specs.Wanted.{wanted}
-use Rattle.plan.specs.Plan.{nothing, later_refusal, plan_with, buffer_with}
+use Rattle.plan.specs.Plan.{nothing, later_refusal, plan_with, buffer_with, PlansWith, plan_of, plan_buffer}
 
 module _ (r : Request) (image buffer : List ℕ) where
   -- rows 7 to 10, by the tests on the way
@@ -53,3 +56,21 @@ module _ (r : Request) (image buffer : List ℕ) where
       → (answer ≡ plan_with r image buffer) × (buffer ≡ buffer_with r image buffer)
   unfolding plan_with buffer_with
   refuses n a e z = simp (e, ne_eqb n 0 z) (a, refl)
+
+-- a request that is refused as it is read, and one that is not
+module _ (input image buffer : List ℕ) where
+  pub unread : (e : Refusal) (r : Request) {answer : Planned} → answer ≡ nothing (refusal_number e) → record { refusal = refusal_number e; request = r } ≡ read_of input
+      → (answer ≡ plan_of input image buffer) × (buffer ≡ plan_buffer input image buffer)
+  unfolding plan_of plan_buffer
+  unread e r a h = (
+    a ∙ read_refuses nothing (λ r. plan_with r image buffer) input e r h,
+    read_refuses (λ _. buffer) (λ r. buffer_with r image buffer) input e r h,
+  )
+
+  pub reads : (r : Request) {answer : Planned} {left : List ℕ} → PlansWith r image buffer answer left → record { refusal = 0; request = r } ≡ read_of input
+      → (answer ≡ plan_of input image buffer) × (left ≡ plan_buffer input image buffer)
+  unfolding plan_of plan_buffer
+  reads r w h = (
+    w.0 ∙ read_gives nothing (λ r. plan_with r image buffer) input r h,
+    w.1 ∙ read_gives (λ _. buffer) (λ r. buffer_with r image buffer) input r h,
+  )

@@ -11,7 +11,7 @@ use Rattle.refusals.proofs.Tests.{none_in_stages, none_at}
 use Rattle.request.specs.declared.Request.{Request}
 use Rattle.request.specs.Read.{read_of, pair_for}
 use Rattle.writes.specs.List.{write_list, fronted, ready}
-use Rattle.plan.specs.declared.Planned.{Planned}
+use Rattle.plan.specs.Numbered.{Planned}
 use Rattle.plan.specs.Wanted.{wanted}
 use Rattle.plan.specs.Plan.{nothing, later_tests, later_refusal, plan_with, buffer_with, plan_of, plan_buffer}
 

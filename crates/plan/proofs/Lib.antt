@@ -1,4 +1,5 @@
-pub mod Accepted
+pub mod Allowed
+pub mod Numbers
 pub mod Made
 pub mod Tidy
 pub mod Stored

@@ -17,7 +17,7 @@ use Rattle.request.proofs.Coherent.{rows, pair_given}
 use Rattle.chip.specs.Machine.{Write, up, avi, audio, gc, packets, holds_of}
 use Rattle.writes.specs.List.{write_list, fronted, ready}
 use Rattle.refusals.proofs.Tests.{Decided, lowest_given, answer_given, in_stages, sole}
-use Rattle.plan.specs.declared.Planned.{Planned}
+use Rattle.plan.specs.Numbered.{Planned}
 use Rattle.plan.specs.Wanted.{wanted}
 use Rattle.plan.specs.Plan.{nothing, later_tests, later_refusal, plan_with, buffer_with, plan_of, plan_buffer}
 use Rattle.plan.specs.Rules.{HoldsUp, plan_rules, PlanRefusals}

@@ -20,7 +20,7 @@ use Rattle.wiring.specs.Wiring.{wires_of}
 use Rattle.wiring.proofs.Fits.{wires_fit}
 use Rattle.video.specs.Video.{depth, repetition}
 use Rattle.video.proofs.Fits.{vic_small, encoding_fits, link_fits, range_fits, repetition_fits, depth_fits}
-use Rattle.clock.specs.declared.Pair.{Pair}
+use Rattle.clock.specs.Numbered.{Pair}
 use Rattle.frames.specs.Frames.{avi_frame}
 use Rattle.sound.proofs.Rates.{table}
 use Rattle.sound.specs.declared.Sound.{Sound}
@@ -35,7 +35,7 @@ use Rattle.writes.proofs.Named.{is_field, small_address, field}
 use Rattle.plan.specs.Places.{Place, place, places, Shows, Each}
 use Rattle.plan.specs.Places.{with_sound, eight_channels, manual_cts, rate_code_of, in_pr, depth_numbers, in_cc, in_ca}
 use Rattle.plan.specs.Wanted.{wanted}
-use Rattle.plan.proofs.Accepted.{pair_twenty}
+use Rattle.plan.proofs.Numbers.{pair_twenty}
 use Rattle.plan.proofs.Tidy.{Narrow, tidy, byte_placed, each_placed}
 
 -- ---- how large the numbers are

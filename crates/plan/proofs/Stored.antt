@@ -6,28 +6,17 @@ use Prim.Native.Nat.{ℕ, suc, ◌+◌, ◌*◌, ◌/◌, ◌%◌, ◌-◌, ◌<
 use native.Mathlib.Numerals.{add-one}
 use native.Mathlib.Omega.{arith}
 use lib.Dec.{ltb}
-use lib.ListN.{length, get_or, set, take, drop, length-drop, drop_of_length-le, get_or-eq_default}
+use lib.ListN.{length, get_or, set, take, drop, length-drop, get_or-eq_default}
 use lib.Seq.{sets, take_all}
 use borrow.Author.Tests.{ne_eqb, ltb-true, ltb-false}
 use Rattle.lists.specs.Find.{every}
 use Rattle.lists.proofs.Both.{both_left, both_right}
-use Rattle.lists.proofs.Find.{next}
 use Rattle.chip.specs.Machine.{Write}
 use Rattle.writes.specs.List.{column}
 use Rattle.writes.proofs.Image.{column_length, column_at}
 use Rattle.plan.specs.Places.{Place}
-use Rattle.plan.specs.Wanted.{placed_at, laid_bytes, stores}
+use Rattle.plan.specs.Wanted.{placed_at, stores}
 use Rattle.plan.proofs.Made.{numbers, elsewhere}
-
--- one byte is stored, and the others are left
-pub laid_more : (out bytes : List ℕ) (at i : ℕ) → i < length bytes
-    → stores (set out (at + i) (get_or bytes i 0)) (laid_bytes (at + (i + 1)) (drop (i + 1) bytes)) ≡ stores out (laid_bytes (at + i) (drop i bytes))
-laid_more out bytes at i h =
-    let e : at + (i + 1) ≡ suc (at + i) = omega arith in
-    rw (e, next bytes i 0 h)
-
-pub laid_end : (out bytes : List ℕ) (at i : ℕ) → length bytes ≤ i → stores out (laid_bytes (at + i) (drop i bytes)) ≡ out
-laid_end out bytes at i h = rw (drop_of_length-le bytes h)
 
 -- two bytes are stored, and those of the other coefficients are left
 pub halves_more : (out k : List ℕ) (n i : ℕ) → i < n

@@ -1,3 +1,4 @@
+pub mod Numbered
 pub mod Places
 pub mod Wanted
 pub mod Plan

@@ -8,7 +8,7 @@ use Rattle.wiring.specs.declared.Wires.{Wires}
 use Rattle.wiring.specs.Wiring.{wires_of}
 use Rattle.video.specs.Video.{depth, repetition, ycc_quantisation, content_type}
 use Rattle.sound.specs.Rates.{code_for}
-use Rattle.clock.specs.declared.Pair.{Pair}
+use Rattle.clock.specs.Numbered.{Pair}
 use Rattle.clock.specs.Clocks.{times}
 use Rattle.frames.specs.Frames.{frame, avi_frame}
 use Rattle.sound.specs.declared.Sound.{Sound}

@@ -6,7 +6,7 @@ use Rattle.refusals.specs.Tests.{Test, ◌if◌, lowest, answer}
 use Rattle.request.specs.declared.Request.{Request}
 use Rattle.request.specs.Read.{read_of, allowed_of, pair_for}
 use Rattle.writes.specs.List.{write_list, fronted, stands_below, ready}
-use Rattle.plan.specs.declared.Planned.{Planned}
+use Rattle.plan.specs.Numbered.{Planned}
 use Rattle.plan.specs.Wanted.{wanted}
 
 -- the stages of rows 7 to 10 as the code tests them, for a request that was read

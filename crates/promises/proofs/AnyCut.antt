@@ -11,9 +11,9 @@ use Rattle.matrix.specs.Matrix.{Bytes}
 use Rattle.chip.specs.declared.Chip.{Chip}
 use Rattle.chip.specs.Machine.{Write, avi, audio, packets, in_use, coefficients, mode_in_use}
 use Rattle.views.specs.Entry.{state_of}
-use Rattle.clock.specs.declared.Pair.{Pair}
+use Rattle.clock.specs.Numbered.{Pair}
 use Rattle.request.specs.declared.Request.{Request}
-use Rattle.request.specs.declared.Checked.{Checked}
+use Rattle.request.specs.Numbered.{Checked}
 use Rattle.request.specs.Read.{read_of, pair_for}
 use Rattle.request.specs.Bytes.{as_bytes, new_video}
 use Rattle.request.specs.ThereAndBack.{request_in_edition}
@@ -22,7 +22,7 @@ use Rattle.request.proofs.Said.{new_video_lem}
 use Rattle.request.proofs.Alone.{accepted_under_d}
 use Rattle.request.specs.Fits.{Fits}
 use Rattle.request.proofs.Fits as request
-use Rattle.plan.specs.declared.Planned.{Planned}
+use Rattle.plan.specs.Numbered.{Planned}
 use Rattle.writes.specs.List.{finished_image, ready}
 use Rattle.writes.proofs.Image.{image_length_lem, image_at}
 use Rattle.plan.specs.Plan.{plan_of}

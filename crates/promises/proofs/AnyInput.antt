@@ -5,10 +5,10 @@ use mathlib.Core.Bool.{Bool, true, false, cond}
 use mathlib.Core.List.{List}
 use Prim.Native.Nat.{ℕ}
 use lib.Dec.{eqb}
-use Rattle.clock.specs.declared.Pair.{Pair}
+use Rattle.clock.specs.Numbered.{Pair}
 use Rattle.clock.specs.Answers.{no_pair}
 use Rattle.clock.proofs.Rows as clocks
-use Rattle.matrix.proofs.Codes as preview
+use Rattle.matrix.proofs.Previewed as preview
 use Rattle.meter.proofs.Rule as meter
 use Rattle.sound.specs.declared.Sound.{Sound}
 use Rattle.sound.specs.declared.Sound.TheVariants.{Off, On}
@@ -16,7 +16,7 @@ use Rattle.request.specs.Read.{read_of, ncts_of, pair_in, pair_for}
 use Rattle.chip.specs.Write.{lent_as}
 use Rattle.views.specs.Entry.{marked}
 use Rattle.views.specs.View.{view_refusal, sent_part, no_part}
-use Rattle.views.specs.declared.view.Part.{Part}
+use Rattle.views.specs.Numbered.{Part}
 use Rattle.views.proofs.Lent as entry
 use Rattle.views.proofs.Seen as view
 use Rattle.views.proofs.Used as converter

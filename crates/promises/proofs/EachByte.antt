@@ -27,7 +27,7 @@ use Rattle.sound.specs.declared.Sound.TheVariants.{Off, On}
 use Rattle.sound.specs.Sound.{sound_of}
 use Rattle.sound.specs.Tests.{is_on, sound_outside}
 use Rattle.wiring.specs.Kinds.{rgb_in}
-use Rattle.request.specs.declared.Checked.{Checked}
+use Rattle.request.specs.Numbered.{Checked}
 use Rattle.request.specs.declared.Request.{Request}
 use Rattle.request.specs.Sections.{sections, Bodies, Walk, walked}
 use Rattle.request.specs.Walks.{fits}

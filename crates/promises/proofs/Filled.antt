@@ -9,7 +9,7 @@ use lib.ListN.{length, get_or, take, drop}
 use borrow.Author.Tests.{eqb-true, eq-eqb, ne_eqb}
 use Rattle.bits.proofs.Below.{at_below}
 use Rattle.video.specs.declared.Video.{Video}
-use Rattle.clock.specs.declared.Pair.{Pair}
+use Rattle.clock.specs.Numbered.{Pair}
 use Rattle.clock.specs.Answers.{clock_of}
 use Rattle.clock.specs.Pairs.{Coherent}
 use Rattle.clock.specs.Answers.{other}

@@ -12,7 +12,7 @@ use Rattle.request.specs.declared.Request.{Request}
 use Rattle.request.specs.Read.{read_of, pair_for, ncts_of}
 use Rattle.request.specs.Lifted.{NeverLifted}
 use Rattle.writes.specs.List.{ready}
-use Rattle.plan.specs.declared.Planned.{Planned}
+use Rattle.plan.specs.Numbered.{Planned}
 use Rattle.plan.specs.Plan.{later_refusal, nothing, plan_with, plan_of}
 use Rattle.promises.specs.Fitting.{Fitting}
 

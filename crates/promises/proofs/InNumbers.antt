@@ -20,7 +20,7 @@ use Rattle.blanking.specs.Found.{highest_of, beyond}
 use Rattle.frames.specs.Frames.{total, avi_frame}
 use Rattle.frames.specs.Audio.{audio_frame, audio_off_frame}
 use Rattle.frames.specs.Answers.{avi_of, audio_of}
-use Rattle.matrix.specs.declared.Pixel.{Pixel}
+use Rattle.matrix.specs.Numbered.{Pixel}
 use Rattle.matrix.specs.Coefficient.{value_of}
 use Rattle.matrix.specs.Matrix.{fields, matrix_of, Bytes, number_at}
 use Rattle.matrix.specs.Tests.{in_range, is_allowed, matrix_in_range}

@@ -20,7 +20,7 @@ use Rattle.request.specs.Sections.{longest}
 use Rattle.request.specs.Bytes.{as_bytes, request_in_family}
 use Rattle.writes.specs.Steps.{Step, middle, steps}
 use Rattle.writes.specs.List.{written, already_there, stays, write_list, fronted, pairs_of, is_written}
-use Rattle.plan.specs.declared.Planned.{Planned}
+use Rattle.plan.specs.Numbered.{Planned}
 use Rattle.plan.specs.Wanted.{wanted}
 use Rattle.plan.specs.Plan.{later_refusal, nothing, plan_with, buffer_with, plan_of, plan_buffer}
 use Rattle.writes.specs.Order.{addresses}

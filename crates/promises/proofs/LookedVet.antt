@@ -17,7 +17,7 @@ use Rattle.refusals.specs.Tests.{◌if◌, lowest, answer}
 use Rattle.request.specs.declared.Request.{Request}
 use Rattle.request.specs.Bytes.{request_in_family}
 use Rattle.chip.specs.declared.Chip.{Chip}
-use Rattle.chip.specs.declared.Wrote.{Wrote}
+use Rattle.chip.specs.Numbered.{Wrote}
 use Rattle.chip.specs.Machine.{Write, avi, audio, gc, matrix, packets, converter, holds_of, registers_of, in_use, coefficients, gc_in_use, mute}
 use Rattle.chip.specs.Write.{lent_as, buffer_after, mark_after, put, stored, image_after, two, refuses, refused_write, write_of, vsync_of}
 use Rattle.views.specs.Entry.{is_sized}
@@ -30,7 +30,7 @@ use Rattle.plan.specs.Plan.{stands_in}
 use Rattle.decode.specs.Decode.{some_ends}
 use Rattle.cut.specs.Vsync.{waited}
 use Rattle.cut.specs.Run.{Event, write, vsync, run, InUse, all_in_use}
-use Rattle.vendor.specs.declared.Verdict.{Verdict}
+use Rattle.vendor.specs.Numbered.{Verdict}
 use Rattle.vendor.specs.Vendor.{shortened, end_of, most_pairs}
 use Rattle.vendor.specs.Found.{fair_test, is_between, is_turned, is_next, is_last, is_event, first_fault, place_of, vet_refusal, vet_of}
 use Rattle.promises.specs.Looked.{Agree}

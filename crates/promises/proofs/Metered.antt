@@ -23,7 +23,7 @@ use Rattle.matrix.proofs.Held.{by_mode}
 use Rattle.meter.proofs.Rule.{laid_matrix}
 use Rattle.sound.specs.Tests.{sound_outside}
 use Rattle.request.specs.declared.Request.{Request}
-use Rattle.request.specs.declared.Checked.{Checked}
+use Rattle.request.specs.Numbered.{Checked}
 use Rattle.request.specs.Request.{rgb_out}
 use Rattle.request.specs.Read.{converts_in, read_of, allowed_of}
 use Rattle.request.specs.Bytes.{matrix_body, as_bytes}

@@ -15,7 +15,7 @@ use Rattle.writes.specs.List.{ready}
 use Rattle.plan.specs.Plan.{nothing, later_refusal, plan_with, plan_of}
 use Rattle.line.specs.Line.{line_of}
 use Rattle.line.specs.Words.{line_text, refused_text, answer_text}
-use Rattle.pipe.specs.declared.Piped.{Piped}
+use Rattle.pipe.specs.Numbered.{Piped}
 use Rattle.pipe.specs.Final.{refusal_of, Final}
 use Rattle.pipe.specs.Bytes.{answer_in, with_answer, refused}
 use Rattle.pipe.specs.Found.{end_pipe_of, end_pipe}

@@ -2,8 +2,8 @@
 use mathlib.Core.Path.{refl, ap, ◌∙◌}
 use mathlib.Core.List.{List}
 use Prim.Native.Nat.{ℕ}
-use Rattle.edid.specs.declared.Monitor.{Monitor}
-use Rattle.edid.specs.declared.Choice.{Choice}
+use Rattle.edid.specs.Numbered.{Monitor}
+use Rattle.edid.specs.Numbered.{Choice}
 use Rattle.edid.specs.Theorems.{Overview, Chooses}
 use Rattle.station.specs.declared.MonitorOut.{MonitorOut}
 use Rattle.station.specs.declared.ChoiceOut.{ChoiceOut}

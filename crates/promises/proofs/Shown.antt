@@ -18,7 +18,7 @@ use Rattle.video.specs.Video.{depth, repetition, edition_number, ycc_quantisatio
 use Rattle.video.proofs.Fits.{range_fits, depth_fits, repetition_fits, ycc_fits}
 use Rattle.video.proofs.Alike.{exceptions}
 use Rattle.request.specs.declared.Request.{Request}
-use Rattle.request.specs.declared.Checked.{Checked}
+use Rattle.request.specs.Numbered.{Checked}
 use Rattle.request.specs.Sections.{longest}
 use Rattle.request.specs.Read.{read_of, ncts_of}
 use Rattle.request.specs.Bytes.{as_bytes, request_in_family}

@@ -13,7 +13,7 @@ use borrow.Author.Tests.{eqb-true, eq-eqb, le-ltb, not-false}
 use Rattle.bits.specs.Merge.{bit, bits_in}
 use Rattle.bits.proofs.Laws.{bit_code}
 use Rattle.matrix.specs.Matrix.{Bytes, fields}
-use Rattle.request.specs.declared.Checked.{Checked}
+use Rattle.request.specs.Numbered.{Checked}
 use Rattle.request.specs.Read.{read_of, pair_for, ncts_of}
 use Rattle.request.specs.Bytes.{as_bytes, request_in_family, answered_as}
 use Rattle.request.specs.declared.Request.{Request}
@@ -56,7 +56,7 @@ use Rattle.cut.proofs.VsyncsLeave as packets_alike
 use Rattle.cut.proofs.ClausesOfRuns.{nothing_waits, after_same}
 use Rattle.cut.proofs.DemandOfGoodLists.{waited_writes, waited_finishes}
 use Rattle.cut.proofs.DemandOfWriteList.{holds, room_left}
-use Rattle.vendor.specs.declared.Verdict.{Verdict}
+use Rattle.vendor.specs.Numbered.{Verdict}
 use Rattle.vendor.specs.Vendor.{pair_at, cut_at, end_of, pairs_by, Inside, Decodable, Passes, WrongLength}
 use Rattle.vendor.specs.Found.{vet_of}
 use Rattle.vendor.specs.Theorems.{Readable}

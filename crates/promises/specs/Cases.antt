@@ -9,7 +9,7 @@ use Rattle.lists.specs.Find.{every}
 use Rattle.video.specs.declared.Video.{Video}
 use Rattle.video.specs.Video.{video_in}
 use Rattle.video.specs.Video as video
-use Rattle.clock.specs.declared.Clock.{Clock}
+use Rattle.clock.specs.Numbered.{Clock}
 use Rattle.clock.specs.Answers.{above_limit, clock_of}
 use Rattle.clock.specs.Pairs.{reference}
 use Rattle.clock.specs.Answers.{the_pair}

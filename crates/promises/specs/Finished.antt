@@ -6,7 +6,7 @@ use Rattle.registers.specs.Classes.{mandated, named, bits}
 use Rattle.wiring.specs.declared.Wiring.{Wiring}
 use Rattle.wiring.specs.declared.Wiring.TheVariants.{Board, Four, Twelve}
 use Rattle.video.specs.declared.Video.{Video}
-use Rattle.clock.specs.declared.Pair.{Pair}
+use Rattle.clock.specs.Numbered.{Pair}
 use Rattle.clock.specs.Answers.{clock_of}
 use Rattle.clock.specs.Tables.{other_row}
 use Rattle.clock.specs.Pairs.{Coherent}

@@ -6,7 +6,7 @@ use Rattle.lists.specs.Same.{same_list}
 use Rattle.refusals.specs.Rows.{number, order, Condition}
 use Rattle.refusals.specs.Tests.{answer}
 use Rattle.video.specs.declared.Video.{Video}
-use Rattle.clock.specs.declared.Clock.{Clock}
+use Rattle.clock.specs.Numbered.{Clock}
 use Rattle.clock.specs.Tables as tables
 use Rattle.clock.specs.Pairs.{reference}
 use Rattle.clock.specs.Answers.{the_pair, no_pair}

@@ -6,7 +6,7 @@ use Rattle.request.specs.declared.Request.{Request}
 use Rattle.request.specs.Read.{read_of}
 use Rattle.chip.specs.declared.Chip.{Chip}
 use Rattle.chip.specs.Machine.{Write}
-use Rattle.views.specs.declared.view.Mute.{Mute}
+use Rattle.views.specs.Numbered.{Mute}
 use Rattle.views.specs.Entry.{Lent, state_of, turn_of}
 use Rattle.views.specs.View.{sent_of, mute_of}
 use Rattle.views.specs.Converter.{matrix_out}

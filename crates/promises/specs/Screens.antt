@@ -1,8 +1,8 @@
 -- Demand 1, of the calls of document 02's request 12: a screen's EDID, a request and wishes. All are lent to be read, and none can change. When
 -- each row applies stands with the calls: `Overview`, `Chooses`.
 use Rattle.std.specs.Prelude.{◌≡◌, ◌≢◌, List, [], ◌∷◌, ℕ}
-use Rattle.edid.specs.declared.Monitor.{Monitor}
-use Rattle.edid.specs.declared.Choice.{Choice}
+use Rattle.edid.specs.Numbered.{Monitor}
+use Rattle.edid.specs.Numbered.{Choice}
 use Rattle.edid.specs.Order.{screen_numbers}
 use Rattle.edid.specs.Screen.{edid_rules}
 use Rattle.edid.specs.Wish.{choose_rules}

@@ -4,40 +4,40 @@ use Rattle.registers.specs.declared.Class.{Class}
 use Rattle.registers.specs.Classes.{class_at}
 use Rattle.registers.specs.ByColumns.{Classifies}
 use Rattle.video.specs.declared.Video.{Video}
-use Rattle.clock.specs.declared.Clock.{Clock}
-use Rattle.clock.specs.declared.Pair.{Pair}
+use Rattle.clock.specs.Numbered.{Clock}
+use Rattle.clock.specs.Numbered.{Pair}
 use Rattle.clock.specs.Answers.{clock_of, GivesClock}
 use Rattle.clock.specs.Found.{pair_of, GivesPair}
-use Rattle.frames.specs.declared.Avi.{Avi}
-use Rattle.frames.specs.declared.Audio.{Audio}
+use Rattle.frames.specs.Numbered.{Avi}
+use Rattle.frames.specs.Numbered.{Audio}
 use Rattle.frames.specs.Answers.{avi_of, audio_of, GivesAvi, GivesAudio}
-use Rattle.matrix.specs.declared.Pixel.{Pixel}
+use Rattle.matrix.specs.Numbered.{Pixel}
 use Rattle.matrix.specs.Preview.{preview_of, Previews}
-use Rattle.meter.specs.declared.Metered.{Metered}
+use Rattle.meter.specs.Numbered.{Metered}
 use Rattle.meter.specs.Found.{meter_of, meter_buffer, Meters}
-use Rattle.request.specs.declared.Checked.{Checked}
-use Rattle.pipe.specs.declared.Piped.{Piped}
+use Rattle.request.specs.Numbered.{Checked}
+use Rattle.pipe.specs.Numbered.{Piped}
 use Rattle.pipe.specs.Found.{take_of, take_pipe, end_pipe_of, end_pipe, TakesPart, EndsPipe}
 use Rattle.line.specs.Words.{line_text, Prints, answer_text, PrintsAnswer}
 use Rattle.line.specs.Verdict.{verdict_text, PrintsVerdict}
 use Rattle.request.specs.declared.Request.{Request}
 use Rattle.request.specs.Read.{read_of, pair_for, ncts_of, Reads, Pairs, PairsInput}
 use Rattle.chip.specs.declared.Chip.{Chip}
-use Rattle.chip.specs.declared.Wrote.{Wrote}
+use Rattle.chip.specs.Numbered.{Wrote}
 use Rattle.chip.specs.Write.{lent_as, write_of, vsync_of}
 use Rattle.chip.specs.Write.{Hands}
 use Rattle.chip.specs.Turn.{Turned}
-use Rattle.views.specs.declared.view.Part.{Part}
-use Rattle.views.specs.declared.view.Mute.{Mute}
-use Rattle.views.specs.declared.converter.Count.{Count}
+use Rattle.views.specs.Numbered.{Part}
+use Rattle.views.specs.Numbered.{Mute}
+use Rattle.views.specs.Numbered.{Count}
 use Rattle.views.specs.Entry.{marked, Lent, SliceAnswer, enter_of, turn_of, Writes, Turns}
 use Rattle.views.specs.View.{view_refusal, sent_of, sent_part, mute_of, Sends, Places, Refuses, Mutes}
 use Rattle.views.specs.Converter.{matrix_answer, matrix_out, ShowsMatrix}
-use Rattle.plan.specs.declared.Planned.{Planned}
+use Rattle.plan.specs.Numbered.{Planned}
 use Rattle.plan.specs.Plan.{plan_of, plan_buffer, Plans}
-use Rattle.decode.specs.declared.Decoded.{Decoded}
+use Rattle.decode.specs.Numbered.{Decoded}
 use Rattle.decode.specs.Decode.{decode_of, decoded_buffer, Decodes}
-use Rattle.vendor.specs.declared.Verdict.{Verdict}
+use Rattle.vendor.specs.Numbered.{Verdict}
 use Rattle.vendor.specs.Found.{vet_of, Vets}
 use Rattle.station.specs.declared.CountOut.{CountOut}
 use Rattle.station.specs.declared.PairOut.{PairOut}

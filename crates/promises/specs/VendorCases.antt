@@ -2,7 +2,7 @@
 use Rattle.std.specs.Prelude.{◌≡◌, Bool, true, false, ◌&&◌, List, [], ◌∷◌, ℕ, eqb, replicate, set}
 use Rattle.lists.specs.Find.{every}
 use Rattle.chip.specs.Write.{lent_as}
-use Rattle.vendor.specs.declared.Verdict.{Verdict}
+use Rattle.vendor.specs.Numbered.{Verdict}
 use Rattle.vendor.specs.Found.{vet_of}
 
 -- the registers, the two buffers, whether a matrix change waits, and the list; what is answered

@@ -1,7 +1,7 @@
 -- Document 02, request 12: what the wish that is chosen is to planning.
 use Rattle.std.specs.Prelude.{◌≡◌, true, List, [], ◌∷◌, ℕ}
 use Rattle.lists.specs.Among.{among}
-use Rattle.edid.specs.declared.Choice.{Choice}
+use Rattle.edid.specs.Numbered.{Choice}
 use Rattle.edid.specs.Wish.{wish_at}
 use Rattle.edid.specs.Found.{choose_of}
 use Rattle.edid.specs.Theorems.{put_at}

@@ -7,7 +7,7 @@ ghost use Rattle.ratio.specs.Lowest.{Reduces, LowestTerms};
 ghost use Rattle.ratio.specs.Terms.{divisor_of};
 
 // The fraction u / v.
-#[derive(Clone, Copy)]
+#[derive(Clone, Copy, Debug, PartialEq, Eq)]
 pub struct Ratio {
     pub u: u64,
     pub v: u64,
@@ -15,6 +15,7 @@ pub struct Ratio {
 
 // The whole quotient a / b; 0 where b is 0. b is doubled as long as it fits into a, and halved back to b; on the way back it is taken off
 // what is left wherever it fits there.
+// Kept, what may not change: what is divided by 0 is 0 and no `Option`, for a call that could not fail still can't, and the edit `by_zero` asks it.
 pub fn quotient(a: u64, b: u64) -> u64
     ensures { result ≡ a / b }
 {
@@ -30,10 +31,10 @@ pub fn quotient(a: u64, b: u64) -> u64
     while b <= part {
         q = 2 * q;
         if part <= left {
-            left = left - part;
-            q = q + 1;
+            left -= part;
+            q += 1;
         }
-        part = part / 2;
+        part /= 2;
     }
     q
 }
@@ -44,19 +45,12 @@ fn gcd(a: u64, b: u64) -> u64
     requires { (a % 2) + (b % 2) ≢ 0 }
     ensures { result ≡ divisor_of a b }
 {
-    let mut x = a;
-    let mut y = b;
-    if b % 2 == 0 {
-        x = b;
-        y = a;
-    }
+    let (mut x, mut y) = if b % 2 == 0 { (b, a) } else { (a, b) };
     while x != 0 {
         if x % 2 == 0 {
-            x = x / 2;
+            x /= 2;
         } else if x < y {
-            let z = x;
-            x = (y - x) / 2;
-            y = z;
+            (x, y) = ((y - x) / 2, x);
         } else {
             x = (x - y) / 2;
         }
@@ -65,22 +59,22 @@ fn gcd(a: u64, b: u64) -> u64
 }
 
 // num / den in lowest terms: both are halved until one is odd, and then divided by their greatest common divisor.
+// Kept, no plainer: an Option would give the one caller, whose den is above 0, a case that it never meets; what a den of 0 gives is settled.
 pub fn reduced(num: u64, den: u64) -> Ratio
     ensures { Reduces num den result }
 {
     if den == 0 {
         return Ratio { u: 0, v: 0 };
     }
-    let mut a = num;
-    let mut b = den;
+    let (mut a, mut b) = (num, den);
     while a % 2 + b % 2 == 0 {
-        a = a / 2;
-        b = b / 2;
+        a /= 2;
+        b /= 2;
     }
     let g = gcd(a, b);
     let u = quotient(a, g);
     let v = quotient(b, g);
-    Ratio { u: u, v: v }
+    Ratio { u, v }
 }
 
 // A fraction has lowest terms, and only these.

@@ -1,2 +1,4 @@
+mod Apart
 mod First
 pub mod Tests
+pub mod Told

@@ -1,91 +1,103 @@
-// Document 01, "Refusal numbers", and document 02. 0 is no refusal.
+// Document 01, "Refusal numbers", and document 02.
 #![tactic(auto)]
 
 ghost use Rattle.std.specs.Prelude.{◌≡◌, ◌∷◌, map};
 ghost use Rattle.refusals.specs.Rows.{number, order};
+ghost use Rattle.refusals.specs.Numbered.{refusal_number, ToldApart};
 
-#[derive(Clone, Copy)]
-pub struct Refusal {
-    pub number: u8,
+// Why a call is refused: a row of the list, named after its "When".
+#[derive(Clone, Copy, Debug, PartialEq, Eq)]
+pub enum Refusal {
+    InputEnds,
+    CountNotAllowed,
+    BytesAfter,
+    ModeNotOffered,
+    FieldOutOfRange,
+    Combination,
+    ImageLength,
+    HoldsUp,
+    NoExactPair,
+    BufferShort,
+    NoRequest,
+    InputAbove,
+    TwoHolds,
+    ListLength,
+    BadPair,
+    BadEnd,
+    ClockAbove,
+    NotFinite,
+    NoModeFits,
+    SoundTooMuch,
+    EdidLength,
+    EdidSum,
+    EdidBlock,
+    NoWishFits,
 }
 
-impl Refusal {
-    pub const NONE: u8 = 0;
+// Its number in the list.
+impl From<Refusal> for u8 {
+    ghost from_gives = { λ refusal byte. byte ≡ refusal_number refusal };
 
-    pub const INPUT_ENDS: u8 = 1;
-
-    pub const COUNT_NOT_ALLOWED: u8 = 2;
-
-    pub const BYTES_AFTER: u8 = 3;
-
-    pub const MODE_NOT_OFFERED: u8 = 4;
-
-    pub const FIELD_OUT_OF_RANGE: u8 = 5;
-
-    pub const COMBINATION: u8 = 6;
-
-    pub const IMAGE_LENGTH: u8 = 7;
-
-    pub const HOLDS_UP: u8 = 8;
-
-    pub const NO_EXACT_PAIR: u8 = 9;
-
-    pub const BUFFER_SHORT: u8 = 10;
-
-    pub const NO_REQUEST: u8 = 11;
-
-    pub const INPUT_ABOVE: u8 = 12;
-
-    pub const TWO_HOLDS: u8 = 13;
-
-    pub const LIST_LENGTH: u8 = 14;
-
-    pub const BAD_PAIR: u8 = 15;
-
-    pub const BAD_END: u8 = 16;
-
-    pub const CLOCK_ABOVE: u8 = 17;
-
-    pub const NOT_FINITE: u8 = 18;
-
-    pub const NO_MODE_FITS: u8 = 19;
-
-    pub const SOUND_TOO_MUCH: u8 = 20;
-
-    pub const EDID_LENGTH: u8 = 21;
-
-    pub const EDID_SUM: u8 = 22;
-
-    pub const EDID_BLOCK: u8 = 23;
-
-    pub const NO_WISH_FITS: u8 = 24;
+    fn from(refusal: Refusal) -> u8 {
+        match refusal {
+            Refusal::InputEnds => 1,
+            Refusal::CountNotAllowed => 2,
+            Refusal::BytesAfter => 3,
+            Refusal::ModeNotOffered => 4,
+            Refusal::FieldOutOfRange => 5,
+            Refusal::Combination => 6,
+            Refusal::ImageLength => 7,
+            Refusal::HoldsUp => 8,
+            Refusal::NoExactPair => 9,
+            Refusal::BufferShort => 10,
+            Refusal::NoRequest => 11,
+            Refusal::InputAbove => 12,
+            Refusal::TwoHolds => 13,
+            Refusal::ListLength => 14,
+            Refusal::BadPair => 15,
+            Refusal::BadEnd => 16,
+            Refusal::ClockAbove => 17,
+            Refusal::NotFinite => 18,
+            Refusal::NoModeFits => 19,
+            Refusal::SoundTooMuch => 20,
+            Refusal::EdidLength => 21,
+            Refusal::EdidSum => 22,
+            Refusal::EdidBlock => 23,
+            Refusal::NoWishFits => 24,
+        }
+    }
 }
 
-// The constants are 0 for none, and then the numbers of the rows in the list's order.
+// No two refusals have one number, and none has 0.
+pub fn told_apart()
+    ensures { ToldApart }
+{}
+
+// 0, which is no refusal, and then the numbers of the rows in the list's order.
 pub fn numbers() -> [u8; 21]
     ensures { result ≡ 0 ∷ map number order }
 {
     [
-        Refusal::NONE,
-        Refusal::INPUT_ENDS,
-        Refusal::COUNT_NOT_ALLOWED,
-        Refusal::BYTES_AFTER,
-        Refusal::MODE_NOT_OFFERED,
-        Refusal::FIELD_OUT_OF_RANGE,
-        Refusal::COMBINATION,
-        Refusal::CLOCK_ABOVE,
-        Refusal::SOUND_TOO_MUCH,
-        Refusal::IMAGE_LENGTH,
-        Refusal::HOLDS_UP,
-        Refusal::NO_EXACT_PAIR,
-        Refusal::BUFFER_SHORT,
-        Refusal::NO_REQUEST,
-        Refusal::INPUT_ABOVE,
-        Refusal::TWO_HOLDS,
-        Refusal::LIST_LENGTH,
-        Refusal::BAD_PAIR,
-        Refusal::BAD_END,
-        Refusal::NOT_FINITE,
-        Refusal::NO_MODE_FITS,
+        0,
+        Refusal::InputEnds.into(),
+        Refusal::CountNotAllowed.into(),
+        Refusal::BytesAfter.into(),
+        Refusal::ModeNotOffered.into(),
+        Refusal::FieldOutOfRange.into(),
+        Refusal::Combination.into(),
+        Refusal::ClockAbove.into(),
+        Refusal::SoundTooMuch.into(),
+        Refusal::ImageLength.into(),
+        Refusal::HoldsUp.into(),
+        Refusal::NoExactPair.into(),
+        Refusal::BufferShort.into(),
+        Refusal::NoRequest.into(),
+        Refusal::InputAbove.into(),
+        Refusal::TwoHolds.into(),
+        Refusal::ListLength.into(),
+        Refusal::BadPair.into(),
+        Refusal::BadEnd.into(),
+        Refusal::NotFinite.into(),
+        Refusal::NoModeFits.into(),
     ]
 }

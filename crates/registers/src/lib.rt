@@ -3,15 +3,14 @@
 
 ghost use Rattle.std.specs.Prelude.{◌≡◌, ℕ, ◌<◌};
 ghost use Rattle.registers.specs.Classes.{class_at, read_only, named, Rule};
-ghost use Rattle.registers.specs.ByColumns.{Classifies};
-ghost use Rattle.registers.specs.ByColumns.{HasColumns};
+ghost use Rattle.registers.specs.ByColumns.{Classifies, HasColumns};
 ghost use Rattle.registers.specs.Fields.{named_fields, mask_in};
 ghost use Rattle.registers.specs.Table14.{Table14};
 
 mod table;
 
 // Five numbers for each address: the masks of its read-only, mandated, named and free bits, and the mandated bits.
-#[derive(Clone, Copy)]
+#[derive(Clone, Copy, Debug, PartialEq, Eq)]
 pub struct Class {
     pub read_only: u8,
     pub mandated: u8,
@@ -20,7 +19,9 @@ pub struct Class {
     pub bits: u8,
 }
 
-// The columns of the table, for a caller that goes through many addresses: the compiler builds a column anew wherever it is named.
+// The columns of the table, for a caller that goes through many addresses.
+// Kept, what may not change: four arrays, and no array of 256 structs, for that does not fit the prover's time (docs/HOUSE.md, F3); and
+// `HasColumns` has each column by itself.
 #[derive(Clone, Copy)]
 pub struct ByColumn {
     pub read_only: [u8; 256],
@@ -43,6 +44,8 @@ pub fn table_columns() -> ByColumn
 pub fn read_only(a: u8) -> u8
     ensures { result ≡ read_only a }
 {
+    // Kept, the proof did not close: with `usize::from(a)`, here and in `class_at`, the place is an answer of a call, and the prover computes
+    // the whole column.
     table::READ_ONLY[a as usize]
 }
 
@@ -64,6 +67,7 @@ pub fn rule()
 {}
 
 // "Table 14's bits are mandated", with the values that it prints.
+#[tactic(auto, unfolding(crate::specs::Classes::class_at, bits::specs::Merge::merge))]
 pub fn table14()
     ensures { Table14 }
 {}

@@ -7,6 +7,7 @@ use Prim.Native.Nat.{ℕ, zero, suc, ◌+◌, ◌%◌, ◌<◌, ◌≤◌}
 use native.Mathlib.Omega.{arith}
 use lib.Dec.{eqb, leb, ltb, lit<}
 use lib.ListN.{length, drop, length-drop}
+use Rattle.std.proofs.lemmas.List.{nil_from_length}
 use lib.Seq.{get_or-append-add, get_or-drop, drop-cons}
 use borrow.Author.Tests.{eqb-true, leb-true, ltb-true, lt-ltb, le-ltb, not-false}
 use Rattle.lists.proofs.Both.{both_left, both_right}
@@ -23,22 +24,18 @@ use Rattle.video.proofs.Bodies as video
 use Rattle.sound.specs.Sound.{sound_of, audio_body}
 use Rattle.sound.proofs.Bodies as sound
 use Rattle.request.specs.declared.Request.{Request}
-use Rattle.request.specs.declared.Checked.{Checked}
+use Rattle.request.specs.Numbered.{Checked, emptied}
 use Rattle.request.specs.Sections.{matrix_count, Bodies, in_turn, by_name, bodies_in, Walk, ends, not_allowed, whole, walked}
 use Rattle.request.specs.Bytes.{laid, matrix_body, as_bytes, answered_as, as_read_back}
 use Rattle.request.specs.Walks.{Sectioned}
 use Rattle.request.specs.Request.{present, request_in}
-use Rattle.request.specs.Read.{outside, emptied, judged, checked, read_of}
+use Rattle.request.specs.Read.{outside, judged, checked, read_of}
 use Rattle.request.specs.ThereAndBack.{Shaped, ThereAndBack}
 use Rattle.request.proofs.Inside.{bodies_inside}
 use Rattle.request.proofs.Opened.{sectioned, request_walks}
 use Rattle.request.proofs.Ordered.{both, passed}
 use Rattle.request.proofs.Said.{new_video_lem, said}
 use Rattle.request.proofs.Fits.{fits}
-
-none : (l : List ℕ) → length l ≡ 0 → l ≡ []
-none [] e = refl
-none (x ∷ l) e = absurd (omega arith)
 
 -- ---- each body is that of what it says
 
@@ -70,7 +67,7 @@ coefficients_back (suc n) (x ∷ y ∷ l) e b t =
 
 matrix_back : (m : List ℕ) → Bytes m → (length m ≡ 0) ⊎ (length m ≡ matrix_count) → (present m && not (is_allowed m)) ≡ false
     → matrix_body (cond (present m) (matrix_of m) no_matrix) ≡ m
-matrix_back m b (inl e) x = rw (none m e)
+matrix_back m b (inl e) x = rw (nil_from_length m e)
 matrix_back m b (inr e) x =
     let y : not (is_allowed m) ≡ false = subst (λ (n : ℕ). (not (eqb n 0) && not (is_allowed m)) ≡ false) e x in
     let l : length (drop 1 m) ≡ double 12 = rw (length-drop 1 m, e) in
@@ -93,7 +90,7 @@ nothing_after : (rest : List ℕ) (c : Checked) → (answer (cond (present rest)
 nothing_after rest c = go (eqb (length rest) 0) refl
   where
     go : (b : Bool) → eqb (length rest) 0 ≡ b → (answer (cond (not b) 3 0) emptied c).refusal ≡ 0 → rest ≡ []
-    go true e z = none rest (eqb-true _ _ e)
+    go true e z = nil_from_length rest (eqb-true _ _ e)
     go false e z = absurd (omega arith)
 
 module _ (input : List ℕ) (bytes : Bytes input) where

@@ -11,7 +11,7 @@ use Rattle.lists.specs.Among.{among}
 use Rattle.refusals.specs.Rows.{no_exact_pair, ◌when◌, Given}
 use Rattle.refusals.specs.Tests.{◌if◌, lowest}
 use Rattle.refusals.proofs.Tests.{lowest_given, answer_beside, in_stages, later}
-use Rattle.clock.specs.declared.Pair.{Pair}
+use Rattle.clock.specs.Numbered.{Pair}
 use Rattle.wiring.specs.declared.Wiring.TheVariants.{Board}
 use Rattle.video.specs.declared.Video.{Video}
 use Rattle.video.specs.Video.{no_video, video_in, PixelOutside, VideoOutside}
@@ -21,11 +21,11 @@ use Rattle.sound.specs.declared.Sound.TheVariants.{Off, On}
 use Rattle.sound.specs.Sound.{sound_of, SoundOutside}
 use Rattle.clock.specs.Answers.{no_pair}
 use Rattle.clock.proofs.Rows.{refusals, is_above}
-use Rattle.request.specs.declared.Checked.{Checked}
+use Rattle.request.specs.Numbered.{Checked, emptied}
 use Rattle.matrix.specs.Matrix.{no_matrix, Bytes}
 use Rattle.request.specs.Sections.{Bodies, bodies_in, Walk, ends, not_allowed, whole, after, walk, walked, sections}
 use Rattle.request.specs.Request.{Outside, request_in, request_of, NoPair, pair_rows, read_rules}
-use Rattle.request.specs.Read.{emptied, bytes_tests, fields_tests, judged, checked, limited, pair_in, pair_for, read_of, ncts_of}
+use Rattle.request.specs.Read.{bytes_tests, fields_tests, judged, checked, limited, pair_in, pair_for, read_of, ncts_of}
 use Rattle.request.specs.Theorems.{Rows}
 use Rattle.request.specs.Stages.{Stages}
 use Rattle.request.proofs.Ordered.{fields_given, limits_given, asks_given, read_given, asked_there, Judged, accepted, passing, passed, is_outside}

@@ -14,7 +14,8 @@ use Rattle.lists.specs.Among.{among}
 use Rattle.refusals.specs.Tests.{answer}
 use Rattle.request.specs.Sections.{by_name, Walk, ends, not_allowed, whole, after, walk, walked, sections, longest_of}
 use Rattle.request.specs.Lengths.{lengths_of}
-use Rattle.request.specs.Read.{emptied, judged, checked, limited, read_of, ncts_of}
+use Rattle.request.specs.Numbered.{emptied}
+use Rattle.request.specs.Read.{judged, checked, limited, read_of, ncts_of}
 use Rattle.request.specs.Lengths.{Lengths}
 use Rattle.request.proofs.Ordered.{both}
 use Rattle.request.proofs.Counted.{span, Counted, counted, spanned, at_most, within}

@@ -26,7 +26,7 @@ use Rattle.matrix.specs.declared.Matrix.{Matrix}
 use Rattle.matrix.specs.Matrix.{matrix_of, no_matrix}
 use Rattle.matrix.specs.Tests.{is_allowed}
 use Rattle.matrix.proofs.Pairs.{sized, mode_small, fields_small, none_small, length_fields}
-use Rattle.request.specs.declared.Checked.{Checked}
+use Rattle.request.specs.Numbered.{Checked}
 use Rattle.request.specs.Sections.{Bodies, walked, bodies_in}
 use Rattle.request.specs.Request.{present, rgb_out, request_in}
 use Rattle.request.specs.Read.{converts_in, combined, read_of}

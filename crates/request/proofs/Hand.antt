@@ -29,10 +29,10 @@ use Rattle.matrix.proofs.Body.{all_within}
 use Rattle.matrix.proofs.Held.{held, by_mode}
 use Rattle.matrix.proofs.Pairs.{length_bytes}
 use Rattle.request.specs.declared.Request.{Request}
-use Rattle.request.specs.declared.Checked.{Checked}
+use Rattle.request.specs.Numbered.{Checked, emptied}
 use Rattle.request.specs.Sections.{Bodies}
 use Rattle.request.specs.Request.{present, request_in}
-use Rattle.request.specs.Read.{emptied, outside_in, combined_in, outside, combined, fields_tests, limits_tests, judged, limit_of, limited, read_of}
+use Rattle.request.specs.Read.{outside_in, combined_in, outside, combined, fields_tests, limits_tests, judged, limit_of, limited, read_of}
 use Rattle.request.specs.Read.{hand_tests, allowed_of}
 use Rattle.request.specs.Bytes.{matrix_body, bodies_of, as_bytes}
 use Rattle.request.specs.ThereAndBack.{Shaped}

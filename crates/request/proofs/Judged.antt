@@ -20,7 +20,8 @@ use Rattle.matrix.specs.Tests.{is_allowed}
 use Rattle.matrix.specs.Read.{allowed_matrix}
 use Rattle.request.specs.Sections.{Bodies}
 use Rattle.request.specs.Request.{present}
-use Rattle.request.specs.Read.{emptied, outside_in, combined_in, outside, combined, field_tests, fields_tests, judged}
+use Rattle.request.specs.Numbered.{emptied}
+use Rattle.request.specs.Read.{outside_in, combined_in, outside, combined, field_tests, fields_tests, judged}
 use Rattle.request.proofs.Inside.{bodies_inside}
 
 -- a body that is empty is not allowed

@@ -1,3 +1,4 @@
+pub mod Numbers
 pub mod Walks
 pub mod Counted
 pub mod Turns

@@ -22,10 +22,10 @@ use Rattle.blanking.specs.Found.{too_much}
 use Rattle.blanking.specs.Theorems.{SameMode, NoLess}
 use Rattle.blanking.proofs.Rule.{lifts, slow}
 use Rattle.request.specs.declared.Request.{Request}
-use Rattle.request.specs.declared.Checked.{Checked}
+use Rattle.request.specs.Numbered.{Checked, emptied}
 use Rattle.request.specs.Sections.{Bodies, Walk, bodies_in, walked}
 use Rattle.request.specs.Request.{request_in}
-use Rattle.request.specs.Read.{emptied, bytes_tests, fields_tests, judged, checked, limit_of, limited, read_of}
+use Rattle.request.specs.Read.{bytes_tests, fields_tests, judged, checked, limit_of, limited, read_of}
 use Rattle.request.specs.Lifted.{NeverLifted}
 use Rattle.request.proofs.Ordered.{limit_there, pixel_there, sound_there, room_there, alone, asked_there}
 

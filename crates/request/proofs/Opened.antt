@@ -1,9 +1,9 @@
 -- What the code's walk says of a request: its bodies by their places in the input. Assumes nothing.
 --     sectioned    document 01's sentence, of the sections of a request
 --     there        the body of each section at its place, where none is refused
---     asked, ask_refused    what is asked, by the code's walk
+--     asked         what is asked, by the code's walk
 use mathlib.Core.Path.{◌≡◌, refl, sym, ap, subst, ◌∙◌}
-use mathlib.Core.Logic.{◌≢◌, ◌⊎◌, inl, inr}
+use mathlib.Core.Logic.{◌⊎◌, inl, inr}
 use mathlib.Core.Bool.{Bool, true, false, cond, ◌&&◌, ◌||◌, or-false}
 use mathlib.Core.List.{List, [], ◌∷◌}
 use Prim.Native.Nat.{ℕ, suc, ◌+◌, ◌-◌, ◌≤◌, ◌<◌}
@@ -16,12 +16,13 @@ use Rattle.lists.proofs.Both.{both_left, both_right}
 use Rattle.wiring.specs.Kinds.{four_count, twelve_count}
 use Rattle.video.specs.Video.{video_count}
 use Rattle.sound.specs.Sound.{audio_count}
-use Rattle.request.specs.declared.sections.Places.{Places}
+use Rattle.request.specs.Numbered.{BodyEnds}
 use Rattle.request.specs.Sections.{Bodies, in_turn, by_name, bodies_in, Walk, ends, not_allowed, whole, walked, sections, matrix_count}
 use Rattle.request.specs.Bytes.{laid}
 use Rattle.request.specs.Walks.{fits, Sectioned, RequestWalks}
 use Rattle.request.specs.Places.{ends_from, places_of, EndsAt}
-use Rattle.request.specs.Read.{emptied, judged, checked, ask_of}
+use Rattle.request.specs.Numbered.{emptied}
+use Rattle.request.specs.Read.{judged, checked, ask_of}
 use Rattle.request.proofs.Walks.{as_many, walks}
 use Rattle.request.proofs.Counted.{span, Counted, counted}
 use Rattle.request.proofs.Kth.{in_bounds, kth}
@@ -124,12 +125,12 @@ module _ (s found : List ℕ) (e : EndsAt s found) where
   there k h = go (walked s) refl e
     where
       go : (w : Walk) → walked s ≡ w → record { refusal = 0; ends = found } ≡ places_of w → There s found k
-      go ends f q = absurd (omega (arith, ap (λ (x : Places). x.refusal) q))
-      go not_allowed f q = absurd (omega (arith, ap (λ (x : Places). x.refusal) q))
+      go ends f q = absurd (omega (arith, ap (λ (x : BodyEnds). x.refusal) q))
+      go not_allowed f q = absurd (omega (arith, ap (λ (x : BodyEnds). x.refusal) q))
       go (whole bodies rest) f q =
           let w = ((walks sections s).whole bodies rest).0 f in
           let n : length bodies ≡ length sections = as_many sections bodies w.0 in
-          let p : found ≡ ends_from 0 bodies = ap (λ (x : Places). x.ends) q in
+          let p : found ≡ ends_from 0 bodies = ap (λ (x : BodyEnds). x.ends) q in
           let i = in_bounds 0 bodies rest k (omega arith) in
           let b : take (get_or found k 0 - suc (get_or (0 ∷ found) k 0)) (drop (suc (get_or (0 ∷ found) k 0)) s) ≡ get_or bodies k [] = rw (p, w.1) (kth [] bodies rest k (omega arith)) in
           record {
@@ -145,12 +146,12 @@ module _ (s found : List ℕ) (e : EndsAt s found) where
     where
       go : (w : Walk) → walked s ≡ w → record { refusal = 0; ends = found } ≡ places_of w
           → checked w ≡ cond (eqb (get_or found 3 0) (length s)) (judged (bodies_in w)) (emptied 3)
-      go ends f q = absurd (omega (arith, ap (λ (x : Places). x.refusal) q))
-      go not_allowed f q = absurd (omega (arith, ap (λ (x : Places). x.refusal) q))
+      go ends f q = absurd (omega (arith, ap (λ (x : BodyEnds). x.refusal) q))
+      go not_allowed f q = absurd (omega (arith, ap (λ (x : BodyEnds). x.refusal) q))
       go (whole bodies rest) f q =
           let c : length s ≡ span bodies + length rest = (subst (Counted sections (length s)) f (counted sections s)).0 in
           let n : length bodies ≡ length sections = as_many sections bodies (((walks sections s).whole bodies rest).0 f).0 in
-          let p : found ≡ ends_from 0 bodies = ap (λ (x : Places). x.ends) q in
+          let p : found ≡ ends_from 0 bodies = ap (λ (x : BodyEnds). x.ends) q in
           let l : get_or found 3 0 ≡ span bodies = ap (λ (l : List ℕ). get_or l 3 0) p ∙ last bodies n in
           by (eqb (length rest) 0) refl (eqb (get_or found 3 0) (length s)) refl l c
         where
@@ -168,12 +169,3 @@ module _ (s found : List ℕ) (e : EndsAt s found) where
           by true x false y l c = absurd (eqb-false (get_or found 3 0) (length s) y (omega (arith, eqb-true (length rest) 0 x)))
           by false x true y l c = absurd (eqb-false (length rest) 0 x (omega (arith, eqb-true (get_or found 3 0) (length s) y)))
           by false x false y l c = rw x
-
--- what is asked where a section is refused
-pub ask_refused : (s : List ℕ) (p : Places) → p ≡ places_of (walked s) → p.refusal ≢ 0 → emptied p.refusal ≡ ask_of s
-ask_refused s p e h = rw e (go (walked s) (rw e at h))
-  where
-    go : (w : Walk) → (places_of w).refusal ≢ 0 → emptied (places_of w).refusal ≡ checked w
-    go ends h = refl
-    go not_allowed h = refl
-    go (whole bodies rest) h = absurd (h refl)

@@ -37,11 +37,11 @@ use Rattle.blanking.specs.Table.{TooMuch}
 use Rattle.blanking.specs.Found.{too_much}
 use Rattle.blanking.proofs.Rule.{is_too_much}
 use Rattle.request.specs.declared.Request.{Request}
-use Rattle.request.specs.declared.Checked.{Checked}
+use Rattle.request.specs.Numbered.{Checked, emptied}
 use Rattle.request.specs.Sections.{Bodies, Walk, ends, not_allowed, whole, bodies_in, rest_of}
 use Rattle.request.specs.Request.{Present, present, Outside, rgb_out, Combined, request_in, request_of}
 use Rattle.request.specs.Request.{bytes_rows, fields_rows, limits_rows, ask_rules, read_rules}
-use Rattle.request.specs.Read.{converts_in, outside, combined, emptied, is_ends, is_not_allowed, bytes_tests, fields_tests, limits_tests}
+use Rattle.request.specs.Read.{converts_in, outside, combined, is_ends, is_not_allowed, bytes_tests, fields_tests, limits_tests}
 use Rattle.request.specs.Read.{judged, checked, limit_of, limited}
 use Rattle.request.proofs.Inside.{bodies_inside}
 

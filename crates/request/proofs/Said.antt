@@ -23,7 +23,7 @@ use Rattle.matrix.specs.Coefficient.{coefficient_bytes}
 use Rattle.matrix.specs.Matrix.{matrix_of, no_matrix}
 use Rattle.matrix.proofs.Pairs.{length_bytes, fields_said}
 use Rattle.request.specs.declared.Request.{Request}
-use Rattle.request.specs.declared.Checked.{Checked}
+use Rattle.request.specs.Numbered.{Checked}
 use Rattle.request.specs.Sections.{matrix_count, in_turn, bodies_in, Walk, whole, walked, sections}
 use Rattle.request.specs.Walks.{fits}
 use Rattle.request.specs.Request.{present, request_in}

@@ -1,5 +1,6 @@
 pub mod Sections
 pub mod Walks
+pub mod Numbered
 pub mod Places
 pub mod Request
 pub mod Read

@@ -2,7 +2,7 @@
 -- promise rests on it.
 use Rattle.std.specs.Prelude.{◌≡◌, List, [], ◌∷◌, ℕ, suc, ◌+◌, length, replicate}
 use Rattle.refusals.specs.Rows.{Row, input_ends, count_not_allowed, number}
-use Rattle.request.specs.declared.sections.Places.{Places}
+use Rattle.request.specs.Numbered.{BodyEnds}
 use Rattle.request.specs.Sections.{sections, Walk, ends, not_allowed, whole, walked}
 
 -- the ends of bodies, each after its count, from a place on
@@ -10,11 +10,11 @@ abbrev pub ends_from : ℕ → List (List ℕ) → List ℕ
 ends_from place [] = []
 ends_from place (body ∷ bodies) = (place + suc (length body)) ∷ ends_from (place + suc (length body)) bodies
 
-abbrev pub no_places : Row → Places
+abbrev pub no_places : Row → BodyEnds
 no_places row = record { refusal = number row; ends = replicate (length sections) 0 }
 
 -- a walk, as places in the input
-abbrev pub places_of : Walk → Places
+abbrev pub places_of : Walk → BodyEnds
 places_of ends = no_places input_ends
 places_of not_allowed = no_places count_not_allowed
 places_of (whole bodies rest) = record { refusal = 0; ends = ends_from 0 bodies }

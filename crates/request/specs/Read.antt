@@ -1,14 +1,13 @@
 -- What the calls on a request answer, as the code finds it. `Rows` (Theorems) and `ThereAndBack` tie it to document 01's rows
 -- and bytes, `OnSomeImage` (promises) `pair_for` to what is accepted.
 use Rattle.std.specs.Prelude.{◌≡◌, Bool, true, false, not, ◌&&◌, ◌||◌, List, [], ◌∷◌, ℕ, eqb, length}
-use Rattle.clock.specs.declared.Pair.{Pair}
+use Rattle.clock.specs.Numbered.{Pair}
 use Rattle.wiring.specs.declared.Wiring.{Wiring}
-use Rattle.wiring.specs.declared.Wiring.TheVariants.{Board}
 use Rattle.wiring.specs.Kinds.{rgb_in}
 use Rattle.wiring.specs.Wiring.{wiring_in, wires_of}
 use Rattle.wiring.specs.Tests.{wiring_outside}
 use Rattle.video.specs.declared.Video.{Video}
-use Rattle.video.specs.Video.{no_video, video_in}
+use Rattle.video.specs.Video.{video_in}
 use Rattle.video.specs.Tests.{video_outside, video_combined}
 use Rattle.video.specs.Modes.{offered}
 use Rattle.sound.specs.declared.Sound.{Sound}
@@ -19,19 +18,14 @@ use Rattle.clock.specs.Answers.{clock_of}
 use Rattle.clock.specs.Answers.{no_pair, audio_off}
 use Rattle.clock.specs.Found.{pair_of}
 use Rattle.blanking.specs.Found.{too_much}
-use Rattle.matrix.specs.Matrix.{no_matrix}
 use Rattle.matrix.specs.Tests.{is_allowed, matrix_in_range}
 use Rattle.request.specs.declared.Request.{Request}
-use Rattle.request.specs.declared.Checked.{Checked}
+use Rattle.request.specs.Numbered.{Checked, emptied}
 use Rattle.request.specs.Sections.{Bodies, Walk, ends, not_allowed, whole, walked, bodies_in, rest_of}
 use Rattle.request.specs.Request.{present, request_in, rgb_out}
 use Rattle.refusals.specs.Rows.{number}
 use Rattle.refusals.specs.Tests.{Test, ◌if◌, lowest, answer}
 use Rattle.refusals.specs.Rows.{input_ends, count_not_allowed, bytes_after, mode_not_offered, field_out_of_range, combination, clock_above, sound_too_much}
-
--- a refusal of rows 1 to 6 stands beside an empty request: today's board, fields 0, audio off, no matrix
-abbrev pub emptied : ℕ → Checked
-emptied number = record { refusal = number; request = record { wiring = Board; video = no_video; sound = Off; matrix = no_matrix } }
 
 -- the tests of row 5 and row 6 of a request in hand: its wiring, its video, its sound, and of its matrix whether it is outside its range and
 -- whether there is none

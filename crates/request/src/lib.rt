@@ -1,16 +1,19 @@
 // The request: document 01, "The request" and "Refusal numbers"; document 02, requests 01, 02, 06, 10 and 11.
 #![tactic(auto)]
 
-ghost use Rattle.std.specs.Prelude.{◌≡◌, ℕ, ◌<◌, length, get_or, List, [], ◌∷◌};
+ghost use Rattle.std.specs.Prelude.{◌≡◌, ℕ, ◌<◌, length, get_or, List, [], ◌∷◌, Ok, Err, IfOk, IfErr};
+ghost use Rattle.refusals.specs.Numbered.{given_by};
 ghost use Rattle.refusals.specs.Tests.{lowest};
+ghost use Rattle.clock.specs.Numbered.{pair_told};
 ghost use Rattle.request.specs.Sections.{sections, Bodies, in_turn, walked, bodies_in};
 ghost use Rattle.request.specs.Walks.{Walks, RequestWalks};
 ghost use Rattle.request.specs.Places.{EndsAt};
 ghost use Rattle.wiring.specs.Kinds.{rgb_in};
 ghost use Rattle.wiring.specs.Wiring.{wires_of};
 ghost use Rattle.request.specs.Request.{rgb_out};
-ghost use Rattle.request.specs.Read.{outside_in, converts_in, combined_in, field_tests, emptied, judged, limit_of, allowed_of};
+ghost use Rattle.request.specs.Read.{outside_in, converts_in, combined_in, field_tests, judged, limit_of, allowed_of};
 ghost use Rattle.request.specs.Read.{Asks, read_of, Reads, Pairs, PairsInput};
+ghost use Rattle.request.specs.Numbered.{ask_told, limit_number, known_told, checked_told, within_told};
 ghost use Rattle.request.specs.Theorems.{Rows};
 ghost use Rattle.request.specs.Lengths.{Lengths};
 ghost use Rattle.request.specs.ThereAndBack.{ThereAndBack};
@@ -20,7 +23,7 @@ ghost use Rattle.request.specs.Hand.{InHand};
 ghost use Rattle.request.specs.Lifted.{NeverLifted};
 ghost use Rattle.request.specs.declared.Request.{Request};
 
-use clock::Pair;
+use clock::NCts;
 use matrix::Matrix;
 use refusals::Refusal;
 use sections::{AUDIO, LAST, MATRIX, SECTIONS, VIDEO, WIRING, walk};
@@ -39,209 +42,202 @@ pub struct Request {
     pub matrix: Matrix,
 }
 
-// A request and the number of a refusal: beside one of rows 1 to 6 it is an empty request.
+// A request that is read: past rows 1 to 6 it is known, also where row 17 or 20 refuses it.
 #[derive(Clone, Copy)]
-pub struct Checked {
-    pub refusal: u8,
+pub struct Known {
     pub request: Request,
+    pub limit: Option<Refusal>,
 }
 
-// A refusal, beside an empty request.
-fn refused(number: u8) -> Checked
-    ensures { result ≡ emptied number }
-{
-    let video = video::no_video();
-    let matrix = matrix::none();
-    Checked {
-        refusal: number,
-        request: Request {
-            wiring: Wiring::Board,
-            video: video,
-            sound: Sound::Off,
-            matrix: matrix,
-        },
+impl Known {
+    // The request, where no limit refuses it.
+    pub fn within(self) -> Result<Request, Refusal>
+        ensures { within_told self.request result ≡ known_told self }
+    {
+        match self.limit {
+            None => Ok(self.request),
+            Some(refusal) => Err(refusal),
+        }
     }
 }
 
-// Row 5 of a request in hand, where `spoiled` says that its matrix is outside its range.
-fn is_outside(wiring: Wiring, video: Video, sound: Sound, spoiled: bool) -> bool
-    ensures { result ≡ outside_in wiring video sound spoiled }
-{
-    wiring::outside(wiring) | (video::outside(video) | (sound::outside(sound) | spoiled))
+// The fields of a request, as rows 4 to 6 see them: of its matrix, whether there is none, and whether it is outside its range.
+#[derive(Clone, Copy)]
+struct Fields {
+    wiring: Wiring,
+    video: Video,
+    sound: Sound,
+    bare: bool,
+    spoiled: bool,
 }
 
-// Whether input and output are of different colour kinds.
-fn converts(wiring: Wiring, video: Video) -> bool
-    ensures { result ≡ converts_in (rgb_in (wires_of wiring).input) (rgb_out video) }
-{
-    let into = wiring::rgb_in(wiring);
-    let out = video.encoding == 0;
-    (into & !out) | (!into & out)
-}
-
-// Row 6, where `bare` says that it has no matrix.
-fn is_combined(wiring: Wiring, video: Video, sound: Sound, bare: bool) -> bool
-    ensures { result ≡ combined_in wiring video sound bare }
-{
-    (converts(wiring, video) & bare)
-        | (((video.link == 0) & sound::is_on(sound)) | video::combined(video))
-}
-
-// Rows 4 to 6 of a request in hand.
-fn fields(wiring: Wiring, video: Video, sound: Sound, bare: bool, spoiled: bool) -> u8
-    ensures { result ≡ lowest (field_tests video (outside_in wiring video sound spoiled) (combined_in wiring video sound bare)) }
-{
-    let mode = video::mode_of(video.vic);
-    if mode.families <= video.family {
-        return Refusal::MODE_NOT_OFFERED;
+impl Fields {
+    // Row 5.
+    fn is_outside(self) -> bool
+        ensures { result ≡ outside_in self.wiring self.video self.sound self.spoiled }
+    {
+        wiring::outside(self.wiring)
+            | (video::outside(self.video) | (sound::outside(self.sound) | self.spoiled))
     }
-    if is_outside(wiring, video, sound, spoiled) {
-        return Refusal::FIELD_OUT_OF_RANGE;
+
+    // Whether input and output are of different colour kinds.
+    fn converts(self) -> bool
+        ensures { result ≡ converts_in (rgb_in (wires_of self.wiring).input) (rgb_out self.video) }
+    {
+        let into = wiring::rgb_in(self.wiring);
+        let out = self.video.encoding == 0;
+        (into & !out) | (!into & out)
     }
-    if is_combined(wiring, video, sound, bare) {
-        return Refusal::COMBINATION;
+
+    // Row 6.
+    fn is_combined(self) -> bool
+        ensures { result ≡ combined_in self.wiring self.video self.sound self.bare }
+    {
+        (self.converts() & self.bare)
+            | (((self.video.link == 0) & sound::is_on(self.sound)) | video::combined(self.video))
     }
-    Refusal::NONE
+
+    // Rows 4 to 6.
+    fn check(self) -> Result<(), Refusal>
+        ensures { given_by result ≡ lowest (field_tests self.video (outside_in self.wiring self.video self.sound self.spoiled) (combined_in self.wiring self.video self.sound self.bare)) }
+    {
+        let mode = video::mode_of(self.video.vic);
+        if mode.families <= self.video.family {
+            return Err(Refusal::ModeNotOffered);
+        }
+        if self.is_outside() {
+            return Err(Refusal::FieldOutOfRange);
+        }
+        if self.is_combined() {
+            return Err(Refusal::Combination);
+        }
+        Ok(())
+    }
 }
 
-// Where the count of section k stands: where the body before it ends.
-fn count_at(ends: [usize; SECTIONS], k: usize) -> usize
-    requires { k < length sections }
-    ensures { result ≡ get_or (0 ∷ ends) k 0 }
-{
-    if k == 0 {
-        return 0;
-    }
-    ends[k - 1]
+// An input in which a walk found all sections, and where the body of each ends.
+#[derive(Clone, Copy)]
+struct Found<'a> {
+    input: &'a [u8],
+    ends: [usize; SECTIONS],
+    ghost found: { EndsAt input.now ends },
 }
 
-// The body of section k, where a walk found them all.
-fn body(s: &[u8], ends: [usize; SECTIONS], k: usize) -> &[u8]
-    requires { (k < length sections) × EndsAt s.now ends }
-    ensures { result.now ≡ get_or (in_turn (bodies_in (walked s.now))) k [] }
-{
-    let count = count_at(ends, k);
-    let end = ends[k];
-    &s[count + 1..end]
-}
-
-// What the sections ask for, where a walk found them all: rows 4 to 6. The matrix is read last, straight into the answer.
-fn judge(s: &[u8], ends: [usize; SECTIONS]) -> Checked
-    requires { EndsAt s.now ends }
-    ensures { result ≡ judged (bodies_in (walked s.now)) }
-{
-    let wiring = wiring::wiring_in(body(s, ends, WIRING));
-    let video = video::video_in(body(s, ends, VIDEO));
-    let sound = sound::sound_in(body(s, ends, AUDIO));
-    let section = body(s, ends, MATRIX);
-    let bare = section.len() == 0;
-    let number = fields(wiring, video, sound, bare, !bare & !matrix::fits(section));
-    if number != Refusal::NONE {
-        return refused(number);
+impl<'a> Found<'a> {
+    // Where the count of section k stands: where the body before it ends.
+    fn count_at(&self, k: usize) -> usize
+        requires { k < length sections }
+        ensures { result ≡ get_or (0 ∷ self.now.ends) k 0 }
+    {
+        if k == 0 {
+            return 0;
+        }
+        self.ends[k - 1]
     }
-    let matrix = matrix::read(section);
-    Checked {
-        refusal: Refusal::NONE,
-        request: Request {
-            wiring: wiring,
-            video: video,
-            sound: sound,
-            matrix: matrix,
-        },
+
+    // The body of section k.
+    fn body(&self, k: usize) -> &'a [u8]
+        requires { k < length sections }
+        ensures { result.now ≡ get_or (in_turn (bodies_in (walked self.now.input.now))) k [] }
+    {
+        let count = self.count_at(k);
+        let end = self.ends[k];
+        &self.input[count + 1..end]
+    }
+
+    // What the sections ask for: rows 4 to 6. The matrix is read last, straight into the answer.
+    fn judge(&self) -> Result<Request, Refusal>
+        ensures { ask_told result ≡ judged (bodies_in (walked self.now.input.now)) }
+    {
+        let wiring = wiring::wiring_in(self.body(WIRING));
+        let video = video::video_in(self.body(VIDEO));
+        let sound = sound::sound_in(self.body(AUDIO));
+        let section = self.body(MATRIX);
+        let bare = section.is_empty();
+        let fields = Fields {
+            wiring,
+            video,
+            sound,
+            bare,
+            spoiled: !bare & !matrix::fits(section),
+        };
+        fields.check()?;
+        Ok(Request {
+            wiring,
+            video,
+            sound,
+            matrix: matrix::read(section),
+        })
     }
 }
 
 // The request that an input asks for: rows 1 to 6. Where a later row refuses it, it is known.
-pub fn ask(s: &[u8]) -> Checked
-    ensures { Asks s.now result }
+pub fn ask(s: &[u8]) -> Result<Request, Refusal>
+    ensures { Asks s.now (ask_told result) }
 {
-    let places = walk(s);
-    if places.refusal != Refusal::NONE {
-        return refused(places.refusal);
-    }
-    let ends = places.ends;
+    let ends = walk(s)?;
     if ends[LAST] != s.len() {
-        return refused(Refusal::BYTES_AFTER);
+        return Err(Refusal::BytesAfter);
     }
-    judge(s, ends)
+    let found = Found { input: s, ends };
+    found.judge()
 }
 
 // The limits of a video and a sound: rows 17 and 20.
-pub fn limits(video: Video, sound: Sound) -> u8
-    ensures { result ≡ limit_of video sound }
+pub fn limits(video: Video, sound: Sound) -> Result<(), Refusal>
+    ensures { given_by result ≡ limit_of video sound }
 {
     if clock::is_above(video) {
-        return Refusal::CLOCK_ABOVE;
+        return Err(Refusal::ClockAbove);
     }
     if blanking::too_much(video, sound) {
-        return Refusal::SOUND_TOO_MUCH;
+        return Err(Refusal::SoundTooMuch);
     }
-    Refusal::NONE
+    Ok(())
 }
 
-// A request in hand, nobody's bytes: which of rows 4 to 6, 17 and 20 refuses it, 0 for none.
-pub fn allowed(r: Request) -> u8
-    ensures { result ≡ allowed_of r }
+// A request in hand, nobody's bytes: which of rows 4 to 6, 17 and 20 refuses it.
+pub fn allowed(r: Request) -> Result<(), Refusal>
+    ensures { given_by result ≡ allowed_of r }
 {
-    let wiring = r.wiring;
-    let sound = r.sound;
-    let matrix = r.matrix;
-    let number = fields(
-        wiring,
-        r.video,
-        sound,
-        matrix.on == 0,
-        !matrix::in_range(matrix),
-    );
-    if number != Refusal::NONE {
-        return number;
-    }
-    limits(r.video, sound)
+    let fields = Fields {
+        wiring: r.wiring,
+        video: r.video,
+        sound: r.sound,
+        bare: r.matrix.on == 0,
+        spoiled: !matrix::in_range(r.matrix),
+    };
+    fields.check()?;
+    limits(r.video, r.sound)
 }
 
 // A request read from an input: rows 1 to 6, 17 and 20.
-pub fn read(s: &[u8]) -> Checked
-    ensures { Reads s.now result }
+pub fn read(s: &[u8]) -> Result<Known, Refusal>
+    ensures reads { Reads s.now (checked_told result) }
+    ensures known { IfOk result (λ k. Asks s.now (ask_told (Ok k.request))) }
+    ensures unknown { IfErr result (λ e. Asks s.now (ask_told (Err e))) }
+    ensures limit { IfOk result (λ k. limit_number k.limit ≡ limit_of k.request.video k.request.sound) }
 {
-    let mut asked = ask(s);
-    if asked.refusal != Refusal::NONE {
-        return asked;
-    }
-    let request = asked.request;
-    let sound = request.sound;
-    asked.refusal = limits(request.video, sound);
-    asked
+    let request = ask(s)?;
+    let limit = limits(request.video, request.sound).err();
+    Ok(Known { request, limit })
 }
 
 // N and CTS for a request: row 9.
-pub fn pair_for(r: Request) -> Pair
-    ensures { Pairs r result }
+pub fn pair_for(r: Request) -> Result<NCts, Refusal>
+    ensures { Pairs r (pair_told result) }
 {
-    let sound = r.sound;
-    match sound {
-        Sound::Off => clock::audio_off(),
-        Sound::On {
-            rate,
-            channels: _,
-            coherent,
-        } => clock::pair_of(r.video, rate, coherent),
+    match r.sound {
+        Sound::Off => Ok(clock::audio_off()),
+        Sound::On { rate, coherent, .. } => clock::pair_of(r.video, rate, coherent),
     }
 }
 
 // N and CTS over a request slice: rows 1 to 6, 17, 20 and 9.
-pub fn ncts(s: &[u8]) -> Pair
-    ensures { PairsInput s.now result }
+pub fn ncts(s: &[u8]) -> Result<NCts, Refusal>
+    ensures { PairsInput s.now (pair_told result) }
 {
-    let checked = read(s);
-    if checked.refusal != Refusal::NONE {
-        return Pair {
-            refusal: checked.refusal,
-            n: 0,
-            cts: 0,
-        };
-    }
-    let request = checked.request;
-    pair_for(request)
+    pair_for(read(s)?.within()?)
 }
 
 // The sections as they stand in an input: over any sections, and those of a request.

@@ -2,6 +2,7 @@
 ghost use Rattle.std.specs.Prelude.{◌≡◌, [], get_or};
 ghost use Rattle.lists.specs.Among.{among};
 ghost use Rattle.request.specs.Sections.{sections, walked};
+ghost use Rattle.request.specs.Numbered.{places_told};
 ghost use Rattle.request.specs.Places.{places_of};
 
 use refusals::Refusal;
@@ -10,6 +11,7 @@ use video::VIDEO_COUNT;
 use wiring::{FOUR_COUNT, TWELVE_COUNT};
 
 // How many sections there are, and the place of each in the order.
+// Kept, no plainer: numbers and no enum, for they are the indices of the ends that `walk` finds, and `allows` takes any number.
 pub const SECTIONS: usize = 4;
 
 pub const WIRING: usize = 0;
@@ -32,68 +34,38 @@ pub const LONGEST: usize = SECTIONS
     + AUDIO_COUNT as usize
     + MATRIX_COUNT as usize;
 
-// Where the body of each section ends in the input, or the number of a refusal with zeros beside it. A body starts after its count, which
-// stands where the body before it ends.
-#[derive(Clone, Copy)]
-pub struct Places {
-    pub refusal: u8,
-    pub ends: [usize; SECTIONS],
-}
-
 // Whether section k allows a count: a line for each section.
 pub fn allows(k: usize, count: u8) -> bool
     ensures { result ≡ among count (get_or sections k []) }
 {
-    if k == WIRING {
-        return (count == 0) | ((count == FOUR_COUNT) | (count == TWELVE_COUNT));
+    match k {
+        WIRING => matches!(count, 0 | FOUR_COUNT | TWELVE_COUNT),
+        VIDEO => count == VIDEO_COUNT,
+        AUDIO => matches!(count, 0 | AUDIO_COUNT),
+        MATRIX => matches!(count, 0 | MATRIX_COUNT),
+        _ => false,
     }
-    if k == VIDEO {
-        return count == VIDEO_COUNT;
-    }
-    if k == AUDIO {
-        return (count == 0) | (count == AUDIO_COUNT);
-    }
-    if k == MATRIX {
-        return (count == 0) | (count == MATRIX_COUNT);
-    }
-    false
 }
 
-// The sections of an input: rows 1 and 2.
-pub fn walk(s: &[u8]) -> Places
-    ensures { result ≡ places_of (walked s.now) }
+// The sections of an input: where the body of each ends, or rows 1 and 2. A body starts after its count, which stands where the body before
+// it ends.
+pub fn walk(s: &[u8]) -> Result<[usize; SECTIONS], Refusal>
+    ensures { places_told result ≡ places_of (walked s.now) }
 {
     let mut ends = [0usize; SECTIONS];
     let mut place: usize = 0;
-    let mut k: usize = 0;
-    while k < SECTIONS {
-        if s.len() <= place {
-            return Places {
-                refusal: Refusal::INPUT_ENDS,
-                ends: [0usize; SECTIONS],
-            };
-        }
-        let count = s[place];
+    for (k, end) in ends.iter_mut().enumerate() {
+        let count = *s.get(place).ok_or(Refusal::InputEnds)?;
         if !allows(k, count) {
-            return Places {
-                refusal: Refusal::COUNT_NOT_ALLOWED,
-                ends: [0usize; SECTIONS],
-            };
+            return Err(Refusal::CountNotAllowed);
         }
         let start = place + 1;
-        let n = count as usize;
+        let n = usize::from(count);
         if s.len() - start < n {
-            return Places {
-                refusal: Refusal::INPUT_ENDS,
-                ends: [0usize; SECTIONS],
-            };
+            return Err(Refusal::InputEnds);
         }
         place = start + n;
-        ends[k] = place;
-        k = k + 1;
+        *end = place;
     }
-    Places {
-        refusal: Refusal::NONE,
-        ends: ends,
-    }
+    Ok(ends)
 }

@@ -12,7 +12,9 @@ ghost use Rattle.sound.specs.Theorems.{SoundBody, SoundRange, RateTable};
 pub const AUDIO_COUNT: u8 = 3;
 
 // What the audio section asks for.
-#[derive(Clone, Copy)]
+// Kept, what may not change: the fields of `On` are bytes and no enums, for any byte may stand in a request, row 5 judges it, and `SoundBody` and
+// `SoundRange` speak of all of them.
+#[derive(Clone, Copy, Debug, PartialEq, Eq)]
 pub enum Sound {
     Off,
     On {
@@ -22,62 +24,61 @@ pub enum Sound {
     },
 }
 
-// The table of the rates 0 to 6, by its two columns: Hz, and the code.
-const RATES: usize = 7;
+// A row of the table of the rates: Hz, and the code.
+struct Rate {
+    hertz: u32,
+    code: u8,
+}
 
-const HERTZ: [u32; RATES] = [32000, 44100, 48000, 88200, 96000, 176400, 192000];
-
-const CODES: [u8; RATES] = [0b0011, 0b0000, 0b0010, 0b1000, 0b1010, 0b1100, 0b1110];
+// The rates 0 to 6.
+#[rattlefmt::skip]
+static RATES: [Rate; 7] = [
+    Rate { hertz: 32000, code: 0b0011 },
+    Rate { hertz: 44100, code: 0b0000 },
+    Rate { hertz: 48000, code: 0b0010 },
+    Rate { hertz: 88200, code: 0b1000 },
+    Rate { hertz: 96000, code: 0b1010 },
+    Rate { hertz: 176400, code: 0b1100 },
+    Rate { hertz: 192000, code: 0b1110 },
+];
 
 // A rate in Hz; 0 for a number that is none.
+// Kept, what may not change: 0 here and in `code_of`, and 7 in `rate_of`, stand for none and are no `Option`, for `hertz_of`, `code_for` and
+// `rate_of` say so, and `RateTable` has these numbers.
+// Kept, no plainer: a function that finds the row for both would have a contract that says what both of theirs say.
 pub fn hertz(rate: u8) -> u32
     ensures { result ≡ hertz_of rate }
 {
-    if RATES <= rate as usize {
-        return 0;
-    }
-    HERTZ[rate as usize]
+    RATES.get(usize::from(rate)).map_or(0, |row| row.hertz)
 }
 
 // The code of a rate; 0 for a number that is none.
 pub fn code_of(rate: u8) -> u8
     ensures { (result ≡ code_for rate) × (result ≤ 15) }
 {
-    if RATES <= rate as usize {
-        return 0;
-    }
-    CODES[rate as usize]
+    RATES.get(usize::from(rate)).map_or(0, |row| row.code)
 }
 
-// The rate of a code; 7 for a code that is none. The codes are named before the loop, since a constant is built anew wherever it is named.
+// The rate of a code; 7 for a code that is none.
 pub fn rate_of(code: u8) -> u8
     ensures { result ≡ rate_of code }
 {
-    let codes = CODES;
-    let mut i: usize = 0;
-    while i < RATES {
-        if codes[i] == code {
-            return i as u8;
-        }
-        i = i + 1;
-    }
-    i as u8
+    let place = RATES.iter().position(|row| row.code == code);
+    place.unwrap_or(RATES.len()) as u8
 }
 
 // What a body asks for.
 pub fn sound_in(body: &[u8]) -> Sound
     ensures { result ≡ sound_of body.now }
 {
-    if body.len() == 0 {
-        return Sound::Off;
-    }
-    let rate = lists::byte_at(body, 0);
-    let channels = lists::byte_at(body, 1);
-    let coherent = lists::byte_at(body, 2);
-    Sound::On {
-        rate: rate,
-        channels: channels,
-        coherent: coherent,
+    if body.is_empty() {
+        Sound::Off
+    } else {
+        Sound::On {
+            rate: lists::byte_at(body, 0),
+            channels: lists::byte_at(body, 1),
+            coherent: lists::byte_at(body, 2),
+        }
     }
 }
 
@@ -85,14 +86,7 @@ pub fn sound_in(body: &[u8]) -> Sound
 pub fn is_on(sound: Sound) -> bool
     ensures { result ≡ is_on sound }
 {
-    match sound {
-        Sound::Off => false,
-        Sound::On {
-            rate: _,
-            channels: _,
-            coherent: _,
-        } => true,
-    }
+    matches!(sound, Sound::On { .. })
 }
 
 // Row 5, of this section.
@@ -105,7 +99,7 @@ pub fn outside(sound: Sound) -> bool
             rate,
             channels,
             coherent,
-        } => (6 < rate) | (((channels != 2) & (channels != 8)) | (1 < coherent)),
+        } => 6 < rate || !matches!(channels, 2 | 8) || 1 < coherent,
     }
 }
 

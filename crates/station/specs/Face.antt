@@ -1,9 +1,9 @@
 -- The C face of the calls on a request: what each exported call promises is the library's own answer, field by field, and what it leaves in the lent bytes. The
 -- definitions follow the code; `Settled` of the promises says of each call which outcome this is.
 use Rattle.std.specs.Prelude.{◌≡◌, List, ℕ}
-use Rattle.clock.specs.declared.Pair.{Pair}
-use Rattle.plan.specs.declared.Planned.{Planned}
-use Rattle.decode.specs.declared.Decoded.{Decoded}
+use Rattle.clock.specs.Numbered.{Pair}
+use Rattle.plan.specs.Numbered.{Planned}
+use Rattle.decode.specs.Numbered.{Decoded}
 use Rattle.request.specs.Read.{ncts_of}
 use Rattle.plan.specs.Plan.{plan_of, plan_buffer}
 use Rattle.decode.specs.Decode as decoding

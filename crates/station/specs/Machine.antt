@@ -3,9 +3,9 @@
 use Rattle.std.specs.Prelude.{◌≡◌, List, ℕ}
 use Rattle.registers.specs.declared.Class.{Class}
 use Rattle.registers.specs.Classes.{class_at}
-use Rattle.views.specs.declared.view.Part.{Part}
-use Rattle.views.specs.declared.view.Mute.{Mute}
-use Rattle.views.specs.declared.converter.Count.{Count}
+use Rattle.views.specs.Numbered.{Part}
+use Rattle.views.specs.Numbered.{Mute}
+use Rattle.views.specs.Numbered.{Count}
 use Rattle.views.specs.Entry.{Lent, enter_of, turn_of}
 use Rattle.views.specs.View.{sent_part, mute_of}
 use Rattle.views.specs.Converter.{matrix_answer, matrix_out}

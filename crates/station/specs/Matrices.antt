@@ -1,8 +1,8 @@
 -- The C face of the calls on a matrix: what each exported call promises, as in `Face`. `Settled` says which outcome this is.
 use Rattle.std.specs.Prelude.{◌≡◌, List, ℕ, Float}
-use Rattle.matrix.specs.declared.Pixel.{Pixel}
+use Rattle.matrix.specs.Numbered.{Pixel}
 use Rattle.matrix.specs.Preview.{preview_of}
-use Rattle.meter.specs.declared.Metered.{Metered}
+use Rattle.meter.specs.Numbered.{Metered}
 use Rattle.meter.specs.Found.{meter_of, meter_buffer}
 use Rattle.station.specs.declared.CountOut.{CountOut}
 use Rattle.station.specs.declared.PixelOut.{PixelOut}

@@ -1,6 +1,6 @@
 -- The C face of a pipe: what each exported call promises, as in `Face`. `Settled` says which outcome this is.
 use Rattle.std.specs.Prelude.{◌≡◌, List, ℕ}
-use Rattle.pipe.specs.declared.Piped.{Piped}
+use Rattle.pipe.specs.Numbered.{Piped}
 use Rattle.pipe.specs.Found.{take_of, take_pipe, end_pipe_of, end_pipe}
 use Rattle.station.specs.declared.PipedOut.{PipedOut}
 

@@ -1,7 +1,7 @@
 -- The C face of a screen's EDID: what each exported call promises, as in `Face`. `Settled` says which outcome this is.
 use Rattle.std.specs.Prelude.{◌≡◌, List, ℕ}
-use Rattle.edid.specs.declared.Monitor.{Monitor}
-use Rattle.edid.specs.declared.Choice.{Choice}
+use Rattle.edid.specs.Numbered.{Monitor}
+use Rattle.edid.specs.Numbered.{Choice}
 use Rattle.edid.specs.Found.{monitor_of, choose_of}
 use Rattle.station.specs.declared.MonitorOut.{MonitorOut}
 use Rattle.station.specs.declared.ChoiceOut.{ChoiceOut}

@@ -2,7 +2,7 @@
 use Rattle.std.specs.Prelude.{◌≡◌, List, ℕ}
 use Rattle.chip.specs.Write.{lent_as}
 use Rattle.views.specs.Entry.{marked}
-use Rattle.vendor.specs.declared.Verdict.{Verdict}
+use Rattle.vendor.specs.Numbered.{Verdict}
 use Rattle.vendor.specs.Found.{vet_of}
 use Rattle.station.specs.declared.machine.VerdictOut.{VerdictOut}
 

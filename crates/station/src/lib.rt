@@ -2,12 +2,21 @@
 // calls.
 #![tactic(auto)]
 
+ghost use Rattle.std.specs.Prelude.{◌≡◌};
+ghost use Rattle.refusals.specs.Numbered.{given_by, refusal_number, told};
+ghost use Rattle.pipe.specs.Numbered.{piped_told};
 ghost use Rattle.station.specs.Face.{StationPlan, StationDecode, StationNcts};
 ghost use Rattle.station.specs.Matrices.{StationPreview, StationMeter};
-ghost use Rattle.station.specs.Pipe.{StationPipeTake, StationPipeEnd};
+ghost use Rattle.station.specs.Pipe.{piped_out, StationPipeTake, StationPipeEnd};
 ghost use Rattle.station.specs.Screen.{StationEdid, StationChoose};
 
 pub mod machine;
+
+use clock::NCts;
+use edid::Chosen;
+use matrix::Codes;
+use pipe::Said;
+use refusals::Refusal;
 
 // struct station_count
 #[repr(C)]
@@ -17,9 +26,23 @@ pub struct CountOut {
     pub count: u32,
 }
 
+impl From<Result<u32, Refusal>> for CountOut {
+    ghost from_gives = { λ answer out. out ≡ told (λ count. record { refusal = 0; count = count }) (λ n. record { refusal = n; count = 0 }) answer };
+
+    fn from(answer: Result<u32, Refusal>) -> CountOut {
+        match answer {
+            Ok(count) => CountOut { refusal: 0, count },
+            Err(refusal) => CountOut {
+                refusal: number(refusal),
+                count: 0,
+            },
+        }
+    }
+}
+
 // struct station_pair
 #[repr(C)]
-#[derive(Clone, Copy)]
+#[derive(Clone, Copy, Default)]
 pub struct PairOut {
     pub refusal: u32,
     pub n: u32,
@@ -28,7 +51,7 @@ pub struct PairOut {
 
 // struct station_pixel
 #[repr(C)]
-#[derive(Clone, Copy)]
+#[derive(Clone, Copy, Default)]
 pub struct PixelOut {
     pub refusal: u32,
     pub a: u32,
@@ -38,16 +61,40 @@ pub struct PixelOut {
 
 // struct station_piped
 #[repr(C)]
-#[derive(Clone, Copy)]
+#[derive(Clone, Copy, Default)]
 pub struct PipedOut {
     pub refusal: u32,
     pub answered: u32,
     pub count: u32,
 }
 
+impl From<Said> for PipedOut {
+    ghost from_gives = { λ said out. out ≡ piped_out (piped_told said) };
+
+    fn from(said: Said) -> PipedOut {
+        match said {
+            Said::NoPipe => PipedOut {
+                refusal: number(Refusal::ImageLength),
+                ..PipedOut::default()
+            },
+            Said::Open => PipedOut::default(),
+            Said::Accepted { count } => PipedOut {
+                refusal: 0,
+                answered: 1,
+                count: count.into(),
+            },
+            Said::Refused { number } => PipedOut {
+                refusal: number.into(),
+                answered: 1,
+                count: 0,
+            },
+        }
+    }
+}
+
 // struct station_monitor
 #[repr(C)]
-#[derive(Clone, Copy)]
+#[derive(Clone, Copy, Default)]
 pub struct MonitorOut {
     pub refusal: u32,
     pub vics_low: u32,
@@ -58,44 +105,44 @@ pub struct MonitorOut {
 
 // struct station_choice
 #[repr(C)]
-#[derive(Clone, Copy)]
+#[derive(Clone, Copy, Default)]
 pub struct ChoiceOut {
     pub refusal: u32,
     pub place: u32,
     pub at: u32,
 }
 
+// The number that C is told of a refusal.
+fn number(refusal: Refusal) -> u32
+    ensures { result ≡ refusal_number refusal }
+{
+    u8::from(refusal).into()
+}
+
 // The write list of a request on an image, as pairs of address and value: refusals 1 to 6, 17, 20 and 7 to 10.
 pub fn station_plan(request: &[u8], image: &[u8], writes: &mut [u8]) -> CountOut
     ensures { StationPlan request.now image.now writes.old result writes.new }
 {
-    let planned = plan::plan(request, image, writes);
-    CountOut {
-        refusal: planned.refusal as u32,
-        count: planned.count,
-    }
+    plan::plan(request, image, writes).into()
 }
 
 // The request that ends in an image, family 0: refusals 7, 10 and 11. The count is that of its bytes.
 pub fn station_decode(image: &[u8], request: &mut [u8]) -> CountOut
     ensures { StationDecode image.now request.old result request.new }
 {
-    let decoded = decode::decode(image, request);
-    CountOut {
-        refusal: decoded.refusal as u32,
-        count: decoded.count,
-    }
+    decode::decode(image, request).into()
 }
 
 // N and CTS over a request: refusals 1 to 6, 17, 20 and 9.
 pub fn station_ncts(request: &[u8]) -> PairOut
     ensures { StationNcts request.now result }
 {
-    let pair = request::ncts(request);
-    PairOut {
-        refusal: pair.refusal as u32,
-        n: pair.n,
-        cts: pair.cts,
+    match request::ncts(request) {
+        Ok(NCts { n, cts }) => PairOut { refusal: 0, n, cts },
+        Err(refusal) => PairOut {
+            refusal: number(refusal),
+            ..PairOut::default()
+        },
     }
 }
 
@@ -103,12 +150,17 @@ pub fn station_ncts(request: &[u8]) -> PairOut
 pub fn station_preview(matrix: &[u8], a: u32, b: u32, c: u32) -> PixelOut
     ensures { StationPreview matrix.now a b c result }
 {
-    let pixel = matrix::preview(matrix, a, b, c);
-    PixelOut {
-        refusal: pixel.refusal as u32,
-        a: pixel.a as u32,
-        b: pixel.b as u32,
-        c: pixel.c as u32,
+    match matrix::preview(matrix, a, b, c) {
+        Ok(Codes { a, b, c }) => PixelOut {
+            refusal: 0,
+            a: a.into(),
+            b: b.into(),
+            c: c.into(),
+        },
+        Err(refusal) => PixelOut {
+            refusal: number(refusal),
+            ..PixelOut::default()
+        },
     }
 }
 
@@ -116,48 +168,39 @@ pub fn station_preview(matrix: &[u8], a: u32, b: u32, c: u32) -> PixelOut
 pub fn station_meter(numbers: &[f32], matrix: &mut [u8]) -> CountOut
     ensures { StationMeter numbers.now matrix.old result matrix.new }
 {
-    let metered = meter::take_matrix(numbers, matrix);
-    CountOut {
-        refusal: metered.refusal as u32,
-        count: metered.count,
-    }
+    meter::take_matrix(numbers, matrix).into()
 }
 
 // A part of a request, into a pipe: refusals 2 and 3 at once, and 7 of bytes that are no pipe.
 pub fn station_pipe_take(pipe: &mut [u8], part: &[u8]) -> PipedOut
     ensures { StationPipeTake pipe.old part.now result pipe.new }
 {
-    let piped = pipe::take(pipe, part);
-    PipedOut {
-        refusal: piped.refusal as u32,
-        answered: piped.answered as u32,
-        count: piped.count,
-    }
+    pipe::take(pipe, part).into()
 }
 
 // The end of the input: refusals 1 to 6, 17, 20 and 9, and 7 of bytes that are no pipe.
 pub fn station_pipe_end(pipe: &mut [u8]) -> PipedOut
     ensures { StationPipeEnd pipe.old result pipe.new }
 {
-    let piped = pipe::end(pipe);
-    PipedOut {
-        refusal: piped.refusal as u32,
-        answered: piped.answered as u32,
-        count: piped.count,
-    }
+    pipe::end(pipe).into()
 }
 
 // What a screen says of itself: refusals 21 to 23.
 pub fn station_edid(edid: &[u8]) -> MonitorOut
     ensures { StationEdid edid.now result }
 {
-    let monitor = edid::overview(edid);
-    MonitorOut {
-        refusal: monitor.refusal as u32,
-        vics_low: monitor.vics_low,
-        vics_high: monitor.vics_high,
-        rates_2: monitor.rates_2,
-        rates_8: monitor.rates_8,
+    match edid::overview(edid) {
+        Ok(screen) => MonitorOut {
+            refusal: 0,
+            vics_low: screen.vics_low,
+            vics_high: screen.vics_high,
+            rates_2: screen.rates_2,
+            rates_8: screen.rates_8,
+        },
+        Err(refusal) => MonitorOut {
+            refusal: number(refusal),
+            ..MonitorOut::default()
+        },
     }
 }
 
@@ -165,10 +208,15 @@ pub fn station_edid(edid: &[u8]) -> MonitorOut
 pub fn station_choose(edid: &[u8], request: &[u8], wishes: &[u8]) -> ChoiceOut
     ensures { StationChoose edid.now request.now wishes.now result }
 {
-    let choice = edid::choose(edid, request, wishes);
-    ChoiceOut {
-        refusal: choice.refusal as u32,
-        place: choice.place,
-        at: choice.at,
+    match edid::choose(edid, request, wishes) {
+        Ok(Chosen { place, at }) => ChoiceOut {
+            refusal: 0,
+            place,
+            at,
+        },
+        Err(refusal) => ChoiceOut {
+            refusal: number(refusal),
+            ..ChoiceOut::default()
+        },
     }
 }

@@ -1,13 +1,18 @@
 // The C face of the chip machine, of a vendor's list on it and of the class table: each call is a call of the library, taken apart.
+ghost use Rattle.std.specs.Prelude.{◌≡◌};
+ghost use Rattle.refusals.specs.Numbered.{given_by};
 ghost use Rattle.views.specs.Entry.{lent};
 ghost use Rattle.station.specs.Machine.{StationWrite, StationVsync, StationSent, StationMute, StationMatrix, StationClass};
 ghost use Rattle.station.specs.Vet.{StationVet};
 
-use crate::CountOut;
+use crate::{CountOut, number};
+use refusals::Refusal;
+use vendor::Fault;
+use views::Place;
 
 // struct station_part
 #[repr(C)]
-#[derive(Clone, Copy)]
+#[derive(Clone, Copy, Default)]
 pub struct PartOut {
     pub refusal: u32,
     pub held: u32,
@@ -25,7 +30,7 @@ pub struct StateOut {
 
 // struct station_verdict
 #[repr(C)]
-#[derive(Clone, Copy)]
+#[derive(Clone, Copy, Default)]
 pub struct VerdictOut {
     pub refusal: u32,
     pub place: u32,
@@ -42,6 +47,16 @@ pub struct ClassOut {
     pub bits: u32,
 }
 
+// 0, or the number of the refusal.
+fn refused(answer: Result<(), Refusal>) -> u32
+    ensures { result ≡ given_by answer }
+{
+    match answer {
+        Ok(()) => 0,
+        Err(refusal) => number(refusal),
+    }
+}
+
 // One write of the chip machine: refusals 7 and 13.
 pub fn station_write(
     image: &mut [u8],
@@ -54,7 +69,7 @@ pub fn station_write(
     ensures { StationWrite (lent image.old packet.old coefficients.old mark.old) address value result
         (lent image.new packet.new coefficients.new mark.new) }
 {
-    views::write_into(image, packet, coefficients, mark, address, value) as u32
+    refused(views::write_into(image, packet, coefficients, mark, address, value))
 }
 
 // One Vsync of the chip machine: refusal 7.
@@ -67,19 +82,24 @@ pub fn station_vsync(
     ensures { StationVsync (lent image.old packet.old coefficients.old mark.old) result
         (lent image.new packet.new coefficients.new mark.new) }
 {
-    views::vsync_into(image, packet, coefficients, mark) as u32
+    refused(views::vsync_into(image, packet, coefficients, mark))
 }
 
 // Where the packet that is sent stands: refusals 5, 7 and 13.
 pub fn station_sent(image: &[u8], packet: &[u8], which: u32) -> PartOut
     ensures { StationSent image.now packet.now which result }
 {
-    let part = views::sent_part(image, packet, which);
-    PartOut {
-        refusal: part.refusal as u32,
-        held: part.held as u32,
-        start: part.start,
-        len: part.len,
+    match views::sent_part(image, packet, which) {
+        Ok(Place { held, start, len }) => PartOut {
+            refusal: 0,
+            held: held.into(),
+            start,
+            len,
+        },
+        Err(refusal) => PartOut {
+            refusal: number(refusal),
+            ..PartOut::default()
+        },
     }
 }
 
@@ -87,10 +107,15 @@ pub fn station_sent(image: &[u8], packet: &[u8], which: u32) -> PartOut
 pub fn station_mute(image: &[u8], packet: &[u8]) -> StateOut
     ensures { StationMute image.now packet.now result }
 {
-    let bits = views::mute_of(image, packet);
-    StateOut {
-        refusal: bits.refusal as u32,
-        mute: bits.mute as u32,
+    match views::mute_of(image, packet) {
+        Ok(mute) => StateOut {
+            refusal: 0,
+            mute: mute.into(),
+        },
+        Err(refusal) => StateOut {
+            refusal: number(refusal),
+            mute: 0,
+        },
     }
 }
 
@@ -98,11 +123,7 @@ pub fn station_mute(image: &[u8], packet: &[u8]) -> StateOut
 pub fn station_matrix(image: &[u8], coefficients: &[u8], mark: u8, matrix: &mut [u8]) -> CountOut
     ensures { StationMatrix image.now coefficients.now mark matrix.old result matrix.new }
 {
-    let count = views::matrix_in_use(image, coefficients, mark, matrix);
-    CountOut {
-        refusal: count.refusal as u32,
-        count: count.count,
-    }
+    views::matrix_in_use(image, coefficients, mark, matrix).into()
 }
 
 // Whether a vendor's list may be run on the chip: refusals 7, 8, 14, 15 and 16; with 15 the place of the first bad pair.
@@ -115,10 +136,16 @@ pub fn station_vet(
 ) -> VerdictOut
     ensures { StationVet image.now packet.now coefficients.now mark list.now result }
 {
-    let verdict = vendor::vet(image, packet, coefficients, mark, list);
-    VerdictOut {
-        refusal: verdict.refusal as u32,
-        place: verdict.place,
+    match vendor::vet(image, packet, coefficients, mark, list) {
+        Ok(()) => VerdictOut::default(),
+        Err(Fault::Refused(refusal)) => VerdictOut {
+            refusal: number(refusal),
+            place: 0,
+        },
+        Err(Fault::Pair { place }) => VerdictOut {
+            refusal: number(Refusal::BadPair),
+            place,
+        },
     }
 }
 
@@ -128,10 +155,10 @@ pub fn station_class(address: u8) -> ClassOut
 {
     let class = registers::class_at(address);
     ClassOut {
-        read_only: class.read_only as u32,
-        mandated: class.mandated as u32,
-        named: class.named as u32,
-        free: class.free as u32,
-        bits: class.bits as u32,
+        read_only: class.read_only.into(),
+        mandated: class.mandated.into(),
+        named: class.named.into(),
+        free: class.free.into(),
+        bits: class.bits.into(),
     }
 }

@@ -11,7 +11,7 @@ use Rattle.matrix.specs.Matrix.{fields}
 use Rattle.refusals.specs.Rows.{image_length, holds_up, list_length, bad_pair, bad_end}
 use Rattle.refusals.specs.Tests.{◌if◌, lowest}
 use Rattle.chip.specs.declared.Chip.{Chip}
-use Rattle.chip.specs.declared.Wrote.{Wrote}
+use Rattle.chip.specs.Numbered.{Wrote}
 use Rattle.chip.specs.Machine.{Write, Group, avi, audio, gc, matrix, packets, converter, up, holds_of, registers_of, held, in_use, coefficients, gc_in_use, mute}
 use Rattle.chip.specs.Write.{lent_as, image_after, stored, refuses, write_of, vsync_of}
 use Rattle.chip.proofs.Writes.{written_as, stepped, turned}
@@ -19,7 +19,7 @@ use Rattle.views.specs.Entry.{is_sized}
 use Rattle.writes.specs.List.{pairs_of, covers, ready}
 use Rattle.decode.specs.Decode.{some_ends}
 use Rattle.cut.specs.Run.{InUse, all_in_use}
-use Rattle.vendor.specs.declared.Verdict.{Verdict}
+use Rattle.vendor.specs.Numbered.{Verdict}
 use Rattle.vendor.specs.Vendor.{end_of, shortened, most_pairs}
 use Rattle.vendor.specs.Found.{packet_moving, matrix_moving, may_move, fair_test, is_turned, is_last, is_event, is_between, is_next, first_fault, place_of, vet_refusal, vet_of}
 use Rattle.vendor.proofs.Moved.{Packet, avi_packet_lem, audio_packet_lem, gc_packet, stays, moves, matrix_stays, matrix_moves, vsync_use}

@@ -14,7 +14,7 @@ use Rattle.bits.specs.Merge.{merge}
 use Rattle.registers.specs.Classes.{read_only}
 use Rattle.lists.proofs.Decides.{Decides, itself, equal, together, restated}
 use Rattle.chip.specs.declared.Chip.{Chip}
-use Rattle.chip.specs.declared.Wrote.{Wrote}
+use Rattle.chip.specs.Numbered.{Wrote}
 use Rattle.chip.specs.Machine.{Write, avi, audio, packets, holds_of, in_use, coefficients}
 use Rattle.chip.specs.Write.{image_after, stored, two, refuses, write_of, vsync_of}
 use Rattle.chip.specs.Step.{TwoUp}

@@ -29,7 +29,7 @@ use Rattle.decode.specs.Extract.{extract}
 use Rattle.decode.proofs.Answers.{none_ends, found_ends}
 use Rattle.cut.specs.Run.{all_in_use, Between, Fair}
 use Rattle.cut.proofs.NoneRefused.{neat_two}
-use Rattle.vendor.specs.declared.Verdict.{Verdict}
+use Rattle.vendor.specs.Numbered.{Verdict}
 use Rattle.vendor.specs.Vendor.{pair_at, cut_at, end_of, pairs_by, Inside, LeavesTwo, Decodable, Passes, shortened, Fails, Bad, FirstBad, SomeBad, most_pairs, WrongLength, vet_rules}
 use Rattle.vendor.specs.Found.{place_of, vet_tests, vet_refusal, vet_of, Untold}
 use Rattle.vendor.specs.Theorems.{Readable, Vetted}

@@ -1,5 +1,6 @@
 -- The passes over a list, turn by turn: what is done and what is left make up the whole.
---     written        a turn's write, by what `store` answers; plain_write, held_write
+--     pair_code      a pair as the code has it; pairs_code, length_writes
+--     by_code        a turn's write, by what `store` leaves; plain_write
 --     Counts         how many are taken, at a place; counts_start, counts_away, counts_next, counts_stop, counts_end
 --     Ends           the first pass at a place; ends_start, ends_next, ends_end
 --     Left           the second; left_start, left_next, left-stop, left_end
@@ -7,7 +8,7 @@
 use mathlib.Core.Path.{◌≡◌, refl, sym, ap, ap₂, subst, ◌∙◌}
 use mathlib.Core.Bool.{Bool, true, false, cond, not, ◌&&◌, ◌||◌}
 use mathlib.Core.List.{List, [], ◌∷◌}
-use Prim.Native.Nat.{ℕ, suc, ◌+◌, ◌*◌, ◌<◌, ◌≤◌, suc-le-suc}
+use Prim.Native.Nat.{ℕ, zero, suc, ◌+◌, ◌/◌, ◌<◌, ◌≤◌, suc-le-suc}
 use native.Mathlib.Nat.{suc-ne-zero}
 use native.Mathlib.Numerals.{add-one}
 use native.Mathlib.Omega.{arith}
@@ -24,16 +25,17 @@ use Rattle.registers.specs.Classes.{class_at, read_only, mandated, free, bits}
 use Rattle.registers.specs.ByColumns.{HasColumns}
 use Rattle.registers.proofs.Columns.{at_address}
 use Rattle.chip.specs.declared.Chip.{Chip}
-use Rattle.chip.specs.declared.Wrote.{Wrote}
-use Rattle.chip.specs.Machine.{Write, ◌gets◌, packets, converter, holds_of, held}
+use Rattle.chip.specs.Numbered.{Wrote}
+use Rattle.chip.specs.Machine.{Write, ◌gets◌, packets, converter, holds_of}
 use Rattle.chip.specs.Write.{lent_as, put, stored, two, holds_after, refuses, write_of, vsync_of, Stores}
 use Rattle.chip.proofs.Writes.{written_as, refused_write_lem, taken_write}
+use Rattle.std.specs.Simd.{first_chunks}
 use Rattle.writes.specs.List.{pairs_of, is_written, column}
 use Rattle.writes.specs.Columns.{kept_bits}
 use Rattle.writes.proofs.Image.{column_at}
-use Rattle.writes.proofs.Pairs.{length_pairs, pair_at_lem}
 use Rattle.cut.specs.Run.{InUse}
 use Rattle.cut.proofs.VsyncsLeave.{alike_self, alike_vsync, alike_write}
+use Rattle.vendor.specs.Numbered.{writes_in}
 use Rattle.vendor.specs.Vendor.{pair_at, end_of, shortened}
 use Rattle.vendor.specs.Found.{taken_by, fair_test, is_last, is_event, is_next, first_fault}
 
@@ -41,16 +43,23 @@ use Rattle.vendor.specs.Found.{taken_by, fair_test, is_last, is_event, is_next, 
 abbrev pub wrote : List Write → ℕ → Chip → Wrote
 wrote ws i t = write_of t (pair_at ws i).address (pair_at ws i).value
 
--- the bytes of a pair
-module _ (list : List ℕ) (i : ℕ) (h : i < length (pairs_of list)) where
-  pub pair_inside : 2 * i + 1 < length list
-  pair_inside = omega (arith, h, length_pairs list)
+-- a pair as the code has it
+pub pair_code : (ps : List (List ℕ)) (i : ℕ) → pair_at (writes_in ps) i ≡ get_or (get_or ps i []) 0 0 gets get_or (get_or ps i []) 1 0
+pair_code [] i = refl
+pair_code (p ∷ ps) zero = refl
+pair_code (p ∷ ps) (suc i) = pair_code ps i
 
-  pub address_at : (pair_at (pairs_of list) i).address ≡ get_or list (2 * i) 0
-  address_at = ap (λ (w : Write). w.address) (pair_at_lem list i h)
+pub pairs_code : (k : ℕ) (l : List ℕ) → k ≡ length l / 2 → writes_in (first_chunks 2 k l) ≡ pairs_of l
+pairs_code zero [] e = refl
+pairs_code (suc k) [] e = absurd (omega arith)
+pairs_code zero (a ∷ []) e = refl
+pairs_code (suc k) (a ∷ []) e = absurd (omega arith)
+pairs_code zero (a ∷ v ∷ l) e = absurd (omega arith)
+pairs_code (suc k) (a ∷ v ∷ l) e = ap (λ (ws : List Write). a gets v ∷ ws) (pairs_code k l (omega arith))
 
-  pub value_at : (pair_at (pairs_of list) i).value ≡ get_or list (2 * i + 1) 0
-  value_at = ap (λ (w : Write). w.value) (pair_at_lem list i h)
+pub length_writes : (ps : List (List ℕ)) → length (writes_in ps) ≡ length ps
+length_writes [] = refl
+length_writes (p ∷ ps) = ap suc (length_writes ps)
 
 -- a state keeps the length of its image
 kept_length : (t : Chip) (address byte : ℕ) (done : Bool) → length (cond done (put address byte t) t).image ≡ length t.image
@@ -59,31 +68,25 @@ kept_length t address byte true = length-set t.image address byte
 kept_length t address byte false = refl
 
 -- the byte that the code stores, and the answer of the write
-module _ (list : List ℕ) (i : ℕ) (t left : Chip) (byte : ℕ) (done : Bool) (h : i < length (pairs_of list)) (whole : length t.image ≡ 256)
-    (b : byte ≡ merge 8 (read_only (get_or list (2 * i) 0)) (get_or t.image (get_or list (2 * i) 0) 0) (get_or list (2 * i + 1) 0))
-    (st : Stores t (get_or list (2 * i) 0) byte done left) where
-  its_byte : byte ≡ stored (get_or list (2 * i) 0) (get_or list (2 * i + 1) 0) t.image
+module _ (ws : List Write) (i : ℕ) (t left : Chip) (byte : ℕ) (done : Bool) (whole : length t.image ≡ 256)
+    (b : byte ≡ merge 8 (read_only (pair_at ws i).address) (get_or t.image (pair_at ws i).address 0) (pair_at ws i).value)
+    (st : Stores t (pair_at ws i).address byte done left) where
+  its_byte : byte ≡ stored (pair_at ws i).address (pair_at ws i).value t.image
   unfolding stored
   its_byte = b
 
-  stores : Stores t (get_or list (2 * i) 0) (stored (get_or list (2 * i) 0) (get_or list (2 * i + 1) 0) t.image) done left
-  stores = subst (λ (n : ℕ). Stores t (get_or list (2 * i) 0) n done left) its_byte st
+  stores : Stores t (pair_at ws i).address (stored (pair_at ws i).address (pair_at ws i).value t.image) done left
+  stores = subst (λ (n : ℕ). Stores t (pair_at ws i).address n done left) its_byte st
 
-  its_pair : write_of t (get_or list (2 * i) 0) (get_or list (2 * i + 1) 0) ≡ wrote (pairs_of list) i t
-  its_pair = ap (λ (w : Write). write_of t w.address w.value) (sym (pair_at_lem list i h))
+  not_taken : done ≡ false → wrote ws i t ≡ record { refusal = 13; chip = t }
+  not_taken e = sym (refused_write_lem t (pair_at ws i).address (pair_at ws i).value whole done left stores e)
 
-  pub not_taken : done ≡ false → wrote (pairs_of list) i t ≡ record { refusal = 13; chip = t }
-  not_taken e = sym (refused_write_lem t (get_or list (2 * i) 0) (get_or list (2 * i + 1) 0) whole done left stores e ∙ its_pair)
+  taken : done ≡ true → wrote ws i t ≡ record { refusal = 0; chip = left }
+  taken e = sym (taken_write t (pair_at ws i).address (pair_at ws i).value whole done left stores e)
 
   -- the state that is left
-  pub left_as : done ≡ false → left ≡ t
-  left_as e = st.1 ∙ rw e
-
-  pub left_sized : length left.image ≡ 256
-  left_sized = ap (λ (u : Chip). length u.image) st.1 ∙ kept_length t (get_or list (2 * i) 0) byte done ∙ whole
-
-  pub taken : done ≡ true → wrote (pairs_of list) i t ≡ record { refusal = 0; chip = left }
-  taken e = sym (taken_write t (get_or list (2 * i) 0) (get_or list (2 * i + 1) 0) whole done left stores e ∙ its_pair)
+  left_sized : length left.image ≡ 256
+  left_sized = ap (λ (u : Chip). length u.image) st.1 ∙ kept_length t (pair_at ws i).address byte done ∙ whole
 
 -- where a write is not refused, no two packet holds are up before it
 one_hold : (ws : List Write) (i : ℕ) (t : Chip) → ((wrote ws i t).refusal ≡ 13 → ⊥) → two (holds_of packets t.image) ≡ false
@@ -110,20 +113,24 @@ plain_write t address byte h g =
     neither true = refl
     neither false = refl
 
-pub held_write : (t left : Chip) (address byte : ℕ) (done : Bool) → Stores t address byte done left → two (holds_of packets t.image) ≡ false
-    → Stores t address byte (not (two (holds_after address byte t.image))) left
-held_write t left address byte done s g =
-    subst (λ (d : Bool). Stores t address byte d left) (s.0 ∙ ap (λ (b : Bool). not (b || two (holds_after address byte t.image))) g) s
-
 -- a write that is not refused
-pub by_done : (list : List ℕ) (i : ℕ) (t left : Chip) (byte : ℕ) (done : Bool) → i < length (pairs_of list) → length t.image ≡ 256
-    → byte ≡ merge 8 (read_only (get_or list (2 * i) 0)) (get_or t.image (get_or list (2 * i) 0) 0) (get_or list (2 * i + 1) 0)
-    → (two (holds_of packets t.image) ≡ false → Stores t (get_or list (2 * i) 0) byte done left) → ((wrote (pairs_of list) i t).refusal ≡ 13 → ⊥)
-    → (wrote (pairs_of list) i t ≡ record { refusal = 0; chip = left }) × (length left.image ≡ 256)
-by_done list i t left byte true h z b st n =
-    let s = st (one_hold (pairs_of list) i t n) in (taken list i t left byte true h z b s refl, left_sized list i t left byte true h z b s)
-by_done list i t left byte false h z b st n =
-    absurd (n (ap (λ (w : Wrote). w.refusal) (not_taken list i t left byte false h z b (st (one_hold (pairs_of list) i t n)) refl)))
+by_done : (ws : List Write) (i : ℕ) (t left : Chip) (byte : ℕ) (done : Bool) → length t.image ≡ 256
+    → byte ≡ merge 8 (read_only (pair_at ws i).address) (get_or t.image (pair_at ws i).address 0) (pair_at ws i).value
+    → (two (holds_of packets t.image) ≡ false → Stores t (pair_at ws i).address byte done left) → ((wrote ws i t).refusal ≡ 13 → ⊥)
+    → (wrote ws i t ≡ record { refusal = 0; chip = left }) × (length left.image ≡ 256)
+by_done ws i t left byte true z b st n =
+    let s = st (one_hold ws i t n) in (taken ws i t left byte true z b s refl, left_sized ws i t left byte true z b s)
+by_done ws i t left byte false z b st n =
+    absurd (n (ap (λ (w : Wrote). w.refusal) (not_taken ws i t left byte false z b (st (one_hold ws i t n)) refl)))
+
+-- of a pair as the code has it, w
+pub by_code : (ws : List Write) (i : ℕ) (w : Write) → pair_at ws i ≡ w → (t left : Chip) (byte : ℕ) (done : Bool) → length t.image ≡ 256
+    → byte ≡ merge 8 (read_only w.address) (get_or t.image w.address 0) w.value
+    → (two (holds_of packets t.image) ≡ false → Stores t w.address byte done left) → ((wrote ws i t).refusal ≡ 13 → ⊥)
+    → (wrote ws i t ≡ record { refusal = 0; chip = left }) × (length left.image ≡ 256)
+by_code ws i w e t left byte done z b st n =
+    by_done ws i t left byte done z (subst (λ (p : Write). byte ≡ merge 8 (read_only p.address) (get_or t.image p.address 0) p.value) (sym e) b)
+    (λ h. subst (λ (p : Write). Stores t p.address byte done left) (sym e) (st h)) n
 
 -- what is taken from a place on
 shortened_on : (ws : List Write) (i : ℕ) (t : Chip) → i < length ws
@@ -140,8 +147,8 @@ shortened_short (w ∷ ws) s = go (eqb (write_of s w.address w.value).refusal 0)
     go true h = suc-le-suc h
     go false h = omega arith
 
-pub taken_listed : (list : List ℕ) (s : Chip) (i : ℕ) → i < length (shortened (pairs_of list) s) → i < length (pairs_of list)
-taken_listed list s i h = omega (arith, h, shortened_short (pairs_of list) s)
+pub taken_listed : (ws : List Write) (s : Chip) (i : ℕ) → i < length (shortened ws s) → i < length ws
+taken_listed ws s i h = omega (arith, h, shortened_short ws s)
 
 -- ---- how many pairs are taken
 
@@ -191,6 +198,12 @@ module _ (start : ℕ) (ws : List Write) (i held : ℕ) (c : Counts start ws i h
     counts_stop e f = let q = by_pair true true e f in sym (c.count ∙ rw q (omega arith))
 
 -- ---- the first pass
+
+-- the event leaves the image
+pub turned_long : (event : Bool) (s t : Chip) → t ≡ cond event (vsync_of s) s → length s.image ≡ 256 → length t.image ≡ 256
+unfolding vsync_of
+turned_long true s t e h = ap (λ (u : Chip). length u.image) e ∙ h
+turned_long false s t e h = ap (λ (u : Chip). length u.image) e ∙ h
 
 -- where a list goes on
 abbrev tail : List Write → List Write
@@ -266,13 +279,6 @@ module _ (ws : List Write) (s : Chip) where
                 ∙ ap (λ (j : ℕ). shortened (drop j ws) u) (sym (add-one i));
           }
 
--- the state that a turn of the first pass writes to, by the mark that it has found
-pub before_pair : (t : Chip) (event mark : Bool) → mark ≡ cond event (held t && t.waiting) t.waiting
-    → lent_as t.image t.packet t.coefficients mark ≡ cond event (vsync_of t) t
-unfolding vsync_of
-before_pair t true mark e = ap (lent_as t.image t.packet t.coefficients) e
-before_pair t false mark e = ap (lent_as t.image t.packet t.coefficients) e
-
 -- ---- the second pass
 
 -- the last pair, by its place
@@ -317,7 +323,7 @@ module _ (c : ByColumn) (cs : HasColumns c) (a old v : ℕ) where
   pub merged : merge 8 (get_or c.read_only a 0) old v ≡ merge 8 (read_only a) old v
   merged = ap (λ (n : ℕ). merge 8 n old v) (ap (λ (l : List ℕ). get_or l a 0) cs.read_only ∙ at_address (λ (r : Class). r.read_only) a)
 
-  pub fairly : (image keep : List ℕ) → old ≡ get_or image a 0 → keep ≡ column kept_bits → a < 256
+  fairly : (image keep : List ℕ) → old ≡ get_or image a 0 → keep ≡ column kept_bits → a < 256
       → (not (eqb (get_or keep a 0) 255) && (eqb (under (get_or c.mandated a 0) v) (under (get_or c.mandated a 0) (get_or c.bits a 0)) &&
       eqb (under (get_or c.free a 0) v) (under (get_or c.free a 0) old))) ≡ fair_test image (a gets v)
   fairly image keep o ks small =
@@ -328,6 +334,14 @@ module _ (c : ByColumn) (cs : HasColumns c) (a old v : ℕ) where
       let t : not (eqb (kept_bits a) 255) ≡ is_written a = kept_whole a small in
       (λ j. not (eqb (k j) 255) && (eqb (under (m j) v) (under (m j) (b j)) && eqb (under (f j) v) (under (f j) old)))
       ∙ (λ j. t j && (eqb (under (mandated a) v) (under (mandated a) (bits a)) && eqb (under (free a) v) (under (free a) (o j))))
+
+pub fairly_code : (c : ByColumn) → HasColumns c → (ps : List (List ℕ)) (i : ℕ) (image keep : List ℕ) → keep ≡ column kept_bits
+    → let a : ℕ = get_or (get_or ps i []) 0 0 in
+    let v : ℕ = get_or (get_or ps i []) 1 0 in
+    a < 256 → (not (eqb (get_or keep a 0) 255) && (eqb (under (get_or c.mandated a 0) v) (under (get_or c.mandated a 0) (get_or c.bits a 0)) &&
+    eqb (under (get_or c.free a 0) v) (under (get_or c.free a 0) (get_or image a 0)))) ≡ fair_test image (pair_at (writes_in ps) i)
+fairly_code c cs ps i image keep k small =
+    fairly c cs _ _ (get_or (get_or ps i []) 1 0) image keep refl k small ∙ ap (fair_test image) (sym (pair_code ps i))
 
 module _ (old new : InUse) (ws : List Write) (s : Chip) where
   -- at place i the state is t

@@ -15,7 +15,7 @@ use Rattle.lists.proofs.Compared.{same_decides}
 use Rattle.bits.specs.Merge.{bit}
 use Rattle.matrix.specs.Matrix.{fields}
 use Rattle.chip.specs.declared.Chip.{Chip}
-use Rattle.chip.specs.declared.Wrote.{Wrote}
+use Rattle.chip.specs.Numbered.{Wrote}
 use Rattle.chip.specs.Machine.{Write, ◌gets◌, Group, avi, audio, gc, matrix, packets, converter, up, holds_of, registers_of, held, in_use, coefficients, gc_in_use, mute, Muted}
 use Rattle.chip.specs.Write.{lent_as, stored, two, write_of, vsync_of}
 use Rattle.chip.proofs.Writes.{written_as, allowed, turned}

@@ -3,17 +3,18 @@
 use mathlib.Core.Path.{◌≡◌, refl, sym, ap, ◌∙◌}
 use mathlib.Core.Bool.{Bool, true, false, cond, not, ◌&&◌, ◌||◌}
 use mathlib.Core.List.{List}
-use Prim.Native.Nat.{ℕ, ◌+◌, ◌/◌, ◌%◌, ◌^◌, ◌≤◌}
+use Prim.Native.Nat.{ℕ}
 use lib.Dec.{eqb}
-use lib.ListN.{length, take, drop}
+use native.Mathlib.Omega.{arith}
+use lib.ListN.{length, take, drop, length-drop}
+use lib.Seq.{length-take-le}
 use borrow.Author.Tests.{eq-eqb, eqb-true, not-true, not-false}
 use Rattle.lists.proofs.Both.{both_left, both_right, neither_left, neither_right}
-use Rattle.bits.proofs.Laws.{bit_code}
 use Rattle.matrix.specs.Matrix.{fields}
 use Rattle.matrix.specs.Read.{twelve_of}
 use Rattle.chip.specs.declared.Chip.{Chip}
 use Rattle.chip.specs.Machine.{Group, Buffer, avi, audio, matrix, packets, converter, up, holds_of, registers_of, in_use, coefficients}
-use Rattle.vendor.specs.declared.Moving.{Moving}
+use Rattle.vendor.specs.Numbered.{Moving}
 use Rattle.writes.specs.List.{covers}
 use Rattle.cut.specs.Run.{InUse}
 use Rattle.vendor.specs.Found.{at_write, packet_moving, matrix_moving, may_move, one_of, is_whole}
@@ -64,18 +65,17 @@ still old new a held image waiting e f =
 pub twelve_fields : (bytes : List ℕ) {twelve : List ℕ} → length bytes ≡ 24 → twelve ≡ twelve_of bytes → twelve ≡ fields bytes
 twelve_fields bytes h e = rw (e, eq-eqb _ _ h)
 
--- a group at a write, its holds by their masks
-pub write_code : (g : Group) (before after : ℕ)
-    → at_write g (eqb (before / 2 ^ g.hold % 2) 1) (eqb (after / 2 ^ g.hold % 2) 1) ≡ at_write g (up g before) (up g after)
-write_code g before after = rw (bit_code g.hold before, bit_code g.hold after)
+-- the coefficients' registers, and those of their bytes that are in use
+pub matrix_long : (image : List ℕ) → length image ≡ 256 → length (registers_of matrix image) ≡ 24
+matrix_long image h = length-take-le 24 (drop 24 image) (simp length-drop (omega arith))
 
--- its registers lie in an image
-pub within : (g : Group) {before after : Bool} {m : Moving} {n : ℕ} → m ≡ at_write g before after → g.first + g.count ≤ n → m.first + m.count ≤ n
-within g e h = rw e h
-
-pub part_fits : (g : Group) {before after : Bool} {m : Moving} {i b o : ℕ} → m ≡ at_write g before after → g.first + g.count ≤ i → g.count ≤ b
-    → o ≡ g.count → (m.first + m.count ≤ i) × (m.count ≤ b) × (o ≡ m.count)
-part_fits g e h k l = rw e (h, k, l)
+pub used_long : (s : Chip) → length s.image ≡ 256 → length s.coefficients ≡ 24 → length (in_use converter matrix s) ≡ 24
+unfolding in_use
+used_long s h k = go (s.waiting || up matrix (holds_of converter s.image))
+  where
+    go : (b : Bool) → length (cond b (take 24 s.coefficients) (registers_of matrix s.image)) ≡ 24
+    go true = length-take-le 24 s.coefficients (omega arith)
+    go false = matrix_long s.image h
 
 -- a group's bytes in use
 pub used : (b : Buffer) (g : Group) (s : Chip) {before : Bool} {m : Moving} {bytes : List ℕ}

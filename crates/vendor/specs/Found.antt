@@ -13,9 +13,8 @@ use Rattle.views.specs.Entry.{is_sized}
 use Rattle.writes.specs.List.{pairs_of, in_run, is_written, ready}
 use Rattle.decode.specs.Decode.{some_ends}
 use Rattle.cut.specs.Run.{InUse, all_in_use}
-use Rattle.vendor.specs.declared.Verdict.{Verdict}
+use Rattle.vendor.specs.Numbered.{Verdict, Moving}
 use Rattle.vendor.specs.declared.Used.{Used}
-use Rattle.vendor.specs.declared.Moving.{Moving}
 use Rattle.vendor.specs.Vendor.{shortened, end_of, most_pairs}
 
 -- a pair on its own

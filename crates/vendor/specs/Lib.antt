@@ -1,3 +1,4 @@
+pub mod Numbered
 pub mod Vendor
 pub mod Found
 pub mod Theorems

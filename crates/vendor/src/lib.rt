@@ -1,36 +1,57 @@
 // Reading a write list that a vendor brings: document 02, requests 03 and 04.
 #![tactic(auto)]
 
-ghost use Rattle.std.specs.Prelude.{◌≡◌, false, cond, not, ◌&&◌, ◌||◌, List, [], ℕ, ◌+◌, ◌≤◌, eqb, length, get_or, take, drop};
+ghost use Rattle.std.specs.Prelude.{◌≡◌, false, cond, not, ◌&&◌, ◌||◌, List, [], ℕ, ◌≤◌, eqb, length, take};
 ghost use Rattle.lists.specs.Same.{same_list};
 ghost use Rattle.bits.specs.Merge.{under};
-ghost use Rattle.map.specs.Map.{infoframe_update};
 ghost use Rattle.matrix.specs.Matrix.{fields};
 ghost use Rattle.chip.specs.declared.Chip.{Chip};
-ghost use Rattle.chip.specs.Machine.{avi, audio, matrix, up, registers_of, mute};
-ghost use Rattle.chip.specs.Write.{lent_as, two, holds_after, Stores};
-ghost use Rattle.writes.specs.List.{pairs_of, in_run, covers};
+ghost use Rattle.chip.specs.Machine.{avi, audio, matrix, packets, up, holds_of, registers_of, mute};
+ghost use Rattle.chip.specs.Groups.{group_of};
+ghost use Rattle.chip.specs.Write.{lent_as, two, holds_after, vsync_of, Stores};
+ghost use Rattle.writes.specs.List.{pairs_of, covers};
 ghost use Rattle.views.specs.Entry.{marked};
 ghost use Rattle.decode.specs.Decode.{some_ends};
 ghost use Rattle.cut.specs.Run.{all_in_use};
 ghost use Rattle.vendor.specs.Vendor.{shortened, end_of};
-ghost use Rattle.vendor.specs.Found.{shown, at_write, may_move, is_kept, is_whole, is_between, is_turned, taken_by, first_fault, Untold, Vets};
+ghost use Rattle.vendor.specs.Found.{shown, at_write, matrix_moving, may_move, is_kept, is_whole, is_between, is_turned, taken_by, first_fault, Untold, Vets};
+ghost use Rattle.vendor.specs.Numbered.{verdict_told, moves_told, writes_in};
 ghost use Rattle.vendor.specs.Theorems.{Vetted};
 
-use chip::Chip;
+use chip::{Chip, Group};
 use map::Map;
 use refusals::Refusal;
 use request::sections::LONGEST;
 
-// The number of the refusal, 0 for none, and with 15 the place of the first bad pair, counted from 0.
-#[derive(Clone, Copy)]
-pub struct Verdict {
-    pub refusal: u8,
-    pub place: u32,
+// Why a list is refused; refusal 15 has the place of the first bad pair, counted from 0.
+#[derive(Clone, Copy, Debug, PartialEq, Eq)]
+pub enum Fault {
+    Refused(Refusal),
+    Pair { place: u32 },
+}
+
+impl From<Refusal> for Fault {
+    ghost use Rattle.vendor.specs.declared.Fault.TheVariants.{Refused};
+
+    ghost from_gives = { λ refusal fault. fault ≡ Refused refusal };
+
+    fn from(refusal: Refusal) -> Fault {
+        Fault::Refused(refusal)
+    }
 }
 
 // "At most 512 pairs."
 pub const MOST_PAIRS: usize = 512;
+
+// Some bytes as an array.
+fn array<const N: usize>(bytes: &[u8]) -> [u8; N]
+    requires { length bytes.now ≡ N }
+    ensures { result ≡ bytes.now }
+{
+    let mut out = [0; N];
+    lists::copy(bytes, &mut out);
+    out
+}
 
 // What is in use: the AVI InfoFrame, the audio InfoFrame and the twelve coefficients.
 #[derive(Clone, Copy)]
@@ -40,90 +61,89 @@ struct Used {
     matrix: [u16; 12],
 }
 
-// A group at a write: its first register, how many they are, and whether its buffer was in use before the write and is after it.
+// A group at a write, and whether its buffer was in use before the write and is after it.
 #[derive(Clone, Copy)]
-struct Moving {
-    first: u8,
-    count: u8,
+struct Moves {
+    group: Group,
     before: bool,
     after: bool,
 }
 
-// The packets, by the byte of their holds before a write and after it; the coefficients, by whether their buffer is in use.
-fn avi_at(before: u8, after: u8) -> Moving
-    ensures { result ≡ at_write avi (up avi before) (up avi after) }
+// Whether an address is one of a group's registers.
+fn covers(group: Group, address: u8) -> bool
+    ensures { result ≡ covers (group_of group) address }
 {
-    Moving {
-        first: Map::AVI_INFOFRAME_VERSION,
-        count: Map::AVI_INFOFRAME_COUNT,
-        before: before / Map::AVI_PACKET_UPDATE_MASK % 2 == 1,
-        after: after / Map::AVI_PACKET_UPDATE_MASK % 2 == 1,
-    }
+    let end = usize::from(group.first) + usize::from(group.count);
+    (group.first <= address) & (usize::from(address) < end)
 }
 
-fn audio_at(before: u8, after: u8) -> Moving
-    ensures { result ≡ at_write audio (up audio before) (up audio after) }
-{
-    Moving {
-        first: Map::AUDIO_INFOFRAME_VERSION,
-        count: Map::AUDIO_INFOFRAME_COUNT,
-        before: before / Map::AUDIO_INFOFRAME_PACKET_UPDATE_MASK % 2 == 1,
-        after: after / Map::AUDIO_INFOFRAME_PACKET_UPDATE_MASK % 2 == 1,
+impl Moves {
+    // A packet, by the byte of the packet holds before a write and after it.
+    fn packet(group: Group, before: u8, after: u8) -> Moves
+        ensures { moves_told result ≡ at_write (group_of group) (up (group_of group) before) (up (group_of group) after) }
+    {
+        Moves {
+            group,
+            before: group.is_up(before),
+            after: group.is_up(after),
+        }
     }
-}
 
-fn matrix_at(hold: u8, waiting: bool) -> Moving
-    ensures { result ≡ at_write matrix false (waiting || up matrix hold) }
-{
-    Moving {
-        first: Map::CSC,
-        count: Map::CSC_COUNT,
-        before: false,
-        after: waiting | chip::is_held(hold),
+    // The coefficients, by the state after a write: a write alone never brings them out of their buffer.
+    fn matrix(state: &Chip) -> Moves
+        ensures { moves_told result ≡ matrix_moving state.now.waiting state.now.image }
+    {
+        let held = chip::is_held(state.image[Map::COEFFICIENT_UPDATE as usize]);
+        Moves {
+            group: Group::MATRIX,
+            before: false,
+            after: state.waiting | held,
+        }
     }
-}
 
-// A group's bytes in use: the front of its buffer, or its registers.
-fn part(m: Moving, image: &[u8], buffer: &[u8], out: &mut [u8])
-    requires { (m.first + m.count ≤ length image.now) × (m.count ≤ length buffer.now) × (length out.old ≡ m.count) }
-    ensures { out.new ≡ cond m.after (take m.count buffer.now)
-        (take m.count (drop m.first image.now)) }
-{
-    let count = m.count as usize;
-    if m.after {
-        lists::copy(&buffer[..count], out);
-        return;
+    // Its bytes in use: the front of its buffer, or its registers.
+    fn in_use<'a>(self, image: &'a [u8; 256], buffer: &'a [u8]) -> &'a [u8]
+        requires { self.group.count ≤ length buffer.now }
+        ensures { result.now ≡ cond self.after (take self.group.count buffer.now) (registers_of (group_of self.group) image.now) }
+    {
+        if self.after {
+            &buffer[..usize::from(self.group.count)]
+        } else {
+            self.group.registers(image)
+        }
     }
-    let first = m.first as usize;
-    let end = first + count;
-    lists::copy(&image[first..end], out);
+
+    // Whether a write may have moved what is in use of it.
+    fn may_move(self, address: u8) -> bool
+        ensures { result ≡ may_move (moves_told self) address }
+    {
+        !self.after & (self.before | covers(self.group, address))
+    }
+
+    // A packet after a write: where it may have moved, its registers are one of the two.
+    fn is_kept(self, address: u8, image: &[u8; 256], old: &[u8], new: &[u8]) -> bool
+        ensures { result ≡ is_kept (moves_told self) (λ x. x) old.now new.now address image.now }
+    {
+        if self.may_move(address) {
+            let now = self.group.registers(image);
+            lists::same(now, old) | lists::same(now, new)
+        } else {
+            true
+        }
+    }
 }
 
 // What a state has in use.
-fn in_use(s: Chip) -> Used
-    ensures { shown result ≡ all_in_use s }
+fn in_use(s: &Chip) -> Used
+    ensures { shown result ≡ all_in_use s.now }
 {
-    let image = s.image;
-    let packet = s.packet;
-    let coefficients = s.coefficients;
-    let holds = image[Map::INFOFRAME_UPDATE as usize];
-    let hold = image[Map::COEFFICIENT_UPDATE as usize];
-    let mut avi = [0u8; Map::AVI_INFOFRAME_COUNT as usize];
-    part(avi_at(holds, holds), &image, &packet, &mut avi);
-    let mut audio = [0u8; Map::AUDIO_INFOFRAME_COUNT as usize];
-    part(audio_at(holds, holds), &image, &packet, &mut audio);
-    let mut bytes = [0u8; Map::CSC_COUNT as usize];
-    part(
-        matrix_at(hold, s.waiting),
-        &image,
-        &coefficients,
-        &mut bytes,
-    );
-    let twelve = matrix::twelve(&bytes);
+    let holds = s.image[Map::INFOFRAME_UPDATE as usize];
+    let avi = Moves::packet(Group::AVI, holds, holds);
+    let audio = Moves::packet(Group::AUDIO, holds, holds);
     Used {
-        avi: avi,
-        audio: audio,
-        matrix: twelve,
+        avi: array(avi.in_use(&s.image, &s.packet)),
+        audio: array(audio.in_use(&s.image, &s.packet)),
+        matrix: matrix::twelve(Moves::matrix(s).in_use(&s.image, &s.coefficients)),
     }
 }
 
@@ -137,301 +157,195 @@ fn is_fair(keep: u8, mandated: u8, free: u8, bits: u8, old: u8, value: u8) -> bo
     (keep != 255) & (carries & keeps)
 }
 
-// Whether an address is one of some registers in a row.
-fn in_run(first: u8, count: u8, address: u8) -> bool
-    ensures { result ≡ in_run first count address }
-{
-    let end = first as usize + count as usize;
-    (first <= address) & ((address as usize) < end)
-}
-
-// Whether a write may have moved what is in use of a group.
-fn may_move(m: Moving, address: u8) -> bool
-    ensures { result ≡ may_move m address }
-{
-    !m.after & (m.before | in_run(m.first, m.count, address))
-}
-
-// A packet after a write: where it may have moved, its registers are one of the two.
-fn is_kept(m: Moving, address: u8, image: &[u8], old: &[u8], new: &[u8]) -> bool
-    requires { m.first + m.count ≤ length image.now }
-    ensures { result ≡ is_kept m (λ x. x) old.now new.now address image.now }
-{
-    if !may_move(m, address) {
-        return true;
-    }
-    let first = m.first as usize;
-    let end = first + m.count as usize;
-    lists::same(&image[first..end], old) | lists::same(&image[first..end], new)
-}
-
-// The coefficients that the registers have are one of the two.
-fn is_either(image: &[u8], old: [u16; 12], new: [u16; 12]) -> bool
-    requires { length image.now ≡ 256 }
-    ensures { result ≡ (same_list (fields (registers_of matrix image.now)) old || same_list (fields (registers_of matrix image.now)) new) }
-{
-    let start = Map::CSC as usize;
-    let end = start + Map::CSC_COUNT as usize;
-    let twelve = matrix::twelve(&image[start..end]);
-    lists::same_numbers(twelve, old) | lists::same_numbers(twelve, new)
-}
-
 // "Muted: set bit 1, clear bit 0.", of the GC byte in use.
-fn is_muted(image: &[u8; 256], packet: &[u8; 32]) -> bool
-    ensures { result ≡ eqb (mute (lent_as image.now packet.now [] false)) 1 }
+fn is_muted(state: &Chip) -> bool
+    ensures { result ≡ eqb (mute (lent_as state.now.image state.now.packet [] false)) 1 }
 {
-    views::mute_bits(image, packet) == 1
+    views::mute_bits(&state.image, &state.packet) == 1
 }
 
-// A pair that was written: its address, the byte of the packet holds before it, the mark after it, and whether the event follows.
+// A pair that was written: its address, the byte of the packet holds before it, and whether the event follows.
 #[derive(Clone, Copy)]
-struct Pair {
+struct Written {
     address: u8,
     held: u8,
-    waiting: bool,
     event: bool,
 }
 
 // Whether a pair left every group alone: it is to none of their registers, and no packet hold changed.
-fn is_still(pair: Pair, holds: u8) -> bool
+fn is_still(pair: Written, holds: u8) -> bool
     ensures { result ≡ (not (covers avi pair.address || (covers audio pair.address || covers matrix pair.address)) &&
         eqb pair.held holds) }
 {
-    let avi = in_run(
-        Map::AVI_INFOFRAME_VERSION,
-        Map::AVI_INFOFRAME_COUNT,
-        pair.address,
-    );
-    let audio = in_run(
-        Map::AUDIO_INFOFRAME_VERSION,
-        Map::AUDIO_INFOFRAME_COUNT,
-        pair.address,
-    );
-    let matrix = in_run(Map::CSC, Map::CSC_COUNT, pair.address);
+    let avi = covers(Group::AVI, pair.address);
+    let audio = covers(Group::AUDIO, pair.address);
+    let matrix = covers(Group::MATRIX, pair.address);
     !(avi | (audio | matrix)) & (pair.held == holds)
 }
 
-// Each group that may have moved is old or new.
-fn is_whole(image: &[u8; 256], pair: Pair, old: Used, new: Used) -> bool
-    ensures { result ≡ is_whole (shown old) (shown new) pair.address pair.held image.now pair.waiting }
-{
-    let holds = image[Map::INFOFRAME_UPDATE as usize];
-    if !is_kept(
-        avi_at(pair.held, holds),
-        pair.address,
-        image,
-        &old.avi,
-        &new.avi,
-    ) {
-        return false;
-    }
-    if !is_kept(
-        audio_at(pair.held, holds),
-        pair.address,
-        image,
-        &old.audio,
-        &new.audio,
-    ) {
-        return false;
-    }
-    let hold = image[Map::COEFFICIENT_UPDATE as usize];
-    if !may_move(matrix_at(hold, pair.waiting), pair.address) {
-        return true;
-    }
-    let old_matrix = old.matrix;
-    let new_matrix = new.matrix;
-    is_either(image, old_matrix, new_matrix)
+// What was in use before the list, and what is at its end.
+#[derive(Clone, Copy)]
+struct Ways {
+    old: Used,
+    new: Used,
 }
 
-// The cut after a pair: muted, and each group old or new, which is told at once where none can have moved.
-fn is_between(image: &[u8; 256], packet: &[u8; 32], pair: Pair, old: Used, new: Used) -> bool
-    ensures { result ≡ is_between (shown old) (shown new) pair.address pair.held image.now packet.now pair.waiting }
-{
-    if !is_muted(image, packet) {
-        return false;
+impl Ways {
+    // The coefficients that the registers have are one of the two.
+    fn is_either(&self, image: &[u8; 256]) -> bool
+        ensures { result ≡ (same_list (fields (registers_of matrix image.now)) self.now.old.matrix
+            || same_list (fields (registers_of matrix image.now)) self.now.new.matrix) }
+    {
+        let twelve = matrix::twelve(Group::MATRIX.registers(image));
+        lists::same_numbers(twelve, self.old.matrix) | lists::same_numbers(twelve, self.new.matrix)
     }
-    let holds = image[Map::INFOFRAME_UPDATE as usize];
-    if is_still(pair, holds) {
-        return true;
-    }
-    is_whole(image, pair, old, new)
-}
 
-// The cut after the event, where a change may have been waiting: the coefficients of the registers are old or new.
-fn is_turned(image: &[u8; 256], waiting: bool, old: Used, new: Used) -> bool
-    ensures { result ≡ is_turned (shown old) (shown new) image.now waiting }
-{
-    let hold = image[Map::COEFFICIENT_UPDATE as usize];
-    if !(waiting & !chip::is_held(hold)) {
-        return true;
+    // Each group that may have moved is old or new.
+    fn is_whole(&self, state: &Chip, pair: Written) -> bool
+        ensures { result ≡ is_whole (shown self.now.old) (shown self.now.new) pair.address pair.held state.now.image state.now.waiting }
+    {
+        let holds = state.image[Map::INFOFRAME_UPDATE as usize];
+        let avi = Moves::packet(Group::AVI, pair.held, holds);
+        let audio = Moves::packet(Group::AUDIO, pair.held, holds);
+        avi.is_kept(pair.address, &state.image, &self.old.avi, &self.new.avi)
+            && audio.is_kept(pair.address, &state.image, &self.old.audio, &self.new.audio)
+            && (!Moves::matrix(state).may_move(pair.address) || self.is_either(&state.image))
     }
-    let old_matrix = old.matrix;
-    let new_matrix = new.matrix;
-    is_either(image, old_matrix, new_matrix)
-}
 
-// Both, where the event follows.
-fn is_careful(image: &[u8; 256], packet: &[u8; 32], pair: Pair, old: Used, new: Used) -> bool
-    ensures { result ≡ (is_between (shown old) (shown new) pair.address pair.held image.now packet.now pair.waiting &&
-        (not pair.event || is_turned (shown old) (shown new) image.now pair.waiting)) }
-{
-    if !is_between(image, packet, pair, old, new) {
-        return false;
+    // The cut after a pair: muted, and each group old or new, which is told at once where none can have moved.
+    fn is_between(&self, state: &Chip, pair: Written) -> bool
+        ensures { result ≡ is_between (shown self.now.old) (shown self.now.new) pair.address pair.held state.now.image state.now.packet
+            state.now.waiting }
+    {
+        if !is_muted(state) {
+            false
+        } else if is_still(pair, state.image[Map::INFOFRAME_UPDATE as usize]) {
+            true
+        } else {
+            self.is_whole(state, pair)
+        }
     }
-    if !pair.event {
-        return true;
+
+    // The cut after the event, where a change may have been waiting: the coefficients of the registers are old or new.
+    fn is_turned(&self, state: &Chip) -> bool
+        ensures { result ≡ is_turned (shown self.now.old) (shown self.now.new) state.now.image state.now.waiting }
+    {
+        let held = chip::is_held(state.image[Map::COEFFICIENT_UPDATE as usize]);
+        if state.waiting & !held {
+            self.is_either(&state.image)
+        } else {
+            true
+        }
     }
-    is_turned(image, pair.waiting, old, new)
+
+    // Both, where the event follows.
+    fn is_careful(&self, state: &Chip, pair: Written) -> bool
+        ensures { result ≡ (is_between (shown self.now.old) (shown self.now.new) pair.address pair.held state.now.image state.now.packet
+            state.now.waiting && (not pair.event || is_turned (shown self.now.old) (shown self.now.new) state.now.image state.now.waiting)) }
+    {
+        self.is_between(state, pair) && (!pair.event || self.is_turned(state))
+    }
 }
 
 // How many pairs the machine takes, by the byte of the packet holds.
-fn taken(start: u8, list: &[u8]) -> usize
-    ensures { result ≡ taken_by start (pairs_of list.now) }
+fn taken(start: u8, list: &[[u8; 2]]) -> usize
+    ensures { result ≡ taken_by start (writes_in list.now) }
 {
     let keep = registers::read_only(Map::INFOFRAME_UPDATE);
-    let n = list.len() / 2;
     let mut held = start;
-    let mut i: usize = 0;
-    while i < n {
-        if list[2 * i] == Map::INFOFRAME_UPDATE {
-            held = bits::merge(keep, held, list[2 * i + 1]);
+    for i in 0..list.len() {
+        let [address, value] = list[i];
+        if address == Map::INFOFRAME_UPDATE {
+            held = bits::merge(keep, held, value);
             if chip::two_up(held) {
                 return i;
             }
         }
-        i = i + 1;
     }
-    n
+    list.len()
 }
 
-// The mark before a pair: where the event comes just before it, a Vsync's.
-fn turned(event: bool, byte: u8, waiting: bool) -> bool
-    ensures { result ≡ cond event (up matrix byte && waiting) waiting }
+// The state after the event, where it comes.
+fn turn(state: &mut Chip, event: bool)
+    ensures { state.new ≡ cond event (vsync_of state.old) state.old }
 {
-    waiting & (!event | chip::is_held(byte))
+    if event {
+        let hold = state.image[Map::COEFFICIENT_UPDATE as usize];
+        state.waiting = chip::still_waits(hold, state.waiting);
+    }
 }
 
-// A byte stored as the machine does, where no two packet holds are up, and the mark then: but for the two registers of holds it is the byte
-// alone.
-fn store(
-    image: &mut [u8; 256],
-    packet: &mut [u8; 32],
-    coefficients: &mut [u8; 24],
-    waiting: bool,
-    address: u8,
-    byte: u8,
-) -> bool
-    ensures { two (get_or image.old infoframe_update 0) ≡ false
-        → Stores (lent_as image.old packet.old coefficients.old waiting) address byte
-        (not (two (holds_after address byte image.old)))
-        (lent_as image.new packet.new coefficients.new result) }
+// A byte stored as the machine does, where no two packet holds are up: but for the two registers of holds it is the byte alone.
+fn store(state: &mut Chip, address: u8, byte: u8)
+    ensures { two (holds_of packets state.old.image) ≡ false
+        → Stores state.old address byte (not (two (holds_after address byte state.old.image))) state.new }
 {
     if (address != Map::INFOFRAME_UPDATE) & (address != Map::COEFFICIENT_UPDATE) {
-        image[address as usize] = byte;
-        return waiting;
+        state.image[address as usize] = byte;
+    } else {
+        let _ = state.store(address, byte);
     }
-    let stored = chip::store(image, packet, coefficients, waiting, address, byte);
-    stored.waiting
 }
 
 // The first pass: the state at the end of what the machine takes, with the event just before the last pair.
-fn ending(start: Chip, list: &[u8], count: usize) -> Chip
-    requires { count ≡ length (shortened (pairs_of list.now) start) }
-    ensures { result ≡ end_of (shortened (pairs_of list.now) start) start }
+fn ending(start: Chip, list: &[[u8; 2]], count: usize) -> Chip
+    requires { count ≡ length (shortened (writes_in list.now) start) }
+    ensures { result ≡ end_of (shortened (writes_in list.now) start) start }
 {
     let columns = registers::table_columns();
-    let mut image = start.image;
-    let mut packet = start.packet;
-    let mut coefficients = start.coefficients;
-    let mut waiting = start.waiting;
-    let mut i: usize = 0;
-    while i < count {
-        let address = list[2 * i];
+    let mut state = start;
+    for i in 0..count {
+        let [address, value] = list[i];
         let at = address as usize;
-        let byte = bits::merge(columns.read_only[at], image[at], list[2 * i + 1]);
-        let mark = turned(
-            i + 1 == count,
-            image[Map::COEFFICIENT_UPDATE as usize],
-            waiting,
-        );
-        waiting = store(
-            &mut image,
-            &mut packet,
-            &mut coefficients,
-            mark,
-            address,
-            byte,
-        );
-        i = i + 1;
+        turn(&mut state, i + 1 == count);
+        let byte = bits::merge(columns.read_only[at], state.image[at], value);
+        store(&mut state, address, byte);
     }
-    Chip {
-        image: image,
-        packet: packet,
-        coefficients: coefficients,
-        waiting: waiting,
-    }
+    state
 }
 
 // The second pass: the first pair that fails, of those that the machine takes.
-fn first_fault(start: Chip, old: Used, new: Used, list: &[u8], count: usize) -> usize
-    requires { count ≡ length (shortened (pairs_of list.now) start) }
-    ensures { result ≡ first_fault (shown old) (shown new) (shortened (pairs_of list.now) start) start }
+fn first_fault(start: Chip, ways: &Ways, list: &[[u8; 2]], count: usize) -> usize
+    requires { count ≡ length (shortened (writes_in list.now) start) }
+    ensures { result ≡ first_fault (shown ways.now.old) (shown ways.now.new) (shortened (writes_in list.now) start) start }
 {
     let columns = registers::table_columns();
     let keep = writes::keep();
-    let mut image = start.image;
-    let mut packet = start.packet;
-    let mut coefficients = start.coefficients;
-    let mut waiting = start.waiting;
-    let mut i: usize = 0;
-    while i < count {
-        let address = list[2 * i];
-        let value = list[2 * i + 1];
+    let mut state = start;
+    for i in 0..count {
+        let [address, value] = list[i];
         let at = address as usize;
-        let before = image[at];
-        if !is_fair(
+        let before = state.image[at];
+        let fair = is_fair(
             keep[at],
             columns.mandated[at],
             columns.free[at],
             columns.bits[at],
             before,
             value,
-        ) {
-            return i;
-        }
-        let held = image[Map::INFOFRAME_UPDATE as usize];
-        let byte = bits::merge(columns.read_only[at], before, value);
-        waiting = store(
-            &mut image,
-            &mut packet,
-            &mut coefficients,
-            waiting,
-            address,
-            byte,
         );
-        let last = i + 1 == count;
-        let pair = Pair {
-            address: address,
-            held: held,
-            waiting: waiting,
-            event: i + 2 == count,
-        };
-        if !(last | is_careful(&image, &packet, pair, old, new)) {
+        if !fair {
             return i;
         }
-        i = i + 1;
+        let held = state.image[Map::INFOFRAME_UPDATE as usize];
+        let byte = bits::merge(columns.read_only[at], before, value);
+        store(&mut state, address, byte);
+        let event = i + 2 == count;
+        let last = i + 1 == count;
+        if !(last
+            | ways.is_careful(
+                &state,
+                Written {
+                    address,
+                    held,
+                    event,
+                },
+            ))
+        {
+            return i;
+        }
     }
     count
-}
-
-// A refusal: its number, and 0 for the place.
-fn refused(number: u8) -> Verdict
-    ensures { result ≡ record { refusal = number; place = 0 } }
-{
-    Verdict {
-        refusal: number,
-        place: 0,
-    }
 }
 
 // Whether a request ends in an image.
@@ -439,49 +353,54 @@ fn decodes(image: &[u8; 256]) -> bool
     ensures { result ≡ some_ends image.now }
 {
     let mut request = [0u8; LONGEST];
-    let decoded = decode::decode(image, &mut request);
-    decoded.refusal == Refusal::NONE
+    decode::decode(image, &mut request).is_ok()
 }
 
 // The verdict where neither 7 nor 8 nor 14 applies, by how many pairs the machine takes: 15, 16 or none.
-fn verdict_on(start: Chip, list: &[u8], count: usize) -> Verdict
-    requires { Untold start list.now × (count ≡ length (shortened (pairs_of list.now) start)) }
-    ensures { Vets start list.now result }
+fn verdict_on(start: Chip, list: &[[u8; 2]], count: usize) -> Result<(), Fault>
+    requires { (length list.now ≤ 512) × (count ≡ length (shortened (writes_in list.now) start)) }
+    ensures { (bytes : List ℕ) → pairs_of bytes ≡ writes_in list.now → Untold start bytes → Vets start bytes (verdict_told result) }
 {
     let end = ending(start, list, count);
-    let old = in_use(start);
-    let new = in_use(end);
-    let place = first_fault(start, old, new, list, count);
-    if place < list.len() / 2 {
-        return Verdict {
-            refusal: Refusal::BAD_PAIR,
+    let ways = Ways {
+        old: in_use(&start),
+        new: in_use(&end),
+    };
+    let place = first_fault(start, &ways, list, count);
+    if place < list.len() {
+        Err(Fault::Pair {
             place: place as u32,
-        };
+        })
+    } else if !decodes(&end.image) {
+        Err(Refusal::BadEnd.into())
+    } else {
+        Ok(())
     }
-    let image = end.image;
-    if !decodes(&image) {
-        return refused(Refusal::BAD_END);
-    }
-    refused(Refusal::NONE)
 }
 
 // Whether a list may be run on the chip from a state: refusals 7, 8, 14, 15 and 16.
-pub fn vet(image: &[u8], packet: &[u8], coefficients: &[u8], mark: u8, list: &[u8]) -> Verdict
-    ensures { Vets (lent_as image.now packet.now coefficients.now (marked mark)) list.now result }
+pub fn vet(
+    image: &[u8],
+    packet: &[u8],
+    coefficients: &[u8],
+    mark: u8,
+    list: &[u8],
+) -> Result<(), Fault>
+    ensures { Vets (lent_as image.now packet.now coefficients.now (marked mark)) list.now (verdict_told result) }
 {
-    if !((image.len() == 256) & ((packet.len() == 32) & (coefficients.len() == 24))) {
-        return refused(Refusal::IMAGE_LENGTH);
+    if (image.len() != 256) | (packet.len() != 32) | (coefficients.len() != 24) {
+        return Err(Refusal::ImageLength.into());
     }
     let holds = image[Map::INFOFRAME_UPDATE as usize];
     if !plan::is_ready(holds) {
-        return refused(Refusal::HOLDS_UP);
+        return Err(Refusal::HoldsUp.into());
     }
-    if (list.len() % 2 == 1) | (MOST_PAIRS < list.len() / 2) {
-        return refused(Refusal::LIST_LENGTH);
+    let (pairs, rest) = list.as_chunks::<2>();
+    if (rest.len() != 0) | (MOST_PAIRS < pairs.len()) {
+        return Err(Refusal::ListLength.into());
     }
     let start = views::gathered(image, packet, coefficients, mark);
-    let count = taken(holds, list);
-    verdict_on(start, list, count)
+    verdict_on(start, pairs, taken(holds, pairs))
 }
 
 // What the verdict says of a list.

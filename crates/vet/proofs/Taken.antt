@@ -3,20 +3,31 @@ use mathlib.Core.Path.{◌≡◌, refl, sym, ap, ◌∙◌}
 use mathlib.Core.Bool.{Bool, true, false, cond, not, ◌||◌}
 use mathlib.Core.List.{List, [], ◌∷◌, ◌++◌}
 use Prim.Native.Nat.{ℕ, ◌+◌, ◌-◌, ◌*◌, ◌%◌, ◌<◌, ◌≤◌}
+use native.Mathlib.Nat.{add-zero}
 use native.Mathlib.Omega.{arith}
 use lib.Dec.{eqb, leb, ltb}
-use lib.ListN.{length, take, drop, take-append-drop, length-append, length-drop, get_or-append}
-use lib.Seq.{take_all, take-add, take_at, drop_at, get_or_at, take-append-le, drop-append-le, append_snoc, length-take-le}
+use lib.ListN.{length, get_or, take, drop, take-append-drop, length-append, length-drop, get_or-append}
+use lib.Seq.{take_all, drop-drop, take-add, take_at, drop_at, get_or_at, take-append-le, drop-append-le, append_snoc, length-take-le}
+use Rattle.std.proofs.lemmas.List.{get_or-drop}
 use borrow.Author.Tests.{eqb-false, lt-ltb, le-ltb, leb-true, leb-false}
 use Rattle.chip.specs.declared.Chip.{Chip}
 use Rattle.chip.specs.Write.{lent_as}
 use Rattle.views.specs.Entry.{is_sized, marked}
 use Rattle.writes.specs.List.{pairs_of, ready}
 use Rattle.writes.proofs.Pairs.{length_pairs}
-use Rattle.vendor.specs.declared.Verdict.{Verdict}
+use Rattle.vendor.specs.Numbered.{Verdict}
 use Rattle.vendor.specs.Vendor.{most_pairs}
 use Rattle.vendor.specs.Found.{place_of, vet_refusal, vet_of}
 use Rattle.vet.specs.Input.{state_in, verdict_of, longest_input, Inputs}
+
+-- what is behind pieces of an input, taken off one after another
+pub pieces : (i j k m n o one : ℕ) (input b d e : List ℕ) → i + j ≡ m → m + k ≡ n → n + one ≡ o → b ≡ drop i input → d ≡ drop j b → e ≡ drop k d
+    → (d ≡ drop m input) × (get_or e 0 0 ≡ get_or input n 0) × (take (length e - one) (drop one e) ≡ drop o input)
+pieces i j k m n o one input b d e im mn om be de ee =
+    let d' : d ≡ drop m input = rw (de, be, ← im) (drop-drop j i input) in
+    let e' : e ≡ drop n input = rw (ee, d', ← mn) (drop-drop k m input) in
+    let l : drop one e ≡ drop o input = rw (e', ← om) (drop-drop one n input) in
+    (d', rw (e', get_or-drop n input 0 0, add-zero), rw l (take_all _ (drop o input) (omega (arith, ap length e', length-drop n input, length-drop o input))))
 
 -- an input in two: the bytes before the list, and the list
 in_two : (p l : List ℕ) → length p ≡ 313 → verdict_of (p ++ l) ≡ vet_of (state_in p) l

@@ -3,7 +3,7 @@ use Rattle.std.specs.Prelude.{◌≡◌, cond, List, ◌∷◌, ◌++◌, ℕ, �
 use Rattle.chip.specs.declared.Chip.{Chip}
 use Rattle.chip.specs.Write.{lent_as}
 use Rattle.views.specs.Entry.{marked}
-use Rattle.vendor.specs.declared.Verdict.{Verdict}
+use Rattle.vendor.specs.Numbered.{Verdict}
 use Rattle.vendor.specs.Vendor.{most_pairs}
 use Rattle.vendor.specs.Found.{vet_of}
 use Rattle.line.specs.Verdict.{PrintsVerdict}

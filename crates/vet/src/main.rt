@@ -2,13 +2,15 @@
 // 02, requests 03 and 04).
 #![tactic(auto)]
 
-ghost use Rattle.std.specs.Prelude.{◌≡◌, List, ℕ, ◌<◌, ◌≤◌, length};
+ghost use Rattle.std.specs.Prelude.{◌≡◌, List, ℕ, ◌<◌, length};
 ghost use Rattle.io.specs.Counts.{IsPrefixLen};
+ghost use Rattle.vendor.specs.Numbered.{verdict_told};
 ghost use Rattle.vet.specs.Input.{verdict_of, longest_input, PrintsInput, Inputs};
 
+use line::Text;
 use refusals::Refusal;
 use std::io::{Read, Write};
-use vendor::{MOST_PAIRS, Verdict};
+use vendor::{Fault, MOST_PAIRS};
 
 // The bytes before the list, and with them one pair more than the longest list has.
 const AHEAD: usize = 256 + 32 + 24 + 1;
@@ -16,22 +18,16 @@ const AHEAD: usize = 256 + 32 + 24 + 1;
 const ENOUGH: usize = AHEAD + 2 * (MOST_PAIRS + 1);
 
 // The verdict on an input; one that ends before its list is refused.
-fn judged(input: &[u8]) -> Verdict
-    ensures { result ≡ verdict_of input.now }
+fn judged(input: &[u8]) -> Result<(), Fault>
+    ensures { verdict_told result ≡ verdict_of input.now }
 {
     if input.len() < AHEAD {
-        return Verdict {
-            refusal: Refusal::IMAGE_LENGTH,
-            place: 0,
-        };
+        return Err(Fault::Refused(Refusal::ImageLength));
     }
-    vendor::vet(
-        &input[..256],
-        &input[256..288],
-        &input[288..312],
-        input[312],
-        &input[AHEAD..],
-    )
+    let (image, rest) = input.split_at(256);
+    let (packet, rest) = rest.split_at(32);
+    let (coefficients, rest) = rest.split_at(24);
+    vendor::vet(image, packet, coefficients, rest[0], &rest[1..])
 }
 
 // What is there to be read, at the front of a room: up to its end, or the input's. A read that fails counts as the end too.
@@ -40,10 +36,7 @@ fn read_full(rt: &HostRuntime, room: &mut [u8]) -> usize
 {
     let mut done = 0;
     while done < room.len() {
-        let n = match rt.stdin().read(&mut room[done..]) {
-            Ok(n) => n,
-            Err(_) => 0,
-        };
+        let n = rt.stdin().read(&mut room[done..]).unwrap_or(0);
         if n == 0 {
             break;
         }
@@ -52,25 +45,30 @@ fn read_full(rt: &HostRuntime, room: &mut [u8]) -> usize
     done
 }
 
+// A verdict as its line has it: the number of the refusal, 0 for none, and the place.
+fn in_numbers(verdict: Result<(), Fault>) -> (u8, u32)
+    ensures { (result.0 ≡ (verdict_told verdict).refusal) × (result.1 ≡ (verdict_told verdict).place) }
+{
+    match verdict {
+        Ok(()) => (0, 0),
+        Err(Fault::Refused(refusal)) => (refusal.into(), 0),
+        Err(Fault::Pair { place }) => (Refusal::BadPair.into(), place),
+    }
+}
+
 // The line of what is read, in a room for more than the longest input: what follows one byte more changes nothing (`Inputs.enough`).
-fn print(rt: &HostRuntime, room: &mut [u8], line: &mut [u8; 80]) -> usize
+fn print(rt: &HostRuntime, room: &mut [u8]) -> Text
     requires { longest_input < length room.old }
-    ensures prints_input { PrintsInput room.new result line.new }
-    ensures upper_bound { result ≤ length line.new }
+    ensures { PrintsInput room.new result.count result.bytes }
 {
     let n = read_full(rt, room);
-    let verdict = judged(&room[..n]);
-    line::print_verdict(verdict.refusal, verdict.place, line)
+    let (refusal, place) = in_numbers(judged(&room[..n]));
+    line::print_verdict(refusal, place)
 }
 
 fn main(rt: HostRuntime) {
     let mut room = [0u8; ENOUGH];
-    let mut line = [0u8; 80];
-    let count = print(&rt, &mut room, &mut line);
-    match rt.stdout().write_all(&line[..count]) {
-        Ok(()) => {}
-        Err(_) => {}
-    }
+    let _ = rt.stdout().write_all(print(&rt, &mut room).as_bytes());
 }
 
 // The parts of an input, and what is answered for one that ends before its list, or goes on after the longest.

@@ -3,12 +3,30 @@
 #![tactic(auto)]
 
 ghost use Rattle.std.specs.Prelude.{◌≡◌};
-ghost use Rattle.video.specs.Modes.{mode, mode_of, ModeTable};
-ghost use Rattle.video.specs.Video.{video_in, video_body, depth, repetition, ycc_quantisation, content_type, no_video, in_family};
-ghost use Rattle.video.specs.Video.{answered_edition};
+ghost use Rattle.video.specs.Modes.{mode_of, ModeTable};
+ghost use Rattle.video.specs.Video.{
+  video_in,
+  video_body,
+  depth,
+  repetition,
+  ycc_quantisation,
+  content_type,
+  no_video,
+  in_family,
+  answered_edition,
+};
 ghost use Rattle.video.specs.Body.{Body};
-ghost use Rattle.video.specs.Tests.{edition_outside, shown_outside, video_outside, pixel_outside};
-ghost use Rattle.video.specs.Tests.{full_ycbcr, deep_apart, asked_under_d, shown_combined, video_combined};
+ghost use Rattle.video.specs.Tests.{
+  edition_outside,
+  shown_outside,
+  video_outside,
+  pixel_outside,
+  full_ycbcr,
+  deep_apart,
+  asked_under_d,
+  shown_combined,
+  video_combined,
+};
 ghost use Rattle.video.specs.Exception.{Exception};
 
 // The count of the video section.
@@ -16,7 +34,9 @@ pub const VIDEO_COUNT: u8 = 7;
 
 // What the video section asks for. `pixel` is the depth byte, with the repetition in its upper half; `edition` is the edition byte, with
 // the quantisation and the content type.
-#[derive(Clone, Copy)]
+// Kept, what may not change: the fields are bytes and no enums, for any byte may stand in a request, rows 4 to 6 judge it, and `Body` and
+// `Exception` speak of all of them.
+#[derive(Clone, Copy, Default, Debug, PartialEq, Eq)]
 pub struct Video {
     pub vic: u8,
     pub family: u8,
@@ -28,7 +48,7 @@ pub struct Video {
 }
 
 // A listed mode. A VIC that is not listed offers no family.
-#[derive(Clone, Copy)]
+#[derive(Clone, Copy, Debug, PartialEq, Eq)]
 pub struct Mode {
     pub vic: u8,
     pub hertz: u32,
@@ -37,40 +57,30 @@ pub struct Mode {
     pub colorimetry: u8,
 }
 
-// A row of the table.
-fn row(vic: u8, hertz: u32, families: u8, aspect: u8, colorimetry: u8) -> Mode
-    ensures { result ≡ mode vic hertz families aspect colorimetry }
-{
-    Mode {
-        vic: vic,
-        hertz: hertz,
-        families: families,
-        aspect: aspect,
-        colorimetry: colorimetry,
-    }
-}
-
-// The mode of a VIC: "Modes and clocks", row by row as the definition has them. A `match` and no array: a call builds its arrays anew.
+// The mode of a VIC: "Modes and clocks", row by row as the definition has them. A `match` finds the row at once; a search would look at fifteen.
+// Kept, what may not change: a VIC that is not listed has the mode 0, and no `Option`, for `mode_of` and `ModeTable.none` say so.
+#[rattlefmt::skip]
+#[tactic(auto, unfolding(crate::specs::Modes::mode_of))]
 pub fn mode_of(vic: u8) -> Mode
     ensures { result ≡ mode_of vic }
 {
     match vic {
-        1 => row(1, 25200000, 2, 1, 1),
-        2 => row(2, 27027000, 2, 1, 1),
-        3 => row(3, 27027000, 2, 2, 1),
-        4 => row(4, 74250000, 2, 2, 2),
-        5 => row(5, 74250000, 2, 2, 2),
-        16 => row(16, 148500000, 2, 2, 2),
-        17 => row(17, 27000000, 1, 1, 1),
-        18 => row(18, 27000000, 1, 2, 1),
-        19 => row(19, 74250000, 1, 2, 2),
-        20 => row(20, 74250000, 1, 2, 2),
-        31 => row(31, 148500000, 1, 2, 2),
-        32 => row(32, 74250000, 2, 2, 2),
-        34 => row(34, 74250000, 2, 2, 2),
-        60 => row(60, 59400000, 2, 2, 2),
-        62 => row(62, 74250000, 2, 2, 2),
-        _ => row(0, 0, 0, 0, 0),
+        1 => Mode { vic: 1, hertz: 25200000, families: 2, aspect: 1, colorimetry: 1 },
+        2 => Mode { vic: 2, hertz: 27027000, families: 2, aspect: 1, colorimetry: 1 },
+        3 => Mode { vic: 3, hertz: 27027000, families: 2, aspect: 2, colorimetry: 1 },
+        4 => Mode { vic: 4, hertz: 74250000, families: 2, aspect: 2, colorimetry: 2 },
+        5 => Mode { vic: 5, hertz: 74250000, families: 2, aspect: 2, colorimetry: 2 },
+        16 => Mode { vic: 16, hertz: 148500000, families: 2, aspect: 2, colorimetry: 2 },
+        17 => Mode { vic: 17, hertz: 27000000, families: 1, aspect: 1, colorimetry: 1 },
+        18 => Mode { vic: 18, hertz: 27000000, families: 1, aspect: 2, colorimetry: 1 },
+        19 => Mode { vic: 19, hertz: 74250000, families: 1, aspect: 2, colorimetry: 2 },
+        20 => Mode { vic: 20, hertz: 74250000, families: 1, aspect: 2, colorimetry: 2 },
+        31 => Mode { vic: 31, hertz: 148500000, families: 1, aspect: 2, colorimetry: 2 },
+        32 => Mode { vic: 32, hertz: 74250000, families: 2, aspect: 2, colorimetry: 2 },
+        34 => Mode { vic: 34, hertz: 74250000, families: 2, aspect: 2, colorimetry: 2 },
+        60 => Mode { vic: 60, hertz: 59400000, families: 2, aspect: 2, colorimetry: 2 },
+        62 => Mode { vic: 62, hertz: 74250000, families: 2, aspect: 2, colorimetry: 2 },
+        _ => Mode { vic: 0, hertz: 0, families: 0, aspect: 0, colorimetry: 0 },
     }
 }
 
@@ -78,21 +88,14 @@ pub fn mode_of(vic: u8) -> Mode
 pub fn video_in(body: &[u8]) -> Video
     ensures { result ≡ video_in body.now }
 {
-    let vic = lists::byte_at(body, 0);
-    let family = lists::byte_at(body, 1);
-    let encoding = lists::byte_at(body, 2);
-    let link = lists::byte_at(body, 3);
-    let range = lists::byte_at(body, 4);
-    let pixel = lists::byte_at(body, 5);
-    let edition = lists::byte_at(body, 6);
     Video {
-        vic: vic,
-        family: family,
-        encoding: encoding,
-        link: link,
-        range: range,
-        pixel: pixel,
-        edition: edition,
+        vic: lists::byte_at(body, 0),
+        family: lists::byte_at(body, 1),
+        encoding: lists::byte_at(body, 2),
+        link: lists::byte_at(body, 3),
+        range: lists::byte_at(body, 4),
+        pixel: lists::byte_at(body, 5),
+        edition: lists::byte_at(body, 6),
     }
 }
 
@@ -131,47 +134,31 @@ pub fn content_type(v: Video) -> u8
     v.edition / 16 % 4
 }
 
-// What stands beside a refusal.
+// All fields 0, which the definitions have beside a refusal (`emptied`).
 pub fn no_video() -> Video
     ensures { result ≡ no_video }
 {
-    Video {
-        vic: 0,
-        family: 0,
-        encoding: 0,
-        link: 0,
-        range: 0,
-        pixel: 0,
-        edition: 0,
-    }
+    Video::default()
 }
 
 // The same in another family.
 pub fn in_family(v: Video, family: u8) -> Video
     ensures { result ≡ in_family family v }
 {
-    Video {
-        vic: v.vic,
-        family: family,
-        encoding: v.encoding,
-        link: v.link,
-        range: v.range,
-        pixel: v.pixel,
-        edition: v.edition,
-    }
+    Video { family, ..v }
 }
 
 // The edition byte as it is answered: D's for an E that asks for nothing.
 pub fn answered_edition(byte: u8) -> u8
     ensures { result ≡ answered_edition byte }
 {
-    if byte == 1 {
-        return 0;
-    }
-    byte
+    if byte == 1 { 0 } else { byte }
 }
 
 // Row 5, of the edition byte.
+// Kept, what may not change: this and the rows below take the halves of a byte apart themselves and call no `depth`, `repetition`,
+// `ycc_quantisation` or `content_type`, for the edits `byte_forgotten`, `bit_6_taken` and `every_field` spoil one of these beside a row that
+// would call it, and each is refused by its own facts.
 pub fn edition_outside(v: Video) -> bool
     ensures { result ≡ edition_outside v }
 {
@@ -179,19 +166,19 @@ pub fn edition_outside(v: Video) -> bool
 }
 
 // Row 5, of the fields that the AVI InfoFrame shows.
+#[tactic(auto, unfolding(crate::specs::Tests::shown_outside))]
 pub fn shown_outside(v: Video) -> bool
     ensures { result ≡ shown_outside v }
 {
-    let edition = edition_outside(v);
-    (2 < v.encoding) | ((1 < v.range) | ((2 < v.pixel / 16) | edition))
+    (2 < v.encoding) | ((1 < v.range) | ((2 < v.pixel / 16) | edition_outside(v)))
 }
 
 // Row 5, of this section.
+#[tactic(auto, unfolding(crate::specs::Tests::video_outside))]
 pub fn outside(v: Video) -> bool
     ensures { result ≡ video_outside v }
 {
-    let shown = shown_outside(v);
-    (1 < v.link) | ((2 < v.pixel % 16) | shown)
+    (1 < v.link) | ((2 < v.pixel % 16) | shown_outside(v))
 }
 
 // Row 5, of the fields from which the clock is made.
@@ -223,21 +210,19 @@ pub fn asked_under_d(v: Video) -> bool
 }
 
 // Row 6, of the fields that the AVI InfoFrame shows.
+#[tactic(auto, unfolding(crate::specs::Tests::shown_combined))]
 pub fn shown_combined(v: Video) -> bool
     ensures { result ≡ shown_combined v }
 {
-    let full = full_ycbcr(v);
-    let under = asked_under_d(v);
-    full | under
+    full_ycbcr(v) | asked_under_d(v)
 }
 
 // Row 6, of this section alone.
+#[tactic(auto, unfolding(crate::specs::Tests::video_combined))]
 pub fn combined(v: Video) -> bool
     ensures { result ≡ video_combined v }
 {
-    let deep = deep_apart(v);
-    let shown = shown_combined(v);
-    ((v.link == 0) & (v.encoding != 0)) | (deep | shown)
+    ((v.link == 0) & (v.encoding != 0)) | (deep_apart(v) | shown_combined(v))
 }
 
 // The mode of each VIC is the table's.

@@ -1,5 +1,5 @@
 -- A write and a Vsync over lent slices. Assumes nothing.
-use mathlib.Core.Path.{◌≡◌, refl, ◌∙◌}
+use mathlib.Core.Path.{◌≡◌, refl, sym, ◌∙◌}
 use mathlib.Core.Logic.{◌≢◌}
 use mathlib.Core.Bool.{Bool, true, false, not}
 use mathlib.Core.List.{List, [], ◌∷◌}
@@ -11,20 +11,25 @@ use Rattle.lists.proofs.Copied.{over_whole}
 use borrow.Author.Tests.{eqb-true, eq-eqb, ne_eqb, not-false}
 use Rattle.lists.proofs.Both.{both_left, both_right}
 use Rattle.lists.proofs.Decides.{Decides, opposite, equal, one_fails}
+use mir.Val.{bool_byte}
+use Rattle.refusals.specs.declared.Refusal.{Refusal}
+use Rattle.refusals.specs.Numbered.{refusal_number}
 use Rattle.refusals.specs.Rows.{image_length, Given}
 use Rattle.refusals.specs.Tests.{◌if◌, lowest, answer}
 use Rattle.refusals.proofs.Tests.{Decided, lowest_given, in_stages, none_at, numbered}
 use Rattle.chip.specs.declared.Chip.{Chip}
-use Rattle.chip.specs.declared.Wrote.{Wrote}
+use Rattle.std.specs.Prelude.{Result, Ok, Err}
+use Rattle.chip.specs.Numbered.{Wrote, wrote_told}
 use Rattle.chip.specs.Write.{write_of, vsync_of}
 use Rattle.chip.specs.Step.{write_rules}
-use Rattle.views.specs.Entry.{is_sized, Lent, state_of, SliceAnswer, refused_entry, taken_entry, wrote_in, is_lent, Gathers, enter_tests, enter_of, turn_of}
+use Rattle.views.specs.Entry.{mark_byte, is_sized, Lent, state_of, SliceAnswer, refused_entry, taken_entry, wrote_in, is_lent, Gathers, enter_tests, enter_of, turn_of}
 use Rattle.views.specs.Sized.{LentSized}
 use Rattle.views.specs.Refusals.{Sized}
 use Rattle.views.specs.Refusals.{WrongLengths}
 use Rattle.views.specs.Refusals.{WrongLent, turn_rules, WriteRefusals, VsyncRefusals}
 use Rattle.chip.proofs.Writes.{stepped}
 use Rattle.views.proofs.Seen.{unlike}
+use Rattle.refusals.proofs.Told.{refusal_some, by_refusal}
 
 -- the three lengths of a state
 pub sized : (s : Chip) → not (is_sized s) ≡ false → Sized s
@@ -55,6 +60,11 @@ pub stored_alone : (bytes : List ℕ) (byte : ℕ) → length bytes ≡ 1 → se
 stored_alone [] byte e = absurd (omega arith)
 stored_alone (a ∷ []) byte e = refl
 stored_alone (a ∷ b ∷ bytes) byte e = absurd (omega arith)
+
+-- a mark as its byte
+pub byte_of : (waits : Bool) → bool_byte waits ≡ mark_byte waits
+byte_of true = refl
+byte_of false = refl
 
 module _ (l : Lent) where
   -- the four lengths of the slices, and the three of their state
@@ -90,8 +100,8 @@ module _ (l : Lent) where
   abbrev past : SliceAnswer → SliceAnswer
   past e = answer (lowest (enter_tests l)) (refused_entry l) e
 
-  stopped : (e : SliceAnswer) → is_lent l ≡ false → past e ≡ record { refusal = 7; slices = l }
-  stopped e f = rw f
+  pub let_past : 0 ≡ lowest (enter_tests l) → is_lent l ≡ true
+  let_past z = not-false (is_lent l) (none_at (enter_tests l) 0 (sym z))
 
   passed : (e : SliceAnswer) → is_lent l ≡ true → past e ≡ e
   passed e t = rw t
@@ -110,6 +120,12 @@ module _ (l : Lent) where
   pub wrote_taken : (w : Wrote) → w.refusal ≡ 0 → wrote_in l w ≡ taken_entry w.chip
   wrote_taken w h = rw (eq-eqb _ _ h)
 
+  pub past_a_refusal : (s : Chip) (r : Result Chip Refusal) (e : Refusal) → r ≡ Err e → wrote_in l (wrote_told s r) ≡ refused_entry l (refusal_number e)
+  past_a_refusal s r e h = rw h (wrote_refused _ (refusal_some e))
+
+  pub past_a_write : (s : Chip) (r : Result Chip Refusal) (t : Chip) → r ≡ Ok t → wrote_in l (wrote_told s r) ≡ taken_entry t
+  past_a_write s r t h = rw h refl
+
   pub wrote_number : (w : Wrote) → (wrote_in l w).refusal ≡ w.refusal
   wrote_number w = numbered (refused_entry l) (taken_entry w.chip) (λ (e : SliceAnswer). e.refusal) w.refusal (λ _. refl) refl
 
@@ -117,9 +133,9 @@ module _ (l : Lent) where
   wrote_kept w h = rw (wrote_refused w (λ e. h (wrote_number w ∙ e)))
 
   -- a Vsync
-  pub turn_away : is_lent l ≡ false → turn_of l ≡ record { refusal = 7; slices = l }
+  pub turn_away : (e : Refusal) → refusal_number e ≡ lowest (enter_tests l) → refused_entry l (refusal_number e) ≡ turn_of l
   unfolding turn_of
-  turn_away = stopped (taken_entry (vsync_of (state_of l)))
+  turn_away = by_refusal (refused_entry l) (taken_entry (vsync_of (state_of l))) (lowest (enter_tests l))
 
   pub turn_in : is_lent l ≡ true → turn_of l ≡ taken_entry (vsync_of (state_of l))
   unfolding turn_of
@@ -139,9 +155,9 @@ module _ (l : Lent) where
     abbrev wrote : Wrote
     wrote = write_of (state_of l) address value
 
-    pub turned_away : is_lent l ≡ false → enter_of l address value ≡ record { refusal = 7; slices = l }
+    pub turned_away : (e : Refusal) → refusal_number e ≡ lowest (enter_tests l) → refused_entry l (refusal_number e) ≡ enter_of l address value
     unfolding enter_of
-    turned_away = stopped (wrote_in l wrote)
+    turned_away = by_refusal (refused_entry l) (wrote_in l wrote) (lowest (enter_tests l))
 
     pub let_in : is_lent l ≡ true → enter_of l address value ≡ wrote_in l (write_of (state_of l) address value)
     unfolding enter_of
@@ -152,6 +168,6 @@ module _ (l : Lent) where
     refusals = record {
       given =
           in_stages (refused_entry l) (wrote_in l wrote) (λ (e : SliceAnswer). e.refusal) (turn_rules l) (write_rules (state_of l) address value) (lowest (enter_tests l)) refl refl
-          lengths_given (λ z. rw (wrote_number wrote) (stepped (state_of l) address value (lent_sized (not-false (is_lent l) (none_at (enter_tests l) 0 z))).image).refusals);
+          lengths_given (λ z. rw (wrote_number wrote) (stepped (state_of l) address value (lent_sized (let_past (sym z))).image).refusals);
       kept = kept (wrote_in l wrote) (wrote_kept wrote);
     }

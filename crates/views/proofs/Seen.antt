@@ -3,7 +3,7 @@ use mathlib.Core.Path.{◌≡◌, refl, sym, ap, ◌∙◌}
 use mathlib.Core.Logic.{◌≢◌, ◌⊎◌}
 use mathlib.Core.Bool.{Bool, true, false, cond, not, ◌&&◌}
 use mathlib.Core.List.{List, [], ◌∷◌}
-use Prim.Native.Nat.{ℕ, ◌+◌, ◌-◌, ◌/◌, ◌%◌, ◌≤◌, ◌<◌}
+use Prim.Native.Nat.{ℕ, ◌+◌, ◌*◌, ◌-◌, ◌/◌, ◌%◌, ◌≤◌, ◌<◌}
 use native.Mathlib.Omega.{arith}
 use lib.Dec.{eqb, ltb, lit<}
 use lib.ListN.{length, get_or, take, drop}
@@ -14,14 +14,14 @@ use Rattle.lists.proofs.Decides.{Decides, opposite, equal, less, one_fails}
 use Rattle.refusals.specs.Rows.{field_out_of_range, Given}
 use Rattle.refusals.specs.Tests.{◌if◌}
 use Rattle.refusals.proofs.Tests.{Decided, lowest_given, none_at, numbered}
-use Rattle.views.specs.declared.view.Part.{Part}
-use Rattle.views.specs.declared.view.Mute.{Mute}
-use Rattle.chip.specs.Machine.{Group, avi, audio, packets, up, holds_of, in_use, gc_in_use, mute, registers_of}
+use Rattle.views.specs.Numbered.{Part}
+use Rattle.views.specs.Numbered.{Mute}
+use Rattle.chip.specs.Machine.{Group, avi, audio, gc, packets, up, holds_of, in_use, gc_in_use, mute, registers_of}
 use Rattle.chip.specs.Write.{two}
 use Rattle.views.specs.View.{packet_at, viewed_of, lent_refusal, view_refusal, sent_of, placed, no_part, sent_part, start_in, mute_of, no_mute, lent_tests}
 use Rattle.views.specs.Refusals.{bytes_in, SentFrom, lent_rules, view_rules, ViewRefusals}
 use Rattle.bits.specs.Merge.{bit}
-use Rattle.bits.proofs.Laws.{bit_code, two_bits_code}
+use Rattle.bits.proofs.Laws.{two_bits_code}
 use Rattle.chip.proofs.Writes.{two_up}
 
 -- one of two lengths is another than it is to be; both are as they are to be
@@ -139,28 +139,22 @@ module _ (image packet : List ℕ) where
   from_slice which e = ((λ h. taken which e ∙ rw h), λ h. taken which e ∙ rw h)
 
   -- the mute bits, off the buffer's first byte where the GC hold is up, else off the register
-  pub mute_refused_lem : lent_refusal image packet ≢ 0 → no_mute (lent_refusal image packet) ≡ mute_of image packet
-  unfolding mute_of
-  mute_refused_lem h = sym (rw (ne_eqb _ _ h))
-
-  module _ (e : lent_refusal image packet ≡ 0) where
-    pub mute_shown : (bits : ℕ) → bits ≡ mute (viewed_of image packet) → record { refusal = 0; mute = bits } ≡ mute_of image packet
-    unfolding mute_of
-    mute_shown bits m = ap (λ (n : ℕ). record { refusal = 0; mute = n }) m ∙ sym (rw (eq-eqb (lent_refusal image packet) 0 e))
-
-  -- off the buffer's first byte where the GC hold is up, else off the register
-  pub mute_held_lem : get_or image 0x4A 0 / 16 % 2 ≡ 1 → get_or packet 0 0 / 64 % 4 ≡ mute (viewed_of image packet)
+  pub mute_shown : (byte : ℕ) → byte ≡ cond (up gc (holds_of packets image)) (get_or packet 0 0) (get_or image 0x4B 0)
+      → byte / 64 % 4 ≡ mute (viewed_of image packet)
   unfolding gc_in_use in_use
-  mute_held_lem h = sym (simp (bit_code 4 (get_or image 0x4A 0), eq-eqb _ _ h, get_or-take 1 packet 0 0 (lit< tt), two_bits_code 6 (get_or packet 0 0)))
-
-  pub mute_down : get_or image 0x4A 0 / 16 % 2 ≢ 1 → get_or image 0x4B 0 / 64 % 4 ≡ mute (viewed_of image packet)
-  unfolding gc_in_use in_use
-  mute_down h =
-      sym (simp (bit_code 4 (get_or image 0x4A 0), ne_eqb _ _ h, get_or-take 1 (drop 0x4B image) 0 0 (lit< tt), get_or-drop 0x4B image 0 0, two_bits_code 6 (get_or image 0x4B 0)))
+  mute_shown byte e = sym (two_bits_code 6 byte) ∙ ap (λ (n : ℕ). bit 6 n + 2 * bit 7 n) (e ∙ go (up gc (holds_of packets image)))
+    where
+      go : (t : Bool) → cond t (get_or packet 0 0) (get_or image 0x4B 0) ≡ get_or (cond t (take 1 packet) (registers_of gc image)) 0 0
+      go true = sym (get_or-take 1 packet 0 0 (lit< tt))
+      go false = sym (get_or-take 1 (drop 0x4B image) 0 0 (lit< tt) ∙ get_or-drop 0x4B image 0 0)
 
   mute_numbered : (mute_of image packet).refusal ≡ lent_refusal image packet
   unfolding mute_of
   mute_numbered = numbered no_mute _ (λ (m : Mute). m.refusal) (lent_refusal image packet) (λ _. refl) refl
+
+  mute_refused : lent_refusal image packet ≢ 0 → mute_of image packet ≡ no_mute (lent_refusal image packet)
+  unfolding mute_of
+  mute_refused h = rw (ne_eqb _ _ h)
 
   pub refusals : ViewRefusals image packet
   refusals = record {
@@ -168,7 +162,7 @@ module _ (image packet : List ℕ) where
     part = part_numbered;
     empty = λ which h. (empty which h, refused which h);
     mute = rw mute_numbered lent_given;
-    zero = λ h. ap (λ (m : Mute). m.mute) (sym (mute_refused_lem (λ e. h (mute_numbered ∙ e))));
+    zero = λ h. ap (λ (m : Mute). m.mute) (mute_refused (λ e. h (mute_numbered ∙ e)));
     bytes = bytes;
     avi = from_slice 0;
     audio = from_slice 1;

@@ -10,10 +10,10 @@ use Rattle.lists.proofs.Both.{neither_right}
 use Rattle.bits.specs.Merge.{bit}
 use Rattle.chip.specs.declared.Chip.{Chip}
 use Rattle.chip.specs.Machine.{packets, holds_of, in_use, gc_in_use, mute}
-use Rattle.chip.specs.declared.Wrote.{Wrote}
+use Rattle.chip.specs.Numbered.{Wrote}
 use Rattle.chip.specs.Write.{lent_as, two, image_after, refuses, write_of, vsync_of}
 use Rattle.chip.proofs.Writes.{allowed, stepped}
-use Rattle.views.specs.declared.view.Mute.{Mute}
+use Rattle.views.specs.Numbered.{Mute}
 use Rattle.views.specs.Entry.{marked, mark_byte, Lent, state_of, slices_of, SliceAnswer, refused_entry, taken_entry, wrote_in, enter_of, turn_of}
 use Rattle.views.specs.View.{lent_refusal, view_refusal, sent_of, mute_of}
 use Rattle.views.specs.Sized.{LentSized}

@@ -1,11 +1,10 @@
 -- What the converter goes by, byte by byte. Assumes nothing.
 use mathlib.Core.Path.{◌≡◌, refl, sym, ap, ap₂, ◌∙◌}
 use mathlib.Core.Logic.{◌≢◌}
-use mathlib.Core.Bool.{Bool, true, false, cond, not, ◌&&◌, ◌||◌}
+use mathlib.Core.Bool.{Bool, true, false, cond, ◌||◌}
 use mathlib.Core.List.{List, ◌∷◌, ◌++◌}
 use Prim.Native.Nat.{ℕ, ◌/◌, ◌%◌, ◌≤◌, ◌<◌}
 use native.Mathlib.Omega.{arith}
-use lib.Dec.{eqb}
 use lib.ListN.{length, get_or, take, drop, length-drop}
 use lib.Seq.{take_all, length-take-le}
 use borrow.Author.Tests.{eq-eqb, ne_eqb, lt-ltb, le-ltb}
@@ -21,7 +20,7 @@ use Rattle.matrix.specs.Body.{body_of}
 use Rattle.matrix.proofs.Body.{unmoved}
 use Rattle.matrix.proofs.Pairs.{fields_small, length_fields, length_bytes, fields_said}
 use Rattle.chip.specs.declared.Chip.{Chip}
-use Rattle.views.specs.declared.converter.Count.{Count}
+use Rattle.views.specs.Numbered.{Count}
 use Rattle.chip.specs.Machine.{matrix, converter, registers_of, up, holds_of, in_use, coefficients, mode_in_use}
 use Rattle.views.specs.Entry.{marked}
 use Rattle.views.specs.Converter.{asked_of, matrix_bytes, matrix_tests, matrix_refusal, no_count, matrix_answer, matrix_out}
@@ -46,9 +45,13 @@ module _ (image buffer : List ℕ) (mark : ℕ) (out : List ℕ) where
   unfolding matrix_answer
   counted = numbered no_count _ (λ (c : Count). c.refusal) (matrix_refusal image buffer out) (λ _. refl) refl
 
-  pub seven : not (eqb (length image) 256 && eqb (length buffer) 24) ≡ true → matrix_refusal image buffer out ≡ 7
+  pub seven : length image ≢ 256 → matrix_refusal image buffer out ≡ 7
   unfolding matrix_refusal
-  seven e = rw e
+  seven h = rw (ne_eqb _ _ h)
+
+  pub seven_too : length image ≡ 256 → length buffer ≢ 24 → matrix_refusal image buffer out ≡ 7
+  unfolding matrix_refusal
+  seven_too l h = rw (eq-eqb _ _ l, ne_eqb _ _ h)
 
   pub ten : length image ≡ 256 → length buffer ≡ 24 → length out < 25 → matrix_refusal image buffer out ≡ 10
   unfolding matrix_refusal
@@ -71,16 +74,16 @@ module _ (image buffer : List ℕ) (mark : ℕ) (out : List ℕ) where
 
   module _ (l : length image ≡ 256) (k : length buffer ≡ 24) where
     -- the buffer's where a lowered hold waits or the hold is up, else the registers
-    pub latched : (marked mark || up matrix (get_or image 0x1A 0)) ≡ true → buffer ≡ in_use converter matrix (asked_of image buffer mark)
+    pub used : cond (marked mark || up matrix (get_or image 0x1A 0)) buffer (registers_of matrix image) ≡ in_use converter matrix (asked_of image buffer mark)
     unfolding in_use
-    latched h = sym (rw h (take_all 24 buffer (omega arith)))
-
-    pub let_go : (marked mark || up matrix (get_or image 0x1A 0)) ≡ false → registers_of matrix image ≡ in_use converter matrix (asked_of image buffer mark)
-    unfolding in_use
-    let_go h = sym (rw h)
+    used = go (marked mark || up matrix (get_or image 0x1A 0))
+      where
+        go : (b : Bool) → cond b buffer (registers_of matrix image) ≡ cond b (take 24 buffer) (registers_of matrix image)
+        go true = sym (take_all 24 buffer (omega arith))
+        go false = refl
 
     -- 24 they are
-    in_use_long : length bytes_used ≡ 24
+    pub in_use_long : length (in_use converter matrix (asked_of image buffer mark)) ≡ 24
     unfolding in_use
     in_use_long = go (marked mark || up matrix (holds_of converter image))
       where

@@ -2,7 +2,7 @@
 -- calls answer over some slices. In them every byte tells its place.
 use Rattle.std.specs.Prelude.{◌≡◌, List, [], ◌∷◌, ◌++◌, map, ℕ, set, replicate}
 use Rattle.chip.specs.Cases.{starting_at, image, buffer, gc_in, lone, any}
-use Rattle.views.specs.declared.view.Part.{Part}
+use Rattle.views.specs.Numbered.{Part}
 use Rattle.views.specs.Entry.{Lent, lent, SliceAnswer, enter_of, turn_of}
 use Rattle.views.specs.View.{view_refusal, sent_of, sent_part, start_in, mute_of}
 use Rattle.views.specs.Converter.{matrix_answer, matrix_out}

@@ -7,7 +7,7 @@ use Rattle.matrix.specs.Coefficient.{coefficient_bytes}
 use Rattle.chip.specs.Machine.{coefficients, mode_in_use}
 use Rattle.chip.specs.declared.Chip.{Chip}
 use Rattle.chip.specs.Write.{lent_as}
-use Rattle.views.specs.declared.converter.Count.{Count}
+use Rattle.views.specs.Numbered.{Count}
 use Rattle.views.specs.Entry.{marked}
 
 -- what the matrix is asked of: the packet buffer is not lent, and plays no part; the mark is given as its byte

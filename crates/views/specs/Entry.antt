@@ -5,7 +5,7 @@ use Rattle.lists.specs.Over.{over}
 use Rattle.refusals.specs.Rows.{image_length}
 use Rattle.refusals.specs.Tests.{Test, ◌if◌, lowest, answer}
 use Rattle.chip.specs.declared.Chip.{Chip}
-use Rattle.chip.specs.declared.Wrote.{Wrote}
+use Rattle.chip.specs.Numbered.{Wrote}
 use Rattle.chip.specs.Write.{lent_as, write_of, vsync_of}
 
 -- the lengths of a state's three slices

@@ -1,3 +1,4 @@
+pub mod Numbered
 pub mod Entry
 pub mod Sized
 pub mod Faces

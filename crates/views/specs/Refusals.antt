@@ -4,7 +4,7 @@ use Rattle.bits.specs.Merge.{bit}
 use Rattle.refusals.specs.Rows.{field_out_of_range, image_length, buffer_short, two_holds, Condition, ◌when◌, Given}
 use Rattle.chip.specs.declared.Chip.{Chip}
 use Rattle.chip.specs.Step.{TwoUp, write_rules}
-use Rattle.views.specs.declared.view.Part.{Part}
+use Rattle.views.specs.Numbered.{Part}
 use Rattle.views.specs.Entry.{Lent, state_of, enter_of, turn_of}
 use Rattle.views.specs.View.{view_refusal, sent_of, sent_part, mute_of}
 use Rattle.views.specs.Converter.{matrix_answer, matrix_out}

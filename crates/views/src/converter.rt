@@ -1,67 +1,58 @@
 // What the colour converter goes by, over lent slices: documents 01, "The chip machine", and 02, request 04.
-ghost use Rattle.std.specs.Prelude.{◌≡◌, ◌∷◌, length};
+ghost use Rattle.std.specs.Prelude.{◌≡◌, ◌∷◌, cond, ◌||◌, get_or, length};
 ghost use Rattle.lists.specs.Over.{over};
+ghost use Rattle.map.specs.Map.{coefficient_update};
 ghost use Rattle.matrix.specs.Coefficient.{coefficient_bytes};
 ghost use Rattle.matrix.specs.Matrix.{fields};
+ghost use Rattle.chip.specs.Machine.{matrix, registers_of, up};
 ghost use Rattle.views.specs.Converter.{ShowsMatrix};
+ghost use Rattle.views.specs.Numbered.{count_told};
 
-use chip::is_held;
+use chip::{Group, is_held};
 use map::Map;
 use matrix::Matrix;
 use refusals::Refusal;
-
-// The number of a refusal, 0 for none, and the count of bytes written.
-#[derive(Clone, Copy)]
-pub struct Count {
-    pub refusal: u8,
-    pub count: u32,
-}
 
 // A matrix of a mode and of 24 bytes of the map, as the request has it, over the front of a slice.
 fn store_matrix(mode: u8, bytes: &[u8], out: &mut [u8])
     requires { length bytes.now ≡ 24 }
     ensures { out.new ≡ over (mode ∷ coefficient_bytes (fields bytes.now)) out.old }
 {
-    let fields = matrix::twelve(bytes);
-    let m = Matrix {
+    let body = matrix::body_of(Matrix {
         on: 1,
-        mode: mode,
-        coefficients: fields,
-    };
-    let body = matrix::body_of(m);
+        mode,
+        coefficients: matrix::twelve(bytes),
+    });
     lists::copy(&body, out);
+}
+
+// The 24 bytes in use: while the hold is up, or a lowered one waits, those of the buffer.
+fn in_use<'a>(image: &'a [u8; 256], coefficients: &'a [u8; 24], waits: bool) -> &'a [u8]
+    ensures { result.now ≡ cond (waits || up matrix (get_or image.now coefficient_update 0)) coefficients.now (registers_of matrix image.now) }
+{
+    if waits || is_held(image[Map::COEFFICIENT_UPDATE as usize]) {
+        coefficients
+    } else {
+        Group::MATRIX.registers(image)
+    }
 }
 
 // The mode, which acts at once, and the twelve coefficients in use, 25 bytes as the request has them: refusals 7 and 10. While the hold is
 // up, or a lowered one waits, the buffer is in use.
-pub fn matrix_in_use(image: &[u8], coefficients: &[u8], mark: u8, out: &mut [u8]) -> Count
-    ensures { ShowsMatrix image.now coefficients.now mark out.old result out.new }
+pub fn matrix_in_use(
+    image: &[u8],
+    coefficients: &[u8],
+    mark: u8,
+    out: &mut [u8],
+) -> Result<u32, Refusal>
+    ensures { ShowsMatrix image.now coefficients.now mark out.old (count_told result) out.new }
 {
-    if !((image.len() == 256) & (coefficients.len() == 24)) {
-        return Count {
-            refusal: Refusal::IMAGE_LENGTH,
-            count: 0,
-        };
-    }
+    let image: &[u8; 256] = image.try_into().map_err(|_| Refusal::ImageLength)?;
+    let coefficients: &[u8; 24] = coefficients.try_into().map_err(|_| Refusal::ImageLength)?;
     if out.len() < 25 {
-        return Count {
-            refusal: Refusal::BUFFER_SHORT,
-            count: 0,
-        };
+        return Err(Refusal::BufferShort);
     }
     let mode = (image[Map::CSC as usize] >> Map::CSC_SCALING_FACTOR_SHIFT) % 4;
-    if (mark != 0) | is_held(image[Map::COEFFICIENT_UPDATE as usize]) {
-        store_matrix(mode, coefficients, out);
-        return Count {
-            refusal: Refusal::NONE,
-            count: 25,
-        };
-    }
-    let start = Map::CSC as usize;
-    let end = start + Map::CSC_COUNT as usize;
-    store_matrix(mode, &image[start..end], out);
-    Count {
-        refusal: Refusal::NONE,
-        count: 25,
-    }
+    store_matrix(mode, in_use(image, coefficients, mark != 0), out);
+    Ok(25)
 }

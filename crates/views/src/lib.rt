@@ -12,9 +12,9 @@ mod converter;
 mod entry;
 mod view;
 
-pub use converter::{Count, matrix_in_use};
+pub use converter::matrix_in_use;
 pub use entry::{gathered, vsync_into, write_into};
-pub use view::{Mute, Part, mute_bits, mute_of, sent, sent_part, sent_refusal};
+pub use view::{Place, mute_bits, mute_of, sent, sent_part, sent_refusal};
 
 // The refusals of a write over slices.
 pub fn refusals_of_a_write()

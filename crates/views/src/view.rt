@@ -1,136 +1,112 @@
 // What the chip sends, over lent slices: document 01, "The chip machine".
-ghost use Rattle.std.specs.Prelude.{◌≡◌, eqb};
-ghost use Rattle.chip.specs.Machine.{mute};
-ghost use Rattle.views.specs.View.{lent_refusal, viewed_of, placed, Sends, Places, Refuses, Mutes};
+ghost use Rattle.std.specs.Prelude.{◌≡◌, Ok, length};
+ghost use Rattle.refusals.specs.Numbered.{given_by};
+ghost use Rattle.chip.specs.Machine.{up, mute};
+ghost use Rattle.chip.specs.Groups.{group_of};
+ghost use Rattle.views.specs.View.{lent_refusal, viewed_of, packet_at, placed, Sends, Places, Refuses, Mutes};
+ghost use Rattle.views.specs.Numbered.{part_told, mute_told};
 
-use chip::two_up;
+use chip::{Group, two_up};
 use map::Map;
 use refusals::Refusal;
 
-// The part of a slice that is sent: held 0, of the image; 1, of the packet buffer. Beside a refusal all are 0.
-#[derive(Clone, Copy)]
-pub struct Part {
-    pub refusal: u8,
-    pub held: u8,
+// A part of a slice: of the packet buffer where its packet is held, else of the image.
+// Kept, for the C interface: the place and the length are `u32`, as `struct station_part` has them.
+#[derive(Clone, Copy, Debug, PartialEq, Eq)]
+pub struct Place {
+    pub held: bool,
     pub start: u32,
     pub len: u32,
 }
 
-// The mute bits: 1 muted, 2 open, 0 and 3 neither.
-#[derive(Clone, Copy)]
-pub struct Mute {
-    pub refusal: u8,
-    pub mute: u8,
-}
-
 // The refusals of every view: 7 and 13.
-fn lent_refusal(image: &[u8], packet: &[u8]) -> u8
-    ensures { result ≡ lent_refusal image.now packet.now }
+fn lent_refusal(image: &[u8], packet: &[u8]) -> Result<(), Refusal>
+    ensures { given_by result ≡ lent_refusal image.now packet.now }
 {
-    if !((image.len() == 256) & (packet.len() == 32)) {
-        return Refusal::IMAGE_LENGTH;
+    if image.len() != 256 || packet.len() != 32 {
+        Err(Refusal::ImageLength)
+    } else if two_up(image[Map::INFOFRAME_UPDATE as usize]) {
+        Err(Refusal::TwoHolds)
+    } else {
+        Ok(())
     }
-    if two_up(image[Map::INFOFRAME_UPDATE as usize]) {
-        return Refusal::TWO_HOLDS;
-    }
-    Refusal::NONE
 }
 
-// The number of the refusal of a packet that is asked for: 5, 7 and 13.
-pub fn sent_refusal(image: &[u8], packet: &[u8], which: u32) -> u8
-    ensures { Refuses image.now packet.now which result }
+// The refusals of a packet that is asked for: 5, 7 and 13.
+// Kept, for the C interface: a packet is asked for by number, and another number than 0 and 1 is refused.
+pub fn sent_refusal(image: &[u8], packet: &[u8], which: u32) -> Result<(), Refusal>
+    ensures { Refuses image.now packet.now which (given_by result) }
 {
     if 1 < which {
-        return Refusal::FIELD_OUT_OF_RANGE;
+        Err(Refusal::FieldOutOfRange)
+    } else {
+        lent_refusal(image, packet)
     }
-    lent_refusal(image, packet)
+}
+
+// The packet that is asked for by number: 0 AVI, 1 audio.
+fn packet_at(which: u32) -> Group
+    ensures { group_of result ≡ packet_at which }
+{
+    if which == 0 { Group::AVI } else { Group::AUDIO }
 }
 
 // The buffer's front where the hold is up, else the registers.
-fn place(hold: u8, first: u8, count: u8) -> Part
-    ensures { result ≡ placed (eqb hold 1) first count }
+fn placed(group: Group, holds: u8) -> Place
+    ensures { part_told (Ok result) ≡ placed (up (group_of group) holds) group.first group.count }
 {
-    if hold == 1 {
-        return Part {
-            refusal: Refusal::NONE,
-            held: 1,
-            start: 0,
-            len: count as u32,
-        };
-    }
-    Part {
-        refusal: Refusal::NONE,
-        held: 0,
-        start: first as u32,
-        len: count as u32,
+    let held = group.is_up(holds);
+    Place {
+        held,
+        start: if held { 0 } else { u32::from(group.first) },
+        len: u32::from(group.count),
     }
 }
 
 // Where the packet that is sent stands, in numbers: 0 AVI, 1 audio.
-pub fn sent_part(image: &[u8], packet: &[u8], which: u32) -> Part
-    ensures { Places image.now packet.now which result }
+pub fn sent_part(image: &[u8], packet: &[u8], which: u32) -> Result<Place, Refusal>
+    ensures { Places image.now packet.now which (part_told result) }
 {
-    let refusal = sent_refusal(image, packet, which);
-    if refusal != Refusal::NONE {
-        return Part {
-            refusal: refusal,
-            held: 0,
-            start: 0,
-            len: 0,
-        };
-    }
-    let holds = image[Map::INFOFRAME_UPDATE as usize];
-    if which == 0 {
-        return place(
-            holds / Map::AVI_PACKET_UPDATE_MASK % 2,
-            Map::AVI_INFOFRAME_VERSION,
-            Map::AVI_INFOFRAME_COUNT,
-        );
-    }
-    place(
-        holds / Map::AUDIO_INFOFRAME_PACKET_UPDATE_MASK % 2,
-        Map::AUDIO_INFOFRAME_VERSION,
-        Map::AUDIO_INFOFRAME_COUNT,
-    )
+    sent_refusal(image, packet, which)?;
+    Ok(placed(packet_at(which), image[Map::INFOFRAME_UPDATE as usize]))
 }
 
 // The packet that is sent, as a part of the image or of the packet buffer: its bytes, and where it starts.
 pub fn sent<'a>(image: &'a [u8], packet: &'a [u8], which: u32) -> &'a [u8]
     ensures { Sends image.now packet.now which image.entry.ref_ptr packet.entry.ref_ptr result.now result.ref_ptr }
 {
-    let part = sent_part(image, packet, which);
-    let start = part.start as usize;
-    let end = start + part.len as usize;
-    if part.held == 1 {
-        return &packet[start..end];
+    match sent_part(image, packet, which) {
+        Ok(Place { held, start, len }) => {
+            let from = start as usize;
+            let end = from + len as usize;
+            if held {
+                &packet[from..end]
+            } else {
+                &image[from..end]
+            }
+        }
+        Err(_) => &image[..0],
     }
-    &image[start..end]
 }
 
-// The mute bits of the GC byte in use; what lies past the end of a slice is 0.
+// The mute bits of the GC byte in use, 1 muted, 2 open, 0 and 3 neither; what lies past the end of a slice is 0.
+// Kept, what may not change: `mute` is the two bits as they stand, for slices of every length (P4).
 pub fn mute_bits(image: &[u8], packet: &[u8]) -> u8
     ensures { result ≡ mute (viewed_of image.now packet.now) }
 {
     let holds = lists::byte_at(image, Map::INFOFRAME_UPDATE as usize);
-    if holds / Map::GC_PACKET_UPDATE_MASK % 2 == 1 {
-        return lists::byte_at(packet, 0) / Map::SET_AV_MUTE_MASK % 4;
-    }
-    lists::byte_at(image, Map::AV_MUTE as usize) / Map::SET_AV_MUTE_MASK % 4
+    let byte = if Group::GC.is_up(holds) {
+        lists::byte_at(packet, 0)
+    } else {
+        lists::byte_at(image, Map::AV_MUTE as usize)
+    };
+    byte / Map::SET_AV_MUTE_MASK % 4
 }
 
 // The same, with refusals 7 and 13.
-pub fn mute_of(image: &[u8], packet: &[u8]) -> Mute
-    ensures { Mutes image.now packet.now result }
+pub fn mute_of(image: &[u8], packet: &[u8]) -> Result<u8, Refusal>
+    ensures { Mutes image.now packet.now (mute_told result) }
 {
-    let refusal = lent_refusal(image, packet);
-    if refusal != Refusal::NONE {
-        return Mute {
-            refusal: refusal,
-            mute: 0,
-        };
-    }
-    Mute {
-        refusal: Refusal::NONE,
-        mute: mute_bits(image, packet),
-    }
+    lent_refusal(image, packet)?;
+    Ok(mute_bits(image, packet))
 }

@@ -12,7 +12,7 @@ use Rattle.wiring.specs.declared.Kind.{Kind}
 use Rattle.wiring.specs.declared.Wires.{Wires}
 use Rattle.wiring.specs.declared.Wiring.{Wiring}
 use Rattle.wiring.specs.declared.Wiring.TheVariants.{Board, Four, Twelve}
-use Rattle.wiring.specs.Kinds.{kinds, no_kind, kind_of, rgb_in, most_sync}
+use Rattle.wiring.specs.Kinds.{kinds, no_kind, kind_of, most_sync}
 use Rattle.wiring.specs.Wiring.{count_of, wires_of, Undrawn, SyncBeyond, WiringOutside}
 use Rattle.wiring.specs.Tests.{undrawn, sync_beyond, wiring_outside}
 use Rattle.wiring.specs.Named.{wiring_named}
@@ -55,19 +55,6 @@ input_small input depth l m = go (ltb input 9) refl
     go : (b : Bool) → ltb input 9 ≡ b → input < 16
     go true e = omega (arith, ltb-true input 9 e)
     go false e = absurd (omega (arith, ap (λ (k : Kind). k.least) (get_or-eq_default kinds no_kind (ltb-false input 9 e))))
-
--- today's board, by its count
-pub board_inside : (w : Wiring) → count_of w ≡ 0 → wiring_outside w ≡ false
-unfolding wiring_outside kind_of
-board_inside Board e = refl
-board_inside (Four i d s j) e = absurd (omega (arith, e))
-board_inside (Twelve i d s j a b c d') e = absurd (omega (arith, e))
-
-pub board_rgb : (w : Wiring) → count_of w ≡ 0 → rgb_in (wires_of w).input ≡ true
-unfolding kind_of
-board_rgb Board e = refl
-board_rgb (Four i d s j) e = absurd (omega (arith, e))
-board_rgb (Twelve i d s j a b c d') e = absurd (omega (arith, e))
 
 module _ (w : Wiring) (inside : WiringOutside w → ⊥) where
   pub its_count : count_of w ≡ (kind_of (wires_of w).input).count

@@ -2,7 +2,7 @@
 #![tactic(auto)]
 
 ghost use Rattle.std.specs.Prelude.{◌≡◌, ◌<◌};
-ghost use Rattle.wiring.specs.Kinds.{kind, kind_of, most_sync, rgb_in};
+ghost use Rattle.wiring.specs.Kinds.{kind_of, most_sync, rgb_in};
 ghost use Rattle.wiring.specs.Wiring.{sync_at, wiring_in, count_of, wires_of};
 ghost use Rattle.wiring.specs.Tests.{wiring_outside};
 ghost use Rattle.wiring.specs.Named.{wiring_named};
@@ -14,7 +14,9 @@ pub const FOUR_COUNT: u8 = 4;
 pub const TWELVE_COUNT: u8 = 12;
 
 // What the wiring section says: nothing, of today's board; the four fields; these and the four sync values.
-#[derive(Clone, Copy)]
+// Kept, what may not change: neither count holds a struct, `Wires` among them, for `wiring_body`, `wires_of` and `EachByte` name each field of
+// either. The fields are bytes and no enums, for any byte may stand in a request, and row 5 judges it.
+#[derive(Clone, Copy, Debug, PartialEq, Eq)]
 pub enum Wiring {
     Board,
     Four {
@@ -36,7 +38,7 @@ pub enum Wiring {
 }
 
 // The numbers that a wiring has in the registers.
-#[derive(Clone, Copy)]
+#[derive(Clone, Copy, Default, Debug, PartialEq, Eq)]
 pub struct Wires {
     pub input: u8,
     pub depth: u8,
@@ -50,7 +52,8 @@ pub struct Wires {
 
 // An input ID: whether it counts as RGB, the count of its section, its lowest depth, its lowest and its highest style, its highest
 // justification.
-#[derive(Clone, Copy)]
+// Kept, what may not change: `rgb` is 0 or 1 and no `bool`, for the definitions `kind` and `rgb_in` have it as a number.
+#[derive(Clone, Copy, Debug, PartialEq, Eq)]
 pub struct Kind {
     pub rgb: u8,
     pub count: u8,
@@ -60,35 +63,24 @@ pub struct Kind {
     pub ways: u8,
 }
 
-// A row of the table.
-fn row(rgb: u8, count: u8, least: u8, first: u8, last: u8, ways: u8) -> Kind
-    ensures { result ≡ kind rgb count least first last ways }
-{
-    Kind {
-        rgb: rgb,
-        count: count,
-        least: least,
-        first: first,
-        last: last,
-        ways: ways,
-    }
-}
-
-// The row of an ID, as the definition has it. A `match` and no array: a call builds its arrays anew.
+// The row of an ID, as the definition has it.
+// Kept, what may not change: what is no ID has a row, with a least depth of 4 that none fits, and no `Option`, for `no_kind` and `kind_of` say so.
+#[rattlefmt::skip]
+#[tactic(auto, unfolding(crate::specs::Kinds::kind_of))]
 pub fn kind_of(input: u8) -> Kind
     ensures { result ≡ kind_of input }
 {
     match input {
-        0 => row(1, 0, 3, 0, 0, 0),
-        1 => row(0, 4, 1, 1, 3, 2),
-        2 => row(0, 12, 1, 1, 3, 2),
-        3 => row(0, 4, 1, 1, 2, 2),
-        4 => row(0, 12, 1, 1, 2, 2),
-        5 => row(1, 4, 1, 1, 3, 0),
-        6 => row(0, 4, 1, 1, 3, 2),
-        7 => row(0, 4, 1, 1, 2, 2),
-        8 => row(0, 12, 1, 1, 2, 2),
-        _ => row(0, 0, 4, 0, 0, 0),
+        0 => Kind { rgb: 1, count: 0, least: 3, first: 0, last: 0, ways: 0 },
+        1 => Kind { rgb: 0, count: 4, least: 1, first: 1, last: 3, ways: 2 },
+        2 => Kind { rgb: 0, count: 12, least: 1, first: 1, last: 3, ways: 2 },
+        3 => Kind { rgb: 0, count: 4, least: 1, first: 1, last: 2, ways: 2 },
+        4 => Kind { rgb: 0, count: 12, least: 1, first: 1, last: 2, ways: 2 },
+        5 => Kind { rgb: 1, count: 4, least: 1, first: 1, last: 3, ways: 0 },
+        6 => Kind { rgb: 0, count: 4, least: 1, first: 1, last: 3, ways: 2 },
+        7 => Kind { rgb: 0, count: 4, least: 1, first: 1, last: 2, ways: 2 },
+        8 => Kind { rgb: 0, count: 12, least: 1, first: 1, last: 2, ways: 2 },
+        _ => Kind { rgb: 0, count: 0, least: 4, first: 0, last: 0, ways: 0 },
     }
 }
 
@@ -99,41 +91,38 @@ fn sync_at(body: &[u8], i: usize) -> u16
 {
     let high = lists::byte_at(body, i);
     let low = lists::byte_at(body, i + 1);
-    high as u16 * 256 + low as u16
+    u16::from_be_bytes([high, low])
 }
 
 // What a body says.
 pub fn wiring_in(body: &[u8]) -> Wiring
     ensures { result ≡ wiring_in body.now }
 {
-    if body.len() == 0 {
+    if body.is_empty() {
         return Wiring::Board;
     }
     let input = lists::byte_at(body, 0);
     let depth = lists::byte_at(body, 1);
     let style = lists::byte_at(body, 2);
     let justification = lists::byte_at(body, 3);
-    if body.len() != TWELVE_COUNT as usize {
-        return Wiring::Four {
-            input: input,
-            depth: depth,
-            style: style,
-            justification: justification,
-        };
-    }
-    let hplacement = sync_at(body, 4);
-    let hduration = sync_at(body, 6);
-    let vplacement = sync_at(body, 8);
-    let vduration = sync_at(body, 10);
-    Wiring::Twelve {
-        input: input,
-        depth: depth,
-        style: style,
-        justification: justification,
-        hplacement: hplacement,
-        hduration: hduration,
-        vplacement: vplacement,
-        vduration: vduration,
+    if body.len() == usize::from(TWELVE_COUNT) {
+        Wiring::Twelve {
+            input,
+            depth,
+            style,
+            justification,
+            hplacement: sync_at(body, 4),
+            hduration: sync_at(body, 6),
+            vplacement: sync_at(body, 8),
+            vduration: sync_at(body, 10),
+        }
+    } else {
+        Wiring::Four {
+            input,
+            depth,
+            style,
+            justification,
+        }
     }
 }
 
@@ -143,22 +132,8 @@ pub fn count_of(wiring: Wiring) -> u8
 {
     match wiring {
         Wiring::Board => 0,
-        Wiring::Four {
-            input: _,
-            depth: _,
-            style: _,
-            justification: _,
-        } => FOUR_COUNT,
-        Wiring::Twelve {
-            input: _,
-            depth: _,
-            style: _,
-            justification: _,
-            hplacement: _,
-            hduration: _,
-            vplacement: _,
-            vduration: _,
-        } => TWELVE_COUNT,
+        Wiring::Four { .. } => FOUR_COUNT,
+        Wiring::Twelve { .. } => TWELVE_COUNT,
     }
 }
 
@@ -168,14 +143,8 @@ pub fn wires_of(wiring: Wiring) -> Wires
 {
     match wiring {
         Wiring::Board => Wires {
-            input: 0,
             depth: 3,
-            style: 0,
-            justification: 0,
-            hplacement: 0,
-            hduration: 0,
-            vplacement: 0,
-            vduration: 0,
+            ..Wires::default()
         },
         Wiring::Four {
             input,
@@ -183,14 +152,11 @@ pub fn wires_of(wiring: Wiring) -> Wires
             style,
             justification,
         } => Wires {
-            input: input,
-            depth: depth,
-            style: style,
-            justification: justification,
-            hplacement: 0,
-            hduration: 0,
-            vplacement: 0,
-            vduration: 0,
+            input,
+            depth,
+            style,
+            justification,
+            ..Wires::default()
         },
         Wiring::Twelve {
             input,
@@ -202,14 +168,14 @@ pub fn wires_of(wiring: Wiring) -> Wires
             vplacement,
             vduration,
         } => Wires {
-            input: input,
-            depth: depth,
-            style: style,
-            justification: justification,
-            hplacement: hplacement,
-            hduration: hduration,
-            vplacement: vplacement,
-            vduration: vduration,
+            input,
+            depth,
+            style,
+            justification,
+            hplacement,
+            hduration,
+            vplacement,
+            vduration,
         },
     }
 }
@@ -218,9 +184,8 @@ pub fn wires_of(wiring: Wiring) -> Wires
 pub fn wiring_named(n: Wires) -> Wiring
     ensures { result ≡ wiring_named n }
 {
-    let kind = kind_of(n.input);
-    if kind.count == TWELVE_COUNT {
-        return Wiring::Twelve {
+    match kind_of(n.input).count {
+        TWELVE_COUNT => Wiring::Twelve {
             input: n.input,
             depth: n.depth,
             style: n.style,
@@ -229,37 +194,33 @@ pub fn wiring_named(n: Wires) -> Wiring
             hduration: n.hduration,
             vplacement: n.vplacement,
             vduration: n.vduration,
-        };
-    }
-    if kind.count == FOUR_COUNT {
-        return Wiring::Four {
+        },
+        FOUR_COUNT => Wiring::Four {
             input: n.input,
             depth: n.depth,
             style: n.style,
             justification: n.justification,
-        };
+        },
+        _ => Wiring::Board,
     }
-    Wiring::Board
 }
 
 // The largest sync value, by the count: none but 0 without embedded syncs.
 fn most_sync(count: u8) -> u16
     ensures { result ≡ most_sync count }
 {
-    if count == TWELVE_COUNT {
-        return 1023;
-    }
-    0
+    if count == TWELVE_COUNT { 1023 } else { 0 }
 }
 
 // Row 5, of this section. Today's board is looked at no further: it is what most requests have.
+#[tactic(auto, unfolding(crate::specs::Tests::wiring_outside, crate::specs::Kinds::kind_of))]
 pub fn outside(wiring: Wiring) -> bool
     ensures { result ≡ wiring_outside wiring }
 {
-    let count = count_of(wiring);
-    if count == 0 {
+    if matches!(wiring, Wiring::Board) {
         return false;
     }
+    let count = count_of(wiring);
     let n = wires_of(wiring);
     let kind = kind_of(n.input);
     let most = most_sync(kind.count);
@@ -272,15 +233,11 @@ pub fn outside(wiring: Wiring) -> bool
 }
 
 // Whether the input counts as RGB.
+#[tactic(auto, unfolding(crate::specs::Kinds::kind_of))]
 pub fn rgb_in(wiring: Wiring) -> bool
     ensures { result ≡ rgb_in (wires_of wiring).input }
 {
-    if count_of(wiring) == 0 {
-        return true;
-    }
-    let n = wires_of(wiring);
-    let kind = kind_of(n.input);
-    kind.rgb == 1
+    matches!(wiring, Wiring::Board) || (kind_of(wires_of(wiring).input).rgb == 1)
 }
 
 // A body and what it says, there and back.

@@ -3,7 +3,7 @@ use mathlib.Core.Path.{◌≡◌, refl, sym, ◌∙◌, subst}
 use mathlib.Core.Logic.{◌⊎◌, inl, inr}
 use mathlib.Core.Bool.{Bool, true, false, cond, ◌&&◌}
 use mathlib.Core.List.{List, [], ◌∷◌}
-use Prim.Native.Nat.{ℕ, ◌+◌, ◌<◌, ◌≤◌}
+use Prim.Native.Nat.{ℕ, ◌+◌, ◌<◌}
 use native.Mathlib.Nat.{eq-or-lt_of_le}
 use native.Mathlib.Omega.{arith}
 use lib.Dec.{eqb, ltb, lit<}
@@ -20,9 +20,9 @@ use Rattle.registers.specs.Classes.{class_at, read_only, free, named, bits}
 use Rattle.registers.proofs.Whole.{rule}
 use Rattle.registers.proofs.Apart.{row, rules, holds}
 use Rattle.writes.specs.Steps.{Step}
-use Rattle.writes.specs.List.{byte, decided, is_written, left_up, written, finished, column}
-use Rattle.writes.specs.Columns.{open_bits, held_bits, turned, closed}
-use Rattle.writes.proofs.Image.{column_at}
+use Rattle.writes.specs.List.{byte, decided, is_written, left_up, written, finished}
+use Rattle.writes.specs.declared.steps.TheConstants.{OPEN, HELD}
+use Rattle.writes.specs.Columns.{open_bits, held_bits, closed}
 
 -- ---- the steps
 
@@ -92,10 +92,10 @@ asked = by (var 5) zeros (var 2)
 abbrev mandated : E
 mandated = by (var 2) zeros (var 6)
 
-two : (want : ℕ → ℕ) (image : List ℕ) (a : ℕ)
+pub by_columns : (want : ℕ → ℕ) (image : List ℕ) (a : ℕ)
     → merge 8 (open_bits a) (merge 8 (held_bits a) (get_or image a 0) (want a)) (held_bits a) ≡ closed want image a
 unfolding closed
-two want image a = go (is_written a) refl
+by_columns want image a = go (is_written a) refl
   where
     go : (t : Bool) → is_written a ≡ t → merge 8 (open_bits a) (merge 8 (held_bits a) (get_or image a 0) (want a)) (held_bits a) ≡ closed want image a
     go true e =
@@ -105,18 +105,14 @@ two want image a = go (is_written a) refl
         rw e (law (by (by (var 0) (var 0) zeros) (by (by (var 0) (var 0) zeros) (var 1) (var 2)) (by (var 0) (var 0) zeros))
         (by (var 0) (var 1) (by zeros (var 2) zeros)) 8 (255 ∷ get_or image a 0 ∷ want a ∷ []) refl)
 
--- a column turned over by its places, turned back
-back : (a : ℕ) → a < 256 → (bit_xor (turned open_bits a) a ≡ open_bits a) × (bit_xor (turned held_bits a) a ≡ held_bits a)
+-- the tables of the code, each byte turned back
+pub in_open : (a : ℕ) → a < 256 → {table : List ℕ} → table ≡ OPEN → bit_xor (get_or table a 0) a ≡ open_bits a
 unfolding class_at decided is_written merge
-back a h = (
-  eqb-true _ _ (at_below (λ a. eqb (bit_xor (turned open_bits a) a) (open_bits a)) 256 a refl h),
-  eqb-true _ _ (at_below (λ a. eqb (bit_xor (turned held_bits a) a) (held_bits a)) 256 a refl h),
-)
+in_open a h e = rw e (eqb-true _ _ (at_below (λ a. eqb (bit_xor (get_or OPEN a 0) a) (open_bits a)) 256 a refl h))
 
-pub by_columns : (want : ℕ → ℕ) (image : List ℕ) (a : ℕ) → a < 256 → {o k : List ℕ} → o ≡ column (turned open_bits) → k ≡ column (turned held_bits)
-    → merge 8 (bit_xor (get_or o a 0) a) (merge 8 (bit_xor (get_or k a 0) a) (get_or image a 0) (want a)) (bit_xor (get_or k a 0) a) ≡ closed want image a
-by_columns want image a h o k =
-    rw (o, k, column_at (turned open_bits) a h, column_at (turned held_bits) a h, (back a h).0, (back a h).1) (two want image a)
+pub in_held : (a : ℕ) → a < 256 → {table : List ℕ} → table ≡ HELD → bit_xor (get_or table a 0) a ≡ held_bits a
+unfolding class_at decided is_written merge
+in_held a h e = rw e (eqb-true _ _ (at_below (λ a. eqb (bit_xor (get_or HELD a 0) a) (held_bits a)) 256 a refl h))
 
 module _ (want : ℕ → ℕ) (image : List ℕ) where
   -- a step's byte is the closed one with the step's bits raised
@@ -154,7 +150,7 @@ module _ (want : ℕ → ℕ) (image : List ℕ) where
       go false t =
           get_or-set_other bytes reg.av_mute a v 0 (eqb-false a reg.av_mute t) ∙ each a h ∙ unraised a t ∙ raised_finished a h (small a h)
 
--- a turn of a loop that stores one byte after the other, and what it has not come to
+-- a turn of a loop that stores one byte after the other
 pub one_more : (f : ℕ → ℕ) (out : List ℕ) (a v : ℕ) → a < length out → v ≡ f a → ((j : ℕ) → j < a → get_or out j 0 ≡ f j)
     → (j : ℕ) → j < a + 1 → get_or (set out a v) j 0 ≡ f j
 one_more f out a v h e before j l = go (eq-or-lt_of_le (omega arith))
@@ -162,7 +158,3 @@ one_more f out a v h e before j l = go (eq-or-lt_of_le (omega arith))
     go : (j ≡ a) ⊎ (j < a) → get_or (set out a v) j 0 ≡ f j
     go (inl q) = rw q (get_or-set_same out a v 0 h ∙ e)
     go (inr q) = get_or-set_other out a j v 0 (λ z. omega arith) ∙ before j q
-
-pub to_come : (start out : List ℕ) (a v : ℕ) → ((j : ℕ) → a ≤ j → get_or out j 0 ≡ get_or start j 0)
-    → (j : ℕ) → a + 1 ≤ j → get_or (set out a v) j 0 ≡ get_or start j 0
-to_come start out a v later j l = get_or-set_other out a j v 0 (λ z. omega arith) ∙ later j (omega arith)

@@ -8,3 +8,4 @@ pub mod Pairs
 pub mod Counted
 pub mod Fewer
 pub mod Parts
+pub mod Written

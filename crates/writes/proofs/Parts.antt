@@ -1,6 +1,5 @@
 -- The parts in which the code stores the list: one after the other they are the write list. Assumes nothing.
 use mathlib.Core.Path.{◌≡◌, refl, sym, ap, ap₂, subst, ◌∙◌}
-use mathlib.Core.Logic.{◌≢◌}
 use mathlib.Core.Bool.{Bool, true, false, cond, not, ◌&&◌, ◌||◌}
 use mathlib.Core.List.{List, [], ◌∷◌, ◌++◌, map, map-append}
 use Prim.Native.Nat.{ℕ, ◌+◌, ◌-◌, ◌*◌, ◌<◌, ◌≤◌}
@@ -8,8 +7,8 @@ use native.Mathlib.Numerals.{add-one}
 use native.Mathlib.Omega.{arith}
 use lib.Dec.{eqb}
 use lib.ListN.{length, get_or, take, drop, set, length-map, length-append}
-use lib.Seq.{sets, take-suc, take_all, get_or-take, get_or-drop}
-use borrow.Author.Tests.{eq-eqb, ne_eqb, not-true}
+use lib.Seq.{sets, take-suc, get_or-take, get_or-drop}
+use borrow.Author.Tests.{eq-eqb, not-true}
 use Rattle.lists.specs.Among.{among}
 use Rattle.lists.specs.Find.{every}
 use Rattle.lists.specs.Those.{those}
@@ -64,33 +63,17 @@ module _ (image bytes : List ℕ) where
   pub few : (rs : List ℕ) → length (moving image bytes rs) ≤ length rs
   few rs = let n = no_more differ rs in let m = length-map (those differ rs) (λ (a : ℕ). a gets get_or bytes a 0) in omega (arith, n, m)
 
-  -- one that stands is not stored, one that differs is
+  -- one that stands is not stored
   pub one_stands : (d : List ℕ) (at a : ℕ) → get_or bytes a 0 ≡ get_or image a 0 → Puts d at (moving image bytes (a ∷ [])) at d
   one_stands d at a n = rw (eq-eqb _ _ n) (nothing d at)
 
-  pub one_differs : (d : List ℕ) (at a : ℕ) → get_or bytes a 0 ≢ get_or image a 0
-      → Puts d at (moving image bytes (a ∷ [])) (at + 1) (set (set d (2 * at) a) (2 * at + 1) (get_or bytes a 0))
-  one_differs d at a n = rw (ne_eqb _ _ n) (one d at a (get_or bytes a 0))
-
-  module _ (rs d : List ℕ) (at : ℕ) where
-    -- what is stored after i of them
-    abbrev pub done : ℕ → List Write
-    done i = moving image bytes (take i rs)
-
-    more : (i a : ℕ) → i < length rs → a ≡ get_or rs i 0 → done (i + 1) ≡ done i ++ moving image bytes (a ∷ [])
-    more i a h e =
-        let t : take (i + 1) rs ≡ take i rs ++ (a ∷ []) = rw (add-one, take-suc rs i 0, e) in
-        ap (λ (l : List ℕ). moving image bytes l) t ∙ ap (map (λ (a : ℕ). a gets get_or bytes a 0)) (those_append differ (take i rs) (a ∷ []))
-        ∙ map-append (λ (a : ℕ). a gets get_or bytes a 0) (those differ (take i rs)) (those differ (a ∷ []))
-
-    -- the next of them, stored or not
-    pub onward : (i a : ℕ) → i < length rs → a ≡ get_or rs i 0 → {next last : ℕ} {e f : List ℕ} → Puts d at (done i) next e
-        → Puts e next (moving image bytes (a ∷ [])) last f → Puts d at (done (i + 1)) last f
-    onward i a h q {next} {last} {e} {f} p r =
-        subst (λ (ws : List Write). Puts d at ws last f) (sym (more i a h q)) (then d at (done i) (moving image bytes (a ∷ [])) p r)
-
-    pub whole : (i next : ℕ) {e : List ℕ} → length rs ≤ i → Puts d at (done i) next e → Puts d at (moving image bytes rs) next e
-    whole i next {e} h p = subst (λ (l : List ℕ). Puts d at (moving image bytes l) next e) (take_all i rs h) p
+  -- of i + 1 of them those of i, and the next
+  pub more : (rs : List ℕ) (i a : ℕ) → i < length rs → a ≡ get_or rs i 0
+      → moving image bytes (take (i + 1) rs) ≡ moving image bytes (take i rs) ++ moving image bytes (a ∷ [])
+  more rs i a h e =
+      let t : take (i + 1) rs ≡ take i rs ++ (a ∷ []) = rw (add-one, take-suc rs i 0, e) in
+      ap (λ (l : List ℕ). moving image bytes l) t ∙ ap (map (λ (a : ℕ). a gets get_or bytes a 0)) (those_append differ (take i rs) (a ∷ []))
+      ∙ map-append (λ (a : ℕ). a gets get_or bytes a 0) (those differ (take i rs)) (those differ (a ∷ []))
 
 -- a row that stands has none
 pub row_stands : (image bytes d : List ℕ) (first count at : ℕ) → first + count ≤ length image → first + count ≤ length bytes
@@ -107,6 +90,11 @@ row_stands image bytes d first count at h k t =
     subst (λ (rs : List ℕ). Puts d at (map (λ (a : ℕ). a gets get_or bytes a 0) rs) at d) (sym none) (nothing d at)
 
 -- ---- the whole list
+
+abbrev pub whole_list : List ℕ → List ℕ → List Write
+whole_list image bytes =
+    with_bits bytes reg.av_mute reg.set_av_mute_mask ++ moving image bytes table14 ++ coefficient_pairs image bytes
+    ++ both_pairs image bytes ++ moving image bytes others ++ with_bits bytes reg.av_mute reg.clear_av_mute_mask
 
 module _ (want : ℕ → ℕ) (image bytes : List ℕ) (closes : (a : ℕ) → a < 256 → get_or bytes a 0 ≡ closed want image a) where
   -- of some steps the writes that stay
@@ -204,8 +192,7 @@ module _ (want : ℕ → ℕ) (image bytes : List ℕ) (closes : (a : ℕ) → a
       go true = join audio_part avi_part ∙ sym (out_append audio_steps avi_steps)
       go false = join avi_part audio_part ∙ sym (out_append avi_steps audio_steps)
 
-  pub as_listed : with_bits bytes reg.av_mute reg.set_av_mute_mask ++ moving image bytes table14 ++ coefficient_pairs image bytes
-      ++ both_pairs image bytes ++ moving image bytes others ++ with_bits bytes reg.av_mute reg.clear_av_mute_mask ≡ write_list want image
+  as_listed : whole_list image bytes ≡ write_list want image
   unfolding is_written class_at decided merge middle
   as_listed =
       let mute : Step = reg.av_mute raising reg.set_av_mute_mask in
@@ -215,17 +202,11 @@ module _ (want : ℕ → ℕ) (image bytes : List ℕ) (closes : (a : ℕ) → a
       ∙ sym (out_append ((mute ∷ []) ++ each table14 ++ coefficient_steps ++ pair ++ each others) (opening ∷ [])
       ∙ ap (λ (l : List Write). l ++ out (opening ∷ [])) (five_parts (mute ∷ []) (each table14) coefficient_steps pair (each others)))
 
-  -- the parts stored one after the other leave the list at the front
-  pub list_stored : (d rs os : List ℕ) {n1 n2 n3 n4 n5 n6 : ℕ} {d1 d2 d3 d4 d5 d6 : List ℕ} → 256 ≤ length d → rs ≡ table14 → os ≡ others
-      → Puts d 0 (with_bits bytes reg.av_mute reg.set_av_mute_mask) n1 d1 → Puts d1 n1 (moving image bytes rs) n2 d2
-      → Puts d2 n2 (coefficient_pairs image bytes) n3 d3 → Puts d3 n3 (both_pairs image bytes) n4 d4 → Puts d4 n4 (moving image bytes os) n5 d5
-      → Puts d5 n5 (with_bits bytes reg.av_mute reg.clear_av_mute_mask) n6 d6
-      → (n6 ≡ length (write_list want image)) × (d6 ≡ fronted (write_list want image) d)
-  list_stored d rs os {n1} {n2} {n3} {n4} {n5} {n6} {d1} {d2} {d3} {d4} {d5} {d6} long er eo p1 p2 p3 p4 p5 p6 =
-      let q2 = subst (λ (l : List ℕ). Puts d1 n1 (moving image bytes l) n2 d2) er p2 in
-      let q5 = subst (λ (l : List ℕ). Puts d4 n4 (moving image bytes l) n5 d5) eo p5 in
+  -- stored from the front, they leave the list there
+  pub list_stored : (d : List ℕ) {n : ℕ} {e : List ℕ} → 256 ≤ length d → Puts d 0 (whole_list image bytes) n e
+      → (n ≡ length (write_list want image)) × (e ≡ fronted (write_list want image) d)
+  list_stored d {n} {e} long p =
       let ws : List Write = write_list want image in
-      let q : Puts d 0 ws n6 d6 = subst (λ (l : List Write). Puts d 0 l n6 d6) as_listed
-      (then d 0 _ _ (then d 0 _ _ (then d 0 _ _ (then d 0 _ _ (then d 0 _ _ p1 q2) p3) p4) q5) p6) in
+      let q : Puts d 0 ws n e = subst (λ (l : List Write). Puts d 0 l n e) as_listed p in
       let few : length ws ≤ 128 = bounded want image in
       (omega (arith, q.0), q.1 ∙ sets_front (flat ws) d (omega (arith, length_flat ws)))

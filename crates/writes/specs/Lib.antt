@@ -3,6 +3,7 @@ pub mod Steps
 pub mod List
 pub mod Columns
 pub mod Parts
+pub mod Pen
 pub mod Order
 pub mod Carried
 pub mod Fewer

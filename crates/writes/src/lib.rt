@@ -2,18 +2,20 @@
 // list"; document 02, request 09.
 #![tactic(auto)]
 
-ghost use Rattle.std.specs.Prelude.{◌≡◌, List, [], ◌∷◌, ℕ, ◌+◌, ◌*◌, ◌<◌, ◌≤◌, get_or, length};
+ghost use Rattle.std.specs.Prelude.{◌≡◌, List, [], ◌∷◌, ℕ, ◌+◌, ◌*◌, ◌^◌, ◌<◌, ◌≤◌, get_or, length};
 ghost use Rattle.bits.specs.Merge.{merge};
-ghost use Rattle.chip.specs.Machine.{audio, packets, up};
-ghost use Rattle.writes.specs.Rows.{from, table14, others, Touched};
+ghost use Rattle.chip.specs.Machine.{◌gets◌};
+ghost use Rattle.writes.specs.Rows.{from, Touched};
 ghost use Rattle.writes.specs.Steps.{coefficient_steps, avi_steps, audio_steps};
+ghost use Rattle.writes.specs.Pen.{Penned};
 ghost use Rattle.writes.specs.List.{column, stands_whole, Lists};
-ghost use Rattle.writes.specs.Columns.{kept_bits, open_bits, held_bits, turned, closed};
-ghost use Rattle.writes.specs.Parts.{Puts, with_bits, moving, coefficient_pairs, packet_pairs, avi_pairs, audio_pairs, both_pairs};
+ghost use Rattle.writes.specs.Columns.{kept_bits, open_bits, held_bits, closed};
+ghost use Rattle.writes.specs.Parts.{with_bits, moving, coefficient_pairs, packet_pairs, both_pairs};
 ghost use Rattle.writes.specs.Order.{Order};
 ghost use Rattle.writes.specs.Carried.{Entries};
 ghost use Rattle.writes.specs.Fewer.{Fewer};
 
+use chip::Group;
 use map::Map;
 
 mod steps;
@@ -25,45 +27,32 @@ pub fn keep() -> [u8; 256]
     steps::KEEP
 }
 
-fn open_bits() -> [u8; 256]
-    ensures { result ≡ column (turned open_bits) }
+// Of a register the bits that are the image's or as wanted.
+// Kept, for speed: this column and the next turned over by their places (docs/DECISIONS.md, B37), and not as they are: equal bytes in a row the
+// compiler would build in the stack at each call.
+fn open_at(a: usize) -> u8
+    requires { a < 256 }
+    ensures { result ≡ open_bits a }
 {
-    steps::OPEN
+    steps::OPEN[a] ^ a as u8
 }
 
-fn held_bits() -> [u8; 256]
-    ensures { result ≡ column (turned held_bits) }
+// And those that are the image's or set.
+fn held_at(a: usize) -> u8
+    requires { a < 256 }
+    ensures { result ≡ held_bits a }
 {
-    steps::HELD
-}
-
-fn table14() -> [u8; 8]
-    ensures { result ≡ table14 }
-{
-    steps::TABLE14
-}
-
-fn others() -> [u8; 22]
-    ensures { result ≡ others }
-{
-    steps::OTHERS
+    steps::HELD[a] ^ a as u8
 }
 
 // Every register with the bits that steps decide down, as a list of these wanted bytes leaves it.
-fn closed(image: &[u8], wanted: &[u8; 256]) -> [u8; 256]
-    requires { length image.now ≡ 256 }
+fn closed(image: &[u8; 256], wanted: &[u8; 256]) -> [u8; 256]
     ensures { (a : ℕ) → a < 256 → get_or result a 0 ≡ closed (λ b. get_or wanted.now b 0) image.now a }
 {
-    let open_bits = open_bits();
-    let held_bits = held_bits();
     let mut out = [0u8; 256];
-    let mut a: usize = 0;
-    while a < 256 {
-        let place = a as u8;
-        let open = open_bits[a] ^ place;
-        let held = held_bits[a] ^ place;
-        out[a] = bits::merge(open, bits::merge(held, image[a], wanted[a]), held);
-        a = a + 1;
+    for a in 0..256 {
+        let held = held_at(a);
+        out[a] = bits::merge(open_at(a), bits::merge(held, image[a], wanted[a]), held);
     }
     out
 }
@@ -75,215 +64,151 @@ fn raise(bits: u8, byte: u8) -> u8
     bits::merge(bits, bits, byte)
 }
 
-fn audio_up(holds: u8) -> bool
-    ensures { result ≡ up audio holds }
-{
-    holds / Map::AUDIO_INFOFRAME_PACKET_UPDATE_MASK % 2 == 1
-}
-
-// A register, with some bits of its byte raised, at a place of the list, and the place after it.
-fn put(bytes: &[u8; 256], address: u8, bits: u8, writes: &mut [u8], at: usize) -> usize
-    requires { 2 * at + 2 ≤ length writes.old }
-    ensures { Puts writes.old at (with_bits bytes.now address bits) result writes.new }
-{
-    writes[2 * at] = address;
-    writes[2 * at + 1] = raise(bits, bytes[address as usize]);
-    at + 1
-}
-
-// A register where its byte is another than the image's.
-fn put_other(image: &[u8], bytes: &[u8; 256], address: u8, writes: &mut [u8], at: usize) -> usize
-    requires image_len { length image.now ≡ 256 }
-    requires at_in_bounds { 2 * at + 2 ≤ length writes.old }
-    ensures puts { Puts writes.old at (moving image.now bytes.now (address ∷ [])) result writes.new }
-    ensures upper_bound { result ≤ at + 1 }
-{
-    let byte = bytes[address as usize];
-    if byte == image[address as usize] {
-        return at;
-    }
-    writes[2 * at] = address;
-    writes[2 * at + 1] = byte;
-    at + 1
-}
-
-// Of some registers those whose byte is another than the image's.
-fn each(image: &[u8], bytes: &[u8; 256], registers: &[u8], writes: &mut [u8], at: usize) -> usize
-    requires image_len { length image.now ≡ 256 }
-    requires registers_in_bounds { 2 * (at + length registers.now) ≤ length writes.old }
-    ensures puts { Puts writes.old at (moving image.now bytes.now registers.now) result
-        writes.new }
-    ensures upper_bound { result ≤ at + length registers.now }
-{
-    let mut next = at;
-    let mut i: usize = 0;
-    while i < registers.len() {
-        next = put_other(image, bytes, registers[i], writes, next);
-        i = i + 1;
-    }
-    next
-}
-
-// The same of registers in a row; most often none of a row is another.
-fn row(
-    image: &[u8],
-    bytes: &[u8; 256],
-    first: usize,
-    count: usize,
-    writes: &mut [u8],
+// A list that is being written: the image, its bytes as the list is to leave them, and the buffer, with the place of the next pair.
+#[derive(Drop)]
+struct Pen<'a> {
+    image: &'a [u8; 256],
+    bytes: &'a [u8; 256],
+    writes: &'a mut [u8],
     at: usize,
-) -> usize
-    requires image_len { length image.now ≡ 256 }
-    requires count_bound { first + count ≤ 256 }
-    requires count_in_bounds { 2 * (at + count) ≤ length writes.old }
-    ensures puts { Puts writes.old at (moving image.now bytes.now (from first count)) result
-        writes.new }
-    ensures upper_bound { result ≤ at + count }
-{
-    let end = first + count;
-    let all = &bytes[..];
-    if lists::same(&all[first..end], &image[first..end]) {
-        return at;
+}
+
+impl<'a> Pen<'a> {
+    // A pair, and the place after it.
+    fn pair(&mut self, address: u8, byte: u8)
+        requires { 2 * self.old.at + 2 ≤ length self.old.writes.now }
+        ensures { Penned self.old (λ image bytes. address gets byte ∷ []) self.new }
+    {
+        self.writes[2 * self.at] = address;
+        self.writes[2 * self.at + 1] = byte;
+        self.at += 1;
     }
-    let mut next = at;
-    let mut i: usize = 0;
-    while i < count {
-        let a = first + i;
-        next = put_other(image, bytes, a as u8, writes, next);
-        i = i + 1;
+
+    // A register, with some bits of its byte raised.
+    fn put(&mut self, address: u8, bits: u8)
+        requires { 2 * self.old.at + 2 ≤ length self.old.writes.now }
+        ensures { Penned self.old (λ image bytes. with_bits bytes address bits) self.new }
+    {
+        self.pair(address, raise(bits, self.bytes[address as usize]));
     }
-    next
-}
 
-// "coefficient hold up, 0x18 to 0x2F with the hold kept up, hold down"
-fn coefficients(image: &[u8], bytes: &[u8; 256], writes: &mut [u8], at: usize) -> usize
-    requires image_len { length image.now ≡ 256 }
-    requires coefficient_steps_in_bounds { 2 * (at + length coefficient_steps) ≤ length writes.old }
-    ensures puts { Puts writes.old at (coefficient_pairs image.now bytes.now) result writes.new }
-    ensures upper_bound { result ≤ at + length coefficient_steps }
-{
-    let hold = Map::COEFFICIENT_UPDATE;
-    let up = Map::COEFFICIENT_UPDATE_MASK;
-    let first = put(bytes, hold, up, writes, at);
-    let low = row(image, bytes, Map::CSC as usize, 2, writes, first);
-    let kept = put(bytes, hold, up, writes, low);
-    let rest = row(
-        image,
-        bytes,
-        Map::CSC as usize + 3,
-        Map::CSC_COUNT as usize - 3,
-        writes,
-        kept,
-    );
-    put(bytes, hold, 0, writes, rest)
-}
-
-// "AVI hold up, its registers, hold down; audio likewise"
-fn packet(
-    image: &[u8],
-    bytes: &[u8; 256],
-    hold: u8,
-    first: usize,
-    count: usize,
-    writes: &mut [u8],
-    at: usize,
-) -> usize
-    requires image_len { length image.now ≡ 256 }
-    requires count_bound { first + count ≤ 256 }
-    requires count_in_bounds { 2 * (at + count + 2) ≤ length writes.old }
-    ensures puts { Puts writes.old at (packet_pairs hold first count image.now bytes.now) result
-        writes.new }
-    ensures upper_bound { result ≤ at + count + 2 }
-{
-    let up = put(bytes, Map::INFOFRAME_UPDATE, hold, writes, at);
-    let rest = row(image, bytes, first, count, writes, up);
-    put(bytes, Map::INFOFRAME_UPDATE, 0, writes, rest)
-}
-
-fn avi(image: &[u8], bytes: &[u8; 256], writes: &mut [u8], at: usize) -> usize
-    requires image_len { length image.now ≡ 256 }
-    requires avi_steps_in_bounds { 2 * (at + length avi_steps) ≤ length writes.old }
-    ensures puts { Puts writes.old at (avi_pairs image.now bytes.now) result writes.new }
-    ensures upper_bound { result ≤ at + length avi_steps }
-{
-    packet(
-        image,
-        bytes,
-        Map::AVI_PACKET_UPDATE_MASK,
-        Map::AVI_INFOFRAME_VERSION as usize,
-        Map::AVI_INFOFRAME_COUNT as usize,
-        writes,
-        at,
-    )
-}
-
-fn audio(image: &[u8], bytes: &[u8; 256], writes: &mut [u8], at: usize) -> usize
-    requires image_len { length image.now ≡ 256 }
-    requires audio_steps_in_bounds { 2 * (at + length audio_steps) ≤ length writes.old }
-    ensures puts { Puts writes.old at (audio_pairs image.now bytes.now) result writes.new }
-    ensures upper_bound { result ≤ at + length audio_steps }
-{
-    packet(
-        image,
-        bytes,
-        Map::AUDIO_INFOFRAME_PACKET_UPDATE_MASK,
-        Map::AUDIO_INFOFRAME_VERSION as usize,
-        Map::AUDIO_INFOFRAME_COUNT as usize,
-        writes,
-        at,
-    )
-}
-
-// "If the audio hold is up at the start, audio goes before AVI."
-fn packets(image: &[u8], bytes: &[u8; 256], writes: &mut [u8], at: usize) -> usize
-    requires image_len { length image.now ≡ 256 }
-    requires audio_steps_in_bounds { 2 * (at + length avi_steps + length audio_steps) ≤ length writes.old }
-    ensures puts { Puts writes.old at (both_pairs image.now bytes.now) result writes.new }
-    ensures upper_bound { result ≤ at + length avi_steps + length audio_steps }
-{
-    if audio_up(image[Map::INFOFRAME_UPDATE as usize]) {
-        let next = audio(image, bytes, writes, at);
-        return avi(image, bytes, writes, next);
+    // A register where its byte is another than the image's.
+    fn put_other(&mut self, address: u8)
+        requires { 2 * self.old.at + 2 ≤ length self.old.writes.now }
+        ensures puts { Penned self.old (λ image bytes. moving image bytes (address ∷ [])) self.new }
+        ensures upper_bound { self.new.at ≤ self.old.at + 1 }
+    {
+        let byte = self.bytes[address as usize];
+        if byte != self.image[address as usize] {
+            self.pair(address, byte);
+        }
     }
-    let next = avi(image, bytes, writes, at);
-    audio(image, bytes, writes, next)
+
+    // Of some registers those whose byte is another than the image's.
+    fn each(&mut self, registers: &[u8])
+        requires { 2 * (self.old.at + length registers.now) ≤ length self.old.writes.now }
+        ensures puts { Penned self.old (λ image bytes. moving image bytes registers.now) self.new }
+        ensures upper_bound { self.new.at ≤ self.old.at + length registers.now }
+    {
+        for address in registers {
+            self.put_other(*address);
+        }
+    }
+
+    // The same of registers in a row; most often none of a row is another.
+    // Kept, no plainer: one function for both, over any iterator, would have to say in its contract what that yields.
+    fn row(&mut self, first: usize, count: usize)
+        requires count_bound { first + count ≤ 256 }
+        requires count_in_bounds { 2 * (self.old.at + count) ≤ length self.old.writes.now }
+        ensures puts { Penned self.old (λ image bytes. moving image bytes (from first count)) self.new }
+        ensures upper_bound { self.new.at ≤ self.old.at + count }
+    {
+        let end = first + count;
+        let (bytes, image) = (self.bytes, self.image);
+        if lists::same(&bytes[first..end], &image[first..end]) {
+            return;
+        }
+        for address in first..end {
+            self.put_other(address as u8);
+        }
+    }
+
+    // "coefficient hold up, 0x18 to 0x2F with the hold kept up, hold down"
+    fn coefficients(&mut self)
+        requires { 2 * (self.old.at + length coefficient_steps) ≤ length self.old.writes.now }
+        ensures puts { Penned self.old coefficient_pairs self.new }
+        ensures upper_bound { self.new.at ≤ self.old.at + length coefficient_steps }
+    {
+        let hold = Map::COEFFICIENT_UPDATE;
+        let up = Map::COEFFICIENT_UPDATE_MASK;
+        self.put(hold, up);
+        self.row(Map::CSC as usize, 2);
+        self.put(hold, up); // kept up
+        self.row(Map::CSC as usize + 3, Map::CSC_COUNT as usize - 3);
+        self.put(hold, 0);
+    }
+
+    // "AVI hold up, its registers, hold down; audio likewise"
+    fn packet(&mut self, packet: Group)
+        requires { 2 * (self.old.at + packet.count + 2) ≤ length self.old.writes.now }
+        ensures puts { Penned self.old (packet_pairs (2 ^ packet.hold) packet.first packet.count) self.new }
+        ensures upper_bound { self.new.at ≤ self.old.at + packet.count + 2 }
+    {
+        self.put(Map::INFOFRAME_UPDATE, 1 << packet.hold);
+        self.row(packet.first as usize, packet.count as usize);
+        self.put(Map::INFOFRAME_UPDATE, 0);
+    }
+
+    // "If the audio hold is up at the start, audio goes before AVI."
+    fn packets(&mut self)
+        requires { 2 * (self.old.at + length avi_steps + length audio_steps) ≤ length self.old.writes.now }
+        ensures puts { Penned self.old both_pairs self.new }
+        ensures upper_bound { self.new.at ≤ self.old.at + length avi_steps + length audio_steps }
+    {
+        if Group::AUDIO.is_up(self.image[Map::INFOFRAME_UPDATE as usize]) {
+            self.packet(Group::AUDIO);
+            self.packet(Group::AVI);
+        } else {
+            self.packet(Group::AVI);
+            self.packet(Group::AUDIO);
+        }
+    }
 }
 
-// The list, at the front of the buffer, and the count of its pairs.
+// The list, at the front of the buffer, and the count of its pairs; none where the image or the buffer has another length.
+// Kept, what may not change: then 0 and no refusal, for `Lists` says so, and no public function has a `requires`.
 pub fn write_list(image: &[u8], wanted: &[u8; 256], writes: &mut [u8]) -> u32
     ensures { Lists (λ a. get_or wanted.now a 0) image.now writes.old result writes.new }
 {
-    if image.len() != 256 {
+    let Ok(image) = <&[u8; 256]>::try_from(image) else {
         return 0;
-    }
+    };
     if writes.len() < 256 {
         return 0;
     }
     let bytes = closed(image, wanted);
-    let fixed = table14();
-    let named = others();
-    let muted = put(&bytes, Map::AV_MUTE, Map::SET_AV_MUTE_MASK, writes, 0);
-    let after_fixed = each(image, &bytes, &fixed, writes, muted);
-    let after_matrix = coefficients(image, &bytes, writes, after_fixed);
-    let after_packets = packets(image, &bytes, writes, after_matrix);
-    let after_named = each(image, &bytes, &named, writes, after_packets);
-    let count = put(
-        &bytes,
-        Map::AV_MUTE,
-        Map::CLEAR_AV_MUTE_MASK,
+    let mut pen = Pen {
+        image,
+        bytes: &bytes,
         writes,
-        after_named,
-    );
-    count as u32
+        at: 0,
+    };
+    pen.put(Map::AV_MUTE, Map::SET_AV_MUTE_MASK);
+    pen.each(&steps::TABLE14);
+    pen.coefficients();
+    pen.packets();
+    pen.each(&steps::OTHERS);
+    pen.put(Map::AV_MUTE, Map::CLEAR_AV_MUTE_MASK);
+    pen.at as u32
 }
 
 // Whether an image stands as the list of these wanted bytes would leave it.
 pub fn stands(image: &[u8], wanted: &[u8; 256]) -> bool
     ensures { result ≡ stands_whole (λ a. get_or wanted.now a 0) image.now }
 {
-    if image.len() != 256 {
+    let Ok(image) = <&[u8; 256]>::try_from(image) else {
         return false;
-    }
+    };
     let mut bytes = closed(image, wanted);
     bytes[Map::AV_MUTE as usize] = raise(Map::CLEAR_AV_MUTE_MASK, bytes[Map::AV_MUTE as usize]);
     lists::same(&bytes, image)

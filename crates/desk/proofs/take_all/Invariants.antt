@@ -1,16 +1,14 @@
 -- `desk::take_all` meets its contract: each turn that goes on leaves more bytes in the pipe, so that the loop ends. Assumes nothing.
 use mathlib.Core.Path.{◌≡◌}
-use mathlib.Core.Bool.{true, false, cond}
-use Prim.Native.Nat.{suc, ◌-◌}
+use Prim.Native.Nat.{◌-◌}
 use lib.ListN.{length}
 use Rattle.request.specs.Sections.{longest}
 use Rattle.pipe.specs.Bytes.{count_in}
-use Rattle.desk.specs.Turns.{AllParts}
 use Rattle.desk.proofs.Turned.{Reading}
 use Rattle.desk.proofs.take_all.Given as goal
 
-abbrev pub invariant-loop-more : goal.invariant-loop-more
-invariant-loop-more l = (length l.pipe ≡ length l.initial.pipe) × (l.more ≡ true → Reading l.pipe) × (l.more ≡ false → AllParts l.pipe)
+abbrev pub invariant-loop : goal.invariant-loop
+invariant-loop l = (length l.pipe ≡ length l.initial.pipe) × Reading l.pipe
 
-abbrev pub decreases-loop-more : goal.decreases-loop-more
-decreases-loop-more l = cond l.more (suc (longest - count_in l.pipe)) 0
+abbrev pub decreases-loop : goal.decreases-loop
+decreases-loop l = longest - count_in l.pipe

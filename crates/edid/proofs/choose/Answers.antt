@@ -1,58 +1,66 @@
 -- `edid::choose` meets its contract: by the tests of rows 21 to 24. Assumes nothing.
-use mathlib.Core.Path.{sym, ap, ◌∙◌}
-use mathlib.Core.Bool.{not}
+use mathlib.Core.Path.{◌≡◌, sym, ap, ◌∙◌}
+use mathlib.Core.Logic.{⊎_elim}
 use mathlib.Core.List.{List}
-use Prim.Native.Nat.{ℕ, ◌%◌}
+use Prim.Native.Nat.{ℕ}
 use native.Mathlib.Omega.{arith}
-use lib.Dec.{eqb, ltb}
-use lib.ListN.{length}
-use borrow.Author.Tests.{ltb-false}
-use Rattle.lists.proofs.Both.{neither_right}
-use Rattle.edid.specs.Screen.{data_blocks, extension, collection}
+use borrow.Author.Rules.{rules}
+use Rattle.std.specs.Prelude.{Err, None, Some}
+use Rattle.refusals.specs.declared.Refusal.TheVariants.{NoWishFits}
+use Rattle.edid.specs.Screen.{extension, collection}
 use Rattle.edid.specs.Wish.{wishes_in}
-use Rattle.edid.specs.Found.{is_past, is_fitting, first_at, no_choice}
-use Rattle.edid.proofs.Sized.{whole_blocks}
+use Rattle.edid.specs.Found.{is_fitting, vic_at}
+use Rattle.edid.specs.Code.{first_in}
 use Rattle.edid.proofs.Placed.{room, short}
-use Rattle.edid.proofs.Chosen.{refused_wishes, refused_edid, refused_all, taken, some_none, no_fit, first_none, first_some, half}
+use Rattle.edid.proofs.Rows.{refused_wishes, refused_edid, refused_all, taken, some_none, no_fit, found_none, found_some, within, right_wishes, odd_wishes, many_wishes}
 use Rattle.edid.proofs.choose.Goals as goal
 
-pub returns-then-is_wrong_wishes : goal.returns-then-is_wrong_wishes
-returns-then-is_wrong_wishes c = let a = c.args in
-    c.refused.ensures ∙ sym (refused_wishes a.edid.now a.request.now a.wishes.now (sym c.is_wrong_wishes.ensures ∙ c.if-is_wrong_wishes.true))
+pub returns-then-wishes-ne0 : goal.returns-then-wishes-ne0
+returns-then-wishes-ne0 c = let a = c.args in
+    sym (refused_wishes a.edid.now a.request.now a.wishes.now (⊎_elim (odd_wishes a.wishes.now) (λ p. many_wishes a.wishes.now p.0 p.1) c.then-wishes-ne0.either))
 
-pub returns-then-number-ne-NONE : goal.returns-then-number-ne-NONE
-returns-then-number-ne-NONE c = let a = c.args in
-    c.refused-then-number-ne-NONE.ensures ∙ ap no_choice c.check-number.ensures
-    ∙ sym (refused_edid a.edid.now a.request.now a.wishes.now (sym c.is_wrong_wishes.ensures ∙ c.if-is_wrong_wishes.false) (λ z. c.if-number-ne-NONE.true (c.check-number.ensures ∙ z)))
+pub returns-in_err-screen : goal.returns-in_err-screen
+returns-in_err-screen c = let a = c.args in
+    let w = right_wishes a.wishes.now c.if-wishes-ne0.false c.if-wishes-gt-WISHES.false in
+    let m = rw c.in_err-screen.was at c.read.ensures in
+    let r : c.from_residual.result ≡ Err c.in_err-screen.field-0.0 = search rules in
+    rw (r, m.1) (sym (refused_edid a.edid.now a.request.now a.wishes.now w m.0))
 
-pub returns-then-at-eq0 : goal.returns-then-at-eq0
-returns-then-at-eq0 c = let a = c.args in
-    c.refused-then-at-eq0.ensures
-    ∙ sym (refused_all a.edid.now a.request.now a.wishes.now (sym c.is_wrong_wishes.ensures ∙ c.if-is_wrong_wishes.false) (sym c.check-number.ensures ∙ c.if-number-ne-NONE.false)
-    (some_none (is_fitting (collection (extension a.edid.now)) a.request.now) (no_fit (collection (extension a.edid.now)) a.request.now (sym c.vic_at-at.ensures ∙ c.if-at-eq0.true)) (wishes_in a.wishes.now)))
+pub returns-in_err-at : goal.returns-in_err-at
+returns-in_err-at c = let a = c.args in
+    let w = right_wishes a.wishes.now c.if-wishes-ne0.false c.if-wishes-gt-WISHES.false in
+    let m = rw c.in_ok-screen.was at c.read.ensures in
+    let z : vic_at a.request.now ≡ 0 = search rules in
+    let r : c.from_residual-in_err-at.result ≡ Err NoWishFits = search rules in
+    rw r
+    (sym (refused_all a.edid.now a.request.now a.wishes.now w m.0
+    (some_none (is_fitting (collection (extension a.edid.now)) a.request.now) (no_fit (collection (extension a.edid.now)) a.request.now z) (wishes_in a.wishes.now))))
 
-pub first_wish-place-requires : goal.first_wish-place-requires
-first_wish-place-requires c = let a = c.args in (
-  ap (λ (l : List ℕ). is_past (data_blocks l)) c.screen.ensures ∙ whole_blocks a.edid.now (sym c.check-number.ensures ∙ c.if-number-ne-NONE.false),
-  sym c.vic_at-at.ensures,
-  c.if-at-eq0.false,
-  ltb-false 32 (length a.wishes.now) (neither_right (not (eqb (length a.wishes.now % 2) 0)) (ltb 32 (length a.wishes.now)) (sym c.is_wrong_wishes.ensures ∙ c.if-is_wrong_wishes.false)),
-)
-
-pub returns-then-place-wishes : goal.returns-then-place-wishes
-returns-then-place-wishes c = let a = c.args in
-    let first = c.first_wish-place.ensures ∙ ap (λ (l : List ℕ). first_at (is_fitting l a.request.now) (wishes_in a.wishes.now)) c.screen.ensures in
-    c.refused-then-place-wishes.ensures
-    ∙ sym (refused_all a.edid.now a.request.now a.wishes.now (sym c.is_wrong_wishes.ensures ∙ c.if-is_wrong_wishes.false) (sym c.check-number.ensures ∙ c.if-number-ne-NONE.false)
-    (first_none (is_fitting (collection (extension a.edid.now)) a.request.now) (wishes_in a.wishes.now) (sym first ∙ c.if-place-wishes.true ∙ sym (half a.wishes.now))))
+pub returns-in_err-place : goal.returns-in_err-place
+returns-in_err-place c = let a = c.args in
+    let w = right_wishes a.wishes.now c.if-wishes-ne0.false c.if-wishes-gt-WISHES.false in
+    let m = rw c.in_ok-screen.was at c.read.ensures in
+    let n : c.first_wish.result ≡ None = search rules in
+    let f = sym (c.first_wish.ensures ∙ ap (λ (l : List ℕ). first_in (is_fitting l a.request.now) (wishes_in a.wishes.now)) m.1) ∙ n in
+    let r : c.from_residual-in_err-place.result ≡ Err NoWishFits = search rules in
+    rw r (sym (refused_all a.edid.now a.request.now a.wishes.now w m.0 (found_none (is_fitting (collection (extension a.edid.now)) a.request.now) (wishes_in a.wishes.now) f)))
 
 pub overflow_cast-result : goal.overflow_cast-result
-overflow_cast-result c = let r = c.args.request.now in
-    omega (arith, room r c.vic_at-at.result (sym c.vic_at-at.ensures) c.if-at-eq0.false, short r c.vic_at-at.result (sym c.vic_at-at.ensures) c.if-at-eq0.false)
+overflow_cast-result c = let a = c.args in
+    let s : c.first_wish.result ≡ Some c.in_ok-place.place = search rules in
+    omega (arith, within (is_fitting c.in_ok-screen.screen.bytes.now a.request.now) a.wishes.now c.in_ok-place.place (sym c.first_wish.ensures ∙ s))
+
+pub overflow_cast-result-2 : goal.overflow_cast-result-2
+overflow_cast-result-2 c = let i = c.args.request.now in
+    let e : vic_at i ≡ c.in_ok-at.at = search rules in
+    omega (arith, room i c.in_ok-at.at e (search rules), short i c.in_ok-at.at e (search rules))
 
 pub returns : goal.returns
 returns c = let a = c.args in
-    let first = c.first_wish-place.ensures ∙ ap (λ (l : List ℕ). first_at (is_fitting l a.request.now) (wishes_in a.wishes.now)) c.screen.ensures in
-    rw (first, c.vic_at-at.ensures)
-    (sym (taken a.edid.now a.request.now a.wishes.now (sym c.is_wrong_wishes.ensures ∙ c.if-is_wrong_wishes.false) (sym c.check-number.ensures ∙ c.if-number-ne-NONE.false)
-    (first_some (is_fitting (collection (extension a.edid.now)) a.request.now) (wishes_in a.wishes.now) (λ e. c.if-place-wishes.false (first ∙ e ∙ half a.wishes.now)))))
+    let w = right_wishes a.wishes.now c.if-wishes-ne0.false c.if-wishes-gt-WISHES.false in
+    let m = rw c.in_ok-screen.was at c.read.ensures in
+    let e : vic_at a.request.now ≡ c.in_ok-at.at = search rules in
+    let s : c.first_wish.result ≡ Some c.in_ok-place.place = search rules in
+    let f = sym (c.first_wish.ensures ∙ ap (λ (l : List ℕ). first_in (is_fitting l a.request.now) (wishes_in a.wishes.now)) m.1) ∙ s in
+    let p = found_some (is_fitting (collection (extension a.edid.now)) a.request.now) (wishes_in a.wishes.now) c.in_ok-place.place f in
+    rw (p.1, sym e) (sym (taken a.edid.now a.request.now a.wishes.now w m.0 p.0))

@@ -1,13 +1,11 @@
--- `edid::has_sound` meets its contract: descriptor by descriptor. Assumes nothing.
-use mathlib.Core.Path.{◌≡◌}
-use Prim.Native.Nat.{◌≤◌, ◌-◌}
-use lib.ListN.{length, drop}
+-- `edid::has_sound` meets its contract: what the descriptors that are left say, all say. Assumes nothing.
+use Rattle.std.proofs.Common.{◌≡◌, length}
 use Rattle.lists.specs.Find.{some}
 use Rattle.edid.specs.Screen.{descriptors, covered_by}
 use Rattle.edid.proofs.has_sound.Given as goal
 
-abbrev pub invariant-loop-i : goal.invariant-loop-i
-invariant-loop-i l = (l.i ≤ length l.body) × (some (covered_by l.rate l.channels) (descriptors l.body) ≡ some (covered_by l.rate l.channels) (descriptors (drop l.i l.body)))
+abbrev pub invariant-loop-first : goal.invariant-loop-first
+invariant-loop-first l = some (covered_by l.rate l.channels) (descriptors l.body) ≡ some (covered_by l.rate l.channels) (descriptors l.left)
 
-abbrev pub decreases-loop-i : goal.decreases-loop-i
-decreases-loop-i l = length l.body - l.i
+abbrev pub decreases-loop-first : goal.decreases-loop-first
+decreases-loop-first l = length l.left

@@ -1,10 +1,9 @@
 -- `edid::is_covered` meets its contract. Assumes nothing.
-use borrow.Author.Tests.{eq-eqb, ne_eqb}
+use Rattle.std.proofs.Common.{arith}
+use Rattle.std.proofs.lemmas.Bool.Decides.{nat_tests}
+use Rattle.bits.proofs.Laws.{bit_code}
 use Rattle.edid.proofs.Cut.{low}
 use Rattle.edid.proofs.is_covered.Goals as goal
 
-pub returns-then-first-ne-LINEAR : goal.returns-then-first-ne-LINEAR
-returns-then-first-ne-LINEAR c = rw (ne_eqb _ _ c.if-first-ne-LINEAR.true)
-
-pub returns : goal.returns
-returns c = rw (eq-eqb _ _ c.if-first-ne-LINEAR.false, low 8 _, c.bit_at.ensures)
+pub returns-then-rate-lt7 : goal.returns-then-rate-lt7
+returns-then-rate-lt7 c = rw (low 8 c.args.first, bit_code c.args.rate c.args.rates) (grind (arith, nat_tests))

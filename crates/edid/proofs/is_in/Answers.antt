@@ -1,16 +1,15 @@
 -- `edid::is_in` meets its contract: by the question, and by the block's tag. Assumes nothing.
 use mathlib.Core.Path.{◌∙◌}
-use borrow.Author.Tests.{eq-eqb, ne_eqb}
+use Prim.Native.Nat.{◌%◌}
+use lib.Dec.{eqb}
+use borrow.Author.Rules.{rules}
+use borrow.Author.Tests.{tests, eq-eqb}
+use Rattle.std.proofs.lemmas.Iterator.{YieldsList-from_slice}
+use Rattle.std.proofs.lemmas.Iterator.Search.{any_from_yields_List}
+use Rattle.edid.proofs.Some.{vic_among}
 use Rattle.edid.proofs.is_in.Goals as goal
 
-pub returns-then-tag-ne-VIDEO : goal.returns-then-tag-ne-VIDEO
-returns-then-tag-ne-VIDEO c = rw (c.in-Vic.is, ne_eqb _ _ c.if-tag-ne-VIDEO.true)
-
-pub returns-then-tag-ne-AUDIO : goal.returns-then-tag-ne-AUDIO
-returns-then-tag-ne-AUDIO c = rw (c.in-Pcm.is, ne_eqb _ _ c.if-tag-ne-AUDIO.true)
-
-pub returns-else-tag-ne-VIDEO : goal.returns-else-tag-ne-VIDEO
-returns-else-tag-ne-VIDEO c = c.has_vic.ensures ∙ rw (c.in-Vic.is, eq-eqb _ _ c.if-tag-ne-VIDEO.false)
-
-pub returns-else-tag-ne-AUDIO : goal.returns-else-tag-ne-AUDIO
-returns-else-tag-ne-AUDIO c = c.has_sound.ensures ∙ rw (c.in-Pcm.is, eq-eqb _ _ c.if-tag-ne-AUDIO.false)
+pub returns-then-tag-eq-VIDEO : goal.returns-then-tag-eq-VIDEO
+returns-then-tag-eq-VIDEO c =
+    any_from_yields_List (λ byte. eqb c.in-Vic.vic (byte % 128)) _ _ _ c.any.ensures.ran (YieldsList-from_slice c.args.body.now (cc)) (λ x b q k. search (rules, tests))
+    ∙ vic_among c.in-Vic.vic c.args.body.now ∙ rw (c.in-Vic.is, eq-eqb _ _ c.if-tag-eq-VIDEO.true)

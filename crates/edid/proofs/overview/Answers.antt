@@ -1,47 +1,24 @@
 -- `edid::overview` meets its contract. Assumes nothing.
-use mathlib.Core.Path.{◌≡◌, sym, ap, ◌∙◌}
-use mathlib.Core.List.{List}
-use Prim.Native.Nat.{ℕ}
-use native.Mathlib.Omega.{arith}
+use mathlib.Core.Path.{◌≡◌, ap}
+use borrow.Author.Rules.{rules}
 use borrow.Author.Tests.{eq-eqb, ne_eqb}
-use Rattle.edid.specs.Screen.{data_blocks, tells}
-use Rattle.edid.specs.Found.{is_past, ask_at, edid_refusal, overview_of, monitor_of}
-use Rattle.edid.proofs.Sized.{whole_blocks}
-use Rattle.edid.proofs.Words.{below}
+use Rattle.std.specs.Prelude.{Err}
+use Rattle.edid.specs.Found.{ask_at, word_in, edid_refusal, overview_of, monitor_of}
 use Rattle.edid.proofs.overview.Goals as goal
 
-pub returns-then-number-ne-NONE : goal.returns-then-number-ne-NONE
+pub returns-in_err-screen : goal.returns-in_err-screen
 unfolding monitor_of
-returns-then-number-ne-NONE c = let e = c.args.edid.now in
-    rw c.check-number.ensures (rw (ne_eqb (edid_refusal e) 0 (λ z. c.if-number-ne-NONE.true (c.check-number.ensures ∙ z))))
-
-pub word-requires : goal.word-requires
-word-requires c = let e = c.args.edid.now in
-    let z : edid_refusal e ≡ 0 = sym c.check-number.ensures ∙ c.if-number-ne-NONE.false in
-    (ap (λ (l : List ℕ). is_past (data_blocks l)) c.screen-bytes.ensures ∙ whole_blocks e z, omega arith, omega arith)
-
-pub overflow_mul-result : goal.overflow_mul-result
-overflow_mul-result c = let b = below (λ (k : ℕ). tells c.screen-bytes.result.now (ask_at 0 k)) 1 31 (omega arith) in
-    omega (arith, b, c.word.ensures)
-
-pub word-requires-2 : goal.word-requires-2
-word-requires-2 c = let e = c.args.edid.now in
-    let z : edid_refusal e ≡ 0 = sym c.check-number.ensures ∙ c.if-number-ne-NONE.false in
-    (ap (λ (l : List ℕ). is_past (data_blocks l)) c.screen-bytes.ensures ∙ whole_blocks e z, omega arith, omega arith)
-
-pub word-requires-3 : goal.word-requires-3
-word-requires-3 c = let e = c.args.edid.now in
-    let z : edid_refusal e ≡ 0 = sym c.check-number.ensures ∙ c.if-number-ne-NONE.false in
-    (ap (λ (l : List ℕ). is_past (data_blocks l)) c.screen-bytes.ensures ∙ whole_blocks e z, omega arith, omega arith)
-
-pub word-requires-4 : goal.word-requires-4
-word-requires-4 c = let e = c.args.edid.now in
-    let z : edid_refusal e ≡ 0 = sym c.check-number.ensures ∙ c.if-number-ne-NONE.false in
-    (ap (λ (l : List ℕ). is_past (data_blocks l)) c.screen-bytes.ensures ∙ whole_blocks e z, omega arith, omega arith)
+returns-in_err-screen c = let e = c.args.edid.now in
+    let m = rw c.in_err-screen.was at c.read.ensures in
+    let r : c.from_residual.result ≡ Err c.in_err-screen.field-0.0 = search rules in
+    rw (r, m.1, ne_eqb (edid_refusal e) 0 m.0)
 
 pub returns : goal.returns
 unfolding monitor_of
 returns c = let e = c.args.edid.now in
-    let z : edid_refusal e ≡ 0 = sym c.check-number.ensures ∙ c.if-number-ne-NONE.false in
-    rw (eq-eqb (edid_refusal e) 0 z, c.word.ensures, c.word-2.ensures, c.word-3.ensures, c.word-4.ensures)
-    (ap overview_of c.screen-bytes.ensures)
+    let m = rw c.in_ok-screen.was at c.read.ensures in
+    let low : c.word.result ≡ word_in c.in_ok-screen.screen.bytes.now 0 1 31 = c.word.ensures.bits (ask_at 0) (λ n r s k. search rules) in
+    let high : c.word-2.result ≡ word_in c.in_ok-screen.screen.bytes.now 0 32 32 = c.word-2.ensures.bits (ask_at 0) (λ n r s k. search rules) in
+    let two : c.word-3.result ≡ word_in c.in_ok-screen.screen.bytes.now 2 0 7 = c.word-3.ensures.bits (ask_at 2) (λ n r s k. search rules) in
+    let eight : c.word-4.result ≡ word_in c.in_ok-screen.screen.bytes.now 8 0 7 = c.word-4.ensures.bits (ask_at 8) (λ n r s k. search rules) in
+    rw (eq-eqb (edid_refusal e) 0 m.0, low, high, two, eight) (ap overview_of m.1)

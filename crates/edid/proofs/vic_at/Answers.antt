@@ -1,26 +1,23 @@
 -- `edid::vic_at` meets its contract. Assumes nothing.
-use mathlib.Core.Path.{sym, ap, ◌∙◌}
-use Prim.Native.Nat.{◌+◌}
+use mathlib.Core.Path.{◌≡◌, sym, ◌∙◌}
 use native.Mathlib.Omega.{arith}
-use lib.ListN.{get_or}
-use borrow.Author.Tests.{lt-ltb, le-ltb}
-use Rattle.request.specs.declared.sections.Places.{Places}
-use Rattle.request.specs.Sections.{walked}
-use Rattle.edid.proofs.Placed.{no_place, place, bounded}
+use borrow.Author.Rules.{rules}
+use borrow.Author.Tests.{le-ltb}
+use Rattle.std.specs.Prelude.{None, Ok}
+use Rattle.edid.proofs.Placed.{no_place_told, place_told, bounded}
 use Rattle.edid.proofs.vic_at.Goals as goal
 
-pub returns-then-request-gt-LONGEST : goal.returns-then-request-gt-LONGEST
-returns-then-request-gt-LONGEST c = rw (lt-ltb _ _ c.if-request-gt-LONGEST.true)
-
-pub returns-then-places-ne-NONE : goal.returns-then-places-ne-NONE
-returns-then-places-ne-NONE c = let i = c.args.request.now in
-    rw (le-ltb _ _ c.if-request-gt-LONGEST.false) (sym (no_place (walked i) (λ z. c.if-places-ne-NONE.true (ap (λ (p : Places). p.refusal) c.walk-places.ensures ∙ z))))
+pub returns-in_err-ends : goal.returns-in_err-ends
+returns-in_err-ends c = let i = c.args.request.now in
+    let n : c.from_residual.result ≡ None = search rules in
+    rw (n, le-ltb _ _ c.if-request-gt-LONGEST.false) (no_place_told i _ c.walk.ensures (sym c.ok.ensures.value ∙ c.in_err-ends.was))
 
 pub overflow_add-result : goal.overflow_add-result
 overflow_add-result c = let i = c.args.request.now in
-    let e = ap (λ (p : Places). get_or p.ends 0 0 + 1) c.walk-places.ensures ∙ place i (sym (ap (λ (p : Places). p.refusal) c.walk-places.ensures) ∙ c.if-places-ne-NONE.false) in
-    omega (arith, e, bounded i, c.if-request-gt-LONGEST.false)
+    let w : c.walk.result ≡ Ok c.in_ok-ends.ends = search rules in
+    omega (arith, place_told i c.in_ok-ends.ends (rw w at c.walk.ensures), bounded i, c.if-request-gt-LONGEST.false)
 
 pub returns : goal.returns
 returns c = let i = c.args.request.now in
-    rw (le-ltb _ _ c.if-request-gt-LONGEST.false) (ap (λ (p : Places). get_or p.ends 0 0 + 1) c.walk-places.ensures ∙ place i (sym (ap (λ (p : Places). p.refusal) c.walk-places.ensures) ∙ c.if-places-ne-NONE.false))
+    let w : c.walk.result ≡ Ok c.in_ok-ends.ends = search rules in
+    (rw (le-ltb _ _ c.if-request-gt-LONGEST.false) (sym (place_told i c.in_ok-ends.ends (rw w at c.walk.ensures))), omega arith)

@@ -1,20 +1,16 @@
--- `frames::sum` meets its contract: t is the total of the bytes so far, modulo 256. Assumes nothing.
-use Rattle.std.proofs.Common.{◌≡◌, length, ◌∙◌, arith, rules}
-use lib.Seq.{take-length}
+-- `frames::sum` meets its contract: the sum so far is the total of the bytes so far, modulo 256. Assumes nothing.
+use Rattle.std.proofs.Common.{◌≡◌, ◌%◌, arith, rules}
+use Rattle.std.proofs.lemmas.Fn.{fold_over, fronts}
+use Rattle.std.proofs.lemmas.Iterator.{YieldsList-from_slice}
 use Rattle.frames.specs.Frames.{total}
-use Rattle.frames.proofs.Total.{total_more}
+use Rattle.frames.proofs.Total.{total_push}
 use Rattle.frames.proofs.sum.Goals as goal
 
-pub loop-i-init : goal.loop-i-init
-unfolding total
-loop-i-init c = search rules
-
-pub loop-i-preserved : goal.loop-i-preserved
-loop-i-preserved c = let l = c.loop-i in
-    let s = c.args.s.now in
-    omega (arith, total_more s l.i (search rules))
-
 pub returns : goal.returns
-returns c = let s = c.args.s.now in
-    let e : c.loop-i.i ≡ length s = omega arith in
-    c.loop-i.invariant.1 ∙ rw (e, take-length)
+unfolding total
+returns c =
+    let s = c.args.s.now in
+    let bytes = YieldsList-from_slice {s = c.iter.result} s cc in
+    fold_over fronts (λ y. y.now) _ (λ xs t. t ≡ total xs % 256) _
+    (λ xs t x u f' so_far called. let more = total_push xs x.now in (omega arith, search rules))
+    c.iter.result s 0 _ bytes.runs (search rules) c.fold.ensures.ran

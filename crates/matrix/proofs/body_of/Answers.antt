@@ -11,16 +11,16 @@ use Rattle.matrix.proofs.Body.{turn_bytes, whole_matrix}
 use Rattle.matrix.proofs.body_of.Goals as goal
 
 pub loop-i-init : goal.loop-i-init
-loop-i-init c = (search rules, search rules, refl)
+loop-i-init c = (search rules, refl)
 
 pub loop-i-preserved : goal.loop-i-preserved
-loop-i-preserved c = let l = c.loop-i in
+loop-i-preserved c =
+    let l = c.loop-i in
     let cs = c.args.m.coefficients in
-    let at = map_at low_thirteen cs l.i 0 0 (omega arith) in (
+    let at = map_at low_thirteen cs l.i 0 0 (search rules) in (
       search rules,
-      search rules,
-      rw l.invariant.2
-          (turn_bytes (map low_thirteen cs) _ 1 l.i _ _ _ _ (rw (length-map cs low_thirteen) (omega arith)) (omega arith) (omega arith)
+      rw l.invariant.1
+          (turn_bytes (map low_thirteen cs) _ 1 l.i _ _ _ _ (rw (length-map cs low_thirteen) (search rules)) (omega arith) (omega arith)
           (c.high_byte.ensures ∙ ap high_byte (sym at)) (low _ ∙ ap (λ (n : ℕ). n % 256) (sym at))),
     )
   where
@@ -28,5 +28,6 @@ loop-i-preserved c = let l = c.loop-i in
     low n = omega arith
 
 pub returns : goal.returns
-returns c = let l = c.loop-i in
-    l.invariant.2 ∙ whole_matrix _ _ l.i (rw (length-map _ low_thirteen) l.invariant.1) (omega arith)
+returns c =
+    let l = c.loop-i in
+    l.invariant.1 ∙ whole_matrix _ _ l.i (rw (length-map _ low_thirteen) l.invariant.0) (search rules)

@@ -1,36 +1,31 @@
--- `matrix::fits` meets its contract: what is left to look at decides.
--- Assumes nothing.
-use mathlib.Core.Path.{sym, ◌∙◌}
-use native.Mathlib.Omega.{arith}
-use borrow.Author.Rules.{rules}
-use borrow.Author.Tests.{eq-eqb, ne_eqb, le-leb, lt-leb, not-true, not-false}
-use Rattle.matrix.specs.Tests.{within}
-use Rattle.matrix.specs.Tests.{is_allowed}
-use Rattle.matrix.proofs.Pairs.{range_more, range_end}
+-- `matrix::fits` meets its contract. Assumes nothing.
+use Rattle.std.proofs.Common.{refl, length-drop, ◌≡◌, ◌-◌, ◌∙◌, ap, get_or, length, take, drop, arith, rules, tests}
+use Rattle.std.specs.List.{list_all}
+use Rattle.std.proofs.lemmas.List.{take_all}
+use Rattle.std.proofs.lemmas.Iterator.{YieldsList-from_slice}
+use Rattle.std.proofs.lemmas.Iterator.Search.{all_from_yields_List}
+use borrow.Author.Tests.{eq-eqb, ne_eqb, le-leb, lt-leb}
+use Rattle.matrix.specs.Coefficient.{word}
+use Rattle.matrix.specs.Tests.{within, in_range, is_allowed}
+use Rattle.matrix.proofs.Pairs.{pairs_range}
 use Rattle.matrix.proofs.fits.Goals as goal
 
 pub returns-then-body-ne25 : goal.returns-then-body-ne25
 unfolding is_allowed
 returns-then-body-ne25 c = simp (ne_eqb _ _ c.if-body-ne25.true)
 
-pub returns-then-body-gt2 : goal.returns-then-body-gt2
+pub returns-else-body-le2 : goal.returns-else-body-le2
 unfolding is_allowed
-returns-then-body-gt2 c = simp (eq-eqb _ _ c.if-body-ne25.false, lt-leb _ _ c.if-body-gt2.true)
+returns-else-body-le2 c = simp (eq-eqb _ _ c.if-body-ne25.false, lt-leb _ _ c.if-body-le2.false)
 
-pub loop-i-init : goal.loop-i-init
+pub returns-then-body-le2 : goal.returns-then-body-le2
 unfolding is_allowed
-loop-i-init c = (search rules, simp (eq-eqb _ _ c.if-body-ne25.false, le-leb _ _ c.if-body-gt2.false))
-
-pub returns-then-not-bits : goal.returns-then-not-bits
-returns-then-not-bits c = let l = c.loop-i in
+returns-then-body-le2 c =
     let body = c.args.body.now in
-    sym (l.invariant.1 ∙ range_more body l.i (omega arith) ∙ simp (← c.pair-bits.ensures, not-true (within c.pair-bits.result) c.if-not-bits.true-raw))
-
-pub loop-i-preserved : goal.loop-i-preserved
-loop-i-preserved c = let l = c.loop-i in
-    let body = c.args.body.now in
-    (search rules, l.invariant.1 ∙ range_more body l.i (omega arith) ∙ simp (← c.pair-bits.ensures, not-false (within c.pair-bits.result) c.if-not-bits.false-raw))
-
-pub returns : goal.returns
-returns c = let l = c.loop-i in
-    sym (l.invariant.1 ∙ range_end c.args.body.now l.i (omega arith))
+    let pairs = c.as_chunks.result.0.now in
+    let after : take (length body - 1) (drop 1 body) ≡ drop 1 body = take_all _ _ (search rules) in
+    let l : length (take (length body - 1) (drop 1 body)) ≡ 24 = rw after (omega (arith, length-drop 1 body)) in
+    let all = all_from_yields_List (λ pair. within (word (get_or pair 0 0) (get_or pair 1 0))) _ _ c.all-in_range.result c.all-in_range.ensures.ran (YieldsList-from_slice {s = c.iter.result} pairs cc) (λ x b q k. search (rules, tests)) in
+    let e : c.all-in_range.result ≡ in_range (drop 1 body) =
+    all ∙ ap (list_all (λ pair. within (word (get_or pair 0 0) (get_or pair 1 0)))) c.as_chunks.ensures.front ∙ pairs_range _ _ (rw l refl) ∙ ap in_range after in
+    simp (eq-eqb _ _ c.if-body-ne25.false, le-leb _ _ c.if-body-le2.true, e)

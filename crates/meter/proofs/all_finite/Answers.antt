@@ -1,30 +1,26 @@
--- `meter::all_finite` meets its contract: what is left to look at decides. Assumes nothing.
-use mathlib.Core.Path.{refl, sym, ap, ◌∙◌}
-use native.Mathlib.Omega.{arith}
-use lib.ListN.{drop_of_length-le}
-use lib.Ieee.{nan}
+-- `meter::all_finite` meets its contract. Assumes nothing.
+use Rattle.std.proofs.Common.{◌≡◌, ◌&&◌, List, [], ◌∷◌, refl, ap₂, ◌∙◌, rules, tests}
+use Rattle.std.specs.List.{list_all}
+use Rattle.std.specs.Float.{float_is_finite, nan, inf, fin}
+use Rattle.std.proofs.lemmas.Iterator.{YieldsList-from_slice}
+use Rattle.std.proofs.lemmas.Iterator.Search.{all_from_yields_List}
+use lib.Ieee.{Float}
 use lib.Ieee.Scale.{finite}
-use borrow.Author.Rules.{rules}
 use Rattle.lists.specs.Find.{every}
-use Rattle.lists.proofs.Find.{every_next}
 use Rattle.meter.proofs.all_finite.Goals as goal
 
-pub loop-i-init : goal.loop-i-init
-loop-i-init c = (search rules, search rules, refl)
+one : (x : Float) → float_is_finite x ≡ finite x
+unfolding float_is_finite
+one nan = refl
+one (inf s) = refl
+one (fin s m e) = refl
 
-pub returns-then-not-is_finite : goal.returns-then-not-is_finite
-returns-then-not-is_finite c = let l = c.loop-i in
-    let numbers = c.args.numbers in
-    let e = sym c.is_finite.ensures ∙ c.if-not-is_finite.true in
-    sym (l.invariant.2 ∙ every_next finite numbers l.i nan (omega arith) ∙ rw e refl)
-
-pub loop-i-preserved : goal.loop-i-preserved
-loop-i-preserved c = let l = c.loop-i in
-    let numbers = c.args.numbers in
-    let e = sym c.is_finite.ensures ∙ c.if-not-is_finite.false in
-    (search rules, search rules, l.invariant.2 ∙ every_next finite numbers l.i nan (omega arith) ∙ rw e refl)
+each : (xs : List Float) → list_all float_is_finite xs ≡ every finite xs
+each [] = refl
+each (x ∷ xs) = ap₂ (λ a b. a && b) (one x) (each xs)
 
 pub returns : goal.returns
-returns c = let l = c.loop-i in
+returns c =
     let numbers = c.args.numbers in
-    sym (l.invariant.2 ∙ ap (every finite) (drop_of_length-le numbers {i = l.i} (omega arith)))
+    let all = c.all.ensures.ran in
+    all_from_yields_List float_is_finite _ _ c.all.result all (YieldsList-from_slice {s = c.iter.result} numbers cc) (λ x b q k. search (rules, tests)) ∙ each numbers

@@ -4,35 +4,36 @@ use mathlib.Core.Bool.{false}
 use native.Mathlib.Nat.{not-suc-le-zero}
 use native.Mathlib.Omega.{arith}
 use borrow.Author.Rules.{rules}
-use Rattle.meter.specs.Found.{fits_in, converted}
-use Rattle.meter.proofs.Answers.{with_fields, tested, one_more, not_finite, in_mode_lem, in_none_lem}
+use Rattle.meter.specs.Found.{fields_in, fits_in, converted}
+use Rattle.meter.proofs.Answers.{with_fields, one_more, not_finite, in_mode_lem, in_none_lem}
+use Rattle.meter.proofs.Held.{some, none}
 use Rattle.meter.proofs.convert.Goals as goal
 
 pub returns-then-not-all_finite : goal.returns-then-not-all_finite
-returns-then-not-all_finite c = c.no_matrix.ensures
-    ∙ not_finite _ (sym c.all_finite.ensures ∙ c.if-not-all_finite.true) ∙ ap converted c.numbers_of-numbers.ensures
+returns-then-not-all_finite c = not_finite _ (sym c.all_finite.ensures ∙ c.if-not-all_finite.true) ∙ ap converted c.numbers_of-numbers.ensures
 
 pub loop-mode-init : goal.loop-mode-init
-loop-mode-init c = (search rules, sym c.all_finite.ensures ∙ c.if-not-all_finite.false, λ k h. absurd (not-suc-le-zero h))
+loop-mode-init c = (sym c.all_finite.ensures ∙ c.if-not-all_finite.false, λ k h. absurd (not-suc-le-zero h))
 
-pub fields_in-fields-requires : goal.fields_in-fields-requires
-fields_in-fields-requires c = (c.loop-mode.invariant.1, omega arith)
+pub fields_in-requires : goal.fields_in-requires
+fields_in-requires c = (c.loop-mode.invariant.0, omega arith)
 
-pub returns-then-all_fit : goal.returns-then-all_fit
-returns-then-all_fit c = let l = c.loop-mode in
+pub returns-in-Some : goal.returns-in-Some
+returns-in-Some c =
+    let l = c.loop-mode in
     let n = c.numbers_of-numbers in
-    let e = c.fields_in-fields.ensures in
-    c.with.ensures ∙ ap (with_fields l.mode) e
-    ∙ in_mode_lem n.result l.mode (omega arith) l.invariant.1 l.invariant.2 (tested l.mode n.result e c.all_fit.ensures c.if-all_fit.true)
-    ∙ ap converted n.ensures
+    let f = some (fits_in l.mode n.result) (fields_in l.mode n.result) c.in-Some.coefficients (sym c.fields_in.ensures ∙ c.in-Some.is) in
+    ap (with_fields l.mode) (sym f.1) ∙ in_mode_lem n.result l.mode (search rules) l.invariant.0 l.invariant.1 f.0 ∙ ap converted n.ensures
 
 pub loop-mode-preserved : goal.loop-mode-preserved
-loop-mode-preserved c = let l = c.loop-mode in
+loop-mode-preserved c =
+    let l = c.loop-mode in
     let n = c.numbers_of-numbers in
-    let f = tested l.mode n.result c.fields_in-fields.ensures c.all_fit.ensures c.if-all_fit.false in
-    (search rules, l.invariant.1, one_more (λ k. fits_in k n.result ≡ false) l.mode l.invariant.2 f)
+    let f = none (fits_in l.mode n.result) (fields_in l.mode n.result) (sym c.fields_in.ensures ∙ c.in_default.is) in
+    (l.invariant.0, one_more (λ k. fits_in k n.result ≡ false) l.mode l.invariant.1 f)
 
 pub returns : goal.returns
-returns c = let l = c.loop-mode in
+returns c =
+    let l = c.loop-mode in
     let n = c.numbers_of-numbers in
-    c.no_matrix-2.ensures ∙ in_none_lem n.result l.invariant.1 (λ k h. l.invariant.2 k (omega arith)) ∙ ap converted n.ensures
+    in_none_lem n.result l.invariant.0 (λ k h. l.invariant.1 k (omega arith)) ∙ ap converted n.ensures

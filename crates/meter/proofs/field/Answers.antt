@@ -5,7 +5,7 @@ use Prim.Native.Nat.{ℕ, ◌+◌, ◌*◌, ◌^◌, ◌≤◌}
 use native.Mathlib.Omega.{arith}
 use lib.Ieee.Nearest.{closest}
 use lib.Ieee.Positive.{num, den}
-use Rattle.meter.specs.Found.{field_of, signed_field, negative}
+use Rattle.meter.specs.Found.{field_of, signed_field, as_field, negative}
 use Rattle.meter.proofs.Scaled.{sign, near, far, too_large, leads}
 use Rattle.meter.proofs.field.Goals as goal
 
@@ -14,9 +14,9 @@ unfolding field_of
 returns-then-unit-k c = let args = c.args in
     let p = c.taken_apart-p.result in
     let e = c.taken_apart-p.ensures in
-    too_large (negative args.x) (closest (num args.x * 2 ^ args.raised) (den args.x * 2 ^ args.mode))
+    ap as_field (too_large (negative args.x) (closest (num args.x * 2 ^ args.raised) (den args.x * 2 ^ args.mode))
     (far args.x p.negative p.digits p.exponent args.raised args.mode e.has_value
-    (leads p.digits p.exponent args.raised args.mode e.normal c.requires.raised_bound.0 c.if-unit-k.true) c.if-unit-k.true)
+    (leads p.digits p.exponent args.raised args.mode e.normal c.requires.raised_bound.0 c.if-unit-k.true) c.if-unit-k.true))
 
 pub returns : goal.returns
 unfolding field_of
@@ -24,9 +24,9 @@ returns c = let args = c.args in
     let p = c.taken_apart-p.result in
     let v = c.taken_apart-p.ensures.has_value in
     c.signed_field.ensures
-    ∙ ap (λ (n : ℕ). signed_field p.negative n)
+    ∙ ap as_field (ap (λ (n : ℕ). signed_field p.negative n)
     (c.nearest-size.ensures ∙ sym (near args.x p.negative p.digits p.exponent args.raised args.mode v (room c.if-unit-k.false)))
-    ∙ ap (λ (s : Bool). signed_field s (closest (num args.x * 2 ^ args.raised) (den args.x * 2 ^ args.mode))) (sym (sign args.x p.negative (p.digits * 2 ^ p.exponent) (2 ^ 149) v))
+    ∙ ap (λ (s : Bool). signed_field s (closest (num args.x * 2 ^ args.raised) (den args.x * 2 ^ args.mode))) (sym (sign args.x p.negative (p.digits * 2 ^ p.exponent) (2 ^ 149) v)))
   where
     room : {k u : ℕ} → k + 11 ≤ u → k ≤ u
     room h = omega arith

@@ -1,33 +1,59 @@
--- `meter::fields_in` meets its contract: before turn i the first i fields are stored. Assumes nothing.
-use mathlib.Core.Path.{refl, sym, ap₂, ◌∙◌}
+-- `meter::fields_in` meets its contract: before turn i the first i are fields, and are stored. Assumes nothing.
+use mathlib.Core.Path.{◌≡◌, refl, sym, ap, ap₂, ◌∙◌}
 use mathlib.Core.Logic.{inl}
+use mathlib.Core.Bool.{true}
 use mathlib.Core.List.{List}
 use Prim.Native.Nat.{ℕ}
+use Rattle.std.proofs.Common.{Some}
+use native.Mathlib.Nat.{not-suc-le-zero}
 use native.Mathlib.Omega.{arith}
-use lib.ListN.{set}
+use lib.ListN.{get_or, set}
 use lib.Ieee.{nan}
 use lib.Ieee.Scale.{finite}
 use borrow.Author.Rules.{rules}
 use Rattle.lists.proofs.Copied.{copy_more, copy_end, over_whole}
-use Rattle.lists.proofs.Find.{every_at}
-use Rattle.meter.proofs.Modes.{field_at, fields_length}
+use Rattle.lists.proofs.Find.{every_at, at_every}
+use Rattle.meter.specs.Numbers.{is_offset, number_of}
+use Rattle.meter.specs.Found.{field_in, fields_in, is_field, fits_in}
+use Rattle.meter.proofs.Answers.{one_more}
+use Rattle.meter.proofs.Held.{some, none}
+use Rattle.meter.proofs.Modes.{field_at, fields_length, unfit}
 use Rattle.meter.proofs.fields_in.Goals as goal
 
 pub loop-i-init : goal.loop-i-init
-loop-i-init c = (search rules, search rules, search rules, refl)
+loop-i-init c = (search rules, refl, refl, λ k h. absurd (not-suc-le-zero h))
 
 pub field_in-requires : goal.field_in-requires
-field_in-requires c = record { x_value = every_at finite c.args.numbers c.loop-i.i nan c.requires.0 (omega arith); mode_bound = c.requires.1 }
+field_in-requires c = record { x_value = every_at finite c.args.numbers c.loop-i.i nan c.requires.0 (search rules); mode_bound = c.requires.1 }
 
 pub loop-i-preserved : goal.loop-i-preserved
-loop-i-preserved c = let l = c.loop-i in
+loop-i-preserved c =
+    let l = c.loop-i in
     let a = c.args in
     let n = fields_length a.mode a.numbers in
-    let f = c.field_in.ensures ∙ sym (field_at a.mode a.numbers l.i (omega arith)) in
-    (search rules, search rules, refl, ap₂ (λ (out : List ℕ) (v : ℕ). set out l.i v) l.invariant.3 f ∙ copy_more _ _ l.i (omega arith) (omega (arith, n)))
+    let at = field_at a.mode a.numbers l.i (search rules) in
+    let v = c.in_ok-out.field-0 in
+    let f = some (is_field (field_in a.mode (is_offset l.i) (number_of a.numbers l.i))) (field_in a.mode (is_offset l.i) (number_of a.numbers l.i)) v
+    (sym c.field_in.ensures ∙ c.in_ok-out.was) in
+    let e : v ≡ get_or (fields_in a.mode a.numbers) l.i 0 = sym (at ∙ f.1) in (
+      l.invariant.0,
+      refl,
+      ap₂ (λ (out : List ℕ) (v : ℕ). set out l.i v) l.invariant.2 e ∙ copy_more _ _ l.i (search rules) (omega (arith, n, l.invariant.0, c.loop-i-test.true)),
+      one_more (λ k. is_field (get_or (fields_in a.mode a.numbers) k 0) ≡ true) l.i l.invariant.3 (ap is_field at ∙ f.0),
+    )
+
+pub returns-in_err-out : goal.returns-in_err-out
+returns-in_err-out c =
+    let l = c.loop-i in
+    let a = c.args in
+    let f = none (is_field (field_in a.mode (is_offset l.i) (number_of a.numbers l.i))) (field_in a.mode (is_offset l.i) (number_of a.numbers l.i)) (sym c.field_in.ensures ∙ c.in_err-out.was) in
+    rw (unfit a.mode a.numbers l.i (search rules) f) (search rules)
 
 pub returns : goal.returns
-returns c = let l = c.loop-i in
+returns c =
+    let l = c.loop-i in
     let a = c.args in
     let n = fields_length a.mode a.numbers in
-    l.invariant.3 ∙ copy_end _ _ l.i (omega (arith, n)) (omega arith) (inl (omega (arith, n))) ∙ over_whole _ _ (n ∙ l.invariant.1)
+    let whole = l.invariant.2 ∙ copy_end _ _ l.i (omega (arith, n)) (search rules) (inl (omega (arith, n))) ∙ over_whole _ _ (n ∙ l.invariant.0) in
+    let all : fits_in a.mode a.numbers ≡ true = at_every is_field (fields_in a.mode a.numbers) 0 (λ k h. l.invariant.3 k (omega (arith, n, h))) in
+    rw all (ap Some whole)

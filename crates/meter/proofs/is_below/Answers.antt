@@ -1,7 +1,7 @@
 -- `meter::is_below` meets its contract: the comparisons of floats are those of the fractions. Assumes nothing.
 use mathlib.Core.Path.{◌≡◌, refl, sym, ap, ◌∙◌, subst}
 use mathlib.Core.Bool.{Bool, true, false, ◌&&◌}
-use Prim.Native.Nat.{ℕ, ◌+◌, ◌*◌, ◌^◌, ◌<◌, ◌≤◌}
+use Prim.Native.Nat.{ℕ, ◌+◌, ◌*◌, ◌^◌, ◌<◌}
 use native.Mathlib.Nat.{mul-one, one-mul, mul-pos}
 use native.Mathlib.Omega.{arith}
 use lib.IntN.{pos}
@@ -35,18 +35,14 @@ between k (fin s m e) =
     ∙ ap (λ (a : ℕ). ltb a (1 * 2 ^ k * down e)) (mul-one (m * up e))
     ∙ ap (λ (n : ℕ). ltb (m * up e) n) b
 
-pub returns-then-mode-eq0 : goal.returns-then-mode-eq0
+pub returns-in-0 : goal.returns-in-0
 unfolding of_bits neg
-returns-then-mode-eq0 c = between 0 c.args.x ∙ ap (λ (k : ℕ). is_below c.args.x k) (sym c.if-mode-eq0.true)
+returns-in-0 c = between 0 c.args.x ∙ ap (λ (k : ℕ). is_below c.args.x k) (sym c.in-0.is)
 
-pub returns-then-mode-eq1 : goal.returns-then-mode-eq1
+pub returns-in-1 : goal.returns-in-1
 unfolding of_bits neg
-returns-then-mode-eq1 c = between 1 c.args.x ∙ ap (λ (k : ℕ). is_below c.args.x k) (sym c.if-mode-eq1.true)
+returns-in-1 c = between 1 c.args.x ∙ ap (λ (k : ℕ). is_below c.args.x k) (sym c.in-1.is)
 
-two : (k : ℕ) → k ≤ 2 → (k ≡ 0 → ⊥) → (k ≡ 1 → ⊥) → 2 ≡ k
-two k h a b = omega arith
-
-pub returns : goal.returns
+pub returns-in_default : goal.returns-in_default
 unfolding of_bits neg
-returns c = between 2 c.args.x ∙ ap (λ (k : ℕ). is_below c.args.x k)
-    (two c.args.mode c.requires c.if-mode-eq0.false c.if-mode-eq1.false)
+returns-in_default c = let e : 2 ≡ c.args.mode = omega arith in between 2 c.args.x ∙ ap (λ (k : ℕ). is_below c.args.x k) e

@@ -35,14 +35,14 @@ returns-then-unit-rest c = let a = c.args.digits in
     let s = c.args.shift in
     up a (2 ^ s) (test (λ x y. y < x) a s c.requires c.if-shift-gt25.false c.if-unit-rest.true)
 
-pub overflow_add-result-2 : goal.overflow_add-result-2
-overflow_add-result-2 c = record { fits = more (quotient c.args.digits c.args.shift c.requires) }
+pub overflow_add-result-else-unit-rest : goal.overflow_add-result-else-unit-rest
+overflow_add-result-else-unit-rest c = record { fits = more (quotient c.args.digits c.args.shift c.requires) }
   where
     more : {n : ℕ} → n < 16777216 → n + n % 2 < 18446744073709551616
     more {n} h = omega arith
 
-pub returns : goal.returns
-returns c = let a = c.args.digits in
+pub returns-else-unit-rest : goal.returns-else-unit-rest
+returns-else-unit-rest c = let a = c.args.digits in
     let s = c.args.shift in
     let h = c.requires in
     let k = c.if-shift-gt25.false in

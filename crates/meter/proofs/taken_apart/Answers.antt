@@ -43,10 +43,10 @@ returns-then-field-eq0 c = let x = c.args.x in
       normal = record { small = small (to_bits binary32 x); most = lit≤ tt; leading = inl refl };
     }
 
-pub returns : goal.returns
-returns c = let x = c.args.x in
+pub returns-else-field-eq0 : goal.returns-else-field-eq0
+returns-else-field-eq0 c = let x = c.args.x in
     let b = to_bits binary32 x in
     record {
-      has_value = normal x (held (goal.at.returns c).Start) c.requires (b % 2147483648 / 8388608 - 1) (next (b % 2147483648 / 8388608) c.if-field-eq0.false);
+      has_value = normal x (held (goal.at.returns-else-field-eq0 c).Start) c.requires (b % 2147483648 / 8388608 - 1) (next (b % 2147483648 / 8388608) c.if-field-eq0.false);
       normal = record { small = full b; most = under b; leading = inr (top b) };
     }

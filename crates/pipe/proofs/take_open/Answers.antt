@@ -1,35 +1,28 @@
 -- `pipe::take_open` meets its contract. Assumes nothing.
-use mathlib.Core.Path.{◌≡◌, sym, ap, ◌∙◌}
+use mathlib.Core.Path.{refl, ap, ◌∙◌}
 use mathlib.Core.List.{List}
 use Prim.Native.Nat.{ℕ}
 use native.Mathlib.Omega.{arith}
 use lib.ListN.{length, set}
-use lib.Seq.{length-take-le}
-use borrow.Author.Rules.{rules}
-use Rattle.clock.specs.declared.Pair.{Pair}
+use Rattle.std.proofs.lemmas.List.{length-take}
 use Rattle.request.specs.Sections.{longest}
-use Rattle.pipe.proofs.Joined.{of_length, open_is}
-use Rattle.pipe.proofs.Answers.{judged_early, judged_on}
+use Rattle.refusals.proofs.Told.{refusal_some}
+use Rattle.pipe.proofs.Answers.{by_pair, judged_early, judged_on}
 use Rattle.pipe.proofs.take_open.Goals as goal
 
-pub slice_bounds-ncts-end : goal.slice_bounds-ncts-end
-slice_bounds-ncts-end c = sym (length-take-le _ _ c.join-n.ensures.upper_bound)
+pub returns-in-Some-clause-takes : goal.returns-in-Some-clause-takes
+returns-in-Some-clause-takes c =
+    rw c.into-number.ensures
+    (judged_early c.args.pipe.now c.args.part.now _ _ c.requires c.join-joined.ensures (by_pair _ _ c.ncts.ensures) _ c.in-Some.ensures (refusal_some _))
 
-pub bounds-pipe-52 : goal.bounds-pipe-52
-bounds-pipe-52 c = omega (arith, of_length c.args.pipe.now (open_is c.args.pipe.now c.requires).0)
+pub returns-in-Some-clause-number : goal.returns-in-Some-clause-number
+returns-in-Some-clause-number c = rw c.into-number.ensures (refusal_some _)
 
-pub returns-then-number : goal.returns-then-number
-returns-then-number c = judged_early c.args.pipe.now c.args.part.now _ c.ncts-pair.result.refusal c.requires c.join-n.ensures.input_after (ap (λ (p : Pair). p.refusal) c.ncts-pair.ensures) c.if-number.true
+pub overflow_cast-pipe : goal.overflow_cast-pipe
+overflow_cast-pipe c = omega (arith, simp length-take at (ap length c.join-joined.ensures))
 
-pub slice_bounds-copy-end : goal.slice_bounds-copy-end
-slice_bounds-copy-end c = sym (length-take-le _ _ c.join-n.ensures.upper_bound)
-
-pub bounds-pipe-51 : goal.bounds-pipe-51
-bounds-pipe-51 c = let p = c.args.pipe.now in
-    let l : length c.copy.new.out ≡ length p = search rules in
-    omega (arith, l, of_length p (open_is p c.requires).0)
-
-pub returns : goal.returns
-returns c = let p = c.args.pipe.now in
-    let m = judged_on p c.args.part.now _ c.ncts-pair.result.refusal c.requires c.join-n.ensures.input_after (ap (λ (q : Pair). q.refusal) c.ncts-pair.ensures) c.join-n.result (sym (length-take-le _ _ c.join-n.ensures.upper_bound)) c.if-number.false in
-    (m.0, ap (λ (l : List ℕ). set l longest c.join-n.result) c.copy.ensures ∙ m.1)
+pub returns-clause-takes : goal.returns-clause-takes
+returns-clause-takes c =
+    let p = c.args.pipe.now in
+    let m = judged_on p c.args.part.now _ _ c.requires c.join-joined.ensures (by_pair _ _ c.ncts.ensures) (length c.join-joined.result.now) refl c.in_default.ensures in
+    (m.0, ap (λ (l : List ℕ). set l longest (length c.join-joined.result.now)) c.copy.ensures ∙ m.1)

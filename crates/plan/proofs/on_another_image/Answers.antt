@@ -9,7 +9,7 @@ use Rattle.refusals.specs.Rows.{image_length, holds_up, Condition, ◌when◌}
 use Rattle.refusals.proofs.Tests.{without}
 use Rattle.request.specs.Sections.{walked}
 use Rattle.request.specs.Request.{request_of, read_rules, pair_rows}
-use Rattle.plan.specs.declared.Planned.{Planned}
+use Rattle.plan.specs.Numbered.{Planned}
 use Rattle.plan.specs.Plan.{plan_of}
 use Rattle.plan.specs.Rules.{HoldsUp, buffer_rows}
 use Rattle.plan.proofs.Fine.{fine, accepts}

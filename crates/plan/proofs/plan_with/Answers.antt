@@ -1,42 +1,68 @@
 -- `plan::plan_with` meets its contract, return by return. Assumes nothing.
--- what is known past each test
-use mathlib.Core.Path.{◌≡◌, sym, ap, ◌∙◌}
-use mathlib.Core.Bool.{true}
+use mathlib.Core.Path.{◌≡◌, refl, sym, ap, subst, ◌∙◌}
+use mathlib.Core.Logic.{◌≢◌}
+use mathlib.Core.List.{List}
+use Prim.Native.Nat.{ℕ}
 use native.Mathlib.Omega.{arith}
-use borrow.Author.Tests.{not-true, not-false}
-use Rattle.clock.specs.declared.Pair.{Pair}
+use lib.ListN.{length, get_or}
+use borrow.Author.Rules.{rules}
+use Rattle.std.proofs.lemmas.Grind.{common_steps}
+use Rattle.std.proofs.lemmas.Result.{err_from_is_err_and}
+use Rattle.refusals.specs.Numbered.{refusal_number}
+use Rattle.clock.specs.Numbered.{Pair}
 use Rattle.request.specs.Read.{pair_for}
-use Rattle.writes.specs.List.{ready}
+use Rattle.refusals.proofs.Told.{refusal_some}
+use Rattle.writes.specs.List.{ready, Lists}
+use Rattle.plan.specs.Numbered.{planned_told}
+use Rattle.plan.specs.Plan.{nothing}
+use Rattle.plan.proofs.Allowed.{in_range}
+use Rattle.plan.proofs.Numbers.{pair_nine}
 use Rattle.plan.proofs.Answer.{seven, eight, nine, ten, accepts, refuses}
 use Rattle.plan.proofs.plan_with.Goals as goal
-use Rattle.plan.proofs.plan_with.Goals.{After-pair_for-pair, Else-not-is_ready}
+use Rattle.plan.proofs.plan_with.Goals.{After-is_ready}
 
-readied : (c : Else-not-is_ready) → ready c.args.image.now ≡ true
-readied c = sym c.is_ready.ensures ∙ not-false _ c.if-not-is_ready.false-raw
+-- past the first test the image has its length, and past the second it is ready
+module _ (c : After-is_ready) where
+  sized : length c.args.image.now ≡ 256
+  sized = search rules
 
-paired : (c : After-pair_for-pair) → c.pair_for-pair.result.refusal ≡ (pair_for c.args.r).refusal
-paired c = ap (λ (x : Pair). x.refusal) c.pair_for-pair.ensures
+  same : c.in_ok-image.image.now ≡ c.args.image.now
+  same = search rules
 
-pub returns-then-image-ne256 : goal.returns-then-image-ne256
-returns-then-image-ne256 c = let a = c.args in
-    refuses a.r a.image.now a.writes.now 7 c.refused.ensures (seven a.r a.image.now a.writes.now c.if-image-ne256.true) (omega arith)
+  tested : c.is_ready.result ≡ ready c.args.image.now
+  tested = rw same at c.is_ready.ensures
+
+pub returns-in_err-image : goal.returns-in_err-image
+returns-in_err-image c = let a = c.args in
+    let n : length a.image.now ≢ 256 = grind (arith, common_steps) in
+    let r : planned_told c.from_residual.result ≡ nothing 7 = grind (arith, common_steps) in
+    refuses a.accepted.request a.image.now a.writes.now 7 r (seven a.accepted.request a.image.now a.writes.now n) (omega arith)
 
 pub returns-then-not-is_ready : goal.returns-then-not-is_ready
 returns-then-not-is_ready c = let a = c.args in
-    refuses a.r a.image.now a.writes.now 8 c.refused-then-not-is_ready.ensures
-    (eight a.r a.image.now a.writes.now c.if-image-ne256.false (sym c.is_ready.ensures ∙ not-true _ c.if-not-is_ready.true-raw)) (omega arith)
+    let t = (goal.at.returns-then-not-is_ready c).After-is_ready in
+    refuses a.accepted.request a.image.now a.writes.now 8 refl (eight a.accepted.request a.image.now a.writes.now (sized t) (sym (tested t) ∙ c.if-not-is_ready.true)) (omega arith)
 
-pub returns-then-pair-ne-NONE : goal.returns-then-pair-ne-NONE
-returns-then-pair-ne-NONE c = let a = c.args in
-    refuses a.r a.image.now a.writes.now 9 c.refused-then-pair-ne-NONE.ensures
-    (nine a.r a.image.now a.writes.now c.if-image-ne256.false (readied (goal.at.returns-then-pair-ne-NONE c).Else-not-is_ready) (λ z. c.if-pair-ne-NONE.true (paired (goal.at.returns-then-pair-ne-NONE c).After-pair_for-pair ∙ z))) (omega arith)
+pub returns-in_err-pair : goal.returns-in_err-pair
+returns-in_err-pair c = let a = c.args in
+    let t = (goal.at.returns-in_err-pair c).After-is_ready in
+    let p = err_from_is_err_and c.from_residual-in_err-pair.result c.from_residual-in_err-pair.ensures.1 in
+    let n : refusal_number c.in_err-pair.field-0.0 ≡ (pair_for a.accepted.request).refusal = ap (λ (p : Pair). p.refusal) c.in_err-pair.ensures in
+    let some : (pair_for a.accepted.request).refusal ≢ 0 = λ z. refusal_some c.in_err-pair.field-0.0 (n ∙ z) in
+    let r : planned_told c.from_residual-in_err-pair.result ≡ nothing 9 = rw (p.1, p.2, n, pair_nine a.accepted.request (in_range a.accepted (search rules)) some) in
+    refuses a.accepted.request a.image.now a.writes.now 9 r (nine a.accepted.request a.image.now a.writes.now (sized t) (sym (tested t) ∙ c.if-not-is_ready.false) some) (omega arith)
 
 pub returns-then-writes-lt256 : goal.returns-then-writes-lt256
 returns-then-writes-lt256 c = let a = c.args in
-    refuses a.r a.image.now a.writes.now 10 c.refused-then-writes-lt256.ensures
-    (ten a.r a.image.now a.writes.now c.if-image-ne256.false (readied (goal.at.returns-then-writes-lt256 c).Else-not-is_ready) (sym (paired (goal.at.returns-then-writes-lt256 c).After-pair_for-pair) ∙ c.if-pair-ne-NONE.false) c.if-writes-lt256.true) (omega arith)
+    let t = (goal.at.returns-then-writes-lt256 c).After-is_ready in
+    let paired : (pair_for a.accepted.request).refusal ≡ 0 = sym (ap (λ (p : Pair). p.refusal) c.in_ok-pair.ensures) in
+    refuses a.accepted.request a.image.now a.writes.now 10 refl
+    (ten a.accepted.request a.image.now a.writes.now (sized t) (sym (tested t) ∙ c.if-not-is_ready.false) paired c.if-writes-lt256.true) (omega arith)
 
 pub returns : goal.returns
 returns c = let a = c.args in
-    accepts a.r a.image.now a.writes.now c.if-image-ne256.false (readied (goal.at.returns c).Else-not-is_ready) (sym (paired (goal.at.returns c).After-pair_for-pair) ∙ c.if-pair-ne-NONE.false) c.if-writes-lt256.false c.wanted_image.new.out
-    c.wanted_image.ensures c.write_list-count.ensures
+    let t = (goal.at.returns c).After-is_ready in
+    let paired : (pair_for a.accepted.request).refusal ≡ 0 = sym (ap (λ (p : Pair). p.refusal) c.in_ok-pair.ensures) in
+    let bytes : List ℕ = c.of-wanted.result.bytes in
+    accepts a.accepted.request a.image.now a.writes.now (sized t) (sym (tested t) ∙ c.if-not-is_ready.false) paired c.if-writes-lt256.false bytes c.of-wanted.ensures
+    (subst (λ (i : List ℕ). Lists (λ b. get_or bytes b 0) i a.writes.now c.write_list.result c.write_list.new.writes) (same t) c.write_list.ensures)

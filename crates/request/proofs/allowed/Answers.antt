@@ -1,19 +1,16 @@
 -- `request::allowed` meets its contract: rows 4 to 6, and then the limits. Assumes nothing.
--- rows 4 to 6
-use mathlib.Core.Path.{◌≡◌}
-use borrow.Author.Tests.{eq-eqb, ne_eqb}
-use Rattle.refusals.specs.Tests.{lowest}
-use Rattle.request.specs.Read.{hand_tests, allowed_of}
+use mathlib.Core.Path.{◌∙◌}
+use Rattle.std.proofs.lemmas.Result.{err_from_is_err_and}
+use Rattle.request.specs.Read.{allowed_of}
+use Rattle.refusals.proofs.Told.{by_refusal, by_none}
 use Rattle.request.proofs.allowed.Goals as goal
-use Rattle.request.proofs.allowed.Goals.{After-fields-number}
 
-found : (c : After-fields-number) → c.fields-number.result ≡ lowest (hand_tests c.args.r)
-found c = rw c.in_range.ensures at c.fields-number.ensures
-
-pub returns-then-number-ne-NONE : goal.returns-then-number-ne-NONE
+pub returns-in_err-check : goal.returns-in_err-check
 unfolding allowed_of
-returns-then-number-ne-NONE c = simp (← found (goal.at.returns-then-number-ne-NONE c).After-fields-number, ne_eqb _ _ c.if-number-ne-NONE.true)
+returns-in_err-check c =
+    let p = err_from_is_err_and c.from_residual.result c.from_residual.ensures.1 in
+    rw (p.1, p.2, ← c.in_range.ensures) (by_refusal (λ n. n) _ _ _ c.in_err-check.ensures)
 
 pub returns : goal.returns
 unfolding allowed_of
-returns c = simp (← found (goal.at.returns c).After-fields-number, eq-eqb _ _ c.if-number-ne-NONE.false, c.limits.ensures)
+returns c = rw (← c.in_range.ensures) (c.limits.ensures ∙ by_none (λ n. n) _ _ c.in_ok-check.ensures)

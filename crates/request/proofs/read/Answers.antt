@@ -1,12 +1,27 @@
 -- `request::read` meets its contract: rows 1 to 6, and then the limits. Assumes nothing.
-use borrow.Author.Tests.{eq-eqb, ne_eqb}
-use Rattle.request.specs.Read.{read_of}
+use mathlib.Core.Path.{ap, ◌∙◌}
+use Rattle.std.proofs.lemmas.Result.{err_from_is_err_and}
+use Rattle.request.specs.Read.{read_of, limited}
+use Rattle.request.proofs.Numbers.{refused_stays, limit_read, limit_number_err}
 use Rattle.request.proofs.read.Goals as goal
 
-pub returns-then-asked-ne-NONE : goal.returns-then-asked-ne-NONE
+pub returns-in_err-request-clause-reads : goal.returns-in_err-request-clause-reads
 unfolding read_of
-returns-then-asked-ne-NONE c = simp (← c.ask-asked.ensures, ne_eqb _ _ c.if-asked-ne-NONE.true)
+returns-in_err-request-clause-reads c =
+    let p = err_from_is_err_and c.from_residual.result c.from_residual.ensures.1 in
+    rw (p.1, p.2) (refused_stays _ ∙ ap limited c.in_err-request.ensures)
 
-pub returns : goal.returns
+pub returns-in_err-request-clause-unknown : goal.returns-in_err-request-clause-unknown
+returns-in_err-request-clause-unknown c =
+    let p = err_from_is_err_and c.from_residual.result c.from_residual.ensures.1 in
+    rw (p.1, p.2) c.in_err-request.ensures
+
+pub returns-clause-reads : goal.returns-clause-reads
 unfolding read_of
-returns c = simp (← c.ask-asked.ensures, eq-eqb _ _ c.if-asked-ne-NONE.false, c.limits.ensures)
+returns-clause-reads c = rw (c.err-limit.ensures.value) (limit_read _ _ c.limits.ensures ∙ ap limited c.in_ok-request.ensures)
+
+pub returns-clause-known : goal.returns-clause-known
+returns-clause-known c = c.in_ok-request.ensures
+
+pub returns-clause-limit : goal.returns-clause-limit
+returns-clause-limit c = rw (c.err-limit.ensures.value) (limit_number_err _ _ c.limits.ensures)

@@ -1,15 +1,9 @@
 -- `vendor::ending` meets its contract. The loop's invariant: the rest of what is taken, from the state as it is then. Assumes nothing.
 use mathlib.Core.Path.{◌≡◌}
-use Prim.Native.Nat.{◌-◌, ◌≤◌}
 use lib.ListN.{length}
-use Rattle.chip.specs.Write.{lent_as}
-use Rattle.writes.specs.List.{pairs_of}
+use Rattle.vendor.specs.Numbered.{writes_in}
 use Rattle.vendor.proofs.Loops.{Ends}
 use Rattle.vendor.proofs.ending.Given as goal
 
 abbrev pub invariant-loop-i : goal.invariant-loop-i
-invariant-loop-i l = (l.i ≤ l.count) × (length l.image ≡ 256)
-    × Ends (pairs_of l.list) (lent_as l.initial.image l.initial.packet l.initial.coefficients l.initial.waiting) l.i (lent_as l.image l.packet l.coefficients l.waiting)
-
-abbrev pub decreases-loop-i : goal.decreases-loop-i
-decreases-loop-i l = l.count - l.i
+invariant-loop-i l = record { whole : length l.state.image ≡ 256; left : Ends (writes_in l.list) l.fn.start l.i l.state }

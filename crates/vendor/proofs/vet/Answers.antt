@@ -1,80 +1,86 @@
 -- `vendor::vet` meets its contract. Assumes nothing.
--- the slices as they are lent
-use mathlib.Core.Path.{◌≡◌, sym, ap, ◌∙◌}
-use mathlib.Core.Bool.{Bool, true, false, not, ◌||◌}
-use Prim.Native.Nat.{◌/◌, ◌%◌}
-use lib.Dec.{eqb, ltb, lit<}
+use mathlib.Core.Path.{◌≡◌, refl, sym, ap, ◌∙◌}
+use mathlib.Core.Bool.{false, not, ◌||◌}
+use Prim.Native.Nat.{◌/◌}
+use lib.Dec.{eqb, ltb}
 use lib.ListN.{length}
-use borrow.Author.Tests.{not-false}
+use borrow.Author.Tests.{not-false, ltb-false}
+use Rattle.lists.proofs.Both.{neither_right}
 use Rattle.chip.specs.declared.Chip.{Chip}
 use Rattle.chip.specs.Write.{lent_as}
 use Rattle.chip.specs.Machine.{packets, holds_of}
-use Rattle.views.specs.Entry.{marked}
-use Rattle.views.specs.Refusals.{Sized}
+use Rattle.views.specs.Entry.{marked, is_sized}
 use Rattle.views.proofs.Lent.{sized, gathered_whole}
 use Rattle.writes.specs.List.{pairs_of, ready}
 use Rattle.writes.proofs.Pairs.{length_pairs}
 use Rattle.cut.proofs.NoneRefused.{neat_two}
+use Rattle.vendor.specs.Vendor.{shortened}
+use Rattle.vendor.specs.Numbered.{writes_in}
 use Rattle.vendor.specs.Found.{wrong_length, vet_of}
 use Rattle.vendor.proofs.Faults.{taken_by_lem}
-use Rattle.vendor.proofs.Verdicts.{wrong_size, holds_up_lem, wrong_length_lem}
+use Rattle.vendor.proofs.Loops.{pairs_code}
+use Rattle.vendor.proofs.Verdicts.{wrong_size, holds_up_lem, wrong_length_lem, sizes, odd}
 use Rattle.vendor.proofs.vet.Goals as goal
-use Rattle.vendor.proofs.vet.Goals.{After-gathered-start, Else-not-image-packet, Else-not-is_ready, Start}
+use Rattle.vendor.proofs.vet.Goals.{Start, Else-image-packet, Else-not-is_ready, After-as_chunks, After-gathered-start}
 
 abbrev at : (c : Start) → Chip
-at z = lent_as z.args.image.now z.args.packet.now z.args.coefficients.now (marked z.args.mark)
+at c = let a = c.args in lent_as a.image.now a.packet.now a.coefficients.now (marked a.mark)
 
-abbrev at-in-Else-not-image-packet : (c : Else-not-image-packet) → Chip
-at-in-Else-not-image-packet z = lent_as z.args.image.now z.args.packet.now z.args.coefficients.now (marked z.args.mark)
+-- the tests of the lengths and of the holds
+right_size : (c : Else-image-packet) → let a = c.args in not (is_sized (lent_as a.image.now a.packet.now a.coefficients.now (marked a.mark))) ≡ false
+right_size c = sym (sizes _ _ _) ∙ c.if-image-packet.false
 
--- their lengths
-fine : (c : Else-not-image-packet) → Sized (at-in-Else-not-image-packet c)
-fine c = sized (at-in-Else-not-image-packet c) c.if-not-image-packet.false-raw
+is_fit : (c : Else-not-is_ready) → not (ready c.args.image.now) ≡ false
+is_fit c = ap not (sym c.is_ready.ensures ∙ c.if-not-is_ready.false)
 
--- the holds
-is-fit : (c : Else-not-is_ready) → not (ready c.args.image.now) ≡ false
-is-fit c = ap not (sym c.is_ready.ensures) ∙ c.if-not-is_ready.false-raw
+-- the list's length, and its pairs
+module _ (c : After-as_chunks) where
+  measured : wrong_length c.args.list.now ≡ (not (eqb (length c.as_chunks.result.1.now) 0) || ltb 512 (length c.as_chunks.result.0.now))
+  measured = let e = c.as_chunks.ensures in rw (length_pairs c.args.list.now, e.back_len, e.front_len, odd (length c.args.list.now))
 
--- the list's length, by its pairs
-by-pairs : (c : Else-not-is_ready) (b : Bool) → let list = c.args.list.now in (eqb (length list % 2) 1 || ltb 512 (length list / 2)) ≡ b → wrong_length list ≡ b
-by-pairs c b e = rw (length_pairs c.args.list.now) e
-
-abbrev at-in-After-gathered-start : (c : After-gathered-start) → Chip
-at-in-After-gathered-start z = lent_as z.args.image.now z.args.packet.now z.args.coefficients.now (marked z.args.mark)
-
-fine-in-After-gathered-start : (c : After-gathered-start) → Sized (at-in-After-gathered-start c)
-fine-in-After-gathered-start c = sized (at-in-After-gathered-start c) c.if-not-image-packet.false-raw
+  chunked : writes_in c.as_chunks.result.0.now ≡ pairs_of c.args.list.now
+  chunked = ap writes_in c.as_chunks.ensures.front ∙ pairs_code (length c.args.list.now / 2) c.args.list.now refl
 
 -- the state
-begun : (c : After-gathered-start) → c.gathered-start.result ≡ at-in-After-gathered-start c
-begun c = gathered_whole (at-in-After-gathered-start c) c.gathered-start.result (fine-in-After-gathered-start c) c.gathered-start.ensures
+begun : (c : After-gathered-start) → let a = c.args in c.gathered-start.result ≡ lent_as a.image.now a.packet.now a.coefficients.now (marked a.mark)
+begun c = gathered_whole _ c.gathered-start.result (sized _ (sym (sizes _ _ _) ∙ c.if-image-packet.false)) c.gathered-start.ensures
 
-pub returns-then-not-image-packet : goal.returns-then-not-image-packet
-returns-then-not-image-packet c = c.refused.ensures ∙ wrong_size (at (goal.at.returns-then-not-image-packet c).Start) c.args.list.now c.if-not-image-packet.true-raw
-
-pub bounds-image : goal.bounds-image
-bounds-image c = rw (fine (goal.at.bounds-image c).Else-not-image-packet).image (lit< tt)
+pub returns-then-image-packet : goal.returns-then-image-packet
+returns-then-image-packet c = let s = at (goal.at.returns-then-image-packet c).Start in
+    rw c.into.ensures (wrong_size s c.args.list.now (sym (sizes _ _ _) ∙ c.if-image-packet.true))
 
 pub returns-then-not-is_ready : goal.returns-then-not-is_ready
-returns-then-not-is_ready c = c.refused-then-not-is_ready.ensures
-    ∙ holds_up_lem (at (goal.at.returns-then-not-is_ready c).Start) c.args.list.now c.if-not-image-packet.false-raw (ap not (sym c.is_ready.ensures) ∙ c.if-not-is_ready.true-raw)
+returns-then-not-is_ready c = let s = at (goal.at.returns-then-not-is_ready c).Start in
+    rw c.into-then-not-is_ready.ensures (holds_up_lem s c.args.list.now (right_size (goal.at.returns-then-not-is_ready c).Else-image-packet)
+    (ap not (sym c.is_ready.ensures ∙ c.if-not-is_ready.true)))
 
-pub returns-then-list : goal.returns-then-list
-returns-then-list c = c.refused-then-list.ensures
-    ∙ wrong_length_lem (at (goal.at.returns-then-list c).Start) c.args.list.now c.if-not-image-packet.false-raw (is-fit (goal.at.returns-then-list c).Else-not-is_ready) (by-pairs (goal.at.returns-then-list c).Else-not-is_ready true c.if-list.true)
-
-pub taken-count-requires : goal.taken-count-requires
-taken-count-requires c = tt
+pub returns-then-rest-pairs : goal.returns-then-rest-pairs
+returns-then-rest-pairs c = let s = at (goal.at.returns-then-rest-pairs c).Start in
+    rw c.into-then-rest-pairs.ensures (wrong_length_lem s c.args.list.now (right_size (goal.at.returns-then-rest-pairs c).Else-image-packet)
+    (is_fit (goal.at.returns-then-rest-pairs c).Else-not-is_ready) (measured (goal.at.returns-then-rest-pairs c).After-as_chunks ∙ c.if-rest-pairs.true))
 
 pub verdict_on-requires : goal.verdict_on-requires
-verdict_on-requires c = let list = c.args.list.now in
-    rw (begun (goal.at.verdict_on-requires c).After-gathered-start) (
-      record { sized = c.if-not-image-packet.false-raw; fit = is-fit (goal.at.verdict_on-requires c).Else-not-is_ready; whole = by-pairs (goal.at.verdict_on-requires c).Else-not-is_ready false c.if-list.false },
-      c.taken-count.ensures ∙ taken_by_lem (pairs_of list) (at (goal.at.verdict_on-requires c).Start) (record {
-        whole = (fine (goal.at.verdict_on-requires c).Else-not-image-packet).image;
-        single = neat_two (holds_of packets c.args.image.now) (not-false _ (is-fit (goal.at.verdict_on-requires c).Else-not-is_ready));
-      }),
+verdict_on-requires c =
+    let s = at (goal.at.verdict_on-requires c).Start in
+    let ws = writes_in c.as_chunks.result.0.now in
+    let z = sized s (right_size (goal.at.verdict_on-requires c).Else-image-packet) in (
+      ltb-false 512 _ (neither_right (not (eqb (length c.as_chunks.result.1.now) 0)) _ c.if-rest-pairs.false),
+      c.taken.ensures
+          ∙ taken_by_lem ws s (record {
+            whole = z.image;
+            single = neat_two (holds_of packets c.args.image.now) (not-false _ (is_fit (goal.at.verdict_on-requires c).Else-not-is_ready));
+          })
+          ∙ ap (λ (t : Chip). length (shortened ws t)) (sym (begun (goal.at.verdict_on-requires c).After-gathered-start)),
     )
 
 pub returns : goal.returns
-returns c = c.verdict_on.ensures ∙ ap (λ (s : Chip). vet_of s c.args.list.now) (begun (goal.at.returns c).After-gathered-start)
+returns c =
+    let list = c.args.list.now in
+    let b = begun (goal.at.returns c).After-gathered-start in
+    let k = (goal.at.returns c).After-as_chunks in
+    c.verdict_on.ensures list (sym (chunked k)) (rw b (record {
+      sized = right_size (goal.at.returns c).Else-image-packet;
+      fit = is_fit (goal.at.returns c).Else-not-is_ready;
+      whole = measured k ∙ c.if-rest-pairs.false;
+    }))
+    ∙ ap (λ (s : Chip). vet_of s list) b

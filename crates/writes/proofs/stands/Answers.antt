@@ -4,22 +4,27 @@ use mathlib.Core.List.{List}
 use Prim.Native.Nat.{ℕ}
 use native.Mathlib.Omega.{arith}
 use lib.ListN.{length, get_or, set, length-set}
-use borrow.Author.Tests.{eq-eqb, ne_eqb}
+use borrow.Author.Tests.{eq-eqb}
 use borrow.Author.Rules.{rules}
 use Rattle.map.specs.Map as reg
+use Rattle.lists.specs.Same.{same_list}
+use Rattle.writes.specs.List.{stands_whole}
 use Rattle.writes.proofs.Columns.{opened_finished}
 use Rattle.writes.proofs.Image.{stands_same}
 use Rattle.writes.proofs.stands.Goals as goal
 
-pub returns-then-image-ne256 : goal.returns-then-image-ne256
-returns-then-image-ne256 c = simp (ne_eqb _ _ c.if-image-ne256.true)
-
 pub returns : goal.returns
-returns c = let a = c.args in
+returns c =
+    let image : List ℕ = c.in-Ok.image.now in
     let bytes : List ℕ = c.closed-bytes.result in
-    let want : ℕ → ℕ = λ b. get_or a.wanted.now b 0 in
+    let want : ℕ → ℕ = λ b. get_or c.args.wanted.now b 0 in
+    let whole = c.in-Ok.ensures.1 in
+    let sized : length image ≡ 256 = rw whole.same whole.long in
     let long : length bytes ≡ 256 = search rules in
-    c.same.ensures ∙ simp (eq-eqb _ _ c.if-image-ne256.false)
-    (stands_same want a.image.now (set bytes reg.av_mute c.raise.result) (length-set bytes reg.av_mute c.raise.result ∙ long)
-    (opened_finished want a.image.now bytes c.raise.result long c.closed-bytes.ensures c.raise.ensures
-    (λ j h. omega (arith, c.type_inv.image j))) c.if-image-ne256.false)
+    let opened = opened_finished want image bytes c.raise.result long c.closed-bytes.ensures c.raise.ensures
+    (λ j h. rw whole.same (omega (arith, c.type_inv.image j))) in
+    let t : same_list (set bytes reg.av_mute c.raise.result) image ≡ stands_whole want image
+    = simp (eq-eqb _ _ sized) (stands_same want image (set bytes reg.av_mute c.raise.result)
+    (length-set bytes reg.av_mute c.raise.result ∙ long) opened sized) in
+    let u : c.same.result ≡ stands_whole want image = c.same.ensures ∙ t in
+    rw whole.same at u

@@ -1,87 +1,25 @@
 -- `writes::write_list` meets its contract: a part after the other, they are the write list. Assumes nothing.
-use mathlib.Core.Path.{refl, ap}
-use native.Mathlib.Omega.{arith}
+use mathlib.Core.Path.{◌≡◌, refl, sym, subst, ◌∙◌}
+use mathlib.Core.List.{List}
+use Prim.Native.Nat.{ℕ}
 use lib.ListN.{length, get_or}
-use borrow.Author.Tests.{eq-eqb, ne_eqb, lt-ltb, le-ltb}
+use borrow.Author.Tests.{eq-eqb, le-ltb}
 use borrow.Author.Rules.{rules}
-use Rattle.writes.proofs.Parts.{list_stored}
+use Rattle.writes.specs.List.{Lists}
+use Rattle.writes.proofs.Written.{writes_then, writes_list}
 use Rattle.writes.proofs.write_list.Goals as goal
 
-pub returns-then-image-ne256 : goal.returns-then-image-ne256
-returns-then-image-ne256 c = simp (ne_eqb _ _ c.if-image-ne256.true) (refl, refl)
-
-pub returns-then-writes-lt256 : goal.returns-then-writes-lt256
-returns-then-writes-lt256 c = simp (eq-eqb _ _ c.if-image-ne256.false, lt-ltb _ _ c.if-writes-lt256.true) (refl, refl)
-
-pub each-after_named-requires : goal.each-after_named-requires
-each-after_named-requires c = let n = ap length c.table14-fixed.ensures in
-    let m = ap length c.others-named.ensures in record {
-      image_len = c.if-image-ne256.false;
-      registers_in_bounds = omega (
-        arith,
-        n,
-        m,
-        c.if-writes-lt256.false,
-        c.put-muted.ensures.0,
-        c.each-after_fixed.ensures.upper_bound,
-        c.coefficients-after_matrix.ensures.upper_bound,
-        c.packets-after_packets.ensures.upper_bound,
-        c.put-muted.auto.writes,
-        c.each-after_fixed.auto.writes,
-        c.coefficients-after_matrix.auto.writes,
-        c.packets-after_packets.auto.writes,
-      );
-    }
-
-pub put-count-requires : goal.put-count-requires
-put-count-requires c = let n = ap length c.table14-fixed.ensures in
-    let m = ap length c.others-named.ensures in
-    omega (
-      arith,
-      n,
-      m,
-      c.if-writes-lt256.false,
-      c.put-muted.ensures.0,
-      c.each-after_fixed.ensures.upper_bound,
-      c.coefficients-after_matrix.ensures.upper_bound,
-      c.packets-after_packets.ensures.upper_bound,
-      c.each-after_named.ensures.upper_bound,
-      c.put-muted.auto.writes,
-      c.each-after_fixed.auto.writes,
-      c.coefficients-after_matrix.auto.writes,
-      c.packets-after_packets.auto.writes,
-      c.each-after_named.auto.writes,
-    )
-
-pub overflow_cast-result : goal.overflow_cast-result
-overflow_cast-result c = let n = ap length c.table14-fixed.ensures in
-    let m = ap length c.others-named.ensures in
-    omega (
-      arith,
-      n,
-      m,
-      c.put-muted.ensures.0,
-      c.each-after_fixed.ensures.upper_bound,
-      c.coefficients-after_matrix.ensures.upper_bound,
-      c.packets-after_packets.ensures.upper_bound,
-      c.each-after_named.ensures.upper_bound,
-      c.put-count.ensures.0,
-    )
-
-pub shape_of-writes : goal.shape_of-writes
-shape_of-writes c = omega (
-  arith,
-  c.put-muted.auto.writes,
-  c.each-after_fixed.auto.writes,
-  c.coefficients-after_matrix.auto.writes,
-  c.packets-after_packets.auto.writes,
-  c.each-after_named.auto.writes,
-  c.put-count.auto.writes,
-)
-
 pub returns : goal.returns
-returns c = let a = c.args in
-    simp (eq-eqb _ _ c.if-image-ne256.false, le-ltb _ _ c.if-writes-lt256.false)
-    (list_stored (λ b. get_or a.wanted.now b 0) a.image.now c.closed-bytes.result c.closed-bytes.ensures a.writes.now c.table14-fixed.result c.others-named.result
-    (search rules) c.table14-fixed.ensures c.others-named.ensures c.put-muted.ensures c.each-after_fixed.ensures.puts c.coefficients-after_matrix.ensures.puts
-    c.packets-after_packets.ensures.puts c.each-after_named.ensures.puts c.put-count.ensures)
+returns c =
+    let image : List ℕ = c.in-Ok.image.now in
+    let want : ℕ → ℕ = λ b. get_or c.args.wanted.now b 0 in
+    let whole = c.in-Ok.ensures.1 in
+    let sized : length image ≡ 256 = rw whole.same whole.long in
+    let w = writes_then _ _ (writes_then _ _ (writes_then _ _ (writes_then _ _ (writes_then _ _ c.put.ensures c.each.ensures.puts)
+    c.coefficients.ensures.puts) c.packets.ensures.puts) c.each-2.ensures.puts) c.put-2.ensures in
+    let t : Lists want image c.args.writes.now c.put-2.new.self.at c.put-2.new.self.writes.now
+    = simp (eq-eqb _ _ sized, le-ltb _ _ c.if-writes-lt256.false) (writes_list want c.closed-bytes.ensures refl c.if-writes-lt256.false w) in
+    let u : Lists want c.args.image.now c.args.writes.now c.put-2.new.self.at c.put-2.new.self.writes.now
+    = subst (λ (i : List ℕ). Lists want i c.args.writes.now c.put-2.new.self.at c.put-2.new.self.writes.now) whole.same t in
+    let same = sym w.same_buffer in
+    (u.0, search rules ∙ u.1)

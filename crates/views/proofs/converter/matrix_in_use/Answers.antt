@@ -1,60 +1,62 @@
 -- `views::converter::matrix_in_use` meets its contract, return by return. Assumes nothing.
--- past the first test both slices have their lengths
-use mathlib.Core.Path.{◌≡◌, sym, ap, ◌∙◌}
-use mathlib.Core.Bool.{Bool, true, false, not, ◌||◌}
+use mathlib.Core.Path.{◌≡◌, ap, ◌∙◌}
+use mathlib.Core.Logic.{◌≢◌}
+use mathlib.Core.List.{List}
+use Prim.Native.Nat.{ℕ}
 use native.Mathlib.Omega.{arith}
-use lib.ListN.{length, get_or}
-use Rattle.chip.specs.Machine.{matrix, up}
-use Rattle.views.specs.Entry.{marked}
-use Rattle.views.proofs.Seen.{both_long}
-use Rattle.views.proofs.Used.{seven, ten, refused, latched, let_go, written}
+use lib.ListN.{length}
+use borrow.Author.Rules.{rules}
+use Rattle.std.proofs.lemmas.Grind.{common_steps}
+use Rattle.chip.specs.Machine.{matrix, converter, in_use}
+use Rattle.views.specs.Numbered.{count_told}
+use Rattle.views.specs.Converter.{asked_of, no_count}
+use Rattle.views.proofs.Used.{seven, seven_too, ten, refused, used, in_use_long, written}
 use Rattle.views.proofs.converter.matrix_in_use.Goals as goal
-use Rattle.views.proofs.converter.matrix_in_use.Goals.{After-is_held, Else-not-image-coefficients}
+use Rattle.views.proofs.converter.matrix_in_use.Goals.{After-in_use}
 
-long : (c : Else-not-image-coefficients) → (length c.args.image.now ≡ 256) × (length c.args.coefficients.now ≡ 24)
-long c = let a = c.args in both_long (length a.image.now) (length a.coefficients.now) 256 24 (ap not c.if-not-image-coefficients.false)
+-- past the first two tests both slices have their lengths, and these are the bytes in use
+module _ (c : After-in_use) where
+  image_long : length c.args.image.now ≡ 256
+  image_long = search rules
 
--- the test of the hold and the mark is the machine's
-asked : (c : After-is_held) (b : Bool) → let a = c.args in (marked a.mark || c.is_held.result) ≡ b
-    → (marked a.mark || up matrix (get_or a.image.now 0x1A 0)) ≡ b
-asked c b e = ap (λ (u : Bool). marked c.args.mark || u) (sym c.is_held.ensures) ∙ e
+  buffer_long : length c.args.coefficients.now ≡ 24
+  buffer_long = search rules
 
-pub returns-then-not-image-coefficients : goal.returns-then-not-image-coefficients
-returns-then-not-image-coefficients c = let a = c.args in
-    refused a.image.now a.coefficients.now a.mark a.out.now 7 (omega arith) (seven _ _ a.mark a.out.now (ap not c.if-not-image-coefficients.true))
+  same : c.in_ok-image.image.now ≡ c.args.image.now
+  same = search rules
+
+  bytes : c.in_use.result.now ≡ in_use converter matrix (asked_of c.args.image.now c.args.coefficients.now c.args.mark)
+  bytes =
+      let k : c.in_ok-coefficients.coefficients.now ≡ c.args.coefficients.now = search rules in
+      rw (same, k) at c.in_use.ensures ∙ used c.args.image.now c.args.coefficients.now c.args.mark c.args.out.now image_long buffer_long
+
+pub returns-in_err-image : goal.returns-in_err-image
+returns-in_err-image c = let a = c.args in
+    let n : length a.image.now ≢ 256 = grind (arith, common_steps) in
+    let r : count_told c.from_residual.result ≡ no_count 7 = grind (arith, common_steps) in
+    let t = refused a.image.now a.coefficients.now a.mark a.out.now 7 (omega arith) (seven _ _ a.mark a.out.now n) in
+    (r ∙ t.0, t.1)
+
+pub returns-in_err-coefficients : goal.returns-in_err-coefficients
+returns-in_err-coefficients c = let a = c.args in
+    let i : length a.image.now ≡ 256 = search rules in
+    let n : length a.coefficients.now ≢ 24 = grind (arith, common_steps) in
+    let r : count_told c.from_residual-in_err-coefficients.result ≡ no_count 7 = grind (arith, common_steps) in
+    let t = refused a.image.now a.coefficients.now a.mark a.out.now 7 (omega arith) (seven_too _ _ a.mark a.out.now i n) in
+    (r ∙ t.0, t.1)
 
 pub returns-then-out-lt25 : goal.returns-then-out-lt25
 returns-then-out-lt25 c = let a = c.args in
-    refused a.image.now a.coefficients.now a.mark a.out.now 10 (omega arith) (ten _ _ a.mark a.out.now (long (goal.at.returns-then-out-lt25 c).Else-not-image-coefficients).0 (long (goal.at.returns-then-out-lt25 c).Else-not-image-coefficients).1 c.if-out-lt25.true)
-
-pub bounds-image : goal.bounds-image
-bounds-image c = let l = long (goal.at.bounds-image c).Else-not-image-coefficients in omega arith
-
-pub bounds-image-2 : goal.bounds-image-2
-bounds-image-2 c = let l = long (goal.at.bounds-image-2 c).Else-not-image-coefficients in omega arith
+    let i : length a.image.now ≡ 256 = search rules in
+    let k : length a.coefficients.now ≡ 24 = search rules in
+    refused a.image.now a.coefficients.now a.mark a.out.now 10 (omega arith) (ten _ _ a.mark a.out.now i k c.if-out-lt25.true)
 
 pub store_matrix-requires : goal.store_matrix-requires
-store_matrix-requires c = (long ((goal.at.store_matrix-requires c).Else-not-image-coefficients)).1
-
-pub shape_of-out-then-mark-is_held : goal.shape_of-out-then-mark-is_held
-shape_of-out-then-mark-is_held c = c.store_matrix.auto.out
-
-pub returns-then-mark-is_held : goal.returns-then-mark-is_held
-returns-then-mark-is_held c = let e = (goal.at.returns-then-mark-is_held c).Else-not-image-coefficients in
-    let a = c.args in
-    written a.image.now a.coefficients.now a.mark a.out.now (long e).0 (long e).1 _
-    (latched _ _ a.mark a.out.now (long e).0 (long e).1 (asked (goal.at.returns-then-mark-is_held c).After-is_held true c.if-mark-is_held.true)) (omega arith)
-    c.store_matrix.ensures
-
-pub slice_bounds-store_matrix-end : goal.slice_bounds-store_matrix-end
-slice_bounds-store_matrix-end c = let l = long ((goal.at.slice_bounds-store_matrix-end c).Else-not-image-coefficients) in omega arith
-
-pub shape_of-out : goal.shape_of-out
-shape_of-out c = c.store_matrix-2.auto.out
+store_matrix-requires c = let a = c.args in
+    let e = (goal.at.store_matrix-requires c).After-in_use in
+    ap (λ (l : List ℕ). length l) (bytes e) ∙ in_use_long a.image.now a.coefficients.now a.mark a.out.now (image_long e) (buffer_long e)
 
 pub returns : goal.returns
-returns c = let e = (goal.at.returns c).Else-not-image-coefficients in
-    let a = c.args in
-    written a.image.now a.coefficients.now a.mark a.out.now (long e).0 (long e).1 _
-    (let_go _ _ a.mark a.out.now (long e).0 (long e).1 (asked (goal.at.returns c).After-is_held false c.if-mark-is_held.false)) (omega arith)
-    c.store_matrix-2.ensures
+returns c = let a = c.args in
+    let e = (goal.at.returns c).After-in_use in
+    written a.image.now a.coefficients.now a.mark a.out.now (image_long e) (buffer_long e) _ (bytes e) (omega arith) (rw (same e) at c.store_matrix.ensures)

@@ -1,45 +1,28 @@
 -- `views::entry::vsync_into` meets its contract. Assumes nothing.
--- the slices as they are lent, and past the test their lengths
 use mathlib.Core.Path.{◌≡◌, sym, ap, ◌∙◌}
-use mathlib.Core.Bool.{true, false}
 use mathlib.Core.List.{[], ◌∷◌}
 use Prim.Native.Nat.{ℕ}
-use native.Mathlib.Omega.{arith}
 use lib.ListN.{set}
+use Rattle.std.proofs.lemmas.Result.{err_from_is_err_and}
 use Rattle.chip.specs.Write.{vsync_of}
-use Rattle.views.specs.Entry.{mark_byte, lent, state_of, slices_of, SliceAnswer, is_lent}
-use Rattle.views.specs.Sized.{LentSized}
-use Rattle.views.proofs.Lent.{stored_alone, lent_sized, turn_away, turn_in}
+use Rattle.views.specs.Entry.{mark_byte, lent, state_of, slices_of, SliceAnswer}
+use Rattle.views.proofs.Lent.{byte_of, stored_alone, let_past, lent_sized, turn_away, turn_in}
 use Rattle.views.proofs.entry.vsync_into.Goals as goal
-use Rattle.views.proofs.entry.vsync_into.Goals.{Else-not-is_lent, Then-not-is_lent}
 
-fit : (c : Else-not-is_lent) → is_lent (lent c.args.image.now c.args.packet.now c.args.coefficients.now c.args.mark.now) ≡ true
-fit c = sym c.is_lent.ensures ∙ c.if-not-is_lent.false
-
-unfit : (c : Then-not-is_lent) → is_lent (lent c.args.image.now c.args.packet.now c.args.coefficients.now c.args.mark.now) ≡ false
-unfit c = sym c.is_lent.ensures ∙ c.if-not-is_lent.true
-
-fine : (c : Else-not-is_lent) → LentSized (lent c.args.image.now c.args.packet.now c.args.coefficients.now c.args.mark.now)
-fine c = lent_sized (lent c.args.image.now c.args.packet.now c.args.coefficients.now c.args.mark.now) (fit c)
-
-pub returns-then-not-is_lent : goal.returns-then-not-is_lent
-returns-then-not-is_lent c = let e = turn_away (lent c.args.image.now c.args.packet.now c.args.coefficients.now c.args.mark.now) (unfit (goal.at.returns-then-not-is_lent c).Then-not-is_lent) in
-    (ap (λ (e : SliceAnswer). e.refusal) (sym e), ap (λ (e : SliceAnswer). e.slices) (sym e))
-
-pub bounds-image : goal.bounds-image
-bounds-image c = let z = fine (goal.at.bounds-image c).Else-not-is_lent in omega arith
-
-pub bounds-mark-0 : goal.bounds-mark-0
-bounds-mark-0 c = let z = fine (goal.at.bounds-mark-0 c).Else-not-is_lent in omega arith
-
-pub bounds-mark-0-2 : goal.bounds-mark-0-2
-bounds-mark-0-2 c = let z = fine (goal.at.bounds-mark-0-2 c).Else-not-is_lent in omega arith
+pub returns-in_err-lent : goal.returns-in_err-lent
+returns-in_err-lent c = let a = c.args in
+    let p = err_from_is_err_and c.from_residual.result c.from_residual.ensures.1 in
+    let e = turn_away (lent a.image.now a.packet.now a.coefficients.now a.mark.now) _ c.in_err-lent.ensures in
+    rw (p.1, p.2) (ap (λ (e : SliceAnswer). e.refusal) e, ap (λ (e : SliceAnswer). e.slices) e)
 
 pub returns : goal.returns
 unfolding vsync_of
-returns c = let l = lent c.args.image.now c.args.packet.now c.args.coefficients.now c.args.mark.now in
-    let e = turn_in l (fit (goal.at.returns c).Else-not-is_lent) in
-    let m : set c.args.mark.now 0 c.mark_byte.result ≡ (slices_of (vsync_of (state_of l))).mark =
-    stored_alone c.args.mark.now c.mark_byte.result (fine (goal.at.returns c).Else-not-is_lent).mark ∙ ap (λ (n : ℕ). n ∷ []) (c.mark_byte.ensures ∙ ap mark_byte c.still_waits-waits.ensures)
+returns c = let a = c.args in
+    let l = lent a.image.now a.packet.now a.coefficients.now a.mark.now in
+    let t = let_past l c.in_ok-lent.ensures in
+    let e = turn_in l t in
+    let m : set a.mark.now 0 c.from.result ≡ (slices_of (vsync_of (state_of l))).mark =
+    stored_alone a.mark.now c.from.result (lent_sized l t).mark
+    ∙ ap (λ (n : ℕ). n ∷ []) (c.from.ensures ∙ byte_of c.still_waits.result ∙ ap mark_byte c.still_waits.ensures)
     in
-    (ap (λ (e : SliceAnswer). e.refusal) (sym e), ap (lent c.args.image.now c.args.packet.now c.args.coefficients.now) m ∙ ap (λ (e : SliceAnswer). e.slices) (sym e))
+    (ap (λ (e : SliceAnswer). e.refusal) (sym e), ap (lent a.image.now a.packet.now a.coefficients.now) m ∙ ap (λ (e : SliceAnswer). e.slices) (sym e))

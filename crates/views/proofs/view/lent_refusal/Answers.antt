@@ -1,25 +1,17 @@
 -- `views::view::lent_refusal` meets its contract. Assumes nothing.
-use mathlib.Core.Path.{ap}
-use mathlib.Core.Bool.{not}
-use lib.ListN.{length}
+use Rattle.std.proofs.lemmas.Grind.{common_steps}
 use native.Mathlib.Omega.{arith}
 use Rattle.views.specs.View.{lent_refusal}
-use Rattle.views.proofs.Seen.{both_long}
 use Rattle.views.proofs.view.lent_refusal.Goals as goal
 
-pub returns-then-not-image-packet : goal.returns-then-not-image-packet
+pub returns-then-packet-ne32 : goal.returns-then-packet-ne32
 unfolding lent_refusal
-returns-then-not-image-packet c = simp (ap not c.if-not-image-packet.true)
-
-pub bounds-image : goal.bounds-image
-bounds-image c = let a = c.args in
-    let l = both_long (length a.image.now) (length a.packet.now) 256 32 (ap not c.if-not-image-packet.false) in
-    omega arith
+returns-then-packet-ne32 c = grind (arith, common_steps)
 
 pub returns-then-two_up : goal.returns-then-two_up
 unfolding lent_refusal
-returns-then-two_up c = simp (ap not c.if-not-image-packet.false, ← c.two_up.ensures, c.if-two_up.true)
+returns-then-two_up c = grind (arith, common_steps, c.two_up.ensures)
 
-pub returns : goal.returns
+pub returns-else-two_up : goal.returns-else-two_up
 unfolding lent_refusal
-returns c = simp (ap not c.if-not-image-packet.false, ← c.two_up.ensures, c.if-two_up.false)
+returns-else-two_up c = grind (arith, common_steps, c.two_up.ensures)

@@ -6,6 +6,6 @@ use Rattle.views.proofs.view.sent_refusal.Goals as goal
 pub returns-then-which-gt1 : goal.returns-then-which-gt1
 returns-then-which-gt1 c = let a = c.args in sym (five a.image.now a.packet.now a.which c.if-which-gt1.true)
 
-pub returns : goal.returns
-returns c = let a = c.args in
+pub returns-else-which-gt1 : goal.returns-else-which-gt1
+returns-else-which-gt1 c = let a = c.args in
     c.lent_refusal.ensures ∙ sym (later a.image.now a.packet.now a.which c.if-which-gt1.false)

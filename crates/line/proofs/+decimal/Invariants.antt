@@ -1,5 +1,0 @@
--- `line::decimal` calls itself for a tenth of the number.
-use Rattle.line.proofs.+decimal.Given as goal
-
-abbrev pub decreases-decimal : goal.decreases-decimal
-decreases-decimal l = l.n

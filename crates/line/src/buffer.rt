@@ -1,0 +1,11 @@
+// What is printed, and nothing of what it says.
+
+ghost use Rattle.std.specs.Prelude.{◌≤◌};
+
+// A line at the front of 80 bytes, which are more than any has, and its count.
+#[derive(Clone, Copy)]
+pub struct Text {
+    pub bytes: [u8; 80],
+    pub count: usize,
+    ghost fits: { count ≤ 80 },
+}

@@ -1,7 +1,0 @@
--- `vet::main` meets its contract: the room is longer than the longest input, and what is written is within the line. Assumes nothing.
-use mathlib.Core.Path.{sym}
-use lib.Seq.{length-take-le}
-use Rattle.vet.proofs.main.Goals as goal
-
-pub slice_bounds-write_all-end : goal.slice_bounds-write_all-end
-slice_bounds-write_all-end c = sym (length-take-le _ _ c.print-count.ensures.upper_bound)
