@@ -58,21 +58,16 @@ fn is_below(x: f32, mode: u8) -> bool
     }
 }
 
-// The bit of the sign, and that of the leading digit, which is not written.
-const SIGN: u64 = 1 << 31;
-
-const LEADING: u64 = 1 << 23;
-
-// A float's sign, digits and exponent, as its bits have them.
+// A float's sign, digits and exponent, as its bits have them: the sign is the highest bit, and the leading digit, 2^23, is not written.
 fn taken_apart(x: f32) -> Parts
     requires { finite x ≡ true }
     ensures has_value { HasValue x result.negative (result.digits * 2 ^ result.exponent) (2 ^ 149) }
     ensures normal { Normal result.digits result.exponent }
 {
     let bits = x.to_bits() as u64;
-    let negative = SIGN <= bits;
-    let field = bits % SIGN / LEADING;
-    let low = bits % LEADING;
+    let negative = 0x80000000 <= bits;
+    let field = bits % 0x80000000 / 0x800000;
+    let low = bits % 0x800000;
     if field == 0 {
         Parts {
             negative,
@@ -82,7 +77,7 @@ fn taken_apart(x: f32) -> Parts
     } else {
         Parts {
             negative,
-            digits: LEADING + low,
+            digits: 0x800000 + low,
             exponent: field - 1,
         }
     }
@@ -165,10 +160,18 @@ fn numbers_of(m: Meter) -> [f32; 12]
     ]
 }
 
+// Neither not a number nor infinite.
+// Kept, what may not change: std's `is_finite` subtracts, and the archive moves and compares floats and computes none (docs/ABI.md).
+fn is_finite(x: f32) -> bool
+    ensures { result ≡ finite x }
+{
+    x < f32::INFINITY && -f32::INFINITY < x
+}
+
 fn all_finite(numbers: [f32; 12]) -> bool
     ensures { result ≡ every finite numbers }
 {
-    numbers.iter().all(|x| x.is_finite())
+    numbers.iter().all(|x| is_finite(*x))
 }
 
 // All twelve in a mode, where each is a field.
