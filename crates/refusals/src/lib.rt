@@ -5,75 +5,50 @@ ghost use Rattle.std.specs.Prelude.{◌≡◌, ◌∷◌, map};
 ghost use Rattle.refusals.specs.Rows.{number, order};
 ghost use Rattle.refusals.specs.Numbered.{refusal_number, ToldApart};
 
-// Why a call is refused: a row of the list, named after its "When".
+/// Why a call is refused: a row of the list, named after its "When", with its number.
 #[derive(Clone, Copy, Debug, PartialEq, Eq)]
 pub enum Refusal {
-    InputEnds,
-    CountNotAllowed,
-    BytesAfter,
-    ModeNotOffered,
-    FieldOutOfRange,
-    Combination,
-    ImageLength,
-    HoldsUp,
-    NoExactPair,
-    BufferShort,
-    NoRequest,
-    InputAbove,
-    TwoHolds,
-    ListLength,
-    BadPair,
-    BadEnd,
-    ClockAbove,
-    NotFinite,
-    NoModeFits,
-    SoundTooMuch,
-    EdidLength,
-    EdidSum,
-    EdidBlock,
-    NoWishFits,
+    InputEnds = 1,
+    CountNotAllowed = 2,
+    BytesAfter = 3,
+    ModeNotOffered = 4,
+    FieldOutOfRange = 5,
+    Combination = 6,
+    ImageLength = 7,
+    HoldsUp = 8,
+    NoExactPair = 9,
+    BufferShort = 10,
+    NoRequest = 11,
+    InputAbove = 12,
+    TwoHolds = 13,
+    ListLength = 14,
+    BadPair = 15,
+    BadEnd = 16,
+    ClockAbove = 17,
+    NotFinite = 18,
+    NoModeFits = 19,
+    SoundTooMuch = 20,
+    EdidLength = 21,
+    EdidSum = 22,
+    EdidBlock = 23,
+    NoWishFits = 24,
 }
 
-// Its number in the list.
+/// Its number in the list.
 impl From<Refusal> for u8 {
     ghost from_gives = { λ refusal byte. byte ≡ refusal_number refusal };
 
     fn from(refusal: Refusal) -> u8 {
-        match refusal {
-            Refusal::InputEnds => 1,
-            Refusal::CountNotAllowed => 2,
-            Refusal::BytesAfter => 3,
-            Refusal::ModeNotOffered => 4,
-            Refusal::FieldOutOfRange => 5,
-            Refusal::Combination => 6,
-            Refusal::ImageLength => 7,
-            Refusal::HoldsUp => 8,
-            Refusal::NoExactPair => 9,
-            Refusal::BufferShort => 10,
-            Refusal::NoRequest => 11,
-            Refusal::InputAbove => 12,
-            Refusal::TwoHolds => 13,
-            Refusal::ListLength => 14,
-            Refusal::BadPair => 15,
-            Refusal::BadEnd => 16,
-            Refusal::ClockAbove => 17,
-            Refusal::NotFinite => 18,
-            Refusal::NoModeFits => 19,
-            Refusal::SoundTooMuch => 20,
-            Refusal::EdidLength => 21,
-            Refusal::EdidSum => 22,
-            Refusal::EdidBlock => 23,
-            Refusal::NoWishFits => 24,
-        }
+        refusal as u8
     }
 }
 
-// No two refusals have one number, and none has 0.
+/// No two refusals have one number, and none has 0.
 pub fn told_apart()
     ensures { ToldApart }
 {}
 
-// 0, which is no refusal, and then the numbers of the rows in the list's order.
+/// 0, which is no refusal, and then the numbers of the rows in the list's order.
 pub fn numbers() -> [u8; 21]
     ensures { result ≡ 0 ∷ map number order }
 {
