@@ -34,7 +34,7 @@ fn most_of(video: Video) -> u8
     ensures { result ≡ most_of video.vic (repetition video) }
 {
     let row = highest_of(video.vic);
-    match video::repetition(video) {
+    match video.repetition() {
         0 => row.once,
         1 => row.twice,
         _ => 6,

@@ -15,7 +15,7 @@ ghost use Rattle.clock.specs.Found.{coherent_of, GivesPair};
 ghost use Rattle.clock.specs.Theorems.{ClockRule, PairRule, ClockRefusals};
 
 use refusals::Refusal;
-use video::Video;
+use video::{Mode, Video};
 
 // A clock in Hz, kept exact: num / den.
 #[derive(Clone, Copy, Debug, PartialEq, Eq)]
@@ -177,15 +177,15 @@ fn asked(video: Video) -> Result<Hertz, Refusal>
     ensures told { clock_told result ≡ clock_asked video }
     ensures small { IfOk result (λ clock. clock.den < 2 ^ 32) }
 {
-    let row = video::mode_of(video.vic);
+    let row = Mode::of(video.vic);
     if row.families <= video.family {
         return Err(Refusal::ModeNotOffered);
     }
-    if video::pixel_outside(video) {
+    if video.pixel_outside() {
         return Err(Refusal::FieldOutOfRange);
     }
     let quarter = quarter_of(row.hertz, video.family);
-    let many = parts(video::depth(video), video::repetition(video));
+    let many = parts(video.depth(), video.repetition());
     Ok(Hertz {
         num: u64::from(quarter.num) * many,
         den: u64::from(quarter.den),

@@ -106,7 +106,7 @@ fn extract(image: &[u8; 256]) -> Request
     let start = Map::AVI_INFOFRAME_BYTE1 as usize;
     let end = start + AVI_COUNT as usize;
     Request {
-        wiring: wiring::wiring_named(wires_in(image)),
+        wiring: Wiring::from(wires_in(image)),
         video: frames::video_named(link, depth, &image[start..end]),
         sound: sound_in(image),
         matrix: matrix_in(image),
@@ -157,7 +157,7 @@ fn emit(q: Request, buffer: &mut [u8]) -> usize
             section(buffer, 0, &body)
         }
     };
-    let after_video = section(buffer, after_wiring, &video::video_body(q.video));
+    let after_video = section(buffer, after_wiring, &q.video.to_body());
     let after_audio = match q.sound {
         Sound::Off => section(buffer, after_video, &[]),
         Sound::On {
@@ -180,7 +180,7 @@ fn in_family(q: Request, family: u8) -> Request
     ensures { result ≡ request_in_family family q }
 {
     Request {
-        video: video::in_family(q.video, family),
+        video: q.video.in_family(family),
         ..q
     }
 }

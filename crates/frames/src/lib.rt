@@ -71,7 +71,7 @@ fn quantised(video: Video) -> u8
 fn repeated(video: Video) -> u8
     ensures { result ≡ repeats video }
 {
-    match video::repetition(video) {
+    match video.repetition() {
         1 => 1,
         2 => 3,
         _ => 0,
@@ -88,8 +88,8 @@ fn avi_frame(video: Video, mode: Mode) -> [u8; AVI_FRAME]
     let first = video.encoding * 32 + 16;
     let second = colour(mode, video.encoding) * 64 + mode.aspect * 16 + 8;
     let third = quantised(video) * 4;
-    let ycc = video::ycc_quantisation(video);
-    let content = video::content_type(video);
+    let ycc = video.ycc_quantisation();
+    let content = video.content_type();
     let repeats = repeated(video);
     let fifth = ycc * 64 + content * 16 + repeats;
     with_checksum([
@@ -102,14 +102,14 @@ fn avi_frame(video: Video, mode: Mode) -> [u8; AVI_FRAME]
 pub fn avi_of(video: Video) -> Result<[u8; AVI_FRAME], Refusal>
     ensures { GivesAvi video (avi_told result) }
 {
-    let mode = video::mode_of(video.vic);
+    let mode = Mode::of(video.vic);
     if mode.families == 0 {
         return Err(Refusal::ModeNotOffered);
     }
-    if video::shown_outside(video) {
+    if video.shown_outside() {
         return Err(Refusal::FieldOutOfRange);
     }
-    if video::shown_combined(video) {
+    if video.shown_combined() {
         return Err(Refusal::Combination);
     }
     Ok(avi_frame(video, mode))

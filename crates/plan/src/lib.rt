@@ -63,7 +63,7 @@ fn inputs(sound: Sound) -> u8
 fn with_audio(sound: Sound) -> u8
     ensures { (result ≡ with_sound sound) × (result ≤ 1) }
 {
-    u8::from(sound::is_on(sound))
+    u8::from(sound.is_on())
 }
 
 // Twelve coefficients as 24 bytes, the high five bits of each first.
@@ -108,7 +108,7 @@ fn sync_bytes(wires: Wires) -> [u8; Map::SYNC_GENERATION_COUNT as usize]
 fn depth_code(video: Video) -> u8
     ensures { result ≡ get_or depth_numbers (depth video) 0 }
 {
-    match video::depth(video) {
+    match video.depth() {
         1 => 5,
         2 => 6,
         _ => 0,
@@ -128,7 +128,7 @@ impl Accepted {
         ensures value { result ≡ wires_of self.request.wiring }
         ensures fit { WiresFit result }
     {
-        wiring::wires_of(self.request.wiring)
+        Wires::from(self.request.wiring)
     }
 
     // Whether its CTS is the manual one.
@@ -145,7 +145,7 @@ impl Accepted {
     fn repetition_byte(self) -> u8
         ensures { result ≡ 2 * 2 ^ pr_mode_shift + repetition self.request.video * 2 ^ pr_pll_manual_shift + repetition self.request.video * 2 ^ pr_value_manual_shift }
     {
-        let repetition = video::repetition(self.request.video);
+        let repetition = self.request.video.repetition();
         2 * (1 << Map::PR_MODE_SHIFT)
             + repetition * (1 << Map::PR_PLL_MANUAL_SHIFT)
             + repetition * (1 << Map::PR_VALUE_MANUAL_SHIFT)

@@ -28,7 +28,7 @@ use matrix::Matrix;
 use refusals::Refusal;
 use sections::{AUDIO, LAST, MATRIX, SECTIONS, VIDEO, WIRING, walk};
 use sound::Sound;
-use video::Video;
+use video::{Mode, Video};
 use wiring::Wiring;
 
 pub mod sections;
@@ -76,15 +76,14 @@ impl Fields {
     fn is_outside(self) -> bool
         ensures { result ≡ outside_in self.wiring self.video self.sound self.spoiled }
     {
-        wiring::outside(self.wiring)
-            | (video::outside(self.video) | (sound::outside(self.sound) | self.spoiled))
+        self.wiring.outside() | (self.video.outside() | (self.sound.outside() | self.spoiled))
     }
 
     // Whether input and output are of different colour kinds.
     fn converts(self) -> bool
         ensures { result ≡ converts_in (rgb_in (wires_of self.wiring).input) (rgb_out self.video) }
     {
-        let into = wiring::rgb_in(self.wiring);
+        let into = self.wiring.is_rgb();
         let out = self.video.encoding == 0;
         (into & !out) | (!into & out)
     }
@@ -94,14 +93,14 @@ impl Fields {
         ensures { result ≡ combined_in self.wiring self.video self.sound self.bare }
     {
         (self.converts() & self.bare)
-            | (((self.video.link == 0) & sound::is_on(self.sound)) | video::combined(self.video))
+            | (((self.video.link == 0) & self.sound.is_on()) | self.video.combined())
     }
 
     // Rows 4 to 6.
     fn check(self) -> Result<(), Refusal>
         ensures { given_by result ≡ lowest (field_tests self.video (outside_in self.wiring self.video self.sound self.spoiled) (combined_in self.wiring self.video self.sound self.bare)) }
     {
-        let mode = video::mode_of(self.video.vic);
+        let mode = Mode::of(self.video.vic);
         if mode.families <= self.video.family {
             return Err(Refusal::ModeNotOffered);
         }
@@ -149,9 +148,9 @@ impl<'a> Found<'a> {
     fn judge(&self) -> Result<Request, Refusal>
         ensures { ask_told result ≡ judged (bodies_in (walked self.now.input.now)) }
     {
-        let wiring = wiring::wiring_in(self.body(WIRING));
-        let video = video::video_in(self.body(VIDEO));
-        let sound = sound::sound_in(self.body(AUDIO));
+        let wiring = Wiring::from_body(self.body(WIRING));
+        let video = Video::from_body(self.body(VIDEO));
+        let sound = Sound::from_body(self.body(AUDIO));
         let section = self.body(MATRIX);
         let bare = section.is_empty();
         let fields = Fields {

@@ -8,10 +8,10 @@ ghost use Rattle.sound.specs.Sound.{sound_of};
 ghost use Rattle.sound.specs.Tests.{is_on, sound_outside};
 ghost use Rattle.sound.specs.Theorems.{SoundBody, SoundRange, RateTable};
 
-// The count of the audio section where it is not empty.
+/// The count of the audio section where it is not empty.
 pub const AUDIO_COUNT: u8 = 3;
 
-// What the audio section asks for.
+/// What the audio section asks for.
 // Kept, what may not change: the fields of `On` are bytes and no enums, for any byte may stand in a request, row 5 judges it, and `SoundBody` and
 // `SoundRange` speak of all of them.
 #[derive(Clone, Copy, Debug, PartialEq, Eq)]
@@ -42,7 +42,7 @@ static RATES: [Rate; 7] = [
     Rate { hertz: 192000, code: 0b1110 },
 ];
 
-// A rate in Hz; 0 for a number that is none.
+/// A rate in Hz; 0 for a number that is none.
 // Kept, what may not change: 0 here and in `code_of`, and 7 in `rate_of`, stand for none and are no `Option`, for `hertz_of`, `code_for` and
 // `rate_of` say so, and `RateTable` has these numbers.
 // Kept, no plainer: a function that finds the row for both would have a contract that says what both of theirs say.
@@ -52,14 +52,14 @@ pub fn hertz(rate: u8) -> u32
     RATES.get(usize::from(rate)).map_or(0, |row| row.hertz)
 }
 
-// The code of a rate; 0 for a number that is none.
+/// The code of a rate; 0 for a number that is none.
 pub fn code_of(rate: u8) -> u8
     ensures { (result ≡ code_for rate) × (result ≤ 15) }
 {
     RATES.get(usize::from(rate)).map_or(0, |row| row.code)
 }
 
-// The rate of a code; 7 for a code that is none.
+/// The rate of a code; 7 for a code that is none.
 pub fn rate_of(code: u8) -> u8
     ensures { result ≡ rate_of code }
 {
@@ -67,53 +67,54 @@ pub fn rate_of(code: u8) -> u8
     place.unwrap_or(RATES.len()) as u8
 }
 
-// What a body asks for.
-pub fn sound_in(body: &[u8]) -> Sound
-    ensures { result ≡ sound_of body.now }
-{
-    if body.is_empty() {
-        Sound::Off
-    } else {
+impl Sound {
+    /// What a body asks for. A byte that it does not have is 0.
+    pub fn from_body(body: &[u8]) -> Sound
+        ensures { result ≡ sound_of body.now }
+    {
+        if body.is_empty() {
+            return Sound::Off;
+        }
         Sound::On {
             rate: lists::byte_at(body, 0),
             channels: lists::byte_at(body, 1),
             coherent: lists::byte_at(body, 2),
         }
     }
-}
 
-// Whether there is sound.
-pub fn is_on(sound: Sound) -> bool
-    ensures { result ≡ is_on sound }
-{
-    matches!(sound, Sound::On { .. })
-}
+    /// Whether there is sound.
+    pub fn is_on(self) -> bool
+        ensures { result ≡ is_on self }
+    {
+        matches!(self, Sound::On { .. })
+    }
 
-// Row 5, of this section.
-pub fn outside(sound: Sound) -> bool
-    ensures { result ≡ sound_outside sound }
-{
-    match sound {
-        Sound::Off => false,
-        Sound::On {
-            rate,
-            channels,
-            coherent,
-        } => 6 < rate || !matches!(channels, 2 | 8) || 1 < coherent,
+    /// Row 5, of this section.
+    pub fn outside(self) -> bool
+        ensures { result ≡ sound_outside self }
+    {
+        match self {
+            Sound::Off => false,
+            Sound::On {
+                rate,
+                channels,
+                coherent,
+            } => 6 < rate || !matches!(channels, 2 | 8) || 1 < coherent,
+        }
     }
 }
 
-// The code of a rate, read back, is that rate.
+/// The code of a rate, read back, is that rate.
 pub fn rate_table()
     ensures { RateTable }
 {}
 
-// A body and what it asks for say the same.
+/// A body and what it asks for say the same.
 pub fn body_rule()
     ensures { SoundBody }
 {}
 
-// A sound to which row 5 does not apply is in range, and no other.
+/// A sound to which row 5 does not apply is in range, and no other.
 pub fn in_range()
     ensures { SoundRange }
 {}

@@ -56,7 +56,7 @@ module _ (c : After-body_of-matrix) where
       → ((end ≡ length (as_bytes c.args.q)) × (end ≤ longest)) × (left ≡ in_front (as_bytes c.args.q) c.args.buffer.now)
   all_laid h =
       let v = c.section-after_video.ensures in
-      requested c.args.q c.args.buffer.now c.requires.0 c.requires.2 c.video_body.ensures wiring_laid (v.value, v.buffer_after) audio_laid h
+      requested c.args.q c.args.buffer.now c.requires.0 c.requires.2 c.to_body.ensures wiring_laid (v.value, v.buffer_after) audio_laid h
 
 pub returns-then-q-eq0 : goal.returns-then-q-eq0
 returns-then-q-eq0 c =

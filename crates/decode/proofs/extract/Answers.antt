@@ -5,4 +5,4 @@ use Rattle.decode.proofs.extract.Goals as goal
 
 pub returns : goal.returns
 unfolding extract
-returns c = simp (c.video_named.ensures, c.depth_of-depth.ensures, c.sound_in.ensures, c.matrix_in.ensures, c.wiring_named.ensures, c.wires_in.ensures, div-one)
+returns c = simp (c.video_named.ensures, c.depth_of-depth.ensures, c.sound_in.ensures, c.matrix_in.ensures, c.from.ensures, c.wires_in.ensures, div-one)

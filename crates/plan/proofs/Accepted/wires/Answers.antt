@@ -6,4 +6,4 @@ use Rattle.plan.proofs.Accepted.wires.Goals as goal
 
 pub returns-clause-fit : goal.returns-clause-fit
 returns-clause-fit c = let a = c.args.self in
-    rw c.wires_of.ensures (wires_fit a.request.wiring (in_range a (search rules)).wiring)
+    rw c.from.ensures (wires_fit a.request.wiring (in_range a (search rules)).wiring)
