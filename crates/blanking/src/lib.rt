@@ -9,23 +9,24 @@ ghost use Rattle.blanking.specs.Theorems.{Timed, Standard, RoomRule};
 use sound::Sound;
 use video::Video;
 
-// The highest rate of eight channels, each pixel sent once and twice.
+/// The highest rate of eight channels, each pixel sent once and twice.
 #[derive(Clone, Copy, Debug, PartialEq, Eq)]
 pub struct Highest {
     pub once: u8,
     pub twice: u8,
 }
 
-// The row of a VIC: in a mode that is not named all fit.
-#[rattlefmt::skip]
-#[tactic(auto, unfolding(crate::specs::Found::highest_of))]
-fn highest_of(vic: u8) -> Highest
-    ensures { result ≡ highest_of vic }
-{
-    match vic {
-        1 => Highest { once: 2, twice: 6 },
-        2 | 3 | 17 | 18 => Highest { once: 2, twice: 5 },
-        _ => Highest { once: 6, twice: 6 },
+impl Highest {
+    // The row of a VIC: in a mode that is not named all fit.
+    #[tactic(auto, unfolding(crate::specs::Found::highest_of))]
+    fn of(vic: u8) -> Highest
+        ensures { result ≡ highest_of vic }
+    {
+        match vic {
+            1 => Highest { once: 2, twice: 6 },
+            2 | 3 | 17 | 18 => Highest { once: 2, twice: 5 },
+            _ => Highest { once: 6, twice: 6 },
+        }
     }
 }
 
@@ -33,7 +34,7 @@ fn highest_of(vic: u8) -> Highest
 fn most_of(video: Video) -> u8
     ensures { result ≡ most_of video.vic (repetition video) }
 {
-    let row = highest_of(video.vic);
+    let row = Highest::of(video.vic);
     match video.repetition() {
         0 => row.once,
         1 => row.twice,
@@ -48,7 +49,7 @@ fn is_beyond(video: Video, rate: u8, channels: u8) -> bool
     channels == 8 && most_of(video) < rate
 }
 
-// Row 20: more sound than fits into the blanking of the mode.
+/// Row 20: more sound than fits into the blanking of the mode.
 #[tactic(auto, unfolding(crate::specs::Found::beyond))]
 pub fn too_much(video: Video, sound: Sound) -> bool
     ensures { result ≡ too_much video sound }
@@ -59,17 +60,20 @@ pub fn too_much(video: Video, sound: Sound) -> bool
     }
 }
 
-// The timings and the table have the listed modes, and each timing makes its clock and its aspect.
+/// The timings and the table have the listed modes, and each timing makes its clock and its aspect.
+#[tactic(auto, using(crate::proofs::Timed::timed))]
 pub fn timing_table()
     ensures { Timed }
 {}
 
-// The rule gives the rows that the standard prints; these leave some overheads, and each of them gives the whole table.
+/// The rule gives the rows that the standard prints; these leave some overheads, and each of them gives the whole table.
+#[tactic(auto, using(crate::proofs::Standard::standard))]
 pub fn standard_rows()
     ensures { Standard }
 {}
 
-// What is too much stays too much.
+/// What is too much stays too much.
+#[tactic(auto, using(crate::proofs::Rule::rule))]
 pub fn room_rule()
     ensures { RoomRule }
 {}

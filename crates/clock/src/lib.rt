@@ -14,17 +14,18 @@ ghost use Rattle.clock.specs.Found.{quarter, slow_quarter, quarter_of, nearest_k
 ghost use Rattle.clock.specs.Found.{coherent_of, GivesPair};
 ghost use Rattle.clock.specs.Theorems.{ClockRule, PairRule, ClockRefusals};
 
+use ratio::Ratio;
 use refusals::Refusal;
 use video::{Mode, Video};
 
-// A clock in Hz, kept exact: num / den.
+/// A clock in Hz, kept exact: num / den.
 #[derive(Clone, Copy, Debug, PartialEq, Eq)]
 pub struct Hertz {
     pub num: u64,
     pub den: u64,
 }
 
-// A quarter of a pixel clock in Hz, kept exact.
+/// A quarter of a pixel clock in Hz, kept exact.
 // Kept, no plainer: a struct of its own beside `Hertz` and `ratio::Ratio`. One generic fraction would say neither what is counted nor that a
 // quarter fits 32 bits, and `clock_known`, `quarter` and `Reduces` name their three.
 #[derive(Clone, Copy, Debug, PartialEq, Eq)]
@@ -33,7 +34,7 @@ pub struct Quarter {
     pub den: u32,
 }
 
-// N and CTS, side by side.
+/// N and CTS, side by side.
 #[derive(Clone, Copy, Debug, PartialEq, Eq)]
 pub struct NCts {
     pub n: u32,
@@ -121,40 +122,53 @@ fn row_of(rows: &[Row], clock: Hertz) -> Option<&Row>
 }
 
 // N of the "Other" row.
-const OTHERS: [u32; 7] = [4096, 6272, 6144, 12544, 12288, 25088, 24576];
+static OTHERS: [u32; 7] = [4096, 6272, 6144, 12544, 12288, 25088, 24576];
 
 // "Our limit is 225,000,000 Hz."
 const LIMIT: u64 = 225000000;
 
-fn fraction(num: u32, den: u32) -> Quarter
-    ensures { result ≡ quarter num den }
-{
-    Quarter { num, den }
-}
-
-// A quarter of a mode's clock in family 1, in lowest terms, by its clock in family 0. A mode with another clock wants a row here; without it
-// the proof fails.
-fn slow_quarter(hertz: u32) -> Quarter
-    ensures { result ≡ slow_quarter hertz }
-{
-    match hertz {
-        25200000 => fraction(900000000, 143),
-        27027000 => fraction(6750000, 1),
-        59400000 => fraction(1350000000, 91),
-        74250000 => fraction(1687500000, 91),
-        148500000 => fraction(3375000000, 91),
-        _ => fraction(0, 1),
+impl Quarter {
+    fn new(num: u32, den: u32) -> Quarter
+        ensures { result ≡ quarter num den }
+    {
+        Quarter { num, den }
     }
-}
 
-// The same in either family.
-#[tactic(auto, unfolding(crate::specs::Found::quarter_of))]
-fn quarter_of(hertz: u32, family: u8) -> Quarter
-    ensures { result ≡ quarter_of hertz family }
-{
-    match family {
-        0 => fraction(hertz / 4, 1),
-        _ => slow_quarter(hertz),
+    // A quarter of a mode's clock in family 1, in lowest terms, by its clock in family 0. A mode with another clock wants a row here; without it
+    // the proof fails.
+    fn slow(hertz: u32) -> Quarter
+        ensures { result ≡ slow_quarter hertz }
+    {
+        match hertz {
+            25200000 => Quarter::new(900000000, 143),
+            27027000 => Quarter::new(6750000, 1),
+            59400000 => Quarter::new(1350000000, 91),
+            74250000 => Quarter::new(1687500000, 91),
+            148500000 => Quarter::new(3375000000, 91),
+            _ => Quarter::new(0, 1),
+        }
+    }
+
+    // The same in either family.
+    #[tactic(auto, unfolding(crate::specs::Found::quarter_of))]
+    fn of(hertz: u32, family: u8) -> Quarter
+        ensures { result ≡ quarter_of hertz family }
+    {
+        match family {
+            0 => Quarter::new(hertz / 4, 1),
+            _ => Quarter::slow(hertz),
+        }
+    }
+
+    // So many of them, as a clock.
+    fn times(self, many: u64) -> Hertz
+        requires { many ≤ 24 }
+        ensures { (result.num ≡ self.num * many) × (result.den ≡ self.den) }
+    {
+        Hertz {
+            num: u64::from(self.num) * many,
+            den: u64::from(self.den),
+        }
     }
 }
 
@@ -184,12 +198,8 @@ fn asked(video: Video) -> Result<Hertz, Refusal>
     if video.pixel_outside() {
         return Err(Refusal::FieldOutOfRange);
     }
-    let quarter = quarter_of(row.hertz, video.family);
     let many = parts(video.depth(), video.repetition());
-    Ok(Hertz {
-        num: u64::from(quarter.num) * many,
-        den: u64::from(quarter.den),
-    })
+    Ok(Quarter::of(row.hertz, video.family).times(many))
 }
 
 impl Hertz {
@@ -206,7 +216,7 @@ impl Hertz {
     }
 }
 
-// The clock of a video: refusals 4, 5 and 17.
+/// The clock of a video: refusals 4, 5 and 17.
 #[tactic(auto, unfolding(crate::specs::Answers::clock_of, crate::specs::Answers::clock_asked))]
 pub fn clock_of(video: Video) -> Result<Hertz, Refusal>
     ensures { GivesClock video (clock_told result) }
@@ -214,7 +224,7 @@ pub fn clock_of(video: Video) -> Result<Hertz, Refusal>
     asked(video)?.within_limit()
 }
 
-// Row 17 of a video alone: where each pixel is sent once no clock is above the limit, and none need be made.
+/// Row 17 of a video alone: where each pixel is sent once no clock is above the limit, and none need be made.
 #[tactic(auto, using(crate::proofs::Offered::once_within))]
 pub fn is_above(video: Video) -> bool
     ensures { result ≡ eqb (clock_of video).refusal (number clock_above) }
@@ -333,7 +343,7 @@ impl Sampled {
         ensures { pair_told result ≡ nearest_of (clock_known self.clock) self.rate }
     {
         let reference = self.reference();
-        let ratio = ratio::reduced(self.clock.num, self.clock.den * reference);
+        let ratio = Ratio::reduced(self.clock.num, self.clock.den * reference);
         Multiples {
             reference,
             u: ratio.u,
@@ -354,7 +364,7 @@ impl Sampled {
     }
 }
 
-// N and CTS on single fields: refusals 4, 5, 17 and 9.
+/// N and CTS on single fields: refusals 4, 5, 17 and 9.
 #[tactic(auto, using(crate::proofs::Told::early), unfolding(crate::specs::Found::pair_of, crate::specs::Answers::clock_asked))]
 pub fn pair_of(video: Video, rate: u8, coherent: u8) -> Result<NCts, Refusal>
     ensures { GivesPair video rate coherent (pair_told result) }
@@ -374,25 +384,26 @@ pub fn pair_of(video: Video, rate: u8, coherent: u8) -> Result<NCts, Refusal>
     }
 }
 
-// N and CTS where audio is off.
+/// N and CTS where audio is off.
 pub fn audio_off() -> NCts
     ensures { the_pair result.n result.cts ≡ audio_off }
 {
     NCts { n: 6144, cts: 0 }
 }
 
-// The clock that is answered: exact, in lowest terms, at most the limit.
+/// The clock that is answered: exact, in lowest terms, at most the limit.
 #[tactic(auto, using(crate::proofs::Offered::rule))]
 pub fn clock_rule()
     ensures { ClockRule }
 {}
 
-// What is proved of the answers: which pair is given, and the refusals of the two calls on single fields.
+/// What is proved of the answers: which pair is given.
 #[tactic(auto, using(crate::proofs::Coherence::rule))]
 pub fn pair_rule()
     ensures { PairRule }
 {}
 
+/// And the refusals of the two calls on single fields.
 #[tactic(auto, using(crate::proofs::Rows::refusals))]
 pub fn clock_refusals()
     ensures { ClockRefusals }

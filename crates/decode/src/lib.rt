@@ -87,7 +87,7 @@ fn matrix_in(image: &[u8; 256]) -> Matrix
     let end = start + Map::CSC_COUNT as usize;
     let first = image[start];
     if first / Map::CSC_ENABLE_MASK % 2 == 0 {
-        matrix::none()
+        Matrix::none()
     } else {
         Matrix {
             on: 1,
@@ -167,7 +167,7 @@ fn emit(q: Request, buffer: &mut [u8]) -> usize
         } => section(buffer, after_video, &[rate, channels, coherent]),
     };
     // Kept, the proof did not close: made in the else alone, what the sections before left has to be told once for each end.
-    let matrix = matrix::body_of(q.matrix);
+    let matrix = q.matrix.body();
     if q.matrix.on == 0 {
         section(buffer, after_audio, &[])
     } else {

@@ -14,23 +14,26 @@ ghost use Rattle.frames.specs.Editions.{BothEditions};
 use refusals::Refusal;
 use video::{Mode, Video};
 
-// The data bytes of each frame, and all its bytes: a header of three and the checksum before them.
+/// The data bytes of an AVI InfoFrame.
 pub const AVI_COUNT: u8 = 13;
 
+/// All its bytes: a header of three and the checksum stand before the data bytes.
 pub const AVI_FRAME: usize = 4 + AVI_COUNT as usize;
 
+/// The data bytes of an audio InfoFrame.
 pub const AUDIO_COUNT: u8 = 10;
 
+/// All its bytes, likewise.
 pub const AUDIO_FRAME: usize = 4 + AUDIO_COUNT as usize;
 
-// The sum of the bytes, modulo 256.
+/// The sum of the bytes, modulo 256.
 pub fn sum(s: &[u8]) -> u8
     ensures { result ≡ total s.now % 256 }
 {
     s.iter().fold(0u8, |t, x| t.wrapping_add(*x))
 }
 
-// The byte that makes the sum of all zero modulo 256.
+/// The byte that makes the sum of all zero modulo 256.
 pub fn checksum(s: &[u8]) -> u8
     ensures { result ≡ checksum_of s.now }
 {
@@ -97,7 +100,7 @@ fn avi_frame(video: Video, mode: Mode) -> [u8; AVI_FRAME]
     ])
 }
 
-// The AVI InfoFrame of a video: refusals 4, 5 and 6.
+/// The AVI InfoFrame of a video: refusals 4, 5 and 6.
 #[tactic(auto, unfolding(crate::specs::Answers::avi_of))]
 pub fn avi_of(video: Video) -> Result<[u8; AVI_FRAME], Refusal>
     ensures { GivesAvi video (avi_told result) }
@@ -124,7 +127,7 @@ fn edition_named(fifth: u8) -> u8
     video::answered_edition(1 + ycc + content)
 }
 
-// What the data bytes of an AVI InfoFrame name, over a link and at a depth, in family 0.
+/// What the data bytes of an AVI InfoFrame name, over a link and at a depth, in family 0.
 pub fn video_named(link: u8, depth: u8, bytes: &[u8]) -> Video
     ensures { result ≡ video_named link depth bytes.now }
 {
@@ -162,7 +165,7 @@ fn audio_frame(count: u8, allocation: u8) -> [u8; AUDIO_FRAME]
     ])
 }
 
-// The audio InfoFrame of 2 or 8 channels: refusal 5.
+/// The audio InfoFrame of 2 or 8 channels: refusal 5.
 #[tactic(auto, unfolding(crate::specs::Answers::audio_of, crate::specs::Audio::audio_frame))]
 pub fn audio_of(channels: u8) -> Result<[u8; AUDIO_FRAME], Refusal>
     ensures { GivesAudio channels (audio_told result) }
@@ -174,7 +177,7 @@ pub fn audio_of(channels: u8) -> Result<[u8; AUDIO_FRAME], Refusal>
     }
 }
 
-// The audio InfoFrame where sound is off.
+/// The audio InfoFrame where sound is off.
 #[tactic(auto, unfolding(crate::specs::Audio::audio_off_frame))]
 pub fn audio_off() -> [u8; AUDIO_FRAME]
     ensures { result ≡ audio_off_frame }
@@ -182,22 +185,25 @@ pub fn audio_off() -> [u8; AUDIO_FRAME]
     audio_frame(0, 0)
 }
 
-// The checksum's promise.
+/// The checksum's promise.
+#[tactic(auto, using(crate::proofs::Sealed::holds))]
 pub fn checksum_rule()
     ensures { Checksum }
 {}
 
-// The refusals of the two calls, in document 01's order.
+/// The refusals of the two calls, in document 01's order.
+#[tactic(auto, using(crate::proofs::Refused::refusals))]
 pub fn frame_refusals()
     ensures { FrameRefusals }
 {}
 
-// A packet of E, shown to a reader that knows only D, and to one that knows E.
+/// A packet of E, shown to a reader that knows only D, and to one that knows E.
 pub fn both_editions()
     ensures { BothEditions }
 {}
 
-// An AVI InfoFrame names the video that it was made for, but for the family and for an E that asks for nothing.
+/// An AVI InfoFrame names the video that it was made for, but for the family and for an E that asks for nothing.
+#[tactic(auto, using(crate::proofs::Named::named))]
 pub fn named_back()
     ensures { NamedBack }
 {}

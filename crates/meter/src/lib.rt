@@ -17,7 +17,7 @@ ghost use Rattle.meter.specs.Cases.{MeterCases};
 use matrix::Matrix;
 use refusals::Refusal;
 
-// The meter's export, in the order of a request's matrix: of each row three factors and an offset.
+/// The meter's export, in the order of a request's matrix: of each row three factors and an offset.
 // Kept, what may not change: twelve fields and no array, as form F10 of docs/HOUSE.md has it; the definition `numbers_of` and the marked cases
 // name them.
 #[derive(Clone, Copy, Debug, PartialEq)]
@@ -36,7 +36,7 @@ pub struct Meter {
     pub c4: f32,
 }
 
-// A finite float: digits · 2^exponent / 2^149, negative or not.
+/// A finite float: digits · 2^exponent / 2^149, negative or not.
 #[derive(Clone, Copy, Debug, PartialEq, Eq)]
 pub struct Parts {
     pub negative: bool,
@@ -52,9 +52,9 @@ fn is_below(x: f32, mode: u8) -> bool
     ensures { result ≡ is_below x mode }
 {
     match mode {
-        0 => (x < 1.0) & (-1.0 < x),
-        1 => (x < 2.0) & (-2.0 < x),
-        _ => (x < 4.0) & (-4.0 < x),
+        0 => x < 1.0 && -1.0 < x,
+        1 => x < 2.0 && -2.0 < x,
+        _ => x < 4.0 && -4.0 < x,
     }
 }
 
@@ -151,15 +151,6 @@ fn field_in(x: f32, offset: bool, mode: u8) -> Option<u16>
     }
 }
 
-// The twelve numbers in their order.
-fn numbers_of(m: Meter) -> [f32; 12]
-    ensures { result ≡ numbers_of m }
-{
-    [
-        m.a1, m.a2, m.a3, m.a4, m.b1, m.b2, m.b3, m.b4, m.c1, m.c2, m.c3, m.c4,
-    ]
-}
-
 // Neither not a number nor infinite.
 // Kept, what may not change: std's `is_finite` subtracts, and the archive moves and compares floats and computes none (docs/ABI.md).
 fn is_finite(x: f32) -> bool
@@ -187,48 +178,62 @@ fn fields_in(numbers: [f32; 12], mode: u8) -> Option<[u16; 12]>
     Some(out)
 }
 
-// The matrix of a meter, in the smallest mode that fits: refusals 18 and 19.
-pub fn convert(m: Meter) -> Result<Matrix, Refusal>
-    ensures { converted_told result ≡ converted (numbers_of m) }
-{
-    let numbers = numbers_of(m);
-    if !all_finite(numbers) {
-        return Err(Refusal::NotFinite);
+impl Meter {
+    // The twelve numbers in their order.
+    fn numbers(self) -> [f32; 12]
+        ensures { result ≡ numbers_of self }
+    {
+        [
+            self.a1, self.a2, self.a3, self.a4, self.b1, self.b2, self.b3, self.b4, self.c1,
+            self.c2, self.c3, self.c4,
+        ]
     }
-    for mode in 0..3 {
-        if let Some(coefficients) = fields_in(numbers, mode) {
-            return Ok(Matrix {
-                on: 1,
-                mode,
-                coefficients,
-            });
+
+    /// The matrix of a meter, in the smallest mode that fits: refusals 18 and 19.
+    pub fn convert(self) -> Result<Matrix, Refusal>
+        ensures { converted_told result ≡ converted (numbers_of self) }
+    {
+        let numbers = self.numbers();
+        if !all_finite(numbers) {
+            return Err(Refusal::NotFinite);
+        }
+        for mode in 0..3 {
+            if let Some(coefficients) = fields_in(numbers, mode) {
+                return Ok(Matrix {
+                    on: 1,
+                    mode,
+                    coefficients,
+                });
+            }
+        }
+        Err(Refusal::NoModeFits)
+    }
+}
+
+/// The struct of twelve numbers.
+impl From<[f32; 12]> for Meter {
+    ghost from_gives = { λ numbers meter. numbers_of meter ≡ numbers };
+
+    fn from(numbers: [f32; 12]) -> Meter {
+        let [a1, a2, a3, a4, b1, b2, b3, b4, c1, c2, c3, c4] = numbers;
+        Meter {
+            a1,
+            a2,
+            a3,
+            a4,
+            b1,
+            b2,
+            b3,
+            b4,
+            c1,
+            c2,
+            c3,
+            c4,
         }
     }
-    Err(Refusal::NoModeFits)
 }
 
-// The struct of twelve numbers.
-fn meter_of(numbers: &[f32; 12]) -> Meter
-    ensures { numbers_of result ≡ numbers.now }
-{
-    let [a1, a2, a3, a4, b1, b2, b3, b4, c1, c2, c3, c4] = *numbers;
-    Meter {
-        a1,
-        a2,
-        a3,
-        a4,
-        b1,
-        b2,
-        b3,
-        b4,
-        c1,
-        c2,
-        c3,
-        c4,
-    }
-}
-
-// A meter's numbers as a request's matrix, 25 bytes at the front of the buffer: refusals 5, 10, 18 and 19.
+/// A meter's numbers as a request's matrix, 25 bytes at the front of the buffer: refusals 5, 10, 18 and 19.
 pub fn take_matrix(numbers: &[f32], buffer: &mut [u8]) -> Result<u32, Refusal>
     ensures { Meters numbers.now buffer.old (metered_told result) buffer.new }
 {
@@ -236,29 +241,30 @@ pub fn take_matrix(numbers: &[f32], buffer: &mut [u8]) -> Result<u32, Refusal>
     if buffer.len() < 25 {
         return Err(Refusal::BufferShort);
     }
-    let matrix = convert(meter_of(numbers))?;
-    lists::copy(&matrix::body_of(matrix), buffer);
+    let matrix = Meter::from(*numbers).convert()?;
+    lists::copy(&matrix.body(), buffer);
     Ok(25)
 }
 
-// There is a nearest whole number, and no other, for any float and mode; "minus zero gives 0".
+/// There is a nearest whole number, and no other, for any float and mode; "minus zero gives 0".
 pub fn rounding()
     ensures rounds { (a : ℤ) (b : ℕ) → 0 < b → Rounds a b }
     ensures mode_nonzero { (x : Float) (mode : ℕ) → 0 < bottom x * 2 ^ mode }
     ensures by_index { (mode i : ℕ) → Rounded mode i minus_zero (pos 0) }
 {}
 
-// What becomes of the struct, in document 02's words.
+/// What becomes of the struct, in document 02's words.
 pub fn convert_rule()
     ensures { (m : Meter) → ConvertRule m }
 {}
 
-// What the call answers, and what it leaves, in document 02's words.
+/// What the call answers, and what it leaves, in document 02's words.
+#[tactic(auto, using(crate::proofs::Rule::rule))]
 pub fn meter_rule()
     ensures { (numbers : List Float) (buffer : List ℕ) → MeterRule numbers buffer }
 {}
 
-// Numbers of a meter, and their bytes.
+/// Numbers of a meter, and their bytes.
 pub fn meter_cases()
     ensures { MeterCases }
 {}

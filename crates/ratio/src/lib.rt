@@ -6,15 +6,15 @@ ghost use Rattle.std.specs.Prelude.{◌≡◌, ◌≢◌, ◌+◌, ◌/◌, ◌%
 ghost use Rattle.ratio.specs.Lowest.{Reduces, LowestTerms};
 ghost use Rattle.ratio.specs.Terms.{divisor_of};
 
-// The fraction u / v.
+/// The fraction u / v.
 #[derive(Clone, Copy, Debug, PartialEq, Eq)]
 pub struct Ratio {
     pub u: u64,
     pub v: u64,
 }
 
-// The whole quotient a / b; 0 where b is 0. b is doubled as long as it fits into a, and halved back to b; on the way back it is taken off
-// what is left wherever it fits there.
+/// The whole quotient a / b; 0 where b is 0. b is doubled as long as it fits into a, and halved back to b; on the way back it is taken off
+/// what is left wherever it fits there.
 // Kept, what may not change: what is divided by 0 is 0 and no `Option`, for a call that could not fail still can't, and the edit `by_zero` asks it.
 pub fn quotient(a: u64, b: u64) -> u64
     ensures { result ≡ a / b }
@@ -27,7 +27,7 @@ pub fn quotient(a: u64, b: u64) -> u64
         part = 2 * part;
     }
     let mut left = a;
-    let mut q: u64 = 0;
+    let mut q = 0;
     while b <= part {
         q = 2 * q;
         if part <= left {
@@ -58,26 +58,30 @@ fn gcd(a: u64, b: u64) -> u64
     y
 }
 
-// num / den in lowest terms: both are halved until one is odd, and then divided by their greatest common divisor.
-// Kept, no plainer: an Option would give the one caller, whose den is above 0, a case that it never meets; what a den of 0 gives is settled.
-pub fn reduced(num: u64, den: u64) -> Ratio
-    ensures { Reduces num den result }
-{
-    if den == 0 {
-        return Ratio { u: 0, v: 0 };
+impl Ratio {
+    /// num / den in lowest terms: both are halved until one is odd, and then divided by their greatest common divisor.
+    // Kept, no plainer: an Option would give the one caller, whose den is above 0, a case that it never meets; what a den of 0 gives is settled.
+    pub fn reduced(num: u64, den: u64) -> Ratio
+        ensures { Reduces num den result }
+    {
+        if den == 0 {
+            return Ratio { u: 0, v: 0 };
+        }
+        let (mut a, mut b) = (num, den);
+        while a % 2 + b % 2 == 0 {
+            a /= 2;
+            b /= 2;
+        }
+        let g = gcd(a, b);
+        Ratio {
+            u: quotient(a, g),
+            v: quotient(b, g),
+        }
     }
-    let (mut a, mut b) = (num, den);
-    while a % 2 + b % 2 == 0 {
-        a /= 2;
-        b /= 2;
-    }
-    let g = gcd(a, b);
-    let u = quotient(a, g);
-    let v = quotient(b, g);
-    Ratio { u, v }
 }
 
-// A fraction has lowest terms, and only these.
+/// A fraction has lowest terms, and only these.
+#[tactic(auto, using(crate::proofs::Unique::holds))]
 pub fn lowest_terms()
     ensures { LowestTerms }
 {}

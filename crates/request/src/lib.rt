@@ -165,7 +165,7 @@ impl<'a> Found<'a> {
             wiring,
             video,
             sound,
-            matrix: matrix::read(section),
+            matrix: Matrix::read(section),
         })
     }
 }
@@ -204,7 +204,7 @@ pub fn allowed(r: Request) -> Result<(), Refusal>
         video: r.video,
         sound: r.sound,
         bare: r.matrix.on == 0,
-        spoiled: !matrix::in_range(r.matrix),
+        spoiled: !r.matrix.in_range(),
     };
     fields.check()?;
     limits(r.video, r.sound)

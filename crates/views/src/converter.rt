@@ -18,12 +18,12 @@ fn store_matrix(mode: u8, bytes: &[u8], out: &mut [u8])
     requires { length bytes.now ≡ 24 }
     ensures { out.new ≡ over (mode ∷ coefficient_bytes (fields bytes.now)) out.old }
 {
-    let body = matrix::body_of(Matrix {
+    let sent = Matrix {
         on: 1,
         mode,
         coefficients: matrix::twelve(bytes),
-    });
-    lists::copy(&body, out);
+    };
+    lists::copy(&sent.body(), out);
 }
 
 // The 24 bytes in use: while the hold is up, or a lowered one waits, those of the buffer.

@@ -16,13 +16,13 @@ use Rattle.request.specs.Bytes.{matrix_body, as_bytes}
 use Rattle.decode.specs.Decode.{in_front}
 use Rattle.decode.proofs.Emitted.{requested}
 use Rattle.decode.proofs.emit.Goals as goal
-use Rattle.decode.proofs.emit.Goals.{in-Board, in-Four, in-Twelve, in-Off, in-On, After-body_of-matrix}
+use Rattle.decode.proofs.emit.Goals.{in-Board, in-Four, in-Twelve, in-Off, in-On, After-body-matrix}
 
 -- a number of 16 bits has its high byte
 high : (n : ℕ) → n < 65536 → n / 256 % 256 ≡ n / 256
 high n h = omega arith
 
-module _ (c : After-body_of-matrix) where
+module _ (c : After-body-matrix) where
   wiring_laid : let body = wiring_body c.args.q.wiring in
       (c.match-q.after_wiring ≡ 0 + suc (length body)) × (c.match-q.buffer ≡ sets c.args.buffer.now 0 (length body ∷ body))
   wiring_laid = elim c.match-q.branch [
@@ -61,13 +61,13 @@ module _ (c : After-body_of-matrix) where
 pub returns-then-q-eq0 : goal.returns-then-q-eq0
 returns-then-q-eq0 c =
     let e = c.section.ensures in
-    let w = all_laid (goal.at.returns-then-q-eq0 c).After-body_of-matrix (simp (eq-eqb _ _ c.if-q-eq0.true) (e.value, e.buffer_after)) in
+    let w = all_laid (goal.at.returns-then-q-eq0 c).After-body-matrix (simp (eq-eqb _ _ c.if-q-eq0.true) (e.value, e.buffer_after)) in
     record { value = w.0; buffer_after = w.1 }
 
 pub returns-else-q-eq0 : goal.returns-else-q-eq0
 returns-else-q-eq0 c =
     let m = c.args.q.matrix in
-    let body = c.body_of-matrix.ensures ∙ ap (λ (cs : List ℕ). m.mode ∷ coefficient_bytes cs) (unmoved m.coefficients c.requires.1) in
+    let body = c.body-matrix.ensures ∙ ap (λ (cs : List ℕ). m.mode ∷ coefficient_bytes cs) (unmoved m.coefficients c.requires.1) in
     let e = rw body at c.section-else-q-eq0.ensures in
-    let w = all_laid (goal.at.returns-else-q-eq0 c).After-body_of-matrix (simp (ne_eqb _ _ c.if-q-eq0.false) (e.value, e.buffer_after)) in
+    let w = all_laid (goal.at.returns-else-q-eq0 c).After-body-matrix (simp (ne_eqb _ _ c.if-q-eq0.false) (e.value, e.buffer_after)) in
     record { value = w.0; buffer_after = w.1 }

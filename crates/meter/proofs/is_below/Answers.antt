@@ -35,14 +35,33 @@ between k (fin s m e) =
     ∙ ap (λ (a : ℕ). ltb a (1 * 2 ^ k * down e)) (mul-one (m * up e))
     ∙ ap (λ (n : ℕ). ltb (m * up e) n) b
 
-pub returns-in-0 : goal.returns-in-0
-unfolding of_bits neg
-returns-in-0 c = between 0 c.args.x ∙ ap (λ (k : ℕ). is_below c.args.x k) (sym c.in-0.is)
+-- the second comparison, where the first holds and where it does not
+inside : (k : ℕ) (x : Float) → lt x (fin false 1 (pos k)) ≡ true → lt (fin true 1 (pos k)) x ≡ is_below x k
+inside k x h = ap (λ (b : Bool). b && lt (fin true 1 (pos k)) x) (sym h) ∙ between k x
 
-pub returns-in-1 : goal.returns-in-1
-unfolding of_bits neg
-returns-in-1 c = between 1 c.args.x ∙ ap (λ (k : ℕ). is_below c.args.x k) (sym c.in-1.is)
+outside : (k : ℕ) (x : Float) → lt x (fin false 1 (pos k)) ≡ false → lt x (fin false 1 (pos k)) ≡ is_below x k
+outside k x h = h ∙ ap (λ (b : Bool). b && lt (fin true 1 (pos k)) x) (sym h) ∙ between k x
 
-pub returns-in_default : goal.returns-in_default
+pub returns-then-x : goal.returns-then-x
 unfolding of_bits neg
-returns-in_default c = let e : 2 ≡ c.args.mode = omega arith in between 2 c.args.x ∙ ap (λ (k : ℕ). is_below c.args.x k) e
+returns-then-x c = inside 0 c.args.x c.if-x.true ∙ ap (λ (k : ℕ). is_below c.args.x k) (sym c.in-0.is)
+
+pub returns-else-x : goal.returns-else-x
+unfolding of_bits neg
+returns-else-x c = outside 0 c.args.x c.if-x.false ∙ ap (λ (k : ℕ). is_below c.args.x k) (sym c.in-0.is)
+
+pub returns-then-x-2 : goal.returns-then-x-2
+unfolding of_bits neg
+returns-then-x-2 c = inside 1 c.args.x c.if-x-2.true ∙ ap (λ (k : ℕ). is_below c.args.x k) (sym c.in-1.is)
+
+pub returns-else-x-2 : goal.returns-else-x-2
+unfolding of_bits neg
+returns-else-x-2 c = outside 1 c.args.x c.if-x-2.false ∙ ap (λ (k : ℕ). is_below c.args.x k) (sym c.in-1.is)
+
+pub returns-then-x-3 : goal.returns-then-x-3
+unfolding of_bits neg
+returns-then-x-3 c = let e : 2 ≡ c.args.mode = omega arith in inside 2 c.args.x c.if-x-3.true ∙ ap (λ (k : ℕ). is_below c.args.x k) e
+
+pub returns-else-x-3 : goal.returns-else-x-3
+unfolding of_bits neg
+returns-else-x-3 c = let e : 2 ≡ c.args.mode = omega arith in outside 2 c.args.x c.if-x-3.false ∙ ap (λ (k : ℕ). is_below c.args.x k) e

@@ -26,7 +26,7 @@ returns-in_err-matrix c =
     let twelve : length c.args.numbers.now ≡ 12 = search rules in
     let same : c.in_ok-numbers.numbers.now ≡ c.args.numbers.now = search rules in
     let refusal = c.in_err-matrix.field-0.0 in
-    let given = sym (ap converted_told c.in_err-matrix.was) ∙ c.convert.ensures ∙ ap converted (c.meter_of.ensures ∙ same) in
+    let given = sym (ap converted_told c.in_err-matrix.was) ∙ c.convert.ensures ∙ ap converted (c.from.ensures ∙ same) in
     let number = ap (λ (d : Converted). d.refusal) given in
     let e : c.from_residual-in_err-matrix.result ≡ Err refusal = search rules in
     let m = not_converted_lem _ _ twelve c.if-buffer-lt25.false (λ z. refusal_some refusal (number ∙ z)) in
@@ -36,7 +36,7 @@ pub returns : goal.returns
 returns c =
     let twelve : length c.args.numbers.now ≡ 12 = search rules in
     let same : c.in_ok-numbers.numbers.now ≡ c.args.numbers.now = search rules in
-    let given = sym (ap converted_told c.in_ok-matrix.was) ∙ c.convert.ensures ∙ ap converted (c.meter_of.ensures ∙ same) in
+    let given = sym (ap converted_told c.in_ok-matrix.was) ∙ c.convert.ensures ∙ ap converted (c.from.ensures ∙ same) in
     let m = converted_to _ _ twelve c.if-buffer-lt25.false (sym (ap (λ (d : Converted). d.refusal) given)) in
-    let body = c.body_of.ensures ∙ ap (λ (d : Converted). body_of d.matrix) given in
+    let body = c.body.ensures ∙ ap (λ (d : Converted). body_of d.matrix) given in
     (m.0, c.copy.ensures ∙ ap (λ (l : List ℕ). over l c.args.buffer.now) body ∙ m.1)

@@ -11,7 +11,7 @@ use Rattle.views.proofs.converter.store_matrix.Goals as goal
 pub returns : goal.returns
 returns c = c.copy.ensures
     ∙ ap (λ (l : List ℕ). over l c.args.out.now)
-    (c.body_of-body.ensures ∙ ap (λ (l : List ℕ). body_of (made c.args.mode l)) c.twelve.ensures ∙ as_sent c.args.mode c.args.bytes.now c.requires)
+    (c.body.ensures ∙ ap (λ (l : List ℕ). body_of (made c.args.mode l)) c.twelve.ensures ∙ as_sent c.args.mode c.args.bytes.now c.requires)
   where
     made : ℕ → List ℕ → Matrix
     made mode l = record { on = 1; mode = mode; coefficients = l }

@@ -1,4 +1,4 @@
--- `matrix::body_of` meets its contract: before turn i the bytes of the first i coefficients are stored. Assumes nothing.
+-- `matrix::Matrix::body` meets its contract: before turn i the bytes of the first i coefficients are stored. Assumes nothing.
 use mathlib.Core.Path.{◌≡◌, refl, sym, ap, ◌∙◌}
 use mathlib.Core.List.{map}
 use Prim.Native.Nat.{ℕ, ◌%◌}
@@ -8,7 +8,7 @@ use borrow.Author.Rules.{rules}
 use Rattle.lists.proofs.Emit.{map_at}
 use Rattle.matrix.specs.Coefficient.{low_thirteen, high_byte}
 use Rattle.matrix.proofs.Body.{turn_bytes, whole_matrix}
-use Rattle.matrix.proofs.body_of.Goals as goal
+use Rattle.matrix.proofs.Matrix.body.Goals as goal
 
 pub loop-i-init : goal.loop-i-init
 loop-i-init c = (search rules, refl)
@@ -16,7 +16,7 @@ loop-i-init c = (search rules, refl)
 pub loop-i-preserved : goal.loop-i-preserved
 loop-i-preserved c =
     let l = c.loop-i in
-    let cs = c.args.m.coefficients in
+    let cs = c.args.self.coefficients in
     let at = map_at low_thirteen cs l.i 0 0 (search rules) in (
       search rules,
       rw l.invariant.1

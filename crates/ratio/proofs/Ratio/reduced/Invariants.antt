@@ -1,7 +1,7 @@
--- `ratio::reduced` meets its contract: both numbers halved are the same fraction. Assumes nothing.
+-- `ratio::Ratio::reduced` meets its contract: both numbers halved are the same fraction. Assumes nothing.
 use mathlib.Core.Path.{◌≡◌}
 use Prim.Native.Nat.{◌*◌, ◌<◌}
-use Rattle.ratio.proofs.reduced.Given as goal
+use Rattle.ratio.proofs.Ratio.reduced.Given as goal
 
 abbrev pub invariant-loop-a : goal.invariant-loop-a
 invariant-loop-a l = (0 < l.b) × (l.a * l.den ≡ l.num * l.b)

@@ -1,7 +1,0 @@
--- `meter::meter_of` meets its contract: twelve numbers are the struct's. Assumes nothing.
-use Rattle.std.proofs.Common.{rules}
-use Rattle.meter.proofs.Twelve.{twelve}
-use Rattle.meter.proofs.meter_of.Goals as goal
-
-pub returns : goal.returns
-returns c = twelve c.args.numbers.now (search rules)
