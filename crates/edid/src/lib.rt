@@ -162,7 +162,7 @@ fn accepted(request: &[u8]) -> Result<Sound, Refusal>
     ensures { MatchResult result (λ sound. ((ncts_of request.now).refusal ≡ 0) × (sound ≡ (read_of request.now).request.sound)) (λ e. (ncts_of request.now).refusal ≢ 0) }
 {
     let asked = request::read(request)?.within()?;
-    request::pair_for(asked)?;
+    asked.pair()?;
     Ok(asked.sound)
 }
 

@@ -41,7 +41,7 @@ fn line_of(s: &[u8]) -> Result<Shown, Refusal>
     ensures { line_told result ≡ line_of s.now }
 {
     let request = request::read(s)?.within()?;
-    let NCts { n, cts } = request::pair_for(request)?;
+    let NCts { n, cts } = request.pair()?;
     Ok(Shown {
         vic: request.video.vic,
         n,

@@ -308,7 +308,7 @@ fn plan_with(accepted: Accepted, image: &[u8], writes: &mut [u8]) -> Result<u32,
     if !is_ready(image[Map::INFOFRAME_UPDATE as usize]) {
         return Err(Refusal::HoldsUp);
     }
-    let pair = request::pair_for(accepted.request)?;
+    let pair = accepted.request.pair()?;
     if writes.len() < 256 {
         return Err(Refusal::BufferShort);
     }
@@ -329,10 +329,10 @@ pub fn plan(input: &[u8], image: &[u8], writes: &mut [u8]) -> Result<u32, Refusa
 pub fn stands(r: Request, image: &[u8]) -> bool
     ensures { result ≡ stands_in r image.now }
 {
-    if request::allowed(r).is_err() {
+    if r.allowed().is_err() {
         return false;
     }
-    let Ok(pair) = request::pair_for(r) else {
+    let Ok(pair) = r.pair() else {
         return false;
     };
     let wanted = Wanted::of(Accepted { request: r }, pair);

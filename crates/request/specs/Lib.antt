@@ -2,6 +2,7 @@ pub mod Sections
 pub mod Walks
 pub mod Numbered
 pub mod Places
+pub mod Fields
 pub mod Request
 pub mod Read
 pub mod Bytes

@@ -1,16 +1,18 @@
 // The request: document 01, "The request" and "Refusal numbers"; document 02, requests 01, 02, 06, 10 and 11.
 #![tactic(auto)]
 
-ghost use Rattle.std.specs.Prelude.{◌≡◌, ℕ, ◌<◌, length, get_or, List, [], ◌∷◌, Ok, Err, IfOk, IfErr};
+ghost use Rattle.std.specs.Prelude.{◌≡◌, true, not, ◌&&◌, eqb, ℕ, ◌<◌, length, get_or, List, [], ◌∷◌, Ok, Err, IfOk, IfErr};
 ghost use Rattle.refusals.specs.Numbered.{given_by};
 ghost use Rattle.refusals.specs.Tests.{lowest};
 ghost use Rattle.clock.specs.Numbered.{pair_told};
 ghost use Rattle.request.specs.Sections.{sections, Bodies, in_turn, walked, bodies_in};
 ghost use Rattle.request.specs.Walks.{Walks, RequestWalks};
 ghost use Rattle.request.specs.Places.{EndsAt};
+ghost use Rattle.request.specs.Fields.{is_missing, is_out_of_range};
+ghost use Rattle.matrix.specs.Tests.{is_allowed, matrix_in_range};
 ghost use Rattle.wiring.specs.Kinds.{rgb_in};
 ghost use Rattle.wiring.specs.Wiring.{wires_of};
-ghost use Rattle.request.specs.Request.{rgb_out};
+ghost use Rattle.request.specs.Request.{rgb_out, present};
 ghost use Rattle.request.specs.Read.{outside_in, converts_in, combined_in, field_tests, judged, limit_of, allowed_of};
 ghost use Rattle.request.specs.Read.{Asks, read_of, Reads, Pairs, PairsInput};
 ghost use Rattle.request.specs.Numbered.{ask_told, limit_number, known_told, checked_told, within_told};
@@ -31,9 +33,10 @@ use sound::Sound;
 use video::{Mode, Video};
 use wiring::Wiring;
 
+/// The sections of a request.
 pub mod sections;
 
-// What the sections ask for.
+/// What the sections ask for.
 #[derive(Clone, Copy)]
 pub struct Request {
     pub wiring: Wiring,
@@ -42,7 +45,33 @@ pub struct Request {
     pub matrix: Matrix,
 }
 
-// A request that is read: past rows 1 to 6 it is known, also where row 17 or 20 refuses it.
+impl Request {
+    /// A request in hand, nobody's bytes: which of rows 4 to 6, 17 and 20 refuses it.
+    pub fn allowed(self) -> Result<(), Refusal>
+        ensures { given_by result ≡ allowed_of self }
+    {
+        let fields = Fields {
+            wiring: self.wiring,
+            video: self.video,
+            sound: self.sound,
+            matrix: MatrixKind::of(self.matrix),
+        };
+        fields.check()?;
+        limits(self.video, self.sound)
+    }
+
+    /// N and CTS for a request: row 9.
+    pub fn pair(self) -> Result<NCts, Refusal>
+        ensures { Pairs self (pair_told result) }
+    {
+        match self.sound {
+            Sound::Off => Ok(clock::audio_off()),
+            Sound::On { rate, coherent, .. } => clock::pair_of(self.video, rate, coherent),
+        }
+    }
+}
+
+/// A request that is read: past rows 1 to 6 it is known, also where row 17 or 20 refuses it.
 #[derive(Clone, Copy)]
 pub struct Known {
     pub request: Request,
@@ -50,7 +79,7 @@ pub struct Known {
 }
 
 impl Known {
-    // The request, where no limit refuses it.
+    /// The request, where no limit refuses it.
     pub fn within(self) -> Result<Request, Refusal>
         ensures { within_told self.request result ≡ known_told self }
     {
@@ -61,22 +90,73 @@ impl Known {
     }
 }
 
-// The fields of a request, as rows 4 to 6 see them: of its matrix, whether there is none, and whether it is outside its range.
+// The matrix of a request, as rows 5 and 6 see it.
+#[derive(Clone, Copy)]
+enum MatrixKind {
+    Missing,
+    InRange,
+    OutOfRange,
+}
+
+impl MatrixKind {
+    // By the body of its section.
+    fn of_body(body: &[u8]) -> MatrixKind
+        ensures missing { is_missing result ≡ eqb (length body.now) 0 }
+        ensures out_of_range { is_out_of_range result ≡ (present body.now && not (is_allowed body.now)) }
+    {
+        if body.is_empty() {
+            return MatrixKind::Missing;
+        }
+        if matrix::fits(body) {
+            MatrixKind::InRange
+        } else {
+            MatrixKind::OutOfRange
+        }
+    }
+
+    // Of a matrix in hand. One outside its range is row 5's, whether it is on or not.
+    fn of(matrix: Matrix) -> MatrixKind
+        ensures missing { matrix_in_range matrix ≡ true → is_missing result ≡ eqb matrix.on 0 }
+        ensures out_of_range { is_out_of_range result ≡ not (matrix_in_range matrix) }
+    {
+        if !matrix.in_range() {
+            return MatrixKind::OutOfRange;
+        }
+        if matrix.on == 0 {
+            MatrixKind::Missing
+        } else {
+            MatrixKind::InRange
+        }
+    }
+
+    fn is_missing(self) -> bool
+        ensures { result ≡ is_missing self }
+    {
+        matches!(self, MatrixKind::Missing)
+    }
+
+    fn is_out_of_range(self) -> bool
+        ensures { result ≡ is_out_of_range self }
+    {
+        matches!(self, MatrixKind::OutOfRange)
+    }
+}
+
+// The fields of a request, as rows 4 to 6 see them.
 #[derive(Clone, Copy)]
 struct Fields {
     wiring: Wiring,
     video: Video,
     sound: Sound,
-    bare: bool,
-    spoiled: bool,
+    matrix: MatrixKind,
 }
 
 impl Fields {
     // Row 5.
     fn is_outside(self) -> bool
-        ensures { result ≡ outside_in self.wiring self.video self.sound self.spoiled }
+        ensures { result ≡ outside_in self.wiring self.video self.sound (is_out_of_range self.matrix) }
     {
-        self.wiring.outside() | (self.video.outside() | (self.sound.outside() | self.spoiled))
+        self.wiring.outside() || self.video.outside() || self.sound.outside() || self.matrix.is_out_of_range()
     }
 
     // Whether input and output are of different colour kinds.
@@ -85,20 +165,21 @@ impl Fields {
     {
         let into = self.wiring.is_rgb();
         let out = self.video.encoding == 0;
-        (into & !out) | (!into & out)
+        into != out
     }
 
     // Row 6.
     fn is_combined(self) -> bool
-        ensures { result ≡ combined_in self.wiring self.video self.sound self.bare }
+        ensures { result ≡ combined_in self.wiring self.video self.sound (is_missing self.matrix) }
     {
-        (self.converts() & self.bare)
-            | (((self.video.link == 0) & self.sound.is_on()) | self.video.combined())
+        self.converts() && self.matrix.is_missing()
+            || self.video.link == 0 && self.sound.is_on()
+            || self.video.combined()
     }
 
     // Rows 4 to 6.
     fn check(self) -> Result<(), Refusal>
-        ensures { given_by result ≡ lowest (field_tests self.video (outside_in self.wiring self.video self.sound self.spoiled) (combined_in self.wiring self.video self.sound self.bare)) }
+        ensures { given_by result ≡ lowest (field_tests self.video (outside_in self.wiring self.video self.sound (is_out_of_range self.matrix)) (combined_in self.wiring self.video self.sound (is_missing self.matrix))) }
     {
         let mode = Mode::of(self.video.vic);
         if mode.families <= self.video.family {
@@ -152,13 +233,11 @@ impl<'a> Found<'a> {
         let video = Video::from_body(self.body(VIDEO));
         let sound = Sound::from_body(self.body(AUDIO));
         let section = self.body(MATRIX);
-        let bare = section.is_empty();
         let fields = Fields {
             wiring,
             video,
             sound,
-            bare,
-            spoiled: !bare & !matrix::fits(section),
+            matrix: MatrixKind::of_body(section),
         };
         fields.check()?;
         Ok(Request {
@@ -170,7 +249,7 @@ impl<'a> Found<'a> {
     }
 }
 
-// The request that an input asks for: rows 1 to 6. Where a later row refuses it, it is known.
+/// The request that an input asks for: rows 1 to 6. Where a later row refuses it, it is known.
 pub fn ask(s: &[u8]) -> Result<Request, Refusal>
     ensures { Asks s.now (ask_told result) }
 {
@@ -178,11 +257,10 @@ pub fn ask(s: &[u8]) -> Result<Request, Refusal>
     if ends[LAST] != s.len() {
         return Err(Refusal::BytesAfter);
     }
-    let found = Found { input: s, ends };
-    found.judge()
+    Found { input: s, ends }.judge()
 }
 
-// The limits of a video and a sound: rows 17 and 20.
+/// The limits of a video and a sound: rows 17 and 20.
 pub fn limits(video: Video, sound: Sound) -> Result<(), Refusal>
     ensures { given_by result ≡ limit_of video sound }
 {
@@ -195,22 +273,7 @@ pub fn limits(video: Video, sound: Sound) -> Result<(), Refusal>
     Ok(())
 }
 
-// A request in hand, nobody's bytes: which of rows 4 to 6, 17 and 20 refuses it.
-pub fn allowed(r: Request) -> Result<(), Refusal>
-    ensures { given_by result ≡ allowed_of r }
-{
-    let fields = Fields {
-        wiring: r.wiring,
-        video: r.video,
-        sound: r.sound,
-        bare: r.matrix.on == 0,
-        spoiled: !r.matrix.in_range(),
-    };
-    fields.check()?;
-    limits(r.video, r.sound)
-}
-
-// A request read from an input: rows 1 to 6, 17 and 20.
+/// A request read from an input: rows 1 to 6, 17 and 20.
 pub fn read(s: &[u8]) -> Result<Known, Refusal>
     ensures reads { Reads s.now (checked_told result) }
     ensures known { IfOk result (λ k. Asks s.now (ask_told (Ok k.request))) }
@@ -222,60 +285,50 @@ pub fn read(s: &[u8]) -> Result<Known, Refusal>
     Ok(Known { request, limit })
 }
 
-// N and CTS for a request: row 9.
-pub fn pair_for(r: Request) -> Result<NCts, Refusal>
-    ensures { Pairs r (pair_told result) }
-{
-    match r.sound {
-        Sound::Off => Ok(clock::audio_off()),
-        Sound::On { rate, coherent, .. } => clock::pair_of(r.video, rate, coherent),
-    }
-}
-
-// N and CTS over a request slice: rows 1 to 6, 17, 20 and 9.
+/// N and CTS over a request slice: rows 1 to 6, 17, 20 and 9.
 pub fn ncts(s: &[u8]) -> Result<NCts, Refusal>
     ensures { PairsInput s.now (pair_told result) }
 {
-    pair_for(read(s)?.within()?)
+    read(s)?.within()?.pair()
 }
 
-// The sections as they stand in an input: over any sections, and those of a request.
+/// The sections as they stand in an input: over any sections, and those of a request.
 pub fn in_sections()
-    ensures by_index { (table : List (List ℕ)) (input : List ℕ) → Walks table input }
-    ensures by_index_2 { (input : List ℕ) → RequestWalks input }
+    ensures any_sections { (table : List (List ℕ)) (input : List ℕ) → Walks table input }
+    ensures of_a_request { (input : List ℕ) → RequestWalks input }
 {}
 
-// A request and its bytes say the same.
+/// A request and its bytes say the same.
 pub fn there_and_back()
     ensures { ThereAndBack }
 {}
 
-// The rows of a request, in document 01's order, and the request that is read.
+/// The rows of a request, in document 01's order, and the request that is read.
 pub fn rows()
     ensures { (input : List ℕ) → Rows input }
 {}
 
-// What each stage of the rows gives, by itself.
+/// What each stage of the rows gives, by itself.
 pub fn stages()
     ensures { (b : Bodies) → Stages b }
 {}
 
-// A request in hand is judged as its bytes are.
+/// A request in hand is judged as its bytes are.
 pub fn in_hand()
     ensures { (r : Request) → InHand r }
 {}
 
-// More channels or a higher rate never lift refusal 20.
+/// More channels or a higher rate never lift refusal 20.
 pub fn never_lifted()
     ensures { (input : List ℕ) (other : List ℕ) → NeverLifted input other }
 {}
 
-// What is known of an accepted request.
+/// What is known of an accepted request.
 pub fn accepted_fits()
     ensures { (input : List ℕ) → (read_of input).refusal ≡ 0 → Fits (read_of input).request }
 {}
 
-// The lengths of a request, and what a longer input is answered.
+/// The lengths of a request, and what a longer input is answered.
 pub fn lengths()
     ensures { (input : List ℕ) → Lengths input }
 {}

@@ -10,31 +10,36 @@ use sound::AUDIO_COUNT;
 use video::VIDEO_COUNT;
 use wiring::{FOUR_COUNT, TWELVE_COUNT};
 
-// How many sections there are, and the place of each in the order.
+/// How many sections there are.
 // Kept, no plainer: numbers and no enum, for they are the indices of the ends that `walk` finds, and `allows` takes any number.
 pub const SECTIONS: usize = 4;
 
+/// The place of the wiring section in their order.
 pub const WIRING: usize = 0;
 
+/// The place of the video section.
 pub const VIDEO: usize = 1;
 
+/// The place of the audio section.
 pub const AUDIO: usize = 2;
 
+/// The place of the matrix section.
 pub const MATRIX: usize = 3;
 
+/// The place of the last section.
 pub const LAST: usize = SECTIONS - 1;
 
-// The count of the matrix section where it is not empty; the others' are their own crates'.
+/// The count of the matrix section where it is not empty; the others' are their own crates'.
 pub const MATRIX_COUNT: u8 = 25;
 
-// "the longest request": of each section its count, and a body of its largest count.
+/// "the longest request": of each section its count, and a body of its largest count.
 pub const LONGEST: usize = SECTIONS
     + TWELVE_COUNT as usize
     + VIDEO_COUNT as usize
     + AUDIO_COUNT as usize
     + MATRIX_COUNT as usize;
 
-// Whether section k allows a count: a line for each section.
+/// Whether section k allows a count: a line for each section.
 pub fn allows(k: usize, count: u8) -> bool
     ensures { result ≡ among count (get_or sections k []) }
 {
@@ -47,8 +52,8 @@ pub fn allows(k: usize, count: u8) -> bool
     }
 }
 
-// The sections of an input: where the body of each ends, or rows 1 and 2. A body starts after its count, which stands where the body before
-// it ends.
+/// The sections of an input: where the body of each ends, or rows 1 and 2. A body starts after its count, which stands where the body before
+/// it ends.
 pub fn walk(s: &[u8]) -> Result<[usize; SECTIONS], Refusal>
     ensures { places_told result ≡ places_of (walked s.now) }
 {

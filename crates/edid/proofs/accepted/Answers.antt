@@ -14,10 +14,10 @@ returns-in_err-asked c =
     let p = err_from_is_err_and c.from_residual-in_err-asked.result c.from_residual-in_err-asked.ensures.1 in
     rw p.1 (refused c.args.request.now _ _ (c.in_err-asked.ensures ∙ c.in_ok-read.ensures.reads))
 
-pub returns-in_err-pair_for : goal.returns-in_err-pair_for
-returns-in_err-pair_for c =
-    let p = err_from_is_err_and c.from_residual-in_err-pair_for.result c.from_residual-in_err-pair_for.ensures.1 in
-    rw p.1 (unpaired c.args.request.now _ (c.in_ok-asked.ensures ∙ c.in_ok-read.ensures.reads) _ c.in_err-pair_for.ensures)
+pub returns-in_err-pair : goal.returns-in_err-pair
+returns-in_err-pair c =
+    let p = err_from_is_err_and c.from_residual-in_err-pair.result c.from_residual-in_err-pair.ensures.1 in
+    rw p.1 (unpaired c.args.request.now _ (c.in_ok-asked.ensures ∙ c.in_ok-read.ensures.reads) _ c.in_err-pair.ensures)
 
 pub returns : goal.returns
-returns c = paired c.args.request.now _ (c.in_ok-asked.ensures ∙ c.in_ok-read.ensures.reads) _ refl c.in_ok-pair_for.ensures
+returns c = paired c.args.request.now _ (c.in_ok-asked.ensures ∙ c.in_ok-read.ensures.reads) _ refl c.in_ok-pair.ensures

@@ -21,7 +21,7 @@ returns-then-is_err c = let a = c.args in
 
 pub returns-in_default : goal.returns-in_default
 returns-in_default c = let a = c.args in
-    let n = ap (λ (p : Pair). p.refusal) (rw c.in_default.is at c.pair_for.ensures) in
+    let n = ap (λ (p : Pair). p.refusal) (rw c.in_default.is at c.pair.ensures) in
     sym (not_stood a.r a.image.now (λ s. refusal_some c.in_default.field-0 (n ∙ s.paired)))
 
 pub returns : goal.returns

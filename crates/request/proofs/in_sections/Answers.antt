@@ -4,4 +4,4 @@ use Rattle.request.proofs.Opened.{request_walks}
 use Rattle.request.proofs.in_sections.Goals as goal
 
 pub returns : goal.returns
-returns c = record { by_index = walks; by_index_2 = request_walks }
+returns c = record { any_sections = walks; of_a_request = request_walks }

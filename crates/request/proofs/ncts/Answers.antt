@@ -20,4 +20,4 @@ returns-in_err-within c =
 
 pub returns : goal.returns
 unfolding ncts_of
-returns c = c.pair_for.ensures ∙ read_gives no_pair pair_for _ _ (c.in_ok-within.ensures ∙ c.in_ok-read.ensures.reads)
+returns c = c.pair.ensures ∙ read_gives no_pair pair_for _ _ (c.in_ok-within.ensures ∙ c.in_ok-read.ensures.reads)

@@ -12,23 +12,21 @@ pub returns-in_err-check : goal.returns-in_err-check
 returns-in_err-check c =
     let p = err_from_is_err_and c.from_residual.result c.from_residual.ensures.1 in
     rw (p.1, p.2)
-    (refused _ _ _ _ _ _ _
+    (refused _ _ _ _ _ _
     (c.from_body-wiring.ensures ∙ ap wiring_in c.body.ensures)
     (c.from_body-video.ensures ∙ ap video_in c.body-2.ensures)
     (c.from_body-sound.ensures ∙ ap sound_of c.body-3.ensures)
     c.body-section.ensures
-    c.fits.ensures
-    (rw c.is_empty-bare.ensures at c.in_err-check.ensures)
+    (rw (c.of_body.ensures.missing, c.of_body.ensures.out_of_range) at c.in_err-check.ensures)
     (refusal_some _))
 
 pub returns : goal.returns
-returns c = taken _ _ _ _ _ _ _
+returns c = taken _ _ _ _ _ _
     (c.from_body-wiring.ensures ∙ ap wiring_in c.body.ensures)
     (c.from_body-video.ensures ∙ ap video_in c.body-2.ensures)
     (c.from_body-sound.ensures ∙ ap sound_of c.body-3.ensures)
     c.body-section.ensures
-    c.fits.ensures
-    (rw c.is_empty-bare.ensures at c.in_ok-check.ensures)
+    (rw (c.of_body.ensures.missing, c.of_body.ensures.out_of_range) at c.in_ok-check.ensures)
     _
     refl
     c.read.ensures

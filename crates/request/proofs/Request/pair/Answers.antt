@@ -1,6 +1,6 @@
--- `request::pair_for` meets its contract, by the two kinds of sound. Assumes nothing.
+-- `request::Request::pair` meets its contract, by the two kinds of sound. Assumes nothing.
 use Rattle.request.specs.Read.{pair_for}
-use Rattle.request.proofs.pair_for.Goals as goal
+use Rattle.request.proofs.Request.pair.Goals as goal
 
 pub returns-in-Off : goal.returns-in-Off
 unfolding pair_for
