@@ -48,27 +48,20 @@ fn take_all(rt: &HostRuntime, pipe: &mut [u8])
     while take_some(rt, pipe) {}
 }
 
-// The number of the refusal, 0 for none, and the count of an accepted request's bytes.
-fn in_numbers(said: Said) -> (u8, u8)
-    ensures { (result.0 ≡ (piped_told said).refusal) × (result.1 ≡ (piped_told said).count) }
-{
-    match said {
-        Said::NoPipe => (Refusal::ImageLength.into(), 0),
-        Said::Open => (0, 0),
-        Said::Accepted { count } => (0, count),
-        Said::Refused { number } => (number, 0),
-    }
-}
-
 // The end, and the line of the answer.
 fn print(pipe: &mut [u8]) -> Text
     requires { length pipe.old ≡ pipe_length }
     ensures { PrintsPipe pipe.old result.count result.bytes }
 {
-    let (refusal, count) = in_numbers(pipe::end(pipe));
-    line::print_answer(refusal, &pipe[..count as usize])
+    match pipe::end(pipe) {
+        Said::NoPipe => line::print_answer(Refusal::ImageLength.into(), &[]),
+        Said::Open => line::print_answer(0, &[]),
+        Said::Accepted { count } => line::print_answer(0, &pipe[..usize::from(count)]),
+        Said::Refused { number } => line::print_answer(number, &[]),
+    }
 }
 
+// Kept, what may not change: no `?` and no status, for a write that fails has ended with status 0.
 fn main(rt: HostRuntime) {
     let mut pipe = [0u8; PIPE];
     take_all(&rt, &mut pipe);

@@ -1,7 +1,7 @@
 -- The lengths of an EDID and of its extension, by the tests of rows 21 to 23. Assumes nothing.
 use mathlib.Core.Path.{◌≡◌, refl, sym, ap, ◌∙◌}
 use mathlib.Core.Logic.{◌≢◌}
-use mathlib.Core.Bool.{true, false}
+use mathlib.Core.Bool.{true, false, false≢true}
 use mathlib.Core.List.{List, [], ◌∷◌}
 use Prim.Native.Nat.{ℕ, ◌≤◌, ◌<◌, ◌-◌, ◌%◌}
 use native.Mathlib.Omega.{arith}
@@ -26,9 +26,8 @@ module _ (e : List ℕ) where
   missing t h = grind (arith, nat_tests, length-drop 128 e)
 
 -- no extension has no data blocks
-pub none_there : (ext : List ℕ) → length ext ≡ 0 → (ext ≡ collection ext) × (is_past (data_blocks ext) ≡ false)
-unfolding cut_up
-none_there [] h = (refl, refl)
+none_there : (ext : List ℕ) → length ext ≡ 0 → [] ≡ collection ext
+none_there [] h = refl
 none_there (a ∷ ext) h = absurd (omega (arith, h))
 
 -- the data blocks of an extension whose start is right: none in an old one, nor with an offset below 4
@@ -42,12 +41,13 @@ module _ (ext : List ℕ) where
   pub new : 3 ≤ revision_of ext → take (offset_of ext - 4) (drop 4 ext) ≡ collection ext
   new h = rw (le-ltb (revision_of ext) 3 h)
 
+-- what is answered of the bytes of an extension's data blocks is answered of the extension
 module _ (ext : List ℕ) (f : wrong_start ext ≡ false) where
-  pub is_good : (bytes : List ℕ) → is_past (data_blocks bytes) ≡ false → bytes ≡ collection ext → (bad_extension ext ≡ false) × (bytes ≡ collection ext)
-  is_good bytes p e = (rw (f, sym e) p, e)
-
-  pub is_bad : (bytes : List ℕ) → is_past (data_blocks bytes) ≡ true → bytes ≡ collection ext → bad_extension ext ≡ true
-  is_bad bytes p e = rw (f, sym e) p
+  pub judged : (bytes : List ℕ) → bytes ≡ collection ext → (r : Result Collection Refusal)
+      → MatchResult r (λ c. (is_past (data_blocks bytes) ≡ false) × (c.bytes.now ≡ bytes)) (λ x. (is_past (data_blocks bytes) ≡ true) × (x ≡ EdidBlock))
+      → MatchResult r (λ c. (bad_extension ext ≡ false) × (c.bytes.now ≡ collection ext)) (λ x. (bad_extension ext ≡ true) × (x ≡ EdidBlock))
+  judged bytes e (Ok c) m = (rw (f, sym e) m.0, m.1 ∙ e)
+  judged bytes e (Err x) m = (rw (f, sym e) m.0, m.1)
 
 -- the sums of the two blocks
 module _ (e : List ℕ) where
@@ -72,9 +72,17 @@ module _ (e : List ℕ) where
     wrong_total s = rw (t, s)
 
     module _ (s : wrong_sum e ≡ false) where
-      pub alone : length (extension e) ≡ 0 → edid_refusal e ≡ 0
+      alone : length (extension e) ≡ 0 → edid_refusal e ≡ 0
       unfolding edid_refusal
       alone z = rw (t, s, eq-eqb (length (extension e)) 0 z)
+
+      -- no extension, and so no data blocks
+      pub as_none : length (extension e) ≡ 0 → (r : Result Collection Refusal)
+          → MatchResult r (λ c. (is_past (data_blocks []) ≡ false) × (c.bytes.now ≡ [])) (λ x. (is_past (data_blocks []) ≡ true) × (x ≡ EdidBlock))
+          → MatchResult r (λ c. (edid_refusal e ≡ 0) × (c.bytes.now ≡ collection (extension e))) (λ x. (edid_refusal e ≢ 0) × (refusal_number x ≡ edid_refusal e))
+      unfolding cut_up
+      as_none z (Ok c) m = (alone z, m.1 ∙ none_there (extension e) z)
+      as_none z (Err x) m = absurd (false≢true m.0)
 
       module _ (n : length (extension e) ≢ 0) where
         pub spoiled : bad_extension (extension e) ≡ true → edid_refusal e ≡ 23

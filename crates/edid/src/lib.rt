@@ -22,10 +22,13 @@ use request::sections::{LONGEST, WIRING, walk};
 use sound::Sound;
 
 // An EDID: a base block, and at most one extension, which has its data blocks from a byte on.
+/// The bytes of a block.
 pub const BLOCK: usize = 128;
 
+/// The bytes of an EDID with an extension.
 pub const EDID: usize = 2 * BLOCK;
 
+/// The bytes with which a base block begins.
 pub const HEADER: usize = 8;
 
 const START: [u8; HEADER] = [0, 255, 255, 255, 255, 255, 255, 0];
@@ -45,18 +48,19 @@ const VIDEO: u8 = 2;
 
 const LINEAR: u8 = 1;
 
-// Wishes, two bytes each.
+/// The bytes of as many wishes as there may be, two each.
 pub const WISHES: usize = 32;
 
-// What a screen is asked: whether it lists a VIC, and whether it covers a rate and channels.
-#[derive(Clone, Copy)]
+/// What a screen is asked: whether it lists a VIC, and whether it covers a rate and channels.
+// Kept, what may not change: two fields and no `Pcm`, for `tells_in`, `SoundCovered` and `Overview` name each.
+#[derive(Clone, Copy, Debug, PartialEq, Eq)]
 pub enum Ask {
     Vic(u8),
     Pcm { rate: u8, channels: u8 },
 }
 
-// The VICs that a screen lists, and the rates that it covers with two channels and with eight, a bit each.
-#[derive(Clone, Copy)]
+/// The VICs that a screen lists, and the rates that it covers with two channels and with eight, a bit each.
+#[derive(Clone, Copy, Debug, PartialEq, Eq)]
 pub struct Screen {
     pub vics_low: u32,
     pub vics_high: u32,
@@ -64,8 +68,8 @@ pub struct Screen {
     pub rates_8: u32,
 }
 
-// The place of a wish, and where its VIC goes in the request.
-#[derive(Clone, Copy)]
+/// The place of a wish, and where its VIC goes in the request.
+#[derive(Clone, Copy, Debug, PartialEq, Eq)]
 pub struct Chosen {
     pub place: u32,
     pub at: u32,
@@ -109,51 +113,49 @@ fn is_wrong_start(ext: &[u8; BLOCK]) -> bool
     ext[0] != CEA || matches!(ext[2], 1..=3) || LAST_OFFSET < ext[2]
 }
 
-// The bytes of the data blocks of an extension: row 23.
-fn blocks_of(ext: &[u8; BLOCK]) -> Result<Collection<'_>, Refusal>
-    ensures { MatchResult result (λ c. (bad_extension ext.now ≡ false) × (c.bytes.now ≡ collection ext.now)) (λ e. (bad_extension ext.now ≡ true) × (e ≡ EdidBlock)) }
-{
-    if is_wrong_start(ext) {
-        return Err(Refusal::EdidBlock);
-    }
-    let end = usize::from(ext[2]);
-    if ext[1] < REVISION || end < FIRST_BLOCK {
-        return Ok(Collection { bytes: &[] });
-    }
-    let bytes = &ext[FIRST_BLOCK..end];
-    any_block(bytes, |_, _| false)?;
-    Ok(Collection { bytes })
+// A sampling rate, by its number, and how many channels.
+#[derive(Clone, Copy)]
+struct Pcm {
+    rate: u8,
+    channels: u8,
 }
 
-// Whether a short audio descriptor, by its first two bytes, covers a rate and channels.
-fn is_covered(first: u8, rates: u8, rate: u8, channels: u8) -> bool
-    ensures { result ≡ covered_by rate channels (descriptor first rates) }
-{
-    first / 8 % 16 == LINEAR && channels <= first % 8 + 1 && rate < 7 && (rates >> rate) % 2 == 1
-}
+impl Pcm {
+    // Whether a short audio descriptor covers it, by its first two bytes.
+    fn is_covered(self, first: u8, rates: u8) -> bool
+        ensures { result ≡ covered_by self.rate self.channels (descriptor first rates) }
+    {
+        first / 8 % 16 == LINEAR
+            && self.channels <= first % 8 + 1
+            && self.rate < 7
+            && (rates >> self.rate) % 2 == 1
+    }
 
-// Whether a short audio descriptor of a block covers a rate and channels. They are taken off one by one: `chunks_exact` would divide by three, and below
-// `station` the crates divide by powers of two alone.
-fn has_sound(body: &[u8], rate: u8, channels: u8) -> bool
-    ensures { result ≡ some (covered_by rate channels) (descriptors body.now) }
-{
-    let mut left = body;
-    while let Some(([first, rates, _], behind)) = left.split_first_chunk::<3>() {
-        if is_covered(*first, *rates, rate, channels) {
-            return true;
+    // Whether one of a block's short audio descriptors covers it. They are taken off one by one: `chunks_exact` would divide by three, and below
+    // `station` the crates divide by powers of two alone.
+    fn is_in(self, body: &[u8]) -> bool
+        ensures { result ≡ some (covered_by self.rate self.channels) (descriptors body.now) }
+    {
+        let mut left = body;
+        while let Some(([first, rates, _], behind)) = left.split_first_chunk::<3>() {
+            if self.is_covered(*first, *rates) {
+                return true;
+            }
+            left = behind;
         }
-        left = behind;
+        false
     }
-    false
 }
 
-// What a data block says to a question.
-fn is_in(tag: u8, body: &[u8], ask: Ask) -> bool
-    ensures { result ≡ tells_in ask (record { tag = tag; body = body.now }) }
-{
-    match ask {
-        Ask::Vic(vic) => tag == VIDEO && body.iter().any(|byte| vic == byte % 128),
-        Ask::Pcm { rate, channels } => tag == AUDIO && has_sound(body, rate, channels),
+impl Ask {
+    // What a data block says to the question.
+    fn is_told_by(self, tag: u8, body: &[u8]) -> bool
+        ensures { result ≡ tells_in self (record { tag = tag; body = body.now }) }
+    {
+        match self {
+            Ask::Vic(vic) => tag == VIDEO && body.iter().any(|byte| vic == byte % 128),
+            Ask::Pcm { rate, channels } => tag == AUDIO && Pcm { rate, channels }.is_in(body),
+        }
     }
 }
 
@@ -166,18 +168,53 @@ fn accepted(request: &[u8]) -> Result<Sound, Refusal>
     Ok(asked.sound)
 }
 
-// Where the VIC stands in a request, if it has such a place and is no longer than any request.
-fn vic_at(request: &[u8]) -> Option<usize>
-    ensures { MatchOption result (vic_at request.now ≡ 0) (λ at. (vic_at request.now ≡ at) × (at ≢ 0)) }
-{
-    if LONGEST < request.len() {
-        return None;
+// A request with a place for a wish: where its VIC stands, with its family behind.
+#[derive(Clone, Copy)]
+struct Template<'a> {
+    request: &'a [u8],
+    at: usize,
+    ghost there: { (vic_at request.now ≡ at) × (at ≢ 0) },
+}
+
+impl<'a> Template<'a> {
+    // That of a request, if it has such a place and is no longer than any request.
+    fn of(request: &'a [u8]) -> Option<Template<'a>>
+        ensures { MatchOption result (vic_at request.now ≡ 0) (λ t. t.request.now ≡ request.now) }
+    {
+        if LONGEST < request.len() {
+            return None;
+        }
+        let ends = walk(request).ok()?;
+        Some(Template {
+            request,
+            at: ends[WIRING] + 1,
+        })
     }
-    let ends = walk(request).ok()?;
-    Some(ends[WIRING] + 1)
 }
 
 impl<'a> Collection<'a> {
+    // Bytes, if none of their data blocks runs past the end: row 23.
+    fn of(bytes: &'a [u8]) -> Result<Collection<'a>, Refusal>
+        ensures { MatchResult result (λ c. (is_past (data_blocks bytes.now) ≡ false) × (c.bytes.now ≡ bytes.now)) (λ e. (is_past (data_blocks bytes.now) ≡ true) × (e ≡ EdidBlock)) }
+    {
+        any_block(bytes, |_, _| false)?;
+        Ok(Collection { bytes })
+    }
+
+    // The bytes of the data blocks of an extension: row 23.
+    fn of_extension(ext: &'a [u8; BLOCK]) -> Result<Collection<'a>, Refusal>
+        ensures { MatchResult result (λ c. (bad_extension ext.now ≡ false) × (c.bytes.now ≡ collection ext.now)) (λ e. (bad_extension ext.now ≡ true) × (e ≡ EdidBlock)) }
+    {
+        if is_wrong_start(ext) {
+            return Err(Refusal::EdidBlock);
+        }
+        let end = usize::from(ext[2]);
+        if ext[1] < REVISION || end < FIRST_BLOCK {
+            return Collection::of(&[]);
+        }
+        Collection::of(&ext[FIRST_BLOCK..end])
+    }
+
     // The bytes of the data blocks of an EDID, none where it has no extension: rows 21 to 23.
     fn read(edid: &'a [u8]) -> Result<Collection<'a>, Refusal>
         ensures { MatchResult result (λ c. (edid_refusal edid.now ≡ 0) × (c.bytes.now ≡ collection (extension edid.now))) (λ e. (edid_refusal edid.now ≢ 0) × (refusal_number e ≡ edid_refusal edid.now)) }
@@ -190,8 +227,8 @@ impl<'a> Collection<'a> {
             return Err(Refusal::EdidSum);
         }
         match behind.first_chunk() {
-            None => Ok(Collection { bytes: behind }),
-            Some(ext) => blocks_of(ext),
+            None => Collection::of(&[]),
+            Some(ext) => Collection::of_extension(ext),
         }
     }
 
@@ -199,7 +236,7 @@ impl<'a> Collection<'a> {
     fn is_told(&self, ask: Ask) -> bool
         ensures { result ≡ tells self.now.bytes.now ask }
     {
-        any_block(self.bytes, |tag, body| is_in(tag, body, ask)).unwrap_or(false)
+        any_block(self.bytes, |tag, body| ask.is_told_by(tag, body)).unwrap_or(false)
     }
 
     // The answers to some questions, a bit each, the first the lowest.
@@ -236,15 +273,15 @@ impl<'a> Collection<'a> {
         }
     }
 
-    // Whether a wish fits, where the VIC of the request stands at a place.
-    fn fits(&self, request: &[u8], at: usize, wish: [u8; 2]) -> bool
-        requires there { (vic_at request.now ≡ at) × (at ≢ 0) }
-        ensures { result ≡ is_fitting self.now.bytes.now request.now (wish_of wish) }
+    // Whether a wish fits, in its place in the request.
+    fn fits(&self, template: &Template, wish: [u8; 2]) -> bool
+        ensures { result ≡ is_fitting self.now.bytes.now template.now.request.now (wish_of wish) }
     {
         let [vic, family] = wish;
         if !self.is_told(Ask::Vic(vic)) {
             return false;
         }
+        let Template { request, at, .. } = *template;
         let mut room = [0; LONGEST];
         let with = &mut room[..request.len()];
         lists::copy(request, with);
@@ -254,16 +291,15 @@ impl<'a> Collection<'a> {
     }
 
     // The place of the first wish that fits.
-    fn first_wish(&self, request: &[u8], at: usize, wishes: &[u8]) -> Option<usize>
-        requires there { (vic_at request.now ≡ at) × (at ≢ 0) }
-        ensures { result ≡ first_in (is_fitting self.now.bytes.now request.now) (wishes_in wishes.now) }
+    fn first_wish(&self, template: &Template, wishes: &[u8]) -> Option<usize>
+        ensures { result ≡ first_in (is_fitting self.now.bytes.now template.now.request.now) (wishes_in wishes.now) }
     {
         let (wishes, _) = wishes.as_chunks();
-        wishes.iter().position(|&wish| self.fits(request, at, wish))
+        wishes.iter().position(|&wish| self.fits(template, wish))
     }
 }
 
-// What a screen says of itself: rows 21 to 23.
+/// What a screen says of itself: rows 21 to 23.
 pub fn overview(edid: &[u8]) -> Result<Screen, Refusal>
     ensures { ShowsScreen edid.now (monitor_told result) }
 {
@@ -276,7 +312,7 @@ pub fn overview(edid: &[u8]) -> Result<Screen, Refusal>
     })
 }
 
-// The first wish that fits a request and a screen: rows 21 to 24.
+/// The first wish that fits a request and a screen: rows 21 to 24.
 pub fn choose(edid: &[u8], request: &[u8], wishes: &[u8]) -> Result<Chosen, Refusal>
     ensures { ChoosesWish edid.now request.now wishes.now (choice_told result) }
 {
@@ -284,37 +320,37 @@ pub fn choose(edid: &[u8], request: &[u8], wishes: &[u8]) -> Result<Chosen, Refu
         return Err(Refusal::EdidLength);
     }
     let screen = Collection::read(edid)?;
-    let at = vic_at(request).ok_or(Refusal::NoWishFits)?;
+    let template = Template::of(request).ok_or(Refusal::NoWishFits)?;
     let place = screen
-        .first_wish(request, at, wishes)
+        .first_wish(&template, wishes)
         .ok_or(Refusal::NoWishFits)?;
     Ok(Chosen {
         place: place as u32,
-        at: at as u32,
+        at: template.at as u32,
     })
 }
 
-// A collection and its data blocks, both ways.
+/// A collection and its data blocks, both ways.
 pub fn data_blocks()
     ensures { (bytes : List ℕ) → Bytes bytes → DataBlocks bytes }
 {}
 
-// What an overview says, bit by bit.
+/// What an overview says, bit by bit.
 pub fn overview_rule()
     ensures { (edid : List ℕ) → Overview edid }
 {}
 
-// A wish put in its place.
+/// A wish put in its place.
 pub fn in_place()
     ensures { (w : Wish) (input : List ℕ) → InPlace w input }
 {}
 
-// The first wish that fits, in document 02's words.
+/// The first wish that fits, in document 02's words.
 pub fn choices()
     ensures { (edid input wishes : List ℕ) → Chooses edid input wishes }
 {}
 
-// EDIDs, requests and wishes, and what they are answered.
+/// EDIDs, requests and wishes, and what they are answered.
 pub fn edid_cases()
     ensures { EdidCases }
 {}

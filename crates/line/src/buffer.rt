@@ -2,8 +2,8 @@
 
 ghost use Rattle.std.specs.Prelude.{◌≤◌};
 
-// A line at the front of 80 bytes, which are more than any has, and its count.
-#[derive(Clone, Copy)]
+/// A line at the front of 80 bytes, which are more than any has, and its count.
+#[derive(Clone, Copy, Debug, PartialEq, Eq)]
 pub struct Text {
     pub bytes: [u8; 80],
     pub count: usize,

@@ -5,6 +5,7 @@ mod buffer;
 
 ghost use Rattle.std.specs.Prelude.{◌≡◌, List, [], ◌∷◌, ◌++◌, ℕ, ◌+◌, ◌<◌, ◌≤◌, length, take};
 ghost use Rattle.line.specs.Numbered.{shown_line, line_told, text_told};
+ghost use Rattle.line.specs.Code.{LineHasRoom};
 ghost use Rattle.line.specs.Line.{audio_checksum, line_of, Lines};
 ghost use Rattle.line.specs.Verdict.{placed_text, PrintsVerdict, Verdicts};
 ghost use Rattle.line.specs.Words.{digit, decimal, hex, accepted_text, refused_text, AddsText, text_of, line_bytes, Prints, PrintsAnswer, Numeral};
@@ -66,7 +67,7 @@ impl Text {
 
     // A text.
     fn text(&mut self, letters: &[u8])
-        requires { self.old.count + length letters.now ≤ 80 }
+        requires { LineHasRoom self.old (length letters.now) }
         ensures { AddsText self.old letters.now self.new }
     {
         let end = self.count + letters.len();
@@ -76,16 +77,17 @@ impl Text {
 
     // A digit, 0 to 15.
     fn digit(&mut self, n: u8)
-        requires { (self.old.count < 80) × (n < 16) }
+        requires room { LineHasRoom self.old 1 }
+        requires hex { n < 16 }
         ensures { AddsText self.old (digit n ∷ []) self.new }
     {
-        self.bytes[self.count] = b"0123456789abcdef"[n as usize];
+        self.bytes[self.count] = b"0123456789abcdef"[usize::from(n)];
         self.count += 1;
     }
 
     // A number in decimal.
     fn decimal(&mut self, n: u32)
-        requires { self.old.count + length (decimal n) ≤ 80 }
+        requires { LineHasRoom self.old (length (decimal n)) }
         ensures { AddsText self.old (decimal n) self.new }
     {
         if n < 10 {
@@ -99,7 +101,7 @@ impl Text {
     // A name, and a number in decimal.
     #[tactic(auto, using(crate::proofs::Digits::ten))]
     fn named(&mut self, name: &[u8], n: u32)
-        requires { self.old.count + length name.now + 10 ≤ 80 }
+        requires { LineHasRoom self.old (length name.now + 10) }
         ensures adds { AddsText self.old (name.now ++ decimal n) self.new }
         ensures upper_bound { self.new.count ≤ self.old.count + length name.now + 10 }
     {
@@ -109,7 +111,7 @@ impl Text {
 
     // A name, and a checksum as two lower-case hex digits.
     fn checked(&mut self, name: &[u8], byte: u8)
-        requires { self.old.count + length name.now + 2 ≤ 80 }
+        requires { LineHasRoom self.old (length name.now + 2) }
         ensures adds { AddsText self.old (name.now ++ hex byte) self.new }
         ensures value { self.new.count ≡ self.old.count + length name.now + 2 }
     {
@@ -118,7 +120,42 @@ impl Text {
         self.digit(byte % 16);
     }
 
-    // The line alone, with no byte after it.
+    // The line of an accepted request.
+    fn accepted(line: Shown) -> Text
+        ensures { text_told result ≡ line_bytes (accepted_text (shown_line line)) }
+    {
+        let mut out = Text::new();
+        out.named(b"accepted vic ", u32::from(line.vic));
+        out.named(b" n ", line.n);
+        out.named(b" cts ", line.cts);
+        out.checked(b" avi ", line.avi);
+        out.checked(b" audio ", line.audio);
+        out.text(b"\n");
+        out
+    }
+
+    // The line of a refused one.
+    fn refused(number: u8) -> Text
+        ensures { text_told result ≡ line_bytes (refused_text number) }
+    {
+        let mut out = Text::new();
+        out.named(b"refused ", u32::from(number));
+        out.text(b"\n");
+        out
+    }
+
+    // The line of a vendor's list that is refused for one of its pairs.
+    fn placed(number: u8, place: u32) -> Text
+        ensures { text_told result ≡ line_bytes (placed_text number place) }
+    {
+        let mut out = Text::new();
+        out.named(b"refused ", u32::from(number));
+        out.named(b" at ", place);
+        out.text(b"\n");
+        out
+    }
+
+    /// The line alone, with no byte after it.
     pub fn as_bytes(&self) -> &[u8]
         ensures { result.now ≡ take self.now.count self.now.bytes }
     {
@@ -126,59 +163,26 @@ impl Text {
     }
 }
 
-// The line of an accepted request.
-fn accepted(line: Shown) -> Text
-    ensures { text_told result ≡ line_bytes (accepted_text (shown_line line)) }
-{
-    let mut out = Text::new();
-    out.named(b"accepted vic ", line.vic as u32);
-    out.named(b" n ", line.n);
-    out.named(b" cts ", line.cts);
-    out.checked(b" avi ", line.avi);
-    out.checked(b" audio ", line.audio);
-    out.text(b"\n");
-    out
-}
-
-// The line of a refused one.
-fn refused(number: u8) -> Text
-    ensures { text_told result ≡ line_bytes (refused_text number) }
-{
-    let mut out = Text::new();
-    out.named(b"refused ", number as u32);
-    out.text(b"\n");
-    out
-}
-
-// The line of a vendor's list that is refused for one of its pairs.
-fn placed(number: u8, place: u32) -> Text
-    ensures { text_told result ≡ line_bytes (placed_text number place) }
-{
-    let mut out = Text::new();
-    out.named(b"refused ", number as u32);
-    out.named(b" at ", place);
-    out.text(b"\n");
-    out
-}
-
 // What is printed of a line.
-fn text_of(line: Result<Shown, Refusal>) -> Text
-    ensures { text_told result ≡ line_bytes (text_of (line_told line)) }
-{
-    match line {
-        Ok(shown) => accepted(shown),
-        Err(refusal) => refused(refusal.into()),
+impl From<Result<Shown, Refusal>> for Text {
+    ghost from_gives = { λ line text. text_told text ≡ line_bytes (text_of (line_told line)) };
+
+    fn from(line: Result<Shown, Refusal>) -> Text {
+        match line {
+            Ok(shown) => Text::accepted(shown),
+            Err(refusal) => Text::refused(refusal.into()),
+        }
     }
 }
 
-// What the small program prints of an input.
+/// What the small program prints of an input.
 pub fn print(s: &[u8]) -> Text
     ensures { Prints s.now result.count result.bytes }
 {
-    text_of(line_of(s))
+    line_of(s).into()
 }
 
-// What is printed of a request that came in parts: the line of its refusal, or that of the request.
+/// What is printed of a request that came in parts: the line of its refusal, or that of the request.
 // Kept, no plainer: the refusal is a number, for a pipe that is anybody's bytes may answer with any.
 pub fn print_answer(refusal: u8, request: &[u8]) -> Text
     ensures { PrintsAnswer refusal request.now result.count result.bytes }
@@ -186,10 +190,10 @@ pub fn print_answer(refusal: u8, request: &[u8]) -> Text
     if refusal == 0 {
         return print(request);
     }
-    refused(refusal)
+    Text::refused(refusal)
 }
 
-// What is printed of a verdict on a vendor's list.
+/// What is printed of a verdict on a vendor's list.
 // Kept, no plainer: the verdict comes as two numbers, for `vendor` does not stand below this crate.
 pub fn print_verdict(refusal: u8, place: u32) -> Text
     ensures { PrintsVerdict refusal place result.count result.bytes }
@@ -200,24 +204,24 @@ pub fn print_verdict(refusal: u8, place: u32) -> Text
         return text;
     }
     if refusal == u8::from(Refusal::BadPair) {
-        return placed(refusal, place);
+        return Text::placed(refusal, place);
     }
-    refused(refusal)
+    Text::refused(refusal)
 }
 
-// A number in decimal is its numeral.
+/// A number in decimal is its numeral.
 #[tactic(auto, using(crate::proofs::Digits::numerals))]
 pub fn numerals()
     ensures { (n : ℕ) → Numeral n }
 {}
 
-// What the line refuses, and that one byte more than the longest request decides it.
+/// What the line refuses, and that one byte more than the longest request decides it.
 #[tactic(auto, using(crate::proofs::Given::lines))]
 pub fn lines()
     ensures { (input : List ℕ) → Lines input }
 {}
 
-// The line of each verdict, in plain words.
+/// The line of each verdict, in plain words.
 pub fn verdicts()
     ensures { (place : ℕ) → Verdicts place }
 {}

@@ -26,12 +26,12 @@ returns-in_err-screen c = let a = c.args in
     let r : c.from_residual.result ≡ Err c.in_err-screen.field-0.0 = search rules in
     rw (r, m.1) (sym (refused_edid a.edid.now a.request.now a.wishes.now w m.0))
 
-pub returns-in_err-at : goal.returns-in_err-at
-returns-in_err-at c = let a = c.args in
+pub returns-in_err-template : goal.returns-in_err-template
+returns-in_err-template c = let a = c.args in
     let w = right_wishes a.wishes.now c.if-wishes-ne0.false c.if-wishes-gt-WISHES.false in
     let m = rw c.in_ok-screen.was at c.read.ensures in
     let z : vic_at a.request.now ≡ 0 = search rules in
-    let r : c.from_residual-in_err-at.result ≡ Err NoWishFits = search rules in
+    let r : c.from_residual-in_err-template.result ≡ Err NoWishFits = search rules in
     rw r
     (sym (refused_all a.edid.now a.request.now a.wishes.now w m.0
     (some_none (is_fitting (collection (extension a.edid.now)) a.request.now) (no_fit (collection (extension a.edid.now)) a.request.now z) (wishes_in a.wishes.now))))
@@ -40,27 +40,27 @@ pub returns-in_err-place : goal.returns-in_err-place
 returns-in_err-place c = let a = c.args in
     let w = right_wishes a.wishes.now c.if-wishes-ne0.false c.if-wishes-gt-WISHES.false in
     let m = rw c.in_ok-screen.was at c.read.ensures in
+    let q : c.in_ok-template.template.request.now ≡ a.request.now = search rules in
     let n : c.first_wish.result ≡ None = search rules in
-    let f = sym (c.first_wish.ensures ∙ ap (λ (l : List ℕ). first_in (is_fitting l a.request.now) (wishes_in a.wishes.now)) m.1) ∙ n in
+    let f = sym (rw q at c.first_wish.ensures ∙ ap (λ (l : List ℕ). first_in (is_fitting l a.request.now) (wishes_in a.wishes.now)) m.1) ∙ n in
     let r : c.from_residual-in_err-place.result ≡ Err NoWishFits = search rules in
     rw r (sym (refused_all a.edid.now a.request.now a.wishes.now w m.0 (found_none (is_fitting (collection (extension a.edid.now)) a.request.now) (wishes_in a.wishes.now) f)))
 
 pub overflow_cast-result : goal.overflow_cast-result
 overflow_cast-result c = let a = c.args in
     let s : c.first_wish.result ≡ Some c.in_ok-place.place = search rules in
-    omega (arith, within (is_fitting c.in_ok-screen.screen.bytes.now a.request.now) a.wishes.now c.in_ok-place.place (sym c.first_wish.ensures ∙ s))
+    omega (arith, within (is_fitting c.in_ok-screen.screen.bytes.now c.in_ok-template.template.request.now) a.wishes.now c.in_ok-place.place (sym c.first_wish.ensures ∙ s))
 
 pub overflow_cast-result-2 : goal.overflow_cast-result-2
-overflow_cast-result-2 c = let i = c.args.request.now in
-    let e : vic_at i ≡ c.in_ok-at.at = search rules in
-    omega (arith, room i c.in_ok-at.at e (search rules), short i c.in_ok-at.at e (search rules))
+overflow_cast-result-2 c = let t = c.in_ok-template.template in omega (arith, room t.request.now t.at t.there.0 t.there.1, short t.request.now t.at t.there.0 t.there.1)
 
 pub returns : goal.returns
 returns c = let a = c.args in
     let w = right_wishes a.wishes.now c.if-wishes-ne0.false c.if-wishes-gt-WISHES.false in
     let m = rw c.in_ok-screen.was at c.read.ensures in
-    let e : vic_at a.request.now ≡ c.in_ok-at.at = search rules in
+    let t = c.in_ok-template.template in
+    let q : t.request.now ≡ a.request.now = search rules in
     let s : c.first_wish.result ≡ Some c.in_ok-place.place = search rules in
-    let f = sym (c.first_wish.ensures ∙ ap (λ (l : List ℕ). first_in (is_fitting l a.request.now) (wishes_in a.wishes.now)) m.1) ∙ s in
+    let f = sym (rw q at c.first_wish.ensures ∙ ap (λ (l : List ℕ). first_in (is_fitting l a.request.now) (wishes_in a.wishes.now)) m.1) ∙ s in
     let p = found_some (is_fitting (collection (extension a.edid.now)) a.request.now) (wishes_in a.wishes.now) c.in_ok-place.place f in
-    rw (p.1, sym e) (sym (taken a.edid.now a.request.now a.wishes.now w m.0 p.0))
+    rw (p.1, sym (rw q at t.there.0)) (sym (taken a.edid.now a.request.now a.wishes.now w m.0 p.0))

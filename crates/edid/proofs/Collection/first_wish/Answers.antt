@@ -10,6 +10,6 @@ use Rattle.edid.proofs.Collection.first_wish.Goals as goal
 
 pub returns : goal.returns
 returns c = let a = c.args in
-    let test = is_fitting a.self.now.bytes.now a.request.now in
+    let test = is_fitting a.self.now.bytes.now a.template.now.request.now in
     position_from_yields_List (passes test) _ _ _ c.position.ensures.ran (YieldsList-from_slice _ (c.iter.ensures.rest ∙ c.as_chunks.ensures.front)) (λ x b q k. search (rules, tests))
     ∙ first_found test a.wishes.now

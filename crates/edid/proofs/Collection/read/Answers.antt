@@ -7,9 +7,9 @@ use native.Mathlib.Omega.{arith}
 use lib.ListN.{length, take}
 use lib.Seq.{take_all}
 use Rattle.frames.specs.Frames.{total}
-use Rattle.edid.specs.Screen.{base, extension, data_blocks}
-use Rattle.edid.specs.Found.{is_past, wrong_sum, edid_refusal}
-use Rattle.edid.proofs.Sized.{extended, wrong_length, wrong_total, alone, as_read, first_wrong, second_wrong, sums_right, missing, none_there}
+use Rattle.edid.specs.Screen.{base, extension}
+use Rattle.edid.specs.Found.{wrong_sum, edid_refusal}
+use Rattle.edid.proofs.Sized.{extended, wrong_length, wrong_total, as_none, as_read, first_wrong, second_wrong, sums_right, missing}
 use Rattle.edid.proofs.Collection.read.Goals as goal
 use Rattle.edid.proofs.Collection.read.Goals.{After-first_chunk, then-sum-ne0-via-then-sum-ne0, then-sum-ne0-via-else-sum-ne0+then-sum-ne0-2}
 
@@ -39,8 +39,7 @@ sums c = let e = c.args.edid.now in
 pub returns-in-None : goal.returns-in-None
 returns-in-None c = let e = c.args.edid.now in
     let t = sym c.is_edid.ensures ∙ c.if-not-is_edid.false in
-    let n = missing e t (omega (arith, ap length c.split_at.ensures.back, c.in-None.ensures.cases)) in
-    (alone e t (sums (goal.at.returns-in-None c).After-first_chunk) n, c.split_at.ensures.back ∙ (none_there (extension e) n).0)
+    as_none e t (sums (goal.at.returns-in-None c).After-first_chunk) (missing e t (omega (arith, ap length c.split_at.ensures.back, c.in-None.ensures.cases))) _ c.of.ensures
 
 pub returns-in-Some : goal.returns-in-Some
 returns-in-Some c = let e = c.args.edid.now in
@@ -48,10 +47,4 @@ returns-in-Some c = let e = c.args.edid.now in
     let k = c.in-Some.ensures.cases in
     let n : length (extension e) ≡ 128 = extended e t (omega (arith, k.enough, ap length c.split_at.ensures.back)) in
     let q : c.in-Some.ext.now ≡ extension e = k.same ∙ ap (take 128) c.split_at.ensures.back ∙ take_all 128 (extension e) (omega (arith, n)) in
-    as_read e t (sums (goal.at.returns-in-Some c).After-first_chunk) _ q (ap length q ∙ n) _ c.blocks_of.ensures
-
-pub invariant_of-result : goal.invariant_of-result
-invariant_of-result c = let e = c.args.edid.now in
-    let t = sym c.is_edid.ensures ∙ c.if-not-is_edid.false in
-    let n = missing e t (omega (arith, ap length c.split_at.ensures.back, c.in-None.ensures.cases)) in
-    record { whole = ap (λ (l : List ℕ). is_past (data_blocks l)) c.split_at.ensures.back ∙ (none_there (extension e) n).1 }
+    as_read e t (sums (goal.at.returns-in-Some c).After-first_chunk) _ q (ap length q ∙ n) _ c.of_extension.ensures

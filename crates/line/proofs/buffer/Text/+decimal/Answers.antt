@@ -4,14 +4,14 @@ use Rattle.line.proofs.Digits.{small, large, small_length, large_length}
 use Rattle.line.proofs.Stored.{then}
 use Rattle.line.proofs.buffer.Text.+decimal.Goals as goal
 
-pub digit-requires : goal.digit-requires
-digit-requires t c = (omega (arith, c.requires, small_length c.args.n c.if-n-lt10.true), omega arith)
+pub digit-requires-clause-room : goal.digit-requires-clause-room
+digit-requires-clause-room t c = omega (arith, c.requires, small_length c.args.n c.if-n-lt10.true)
 
 pub decimal-requires : goal.decimal-requires
 decimal-requires t c = (omega (arith, c.decreases, c.if-n-lt10.false), omega (arith, c.requires, large_length c.args.n c.if-n-lt10.false))
 
-pub digit-requires-else-n-lt10 : goal.digit-requires-else-n-lt10
-digit-requires-else-n-lt10 t c = (omega (arith, c.requires, c.decimal.ensures.count, large_length c.args.n c.if-n-lt10.false), omega arith)
+pub digit-requires-else-n-lt10-clause-room : goal.digit-requires-else-n-lt10-clause-room
+digit-requires-else-n-lt10-clause-room t c = omega (arith, c.requires, c.decimal.ensures.count, large_length c.args.n c.if-n-lt10.false)
 
 pub returns-then-n-lt10 : goal.returns-then-n-lt10
 returns-then-n-lt10 t c = rw (small c.args.n c.if-n-lt10.true) c.digit.ensures

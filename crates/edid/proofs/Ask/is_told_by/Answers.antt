@@ -1,4 +1,4 @@
--- `edid::is_in` meets its contract: by the question, and by the block's tag. Assumes nothing.
+-- `edid::Ask::is_told_by` meets its contract: by the question, and by the block's tag. Assumes nothing.
 use mathlib.Core.Path.{◌∙◌}
 use Prim.Native.Nat.{◌%◌}
 use lib.Dec.{eqb}
@@ -7,7 +7,7 @@ use borrow.Author.Tests.{tests, eq-eqb}
 use Rattle.std.proofs.lemmas.Iterator.{YieldsList-from_slice}
 use Rattle.std.proofs.lemmas.Iterator.Search.{any_from_yields_List}
 use Rattle.edid.proofs.Some.{vic_among}
-use Rattle.edid.proofs.is_in.Goals as goal
+use Rattle.edid.proofs.Ask.is_told_by.Goals as goal
 
 pub returns-then-tag-eq-VIDEO : goal.returns-then-tag-eq-VIDEO
 returns-then-tag-eq-VIDEO c =
