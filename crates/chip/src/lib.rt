@@ -1,10 +1,11 @@
 // The chip machine: document 01, "The chip machine", and document 02, request 04.
 #![tactic(auto)]
 
-ghost use Rattle.std.specs.Prelude.{◌≡◌, cond, ◌&&◌, ◌||◌, ℕ, ◌+◌, eqb};
+ghost use Rattle.std.specs.Prelude.{◌≡◌, cond, ◌&&◌, ◌||◌, ℕ, ◌+◌, ◌≤◌, eqb, length};
 ghost use Rattle.map.specs.Map.{infoframe_update};
 ghost use Rattle.chip.specs.declared.Chip.{Chip};
-ghost use Rattle.chip.specs.Machine.{matrix, packets, converter, up};
+ghost use Rattle.chip.specs.Groups.{group_of};
+ghost use Rattle.chip.specs.Machine.{matrix, packets, converter, up, holds_of, held, in_use};
 ghost use Rattle.chip.specs.Write.{filled, two, buffer_after, mark_after, Stores, Hands};
 ghost use Rattle.chip.specs.Step.{AnyStep};
 ghost use Rattle.chip.specs.Turn.{Turned, Turn, AtOnce};
@@ -17,8 +18,8 @@ pub use group::{Group, PACKETS};
 use map::Map;
 use refusals::Refusal;
 
-// The state: the register image, the packet buffer, the coefficient buffer, and the mark of a lowered coefficient hold that waits for its
-// Vsync.
+/// The state: the register image, the packet buffer, the coefficient buffer, and the mark of a lowered coefficient hold that waits for its
+/// Vsync.
 #[derive(Clone, Copy, Debug, PartialEq, Eq)]
 pub struct Chip {
     pub image: [u8; 256],
@@ -27,7 +28,7 @@ pub struct Chip {
     pub waiting: bool,
 }
 
-// Whether two packet holds are up in a byte of 0x4A. The three stand side by side, GC the lowest: two are up in 3, 5, 6 and 7.
+/// Whether two packet holds are up in a byte of 0x4A. The three stand side by side, GC the lowest: two are up in 3, 5, 6 and 7.
 pub fn two_up(holds: u8) -> bool
     ensures { result ≡ two holds }
 {
@@ -42,14 +43,14 @@ fn leaves_two(held: u8, address: u8, byte: u8) -> bool
     two_up(held) || (address == Map::INFOFRAME_UPDATE && two_up(byte))
 }
 
-// Whether the coefficient hold is up in a byte of 0x1A.
+/// Whether the coefficient hold is up in a byte of 0x1A.
 pub fn is_held(byte: u8) -> bool
     ensures { result ≡ up matrix byte }
 {
     Group::MATRIX.is_up(byte)
 }
 
-// Whether a mark still waits after a Vsync, by the byte of 0x1A: beside a raised hold it stays.
+/// Whether a mark still waits after a Vsync, by the byte of 0x1A: beside a raised hold it stays.
 pub fn still_waits(byte: u8, waiting: bool) -> bool
     ensures { result ≡ (up matrix byte && waiting) }
 {
@@ -70,12 +71,56 @@ fn fill_packet(image: &[u8; 256], packet: &mut [u8; 32], old: u8, new: u8)
 }
 
 impl Chip {
+    /// The byte of the packet holds.
+    pub fn packet_holds(&self) -> u8
+        ensures { result ≡ holds_of packets self.now.image }
+    {
+        self.image[Map::INFOFRAME_UPDATE as usize]
+    }
+
+    /// Whether the coefficient hold is up.
+    pub fn is_matrix_held(&self) -> bool
+        ensures { result ≡ held self.now }
+    {
+        is_held(self.image[Map::COEFFICIENT_UPDATE as usize])
+    }
+
+    /// Whether the coefficient buffer is in use: its hold is up, or a lowered one waits.
+    pub fn is_buffered(&self) -> bool
+        ensures { result ≡ (self.now.waiting || held self.now) }
+    {
+        self.waiting || self.is_matrix_held()
+    }
+
+    /// Whether its mark still waits after a Vsync.
+    pub fn waits_on(&self) -> bool
+        ensures { result ≡ (held self.now && self.now.waiting) }
+    {
+        still_waits(self.image[Map::COEFFICIENT_UPDATE as usize], self.waiting)
+    }
+
+    /// The bytes of a packet that are in use.
+    pub fn packet_in_use(&self, packet: Group) -> &[u8]
+        ensures in_use { result.now ≡ in_use packets (group_of packet) self.now }
+        ensures long { packet.count ≤ 32 → length result.now ≡ packet.count }
+    {
+        packet.in_use(&self.image, &self.packet, packet.is_up(self.packet_holds()))
+    }
+
+    /// The bytes of the matrix that are in use.
+    pub fn matrix_in_use(&self) -> &[u8]
+        ensures in_use { result.now ≡ in_use converter matrix self.now }
+        ensures long { length result.now ≡ 24 }
+    {
+        Group::MATRIX.in_use(&self.image, &self.coefficients, self.is_buffered())
+    }
+
     // The packet buffer after a byte is stored at an address.
     fn hold_packet(&mut self, address: u8, byte: u8)
         ensures { self.new ≡ record self.old { packet = buffer_after packets address byte self.old } }
     {
         if address == Map::INFOFRAME_UPDATE {
-            let held = self.image[Map::INFOFRAME_UPDATE as usize];
+            let held = self.packet_holds();
             fill_packet(&self.image, &mut self.packet, held, byte);
         }
     }
@@ -88,7 +133,7 @@ impl Chip {
         } }
     {
         if address == Map::COEFFICIENT_UPDATE {
-            let before = is_held(self.image[Map::COEFFICIENT_UPDATE as usize]);
+            let before = self.is_matrix_held();
             match (before, is_held(byte)) {
                 (false, true) => {
                     if !self.waiting {
@@ -102,12 +147,12 @@ impl Chip {
         }
     }
 
-    // A byte stored as it is, and whether it is: not where two packet holds are up or would be.
+    /// A byte stored as it is, and whether it is: not where two packet holds are up or would be.
     // Kept, what may not change: `Stores` says what stands after either answer, in place (B30), and its answer is a yes or no.
     pub fn store(&mut self, address: u8, byte: u8) -> bool
         ensures { Stores self.old address byte result self.new }
     {
-        if leaves_two(self.image[Map::INFOFRAME_UPDATE as usize], address, byte) {
+        if leaves_two(self.packet_holds(), address, byte) {
             return false;
         }
         self.hold_packet(address, byte);
@@ -116,7 +161,7 @@ impl Chip {
         true
     }
 
-    // One write: the new state, or refusal 13.
+    /// One write: the new state, or refusal 13.
     pub fn write(mut self, address: u8, value: u8) -> Result<Chip, Refusal>
         ensures { Hands self address value (wrote_told self result) }
     {
@@ -129,34 +174,33 @@ impl Chip {
         }
     }
 
-    // One Vsync: where the coefficient hold is down, a wait is over, and the registers are in use.
+    /// One Vsync: where the coefficient hold is down, a wait is over, and the registers are in use.
     pub fn vsync(self) -> Chip
         ensures { Turned self result }
     {
-        let hold = self.image[Map::COEFFICIENT_UPDATE as usize];
         Chip {
-            waiting: still_waits(hold, self.waiting),
+            waiting: self.waits_on(),
             ..self
         }
     }
 }
 
-// What each write does and leaves alone.
+/// What each write does and leaves alone.
 pub fn step()
     ensures { AnyStep }
 {}
 
-// What a Vsync does, and what is in use by the mark.
+/// What a Vsync does, and what is in use by the mark.
 pub fn turn()
     ensures { (s : Chip) → Turn s }
 {}
 
-// Enable and mode wait for nothing.
+/// Enable and mode wait for nothing.
 pub fn at_once()
     ensures { (s : Chip) → AtOnce s }
 {}
 
-// Writes and Vsyncs in bare numbers.
+/// Writes and Vsyncs in bare numbers.
 pub fn machine_cases()
     ensures { MachineCases }
 {}

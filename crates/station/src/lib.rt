@@ -4,21 +4,24 @@
 
 ghost use Rattle.std.specs.Prelude.{◌≡◌};
 ghost use Rattle.refusals.specs.Numbered.{given_by, refusal_number, told};
+ghost use Rattle.clock.specs.Numbered.{pair_told};
+ghost use Rattle.matrix.specs.Numbered.{pixel_told};
 ghost use Rattle.pipe.specs.Numbered.{piped_told};
-ghost use Rattle.station.specs.Face.{StationPlan, StationDecode, StationNcts};
-ghost use Rattle.station.specs.Matrices.{StationPreview, StationMeter};
+ghost use Rattle.edid.specs.Found.{monitor_told, choice_told};
+ghost use Rattle.station.specs.Face.{pair_out, StationPlan, StationDecode, StationNcts};
+ghost use Rattle.station.specs.Matrices.{pixel_out, StationPreview, StationMeter};
 ghost use Rattle.station.specs.Pipe.{piped_out, StationPipeTake, StationPipeEnd};
-ghost use Rattle.station.specs.Screen.{StationEdid, StationChoose};
+ghost use Rattle.station.specs.Screen.{monitor_out, choice_out, StationEdid, StationChoose};
 
 pub mod machine;
 
 use clock::NCts;
-use edid::Chosen;
+use edid::{Chosen, Screen};
 use matrix::Codes;
 use pipe::Said;
 use refusals::Refusal;
 
-// struct station_count
+/// `struct station_count`.
 #[repr(C)]
 #[derive(Clone, Copy)]
 pub struct CountOut {
@@ -40,7 +43,7 @@ impl From<Result<u32, Refusal>> for CountOut {
     }
 }
 
-// struct station_pair
+/// `struct station_pair`.
 #[repr(C)]
 #[derive(Clone, Copy, Default)]
 pub struct PairOut {
@@ -49,7 +52,21 @@ pub struct PairOut {
     pub cts: u32,
 }
 
-// struct station_pixel
+impl From<Result<NCts, Refusal>> for PairOut {
+    ghost from_gives = { λ answer out. out ≡ pair_out (pair_told answer) };
+
+    fn from(answer: Result<NCts, Refusal>) -> PairOut {
+        match answer {
+            Ok(NCts { n, cts }) => PairOut { refusal: 0, n, cts },
+            Err(refusal) => PairOut {
+                refusal: number(refusal),
+                ..PairOut::default()
+            },
+        }
+    }
+}
+
+/// `struct station_pixel`.
 #[repr(C)]
 #[derive(Clone, Copy, Default)]
 pub struct PixelOut {
@@ -59,7 +76,26 @@ pub struct PixelOut {
     pub c: u32,
 }
 
-// struct station_piped
+impl From<Result<Codes, Refusal>> for PixelOut {
+    ghost from_gives = { λ answer out. out ≡ pixel_out (pixel_told answer) };
+
+    fn from(answer: Result<Codes, Refusal>) -> PixelOut {
+        match answer {
+            Ok(Codes { a, b, c }) => PixelOut {
+                refusal: 0,
+                a: a.into(),
+                b: b.into(),
+                c: c.into(),
+            },
+            Err(refusal) => PixelOut {
+                refusal: number(refusal),
+                ..PixelOut::default()
+            },
+        }
+    }
+}
+
+/// `struct station_piped`.
 #[repr(C)]
 #[derive(Clone, Copy, Default)]
 pub struct PipedOut {
@@ -92,7 +128,7 @@ impl From<Said> for PipedOut {
     }
 }
 
-// struct station_monitor
+/// `struct station_monitor`.
 #[repr(C)]
 #[derive(Clone, Copy, Default)]
 pub struct MonitorOut {
@@ -103,7 +139,27 @@ pub struct MonitorOut {
     pub rates_8: u32,
 }
 
-// struct station_choice
+impl From<Result<Screen, Refusal>> for MonitorOut {
+    ghost from_gives = { λ answer out. out ≡ monitor_out (monitor_told answer) };
+
+    fn from(answer: Result<Screen, Refusal>) -> MonitorOut {
+        match answer {
+            Ok(screen) => MonitorOut {
+                refusal: 0,
+                vics_low: screen.vics_low,
+                vics_high: screen.vics_high,
+                rates_2: screen.rates_2,
+                rates_8: screen.rates_8,
+            },
+            Err(refusal) => MonitorOut {
+                refusal: number(refusal),
+                ..MonitorOut::default()
+            },
+        }
+    }
+}
+
+/// `struct station_choice`.
 #[repr(C)]
 #[derive(Clone, Copy, Default)]
 pub struct ChoiceOut {
@@ -112,111 +168,91 @@ pub struct ChoiceOut {
     pub at: u32,
 }
 
+impl From<Result<Chosen, Refusal>> for ChoiceOut {
+    ghost from_gives = { λ answer out. out ≡ choice_out (choice_told answer) };
+
+    fn from(answer: Result<Chosen, Refusal>) -> ChoiceOut {
+        match answer {
+            Ok(Chosen { place, at }) => ChoiceOut {
+                refusal: 0,
+                place,
+                at,
+            },
+            Err(refusal) => ChoiceOut {
+                refusal: number(refusal),
+                ..ChoiceOut::default()
+            },
+        }
+    }
+}
+
 // The number that C is told of a refusal.
+// Kept, no plainer: `Refusal` and `u32` are of other crates, so that no `From` for the two can stand here.
 fn number(refusal: Refusal) -> u32
     ensures { result ≡ refusal_number refusal }
 {
     u8::from(refusal).into()
 }
 
-// The write list of a request on an image, as pairs of address and value: refusals 1 to 6, 17, 20 and 7 to 10.
+/// The write list of a request on an image, as pairs of address and value: refusals 1 to 6, 17, 20 and 7 to 10.
 pub fn station_plan(request: &[u8], image: &[u8], writes: &mut [u8]) -> CountOut
     ensures { StationPlan request.now image.now writes.old result writes.new }
 {
     plan::plan(request, image, writes).into()
 }
 
-// The request that ends in an image, family 0: refusals 7, 10 and 11. The count is that of its bytes.
+/// The request that ends in an image, family 0: refusals 7, 10 and 11. The count is that of its bytes.
 pub fn station_decode(image: &[u8], request: &mut [u8]) -> CountOut
     ensures { StationDecode image.now request.old result request.new }
 {
     decode::decode(image, request).into()
 }
 
-// N and CTS over a request: refusals 1 to 6, 17, 20 and 9.
+/// N and CTS over a request: refusals 1 to 6, 17, 20 and 9.
 pub fn station_ncts(request: &[u8]) -> PairOut
     ensures { StationNcts request.now result }
 {
-    match request::ncts(request) {
-        Ok(NCts { n, cts }) => PairOut { refusal: 0, n, cts },
-        Err(refusal) => PairOut {
-            refusal: number(refusal),
-            ..PairOut::default()
-        },
-    }
+    request::ncts(request).into()
 }
 
-// Three codes through a matrix, 25 bytes as the request has them: refusals 5 and 12.
+/// Three codes through a matrix, 25 bytes as the request has them: refusals 5 and 12.
 pub fn station_preview(matrix: &[u8], a: u32, b: u32, c: u32) -> PixelOut
     ensures { StationPreview matrix.now a b c result }
 {
-    match matrix::preview(matrix, a, b, c) {
-        Ok(Codes { a, b, c }) => PixelOut {
-            refusal: 0,
-            a: a.into(),
-            b: b.into(),
-            c: c.into(),
-        },
-        Err(refusal) => PixelOut {
-            refusal: number(refusal),
-            ..PixelOut::default()
-        },
-    }
+    matrix::preview(matrix, a, b, c).into()
 }
 
-// A colour meter's twelve numbers as a matrix, 25 bytes as the request has them: refusals 5, 10, 18 and 19.
+/// A colour meter's twelve numbers as a matrix, 25 bytes as the request has them: refusals 5, 10, 18 and 19.
 pub fn station_meter(numbers: &[f32], matrix: &mut [u8]) -> CountOut
     ensures { StationMeter numbers.now matrix.old result matrix.new }
 {
     meter::take_matrix(numbers, matrix).into()
 }
 
-// A part of a request, into a pipe: refusals 2 and 3 at once, and 7 of bytes that are no pipe.
+/// A part of a request, into a pipe: refusals 2 and 3 at once, and 7 of bytes that are no pipe.
 pub fn station_pipe_take(pipe: &mut [u8], part: &[u8]) -> PipedOut
     ensures { StationPipeTake pipe.old part.now result pipe.new }
 {
     pipe::take(pipe, part).into()
 }
 
-// The end of the input: refusals 1 to 6, 17, 20 and 9, and 7 of bytes that are no pipe.
+/// The end of the input: refusals 1 to 6, 17, 20 and 9, and 7 of bytes that are no pipe.
 pub fn station_pipe_end(pipe: &mut [u8]) -> PipedOut
     ensures { StationPipeEnd pipe.old result pipe.new }
 {
     pipe::end(pipe).into()
 }
 
-// What a screen says of itself: refusals 21 to 23.
+/// What a screen says of itself: refusals 21 to 23.
 pub fn station_edid(edid: &[u8]) -> MonitorOut
     ensures { StationEdid edid.now result }
 {
-    match edid::overview(edid) {
-        Ok(screen) => MonitorOut {
-            refusal: 0,
-            vics_low: screen.vics_low,
-            vics_high: screen.vics_high,
-            rates_2: screen.rates_2,
-            rates_8: screen.rates_8,
-        },
-        Err(refusal) => MonitorOut {
-            refusal: number(refusal),
-            ..MonitorOut::default()
-        },
-    }
+    edid::overview(edid).into()
 }
 
-// The first wish that fits a request and a screen: refusals 21 to 24.
+/// The first wish that fits a request and a screen: refusals 21 to 24.
 pub fn station_choose(edid: &[u8], request: &[u8], wishes: &[u8]) -> ChoiceOut
     ensures { StationChoose edid.now request.now wishes.now result }
 {
-    match edid::choose(edid, request, wishes) {
-        Ok(Chosen { place, at }) => ChoiceOut {
-            refusal: 0,
-            place,
-            at,
-        },
-        Err(refusal) => ChoiceOut {
-            refusal: number(refusal),
-            ..ChoiceOut::default()
-        },
-    }
+    edid::choose(edid, request, wishes).into()
 }

@@ -2,15 +2,18 @@
 ghost use Rattle.std.specs.Prelude.{◌≡◌};
 ghost use Rattle.refusals.specs.Numbered.{given_by};
 ghost use Rattle.views.specs.Entry.{lent};
-ghost use Rattle.station.specs.Machine.{StationWrite, StationVsync, StationSent, StationMute, StationMatrix, StationClass};
-ghost use Rattle.station.specs.Vet.{StationVet};
+ghost use Rattle.views.specs.Numbered.{part_told, mute_told};
+ghost use Rattle.vendor.specs.Numbered.{verdict_told};
+ghost use Rattle.station.specs.Machine.{part_out, mute_out, class_out, StationWrite, StationVsync, StationSent, StationMute, StationMatrix, StationClass};
+ghost use Rattle.station.specs.Vet.{verdict_out, StationVet};
 
 use crate::{CountOut, number};
 use refusals::Refusal;
+use registers::Class;
 use vendor::Fault;
 use views::Place;
 
-// struct station_part
+/// `struct station_part`.
 #[repr(C)]
 #[derive(Clone, Copy, Default)]
 pub struct PartOut {
@@ -20,7 +23,26 @@ pub struct PartOut {
     pub len: u32,
 }
 
-// struct station_state
+impl From<Result<Place, Refusal>> for PartOut {
+    ghost from_gives = { λ answer out. out ≡ part_out (part_told answer) };
+
+    fn from(answer: Result<Place, Refusal>) -> PartOut {
+        match answer {
+            Ok(Place { held, start, len }) => PartOut {
+                refusal: 0,
+                held: held.into(),
+                start,
+                len,
+            },
+            Err(refusal) => PartOut {
+                refusal: number(refusal),
+                ..PartOut::default()
+            },
+        }
+    }
+}
+
+/// `struct station_state`.
 #[repr(C)]
 #[derive(Clone, Copy)]
 pub struct StateOut {
@@ -28,7 +50,24 @@ pub struct StateOut {
     pub mute: u32,
 }
 
-// struct station_verdict
+impl From<Result<u8, Refusal>> for StateOut {
+    ghost from_gives = { λ answer out. out ≡ mute_out (mute_told answer) };
+
+    fn from(answer: Result<u8, Refusal>) -> StateOut {
+        match answer {
+            Ok(mute) => StateOut {
+                refusal: 0,
+                mute: mute.into(),
+            },
+            Err(refusal) => StateOut {
+                refusal: number(refusal),
+                mute: 0,
+            },
+        }
+    }
+}
+
+/// `struct station_verdict`.
 #[repr(C)]
 #[derive(Clone, Copy, Default)]
 pub struct VerdictOut {
@@ -36,7 +75,25 @@ pub struct VerdictOut {
     pub place: u32,
 }
 
-// struct station_masks
+impl From<Result<(), Fault>> for VerdictOut {
+    ghost from_gives = { λ answer out. out ≡ verdict_out (verdict_told answer) };
+
+    fn from(answer: Result<(), Fault>) -> VerdictOut {
+        match answer {
+            Ok(()) => VerdictOut::default(),
+            Err(Fault::Refused(refusal)) => VerdictOut {
+                refusal: number(refusal),
+                place: 0,
+            },
+            Err(Fault::Pair { place }) => VerdictOut {
+                refusal: number(Refusal::BadPair),
+                place,
+            },
+        }
+    }
+}
+
+/// `struct station_masks`.
 #[repr(C)]
 #[derive(Clone, Copy)]
 pub struct ClassOut {
@@ -47,7 +104,22 @@ pub struct ClassOut {
     pub bits: u32,
 }
 
+impl From<Class> for ClassOut {
+    ghost from_gives = { λ class out. out ≡ class_out class };
+
+    fn from(class: Class) -> ClassOut {
+        ClassOut {
+            read_only: class.read_only.into(),
+            mandated: class.mandated.into(),
+            named: class.named.into(),
+            free: class.free.into(),
+            bits: class.bits.into(),
+        }
+    }
+}
+
 // 0, or the number of the refusal.
+// Kept, no plainer: `Result` and `u32` are of other crates, so that no `From` for the two can stand here.
 fn refused(answer: Result<(), Refusal>) -> u32
     ensures { result ≡ given_by answer }
 {
@@ -57,7 +129,7 @@ fn refused(answer: Result<(), Refusal>) -> u32
     }
 }
 
-// One write of the chip machine: refusals 7 and 13.
+/// One write of the chip machine: refusals 7 and 13.
 pub fn station_write(
     image: &mut [u8],
     packet: &mut [u8],
@@ -72,7 +144,7 @@ pub fn station_write(
     refused(views::write_into(image, packet, coefficients, mark, address, value))
 }
 
-// One Vsync of the chip machine: refusal 7.
+/// One Vsync of the chip machine: refusal 7.
 pub fn station_vsync(
     image: &mut [u8],
     packet: &mut [u8],
@@ -85,48 +157,28 @@ pub fn station_vsync(
     refused(views::vsync_into(image, packet, coefficients, mark))
 }
 
-// Where the packet that is sent stands: refusals 5, 7 and 13.
+/// Where the packet that is sent stands: refusals 5, 7 and 13.
 pub fn station_sent(image: &[u8], packet: &[u8], which: u32) -> PartOut
     ensures { StationSent image.now packet.now which result }
 {
-    match views::sent_part(image, packet, which) {
-        Ok(Place { held, start, len }) => PartOut {
-            refusal: 0,
-            held: held.into(),
-            start,
-            len,
-        },
-        Err(refusal) => PartOut {
-            refusal: number(refusal),
-            ..PartOut::default()
-        },
-    }
+    views::sent_part(image, packet, which).into()
 }
 
-// The mute bits: refusals 7 and 13.
+/// The mute bits: refusals 7 and 13.
 pub fn station_mute(image: &[u8], packet: &[u8]) -> StateOut
     ensures { StationMute image.now packet.now result }
 {
-    match views::mute_of(image, packet) {
-        Ok(mute) => StateOut {
-            refusal: 0,
-            mute: mute.into(),
-        },
-        Err(refusal) => StateOut {
-            refusal: number(refusal),
-            mute: 0,
-        },
-    }
+    views::mute_of(image, packet).into()
 }
 
-// The mode and the twelve coefficients in use, as a request has them: refusals 7 and 10.
+/// The mode and the twelve coefficients in use, as a request has them: refusals 7 and 10.
 pub fn station_matrix(image: &[u8], coefficients: &[u8], mark: u8, matrix: &mut [u8]) -> CountOut
     ensures { StationMatrix image.now coefficients.now mark matrix.old result matrix.new }
 {
     views::matrix_in_use(image, coefficients, mark, matrix).into()
 }
 
-// Whether a vendor's list may be run on the chip: refusals 7, 8, 14, 15 and 16; with 15 the place of the first bad pair.
+/// Whether a vendor's list may be run on the chip: refusals 7, 8, 14, 15 and 16; with 15 the place of the first bad pair.
 pub fn station_vet(
     image: &[u8],
     packet: &[u8],
@@ -136,29 +188,12 @@ pub fn station_vet(
 ) -> VerdictOut
     ensures { StationVet image.now packet.now coefficients.now mark list.now result }
 {
-    match vendor::vet(image, packet, coefficients, mark, list) {
-        Ok(()) => VerdictOut::default(),
-        Err(Fault::Refused(refusal)) => VerdictOut {
-            refusal: number(refusal),
-            place: 0,
-        },
-        Err(Fault::Pair { place }) => VerdictOut {
-            refusal: number(Refusal::BadPair),
-            place,
-        },
-    }
+    vendor::vet(image, packet, coefficients, mark, list).into()
 }
 
-// The class of a register's bits: four masks, and the mandated bits.
+/// The class of a register's bits: four masks, and the mandated bits.
 pub fn station_class(address: u8) -> ClassOut
     ensures { StationClass address result }
 {
-    let class = registers::class_at(address);
-    ClassOut {
-        read_only: class.read_only.into(),
-        mandated: class.mandated.into(),
-        named: class.named.into(),
-        free: class.free.into(),
-        bits: class.bits.into(),
-    }
+    registers::class_at(address).into()
 }

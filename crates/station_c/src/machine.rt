@@ -6,7 +6,7 @@ ghost use Rattle.station.specs.Vet.{StationVet};
 use station::CountOut;
 use station::machine::{ClassOut, PartOut, StateOut, VerdictOut};
 
-// One write of the chip machine: refusals 7 and 13.
+/// One write of the chip machine: refusals 7 and 13.
 #[unsafe(no_mangle)]
 pub extern "C" fn station_write(
     image: &mut [u8],
@@ -22,7 +22,7 @@ pub extern "C" fn station_write(
     station::machine::station_write(image, packet, coefficients, mark, address, value)
 }
 
-// One Vsync of the chip machine: refusal 7.
+/// One Vsync of the chip machine: refusal 7.
 #[unsafe(no_mangle)]
 pub extern "C" fn station_vsync(
     image: &mut [u8],
@@ -36,7 +36,7 @@ pub extern "C" fn station_vsync(
     station::machine::station_vsync(image, packet, coefficients, mark)
 }
 
-// Where the packet that is sent stands: refusals 5, 7 and 13.
+/// Where the packet that is sent stands: refusals 5, 7 and 13.
 #[unsafe(no_mangle)]
 pub extern "C" fn station_sent(image: &[u8], packet: &[u8], which: u32) -> PartOut
     ensures { StationSent image.now packet.now which result }
@@ -44,7 +44,7 @@ pub extern "C" fn station_sent(image: &[u8], packet: &[u8], which: u32) -> PartO
     station::machine::station_sent(image, packet, which)
 }
 
-// The mute bits: refusals 7 and 13.
+/// The mute bits: refusals 7 and 13.
 #[unsafe(no_mangle)]
 pub extern "C" fn station_mute(image: &[u8], packet: &[u8]) -> StateOut
     ensures { StationMute image.now packet.now result }
@@ -52,7 +52,7 @@ pub extern "C" fn station_mute(image: &[u8], packet: &[u8]) -> StateOut
     station::machine::station_mute(image, packet)
 }
 
-// The mode and the twelve coefficients in use, as a request has them: refusals 7 and 10.
+/// The mode and the twelve coefficients in use, as a request has them: refusals 7 and 10.
 #[unsafe(no_mangle)]
 pub extern "C" fn station_matrix(
     image: &[u8],
@@ -65,7 +65,7 @@ pub extern "C" fn station_matrix(
     station::machine::station_matrix(image, coefficients, mark, matrix)
 }
 
-// Whether a vendor's list may be run on the chip: refusals 7, 8, 14, 15 and 16; with 15 the place of the first bad pair.
+/// Whether a vendor's list may be run on the chip: refusals 7, 8, 14, 15 and 16; with 15 the place of the first bad pair.
 #[unsafe(no_mangle)]
 pub extern "C" fn station_vet(
     image: &[u8],
@@ -79,7 +79,7 @@ pub extern "C" fn station_vet(
     station::machine::station_vet(image, packet, coefficients, mark, list)
 }
 
-// The class of a register's bits: four masks, and the mandated bits.
+/// The class of a register's bits: four masks, and the mandated bits.
 #[unsafe(no_mangle)]
 pub extern "C" fn station_class(address: u8) -> ClassOut
     ensures { StationClass address result }

@@ -1,23 +1,21 @@
 -- What the code tests of a list is what the contracts say: the holds, the bytes in use, and one test after another.
 -- Assumes nothing.
 use mathlib.Core.Path.{◌≡◌, refl, sym, ap, ◌∙◌}
-use mathlib.Core.Bool.{Bool, true, false, cond, not, ◌&&◌, ◌||◌}
+use mathlib.Core.Bool.{Bool, true, false, not, ◌&&◌, ◌||◌}
 use mathlib.Core.List.{List}
 use Prim.Native.Nat.{ℕ}
 use lib.Dec.{eqb}
 use native.Mathlib.Omega.{arith}
-use lib.ListN.{length, take, drop, length-drop}
+use lib.ListN.{length, drop, length-drop}
 use lib.Seq.{length-take-le}
 use borrow.Author.Tests.{eq-eqb, eqb-true, not-true, not-false}
 use Rattle.lists.proofs.Both.{both_left, both_right, neither_left, neither_right}
 use Rattle.matrix.specs.Matrix.{fields}
 use Rattle.matrix.specs.Read.{twelve_of}
 use Rattle.chip.specs.declared.Chip.{Chip}
-use Rattle.chip.specs.Machine.{Group, Buffer, avi, audio, matrix, packets, converter, up, holds_of, registers_of, in_use, coefficients}
-use Rattle.vendor.specs.Numbered.{Moving}
-use Rattle.writes.specs.List.{covers}
+use Rattle.chip.specs.Machine.{Group, avi, audio, matrix, packets, converter, up, holds_of, registers_of, covers, in_use, coefficients}
 use Rattle.cut.specs.Run.{InUse}
-use Rattle.vendor.specs.Found.{at_write, packet_moving, matrix_moving, may_move, one_of, is_whole}
+use Rattle.vendor.specs.Found.{packet_moving, matrix_moving, may_move, one_of, is_whole}
 
 -- tests in a row, each as the code asks for it to fail: one that fails ends them, one that passes leaves the rest
 pub failed : {r a : Bool} (b : Bool) → r ≡ a → not r ≡ true → false ≡ (a && b)
@@ -65,24 +63,9 @@ still old new a held image waiting e f =
 pub twelve_fields : (bytes : List ℕ) {twelve : List ℕ} → length bytes ≡ 24 → twelve ≡ twelve_of bytes → twelve ≡ fields bytes
 twelve_fields bytes h e = rw (e, eq-eqb _ _ h)
 
--- the coefficients' registers, and those of their bytes that are in use
+-- the coefficients' registers
 pub matrix_long : (image : List ℕ) → length image ≡ 256 → length (registers_of matrix image) ≡ 24
 matrix_long image h = length-take-le 24 (drop 24 image) (simp length-drop (omega arith))
-
-pub used_long : (s : Chip) → length s.image ≡ 256 → length s.coefficients ≡ 24 → length (in_use converter matrix s) ≡ 24
-unfolding in_use
-used_long s h k = go (s.waiting || up matrix (holds_of converter s.image))
-  where
-    go : (b : Bool) → length (cond b (take 24 s.coefficients) (registers_of matrix s.image)) ≡ 24
-    go true = length-take-le 24 s.coefficients (omega arith)
-    go false = matrix_long s.image h
-
--- a group's bytes in use
-pub used : (b : Buffer) (g : Group) (s : Chip) {before : Bool} {m : Moving} {bytes : List ℕ}
-    → m ≡ at_write g before (b.waits s || up g (holds_of b s.image))
-    → bytes ≡ cond m.after (take m.count (b.bytes s)) (take m.count (drop m.first s.image)) → bytes ≡ in_use b g s
-unfolding in_use
-used b g s e f = f ∙ ap (λ (m : Moving). cond m.after (take m.count (b.bytes s)) (take m.count (drop m.first s.image))) e
 
 pub twelve_used : (s : Chip) {bytes twelve : List ℕ} → bytes ≡ in_use converter matrix s → length bytes ≡ 24 → twelve ≡ twelve_of bytes → twelve ≡ coefficients s
 unfolding coefficients

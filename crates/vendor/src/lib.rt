@@ -1,15 +1,15 @@
 // Reading a write list that a vendor brings: document 02, requests 03 and 04.
 #![tactic(auto)]
 
-ghost use Rattle.std.specs.Prelude.{◌≡◌, false, cond, not, ◌&&◌, ◌||◌, List, [], ℕ, ◌≤◌, eqb, length, take};
+ghost use Rattle.std.specs.Prelude.{◌≡◌, false, cond, not, ◌&&◌, ◌||◌, List, [], ℕ, ◌≤◌, eqb, length};
 ghost use Rattle.lists.specs.Same.{same_list};
 ghost use Rattle.bits.specs.Merge.{under};
 ghost use Rattle.matrix.specs.Matrix.{fields};
 ghost use Rattle.chip.specs.declared.Chip.{Chip};
-ghost use Rattle.chip.specs.Machine.{avi, audio, matrix, packets, up, holds_of, registers_of, mute};
+ghost use Rattle.chip.specs.Machine.{avi, audio, matrix, packets, up, holds_of, registers_of, covers, mute};
 ghost use Rattle.chip.specs.Groups.{group_of};
 ghost use Rattle.chip.specs.Write.{lent_as, two, holds_after, vsync_of, Stores};
-ghost use Rattle.writes.specs.List.{pairs_of, covers};
+ghost use Rattle.writes.specs.List.{pairs_of};
 ghost use Rattle.views.specs.Entry.{marked};
 ghost use Rattle.decode.specs.Decode.{some_ends};
 ghost use Rattle.cut.specs.Run.{all_in_use};
@@ -69,14 +69,6 @@ struct Moves {
     after: bool,
 }
 
-// Whether an address is one of a group's registers.
-fn covers(group: Group, address: u8) -> bool
-    ensures { result ≡ covers (group_of group) address }
-{
-    let end = usize::from(group.first) + usize::from(group.count);
-    (group.first <= address) & (usize::from(address) < end)
-}
-
 impl Moves {
     // A packet, by the byte of the packet holds before a write and after it.
     fn packet(group: Group, before: u8, after: u8) -> Moves
@@ -93,23 +85,10 @@ impl Moves {
     fn matrix(state: &Chip) -> Moves
         ensures { moves_told result ≡ matrix_moving state.now.waiting state.now.image }
     {
-        let held = chip::is_held(state.image[Map::COEFFICIENT_UPDATE as usize]);
         Moves {
             group: Group::MATRIX,
             before: false,
-            after: state.waiting | held,
-        }
-    }
-
-    // Its bytes in use: the front of its buffer, or its registers.
-    fn in_use<'a>(self, image: &'a [u8; 256], buffer: &'a [u8]) -> &'a [u8]
-        requires { self.group.count ≤ length buffer.now }
-        ensures { result.now ≡ cond self.after (take self.group.count buffer.now) (registers_of (group_of self.group) image.now) }
-    {
-        if self.after {
-            &buffer[..usize::from(self.group.count)]
-        } else {
-            self.group.registers(image)
+            after: state.is_buffered(),
         }
     }
 
@@ -117,7 +96,7 @@ impl Moves {
     fn may_move(self, address: u8) -> bool
         ensures { result ≡ may_move (moves_told self) address }
     {
-        !self.after & (self.before | covers(self.group, address))
+        !self.after & (self.before | self.group.covers(address))
     }
 
     // A packet after a write: where it may have moved, its registers are one of the two.
@@ -138,13 +117,10 @@ impl Moves {
 fn in_use(s: &Chip) -> Used
     ensures { shown result ≡ all_in_use s.now }
 {
-    let holds = s.image[Map::INFOFRAME_UPDATE as usize];
-    let avi = Moves::packet(Group::AVI, holds, holds);
-    let audio = Moves::packet(Group::AUDIO, holds, holds);
     Used {
-        avi: array(avi.in_use(&s.image, &s.packet)),
-        audio: array(audio.in_use(&s.image, &s.packet)),
-        matrix: matrix::twelve(Moves::matrix(s).in_use(&s.image, &s.coefficients)),
+        avi: array(s.packet_in_use(Group::AVI)),
+        audio: array(s.packet_in_use(Group::AUDIO)),
+        matrix: matrix::twelve(s.matrix_in_use()),
     }
 }
 
@@ -178,9 +154,9 @@ fn is_still(pair: Written, holds: u8) -> bool
     ensures { result ≡ (not (covers avi pair.address || (covers audio pair.address || covers matrix pair.address)) &&
         eqb pair.held holds) }
 {
-    let avi = covers(Group::AVI, pair.address);
-    let audio = covers(Group::AUDIO, pair.address);
-    let matrix = covers(Group::MATRIX, pair.address);
+    let avi = Group::AVI.covers(pair.address);
+    let audio = Group::AUDIO.covers(pair.address);
+    let matrix = Group::MATRIX.covers(pair.address);
     !(avi | (audio | matrix)) & (pair.held == holds)
 }
 
@@ -205,7 +181,7 @@ impl Ways {
     fn is_whole(&self, state: &Chip, pair: Written) -> bool
         ensures { result ≡ is_whole (shown self.now.old) (shown self.now.new) pair.address pair.held state.now.image state.now.waiting }
     {
-        let holds = state.image[Map::INFOFRAME_UPDATE as usize];
+        let holds = state.packet_holds();
         let avi = Moves::packet(Group::AVI, pair.held, holds);
         let audio = Moves::packet(Group::AUDIO, pair.held, holds);
         avi.is_kept(pair.address, &state.image, &self.old.avi, &self.new.avi)
@@ -220,7 +196,7 @@ impl Ways {
     {
         if !is_muted(state) {
             false
-        } else if is_still(pair, state.image[Map::INFOFRAME_UPDATE as usize]) {
+        } else if is_still(pair, state.packet_holds()) {
             true
         } else {
             self.is_whole(state, pair)
@@ -231,7 +207,7 @@ impl Ways {
     fn is_turned(&self, state: &Chip) -> bool
         ensures { result ≡ is_turned (shown self.now.old) (shown self.now.new) state.now.image state.now.waiting }
     {
-        let held = chip::is_held(state.image[Map::COEFFICIENT_UPDATE as usize]);
+        let held = state.is_matrix_held();
         if state.waiting & !held {
             self.is_either(&state.image)
         } else {
@@ -271,8 +247,7 @@ fn turn(state: &mut Chip, event: bool)
     ensures { state.new ≡ cond event (vsync_of state.old) state.old }
 {
     if event {
-        let hold = state.image[Map::COEFFICIENT_UPDATE as usize];
-        state.waiting = chip::still_waits(hold, state.waiting);
+        state.waiting = state.waits_on();
     }
 }
 
@@ -328,7 +303,7 @@ fn first_fault(start: Chip, ways: &Ways, list: &[[u8; 2]], count: usize) -> usiz
         if !fair {
             return i;
         }
-        let held = state.image[Map::INFOFRAME_UPDATE as usize];
+        let held = state.packet_holds();
         let byte = bits::merge(columns.read_only[at], before, value);
         store(&mut state, address, byte);
         let event = i + 2 == count;

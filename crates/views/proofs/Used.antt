@@ -1,12 +1,11 @@
 -- What the converter goes by, byte by byte. Assumes nothing.
 use mathlib.Core.Path.{◌≡◌, refl, sym, ap, ap₂, ◌∙◌}
 use mathlib.Core.Logic.{◌≢◌}
-use mathlib.Core.Bool.{Bool, true, false, cond, ◌||◌}
 use mathlib.Core.List.{List, ◌∷◌, ◌++◌}
 use Prim.Native.Nat.{ℕ, ◌/◌, ◌%◌, ◌≤◌, ◌<◌}
 use native.Mathlib.Omega.{arith}
-use lib.ListN.{length, get_or, take, drop, length-drop}
-use lib.Seq.{take_all, length-take-le}
+use lib.Dec.{lit≤}
+use lib.ListN.{length, get_or, drop}
 use borrow.Author.Tests.{eq-eqb, ne_eqb, lt-ltb, le-ltb}
 use Rattle.lists.proofs.Decides.{less}
 use Rattle.lists.specs.Over.{over}
@@ -20,8 +19,9 @@ use Rattle.matrix.specs.Body.{body_of}
 use Rattle.matrix.proofs.Body.{unmoved}
 use Rattle.matrix.proofs.Pairs.{fields_small, length_fields, length_bytes, fields_said}
 use Rattle.chip.specs.declared.Chip.{Chip}
+use Rattle.chip.proofs.Used.{in_use_long}
 use Rattle.views.specs.Numbered.{Count}
-use Rattle.chip.specs.Machine.{matrix, converter, registers_of, up, holds_of, in_use, coefficients, mode_in_use}
+use Rattle.chip.specs.Machine.{matrix, converter, in_use, coefficients, mode_in_use}
 use Rattle.views.specs.Entry.{marked}
 use Rattle.views.specs.Converter.{asked_of, matrix_bytes, matrix_tests, matrix_refusal, no_count, matrix_answer, matrix_out}
 use Rattle.views.specs.Refusals.{matrix_rules, MatrixRefusals}
@@ -73,29 +73,15 @@ module _ (image buffer : List ℕ) (mark : ℕ) (out : List ℕ) where
   bytes_used = in_use converter matrix (asked_of image buffer mark)
 
   module _ (l : length image ≡ 256) (k : length buffer ≡ 24) where
-    -- the buffer's where a lowered hold waits or the hold is up, else the registers
-    pub used : cond (marked mark || up matrix (get_or image 0x1A 0)) buffer (registers_of matrix image) ≡ in_use converter matrix (asked_of image buffer mark)
-    unfolding in_use
-    used = go (marked mark || up matrix (get_or image 0x1A 0))
-      where
-        go : (b : Bool) → cond b buffer (registers_of matrix image) ≡ cond b (take 24 buffer) (registers_of matrix image)
-        go true = sym (take_all 24 buffer (omega arith))
-        go false = refl
-
-    -- 24 they are
-    pub in_use_long : length (in_use converter matrix (asked_of image buffer mark)) ≡ 24
-    unfolding in_use
-    in_use_long = go (marked mark || up matrix (holds_of converter image))
-      where
-        go : (b : Bool) → length (cond b (take 24 buffer) (take 24 (drop 24 image))) ≡ 24
-        go true = length-take-le 24 buffer (omega arith)
-        go false = length-take-le 24 (drop 24 image) (simp length-drop (omega arith))
+    -- 24 bytes
+    pub twenty_four : length (in_use converter matrix (asked_of image buffer mark)) ≡ 24
+    twenty_four = in_use_long converter matrix (asked_of image buffer mark) l (lit≤ tt) (omega arith)
 
     bytes_long : length (matrix_bytes image buffer mark) ≡ 25
     unfolding matrix_bytes coefficients
     bytes_long =
         let f = length_fields bytes_used in
-        omega (arith, in_use_long, length_bytes (fields bytes_used))
+        omega (arith, twenty_four, length_bytes (fields bytes_used))
 
     -- the mode, and the coefficients of the bytes in use after it, over the lent bytes
     pub written : (bytes : List ℕ) → bytes ≡ in_use converter matrix (asked_of image buffer mark) → 25 ≤ length out

@@ -1,5 +1,6 @@
 pub mod Numbered
 pub mod Entry
+pub mod Lending
 pub mod Sized
 pub mod Faces
 pub mod View

@@ -1,10 +1,10 @@
 // What the colour converter goes by, over lent slices: documents 01, "The chip machine", and 02, request 04.
-ghost use Rattle.std.specs.Prelude.{◌≡◌, ◌∷◌, cond, ◌||◌, get_or, length};
+ghost use Rattle.std.specs.Prelude.{◌≡◌, [], ◌∷◌, length};
 ghost use Rattle.lists.specs.Over.{over};
-ghost use Rattle.map.specs.Map.{coefficient_update};
 ghost use Rattle.matrix.specs.Coefficient.{coefficient_bytes};
 ghost use Rattle.matrix.specs.Matrix.{fields};
-ghost use Rattle.chip.specs.Machine.{matrix, registers_of, up};
+ghost use Rattle.chip.specs.Machine.{matrix, converter, in_use};
+ghost use Rattle.chip.specs.Write.{lent_as};
 ghost use Rattle.views.specs.Converter.{ShowsMatrix};
 ghost use Rattle.views.specs.Numbered.{count_told};
 
@@ -28,17 +28,14 @@ fn store_matrix(mode: u8, bytes: &[u8], out: &mut [u8])
 
 // The 24 bytes in use: while the hold is up, or a lowered one waits, those of the buffer.
 fn in_use<'a>(image: &'a [u8; 256], coefficients: &'a [u8; 24], waits: bool) -> &'a [u8]
-    ensures { result.now ≡ cond (waits || up matrix (get_or image.now coefficient_update 0)) coefficients.now (registers_of matrix image.now) }
+    ensures { result.now ≡ in_use converter matrix (lent_as image.now [] coefficients.now waits) }
 {
-    if waits || is_held(image[Map::COEFFICIENT_UPDATE as usize]) {
-        coefficients
-    } else {
-        Group::MATRIX.registers(image)
-    }
+    let is_buffered = waits || is_held(image[Map::COEFFICIENT_UPDATE as usize]);
+    Group::MATRIX.in_use(image, coefficients, is_buffered)
 }
 
-// The mode, which acts at once, and the twelve coefficients in use, 25 bytes as the request has them: refusals 7 and 10. While the hold is
-// up, or a lowered one waits, the buffer is in use.
+/// The mode, which acts at once, and the twelve coefficients in use, 25 bytes as the request has them: refusals 7 and 10. While the hold is
+/// up, or a lowered one waits, the buffer is in use.
 pub fn matrix_in_use(
     image: &[u8],
     coefficients: &[u8],

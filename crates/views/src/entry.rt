@@ -3,14 +3,15 @@ ghost use Rattle.std.specs.Prelude.{◌≡◌};
 ghost use Rattle.refusals.specs.Numbered.{given_by};
 ghost use Rattle.refusals.specs.Tests.{lowest};
 ghost use Rattle.chip.specs.Write.{lent_as};
-ghost use Rattle.views.specs.Entry.{marked, lent, slices_of, enter_tests, Gathers, Writes, Turns};
+ghost use Rattle.views.specs.Entry.{marked, lent, state_of, is_lent, enter_tests, Gathers, Writes, Turns};
+ghost use Rattle.views.specs.Lending.{lent_in, LeavesIn};
 ghost use Rattle.views.specs.Sized.{LentSized};
 
 use chip::{Chip, still_waits};
 use map::Map;
 use refusals::Refusal;
 
-// The slices as a state; what a slice is short of is 0, and what does not fit is left out. A mark of 0 is none.
+/// The slices as a state; what a slice is short of is 0, and what does not fit is left out. A mark of 0 is none.
 // Kept, what may not change: `Gathers` gives a state for slices of every length, so that it cannot fail (P4).
 pub fn gathered(image: &[u8], packet: &[u8], coefficients: &[u8], mark: u8) -> Chip
     ensures { Gathers (lent_as image.now packet.now coefficients.now (marked mark)) result }
@@ -27,29 +28,58 @@ pub fn gathered(image: &[u8], packet: &[u8], coefficients: &[u8], mark: u8) -> C
     state
 }
 
-// A state over the slices.
-fn spread(s: &Chip, image: &mut [u8], packet: &mut [u8], coefficients: &mut [u8], mark: &mut [u8])
-    requires { LentSized (lent image.old packet.old coefficients.old mark.old) }
-    ensures { lent image.new packet.new coefficients.new mark.new ≡ slices_of s.now }
-{
-    lists::copy(&s.image, image);
-    lists::copy(&s.packet, packet);
-    lists::copy(&s.coefficients, coefficients);
-    mark[0] = u8::from(s.waiting);
+// The machine as it is lent: its registers, its two buffers, and its mark, which is one byte.
+#[derive(Drop)]
+struct Slices<'a> {
+    image: &'a mut [u8],
+    packet: &'a mut [u8],
+    coefficients: &'a mut [u8],
+    mark: &'a mut [u8],
 }
 
-// Refusal 7: whether the slices have the machine's lengths.
-fn lent(image: &[u8], packet: &[u8], coefficients: &[u8], mark: &[u8]) -> Result<(), Refusal>
-    ensures { given_by result ≡ lowest (enter_tests (lent image.now packet.now coefficients.now mark.now)) }
-{
-    if image.len() == 256 && packet.len() == 32 && coefficients.len() == 24 && mark.len() == 1 {
-        Ok(())
-    } else {
-        Err(Refusal::ImageLength)
+impl Slices<'_> {
+    // Whether the slices have the machine's lengths.
+    fn is_sized(&self) -> bool
+        ensures { result ≡ is_lent (lent_in self.now) }
+    {
+        self.image.len() == 256
+            && self.packet.len() == 32
+            && self.coefficients.len() == 24
+            && self.mark.len() == 1
+    }
+
+    // Refusal 7: of slices that have not.
+    fn sized(&self) -> Result<(), Refusal>
+        ensures { given_by result ≡ lowest (enter_tests (lent_in self.now)) }
+    {
+        if self.is_sized() {
+            Ok(())
+        } else {
+            Err(Refusal::ImageLength)
+        }
+    }
+
+    // The slices as a state.
+    fn state(&self) -> Chip
+        requires { LentSized (lent_in self.now) }
+        ensures { result ≡ state_of (lent_in self.now) }
+    {
+        gathered(self.image, self.packet, self.coefficients, self.mark[0])
+    }
+
+    // A state over the slices.
+    fn leave(&mut self, s: &Chip)
+        requires { LentSized (lent_in self.old) }
+        ensures { LeavesIn self.old s.now self.new }
+    {
+        lists::copy(&s.image, self.image);
+        lists::copy(&s.packet, self.packet);
+        lists::copy(&s.coefficients, self.coefficients);
+        self.mark[0] = u8::from(s.waiting);
     }
 }
 
-// One write of the machine: refusals 7 and 13, and a refused write changes nothing.
+/// One write of the machine: refusals 7 and 13, and a refused write changes nothing.
 // Kept, for the C interface: the machine is lent as its four slices.
 pub fn write_into(
     image: &mut [u8],
@@ -62,14 +92,20 @@ pub fn write_into(
     ensures { Writes (lent image.old packet.old coefficients.old mark.old) address value (given_by result)
         (lent image.new packet.new coefficients.new mark.new) }
 {
-    lent(image, packet, coefficients, mark)?;
-    let before = gathered(image, packet, coefficients, mark[0]);
+    let mut slices = Slices {
+        image,
+        packet,
+        coefficients,
+        mark,
+    };
+    slices.sized()?;
+    let before = slices.state();
     let after = before.write(address, value)?;
-    spread(&after, image, packet, coefficients, mark);
+    slices.leave(&after);
     Ok(())
 }
 
-// One Vsync of the machine: refusal 7, and no byte but the mark changes.
+/// One Vsync of the machine: refusal 7, and no byte but the mark changes.
 // Kept, for the C interface: the machine is lent as its four slices.
 pub fn vsync_into(
     image: &mut [u8],
@@ -80,8 +116,14 @@ pub fn vsync_into(
     ensures { Turns (lent image.old packet.old coefficients.old mark.old) (given_by result)
         (lent image.new packet.new coefficients.new mark.new) }
 {
-    lent(image, packet, coefficients, mark)?;
-    let hold = image[Map::COEFFICIENT_UPDATE as usize];
-    mark[0] = u8::from(still_waits(hold, mark[0] != 0));
+    let slices = Slices {
+        image,
+        packet,
+        coefficients,
+        mark,
+    };
+    slices.sized()?;
+    let hold = slices.image[Map::COEFFICIENT_UPDATE as usize];
+    slices.mark[0] = u8::from(still_waits(hold, slices.mark[0] != 0));
     Ok(())
 }

@@ -10,7 +10,7 @@ use chip::{Group, two_up};
 use map::Map;
 use refusals::Refusal;
 
-// A part of a slice: of the packet buffer where its packet is held, else of the image.
+/// A part of a slice: of the packet buffer where its packet is held, else of the image.
 // Kept, for the C interface: the place and the length are `u32`, as `struct station_part` has them.
 #[derive(Clone, Copy, Debug, PartialEq, Eq)]
 pub struct Place {
@@ -32,7 +32,7 @@ fn lent_refusal(image: &[u8], packet: &[u8]) -> Result<(), Refusal>
     }
 }
 
-// The refusals of a packet that is asked for: 5, 7 and 13.
+/// The refusals of a packet that is asked for: 5, 7 and 13.
 // Kept, for the C interface: a packet is asked for by number, and another number than 0 and 1 is refused.
 pub fn sent_refusal(image: &[u8], packet: &[u8], which: u32) -> Result<(), Refusal>
     ensures { Refuses image.now packet.now which (given_by result) }
@@ -51,27 +51,29 @@ fn packet_at(which: u32) -> Group
     if which == 0 { Group::AVI } else { Group::AUDIO }
 }
 
-// The buffer's front where the hold is up, else the registers.
-fn placed(group: Group, holds: u8) -> Place
-    ensures { part_told (Ok result) ≡ placed (up (group_of group) holds) group.first group.count }
-{
-    let held = group.is_up(holds);
-    Place {
-        held,
-        start: if held { 0 } else { u32::from(group.first) },
-        len: u32::from(group.count),
+impl Place {
+    // Where a group that is sent stands, by the byte of the packet holds: at the buffer's front where its hold is up, else at its registers.
+    fn of(group: Group, holds: u8) -> Place
+        ensures { part_told (Ok result) ≡ placed (up (group_of group) holds) group.first group.count }
+    {
+        let held = group.is_up(holds);
+        Place {
+            held,
+            start: if held { 0 } else { u32::from(group.first) },
+            len: u32::from(group.count),
+        }
     }
 }
 
-// Where the packet that is sent stands, in numbers: 0 AVI, 1 audio.
+/// Where the packet that is sent stands, in numbers: 0 AVI, 1 audio.
 pub fn sent_part(image: &[u8], packet: &[u8], which: u32) -> Result<Place, Refusal>
     ensures { Places image.now packet.now which (part_told result) }
 {
     sent_refusal(image, packet, which)?;
-    Ok(placed(packet_at(which), image[Map::INFOFRAME_UPDATE as usize]))
+    Ok(Place::of(packet_at(which), image[Map::INFOFRAME_UPDATE as usize]))
 }
 
-// The packet that is sent, as a part of the image or of the packet buffer: its bytes, and where it starts.
+/// The packet that is sent, as a part of the image or of the packet buffer: its bytes, and where it starts.
 pub fn sent<'a>(image: &'a [u8], packet: &'a [u8], which: u32) -> &'a [u8]
     ensures { Sends image.now packet.now which image.entry.ref_ptr packet.entry.ref_ptr result.now result.ref_ptr }
 {
@@ -89,7 +91,7 @@ pub fn sent<'a>(image: &'a [u8], packet: &'a [u8], which: u32) -> &'a [u8]
     }
 }
 
-// The mute bits of the GC byte in use, 1 muted, 2 open, 0 and 3 neither; what lies past the end of a slice is 0.
+/// The mute bits of the GC byte in use, 1 muted, 2 open, 0 and 3 neither; what lies past the end of a slice is 0.
 // Kept, what may not change: `mute` is the two bits as they stand, for slices of every length (P4).
 pub fn mute_bits(image: &[u8], packet: &[u8]) -> u8
     ensures { result ≡ mute (viewed_of image.now packet.now) }
@@ -103,7 +105,7 @@ pub fn mute_bits(image: &[u8], packet: &[u8]) -> u8
     byte / Map::SET_AV_MUTE_MASK % 4
 }
 
-// The same, with refusals 7 and 13.
+/// The same, with refusals 7 and 13.
 pub fn mute_of(image: &[u8], packet: &[u8]) -> Result<u8, Refusal>
     ensures { Mutes image.now packet.now (mute_told result) }
 {

@@ -2,13 +2,13 @@
 -- byte whose named bits are wanted in register a. `Order` and `Entries` tie the full list to the document's words, `Fewer` what is left out
 -- of it, which three always stay included (`Fewer.nine`), `Clauses.registers` (cut) and `BitByBit` (decode) the image. `flat` and `pairs_of`, pairs as
 -- bytes and back, are to be read here; `ready` is row 8's (`AnyCut.again`).
-use Rattle.std.specs.Prelude.{◌≡◌, Bool, true, cond, not, ◌&&◌, ◌||◌, List, [], ◌∷◌, ◌++◌, map, ℕ, zero, suc, ◌+◌, eqb, leb, ltb, length, get_or, drop}
+use Rattle.std.specs.Prelude.{◌≡◌, Bool, true, cond, not, ◌&&◌, ◌||◌, List, [], ◌∷◌, ◌++◌, map, ℕ, zero, suc, ◌+◌, eqb, ltb, length, get_or, drop}
 use Rattle.lists.specs.Among.{among}
 use Rattle.lists.specs.Those.{those}
 use Rattle.bits.specs.Merge.{merge}
 use Rattle.map.specs.Map as reg
 use Rattle.registers.specs.Classes.{read_only, free, named, bits}
-use Rattle.chip.specs.Machine.{Write, ◌gets◌, Group, up, avi, audio, gc, packets, holds_of}
+use Rattle.chip.specs.Machine.{Write, ◌gets◌, up, avi, audio, gc, packets, holds_of}
 use Rattle.writes.specs.Rows.{from, hold_mask}
 unfoldable pub use Rattle.writes.specs.Rows.{is_written}
 use Rattle.writes.specs.Steps.{Step, ◌raising◌, middle, steps}
@@ -70,13 +70,6 @@ pairs_of (a ∷ v ∷ rest) = a gets v ∷ pairs_of rest
 -- a list at the front of a buffer: "buffer bytes after the list stay"
 abbrev pub fronted : List Write → List ℕ → List ℕ
 fronted ws buffer = flat ws ++ drop (length (flat ws)) buffer
-
--- one of the count registers from `first` on; and so a register of a group
-abbrev pub in_run : ℕ → ℕ → ℕ → Bool
-in_run first count a = leb first a && ltb a (first + count)
-
-abbrev pub covers : Group → ℕ → Bool
-covers g = in_run g.first g.count
 
 -- what a register's last step raises: holds down, and the picture open
 abbrev pub left_up : ℕ → ℕ

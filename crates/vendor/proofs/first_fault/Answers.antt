@@ -73,7 +73,7 @@ module _ (c : After-is_careful) (h : c.loop-i.i < length (shortened (writes_in c
   gone =
       let w = c.args.ways.now in
       ap₂ (λ (a b : Bool). a || b) (ap (λ (n : ℕ). eqb (c.loop-i.i + 1) n) c.requires)
-      (c.is_careful.ensures
+      ((rw c.packet_holds-held.ensures at c.is_careful.ensures)
       ∙ ap₂ (λ (p : Write) (n : ℕ). is_next (shown w.old) (shown w.new) (eqb (c.loop-i.i + 2) n) p.address c.loop-i.state c.store.new.state)
       (sym (pair_code c.args.list.now c.loop-i.i)) c.requires)
 

@@ -1,18 +1,19 @@
 -- `vendor::in_use` meets its contract. Assumes nothing.
-use mathlib.Core.Path.{◌≡◌, ◌∙◌}
-use lib.ListN.{length}
-use Rattle.chip.specs.Machine.{packets, converter, avi, audio, matrix}
-use Rattle.vendor.proofs.Tested.{used, used_long, twelve_used}
-use borrow.Author.Rules.{rules}
+use mathlib.Core.Path.{◌∙◌}
+use lib.Dec.{lit<, lit≤}
+use Rattle.vendor.proofs.Tested.{twelve_used}
 use Rattle.vendor.proofs.in_use.Goals as goal
 
+pub array-requires : goal.array-requires
+array-requires c = (lit< tt, c.packet_in_use.ensures.long (lit≤ tt))
+
+pub array-requires-2 : goal.array-requires-2
+array-requires-2 c = (lit< tt, c.packet_in_use-2.ensures.long (lit≤ tt))
+
 pub returns : goal.returns
-returns c = let s = c.args.s.now in
-    let h : length s.image ≡ 256 = search rules in
-    let k : length s.coefficients ≡ 24 = search rules in
-    let m = used converter matrix s c.matrix.ensures c.in_use-3.ensures in
+returns c = let m = c.matrix_in_use.ensures in
     λ i. record {
-      avi = (c.array.ensures ∙ used packets avi s c.packet-avi.ensures c.in_use.ensures) i;
-      audio = (c.array-2.ensures ∙ used packets audio s c.packet-audio.ensures c.in_use-2.ensures) i;
-      matrix = twelve_used s m (rw m (used_long s h k)) c.twelve.ensures i;
+      avi = (c.array.ensures ∙ c.packet_in_use.ensures.in_use) i;
+      audio = (c.array-2.ensures ∙ c.packet_in_use-2.ensures.in_use) i;
+      matrix = twelve_used c.args.s.now m.in_use m.long c.twelve.ensures i;
     }

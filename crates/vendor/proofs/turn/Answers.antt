@@ -6,4 +6,4 @@ use Rattle.vendor.proofs.turn.Goals as goal
 pub returns-then-event : goal.returns-then-event
 unfolding vsync_of
 returns-then-event c = let s = c.args.state.now in
-    ap (lent_as s.image s.packet s.coefficients) c.still_waits-state.ensures ∙ sym (rw c.if-event.true)
+    ap (lent_as s.image s.packet s.coefficients) c.waits_on-state.ensures ∙ sym (rw c.if-event.true)

@@ -10,7 +10,7 @@ use Rattle.chip.proofs.Chip.store.Goals as goal
 pub returns : goal.returns
 unfolding put
 returns c = let a = c.args in (
-  sym (ap not c.if-leaves_two.false) ∙ ap not c.leaves_two.ensures,
+  sym (ap not c.if-leaves_two.false) ∙ ap not (rw c.packet_holds.ensures at c.leaves_two.ensures),
   rw c.from.ensures (ap (λ (t : Chip). lent_as (set t.image a.address a.byte) t.packet t.coefficients t.waiting)
       (c.hold_coefficients.ensures ∙ ap (λ (t : Chip). record t {
         coefficients = buffer_after converter a.address a.byte t;

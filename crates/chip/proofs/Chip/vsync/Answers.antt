@@ -6,4 +6,4 @@ use Rattle.chip.proofs.Chip.vsync.Goals as goal
 pub returns : goal.returns
 unfolding vsync_of
 returns c = let s = c.args.self in
-    ap (lent_as s.image s.packet s.coefficients) c.still_waits.ensures
+    ap (lent_as s.image s.packet s.coefficients) c.waits_on.ensures

@@ -14,7 +14,7 @@ unfolding is_between
 returns-then-is_still c = let a = c.args in
     let w = a.self.now in
     let s = a.state.now in
-    still (shown w.old) (shown w.new) a.pair.address a.pair.held s.image s.waiting c.is_still.ensures c.if-is_still.true
+    still (shown w.old) (shown w.new) a.pair.address a.pair.held s.image s.waiting (rw c.packet_holds.ensures at c.is_still.ensures) c.if-is_still.true
     ∙ passed _ c.is_muted.ensures (ap not c.if-not-is_muted.false)
 
 pub returns-else-is_still : goal.returns-else-is_still

@@ -10,7 +10,7 @@ use Rattle.std.proofs.lemmas.Grind.{common_steps}
 use Rattle.chip.specs.Machine.{matrix, converter, in_use}
 use Rattle.views.specs.Numbered.{count_told}
 use Rattle.views.specs.Converter.{asked_of, no_count}
-use Rattle.views.proofs.Used.{seven, seven_too, ten, refused, used, in_use_long, written}
+use Rattle.views.proofs.Used.{seven, seven_too, ten, refused, twenty_four, written}
 use Rattle.views.proofs.converter.matrix_in_use.Goals as goal
 use Rattle.views.proofs.converter.matrix_in_use.Goals.{After-in_use}
 
@@ -28,7 +28,7 @@ module _ (c : After-in_use) where
   bytes : c.in_use.result.now ≡ in_use converter matrix (asked_of c.args.image.now c.args.coefficients.now c.args.mark)
   bytes =
       let k : c.in_ok-coefficients.coefficients.now ≡ c.args.coefficients.now = search rules in
-      rw (same, k) at c.in_use.ensures ∙ used c.args.image.now c.args.coefficients.now c.args.mark c.args.out.now image_long buffer_long
+      rw (same, k) at c.in_use.ensures
 
 pub returns-in_err-image : goal.returns-in_err-image
 returns-in_err-image c = let a = c.args in
@@ -54,7 +54,7 @@ returns-then-out-lt25 c = let a = c.args in
 pub store_matrix-requires : goal.store_matrix-requires
 store_matrix-requires c = let a = c.args in
     let e = (goal.at.store_matrix-requires c).After-in_use in
-    ap (λ (l : List ℕ). length l) (bytes e) ∙ in_use_long a.image.now a.coefficients.now a.mark a.out.now (image_long e) (buffer_long e)
+    ap (λ (l : List ℕ). length l) (bytes e) ∙ twenty_four a.image.now a.coefficients.now a.mark a.out.now (image_long e) (buffer_long e)
 
 pub returns : goal.returns
 returns c = let a = c.args in

@@ -20,6 +20,6 @@ bounds-image c = let k = (clear _ _ (none _ _ c.args.which (sym c.in_ok-sent_ref
 
 pub returns : goal.returns
 unfolding sent_part
-returns c = c.placed.ensures
+returns c = c.of.ensures
     ∙ ap (λ (g : Group). placed (up g (holds_of packets c.args.image.now)) g.first g.count) c.packet_at.ensures
     ∙ by_none no_part _ _ c.in_ok-sent_refusal.ensures
