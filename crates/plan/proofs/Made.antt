@@ -1,7 +1,7 @@
 -- The bytes that the code makes, group by group, are those that the table places. Assumes nothing.
-use mathlib.Core.Path.{◌≡◌, refl, ap, ap₂}
+use mathlib.Core.Path.{◌≡◌, refl, ap₂}
 use mathlib.Core.List.{List, [], ◌∷◌, ◌++◌, map}
-use Prim.Native.Nat.{ℕ, zero, suc, ◌+◌, ◌*◌, ◌/◌, ◌%◌}
+use Prim.Native.Nat.{ℕ, ◌+◌, ◌*◌, ◌/◌}
 use native.Mathlib.Nat.{add-zero, zero-add, mul-one, add_assoc}
 use native.Mathlib.Omega.{arith}
 use lib.ListN.{get_or, set, drop}
@@ -28,10 +28,6 @@ infixr 20 ◌▹◌
 -- the numbers of the rows of some coefficients, wherever the first one stands
 abbrev pub numbers : List ℕ → ℕ → ℕ → List ℕ
 numbers k i count = map (λ f. f.number) (coefficient_places 0x18 k i count)
-
-pub elsewhere : (a b : ℕ) (k : List ℕ) (i n : ℕ) → map (λ f. f.number) (coefficient_places a k i n) ≡ map (λ f. f.number) (coefficient_places b k i n)
-elsewhere a b k i zero = refl
-elsewhere a b k i (suc n) = ap (λ (l : List ℕ). get_or k i 0 / 256 ∷ get_or k i 0 % 256 ∷ l) (elsewhere (a + 2) (b + 2) k (suc i) n)
 
 module _ (r : Request) (p : Pair) where
   abbrev s : Sound

@@ -1,31 +1,37 @@
--- Bytes stored one by one: what a turn of a loop leaves to store, and groups of stores after one another. Assumes nothing.
+-- Bytes stored: a slice copied to its place, and groups of stores after one another. `sets d at xs` of lib.Seq is d with xs stored from index at.
+-- Assumes nothing.
 use mathlib.Core.Path.{◌≡◌, refl, sym, ap, ◌∙◌}
 use mathlib.Core.Bool.{Bool, true, false}
 use mathlib.Core.List.{List, [], ◌∷◌, ◌++◌}
-use Prim.Native.Nat.{ℕ, suc, ◌+◌, ◌*◌, ◌/◌, ◌%◌, ◌-◌, ◌<◌, ◌≤◌}
-use native.Mathlib.Numerals.{add-one}
+use Prim.Native.Nat.{ℕ, suc, ◌+◌, ◌-◌, ◌<◌, ◌≤◌}
 use native.Mathlib.Omega.{arith}
 use lib.Dec.{ltb}
-use lib.ListN.{length, get_or, set, take, drop, length-drop, get_or-eq_default}
-use lib.Seq.{sets, take_all}
+use lib.ListN.{length, get_or, set, take, drop, length-drop, drop_of_length-le, get_or-eq_default}
+use lib.Seq.{sets, sets-eq, take_all, drop-drop}
 use borrow.Author.Tests.{ne_eqb, ltb-true, ltb-false}
+use Rattle.std.proofs.lemmas.List.{append_assoc, append-nil}
+use borrow.Rule.Slice.PartMut.{put_mid}
 use Rattle.lists.specs.Find.{every}
+use Rattle.lists.specs.Over.{over}
+use Rattle.lists.proofs.Copied.{over_front}
 use Rattle.lists.proofs.Both.{both_left, both_right}
 use Rattle.chip.specs.Machine.{Write}
 use Rattle.writes.specs.List.{column}
 use Rattle.writes.proofs.Image.{column_length, column_at}
 use Rattle.plan.specs.Places.{Place}
-use Rattle.plan.specs.Wanted.{placed_at, stores}
-use Rattle.plan.proofs.Made.{numbers, elsewhere}
+use Rattle.plan.specs.Wanted.{placed_at, laid_bytes, stores}
 
--- two bytes are stored, and those of the other coefficients are left
-pub halves_more : (out k : List ℕ) (n i : ℕ) → i < n
-    → sets (set (set out (2 * i) (get_or k i 0 / 256)) (2 * i + 1) (get_or k i 0 % 256)) (2 * (i + 1)) (numbers k (i + 1) (n - (i + 1)))
-    ≡ sets out (2 * i) (numbers k i (n - i))
-halves_more out k n i h =
-    let e : n - i ≡ suc (n - (i + 1)) = omega arith in
-    let f : 2 * (i + 1) ≡ suc (suc (2 * i)) = omega arith in
-    rw (e, f, add-one (2 * i), add-one i, elsewhere 0x1A 0x18 k (suc i) (n - suc i))
+-- a slice copied to its place
+pub body_laid : (d body : List ℕ) (at k : ℕ) → k ≡ length d - at → at + length body ≤ length d
+    → put_mid at k d (over body (take k (drop at d))) ≡ sets d at body
+body_laid d body at k e h =
+    let n : length (drop at d) ≤ k = omega (arith, length-drop at d) in
+    let m : length body ≤ length (drop at d) = omega (arith, length-drop at d) in
+    simp (take_all k (drop at d) n, over_front body (drop at d) m, drop_of_length-le (drop at d) n, append-nil, sets-eq body d at h, append_assoc, drop-drop)
+
+pub stores_laid : (bytes out : List ℕ) (at : ℕ) → stores out (laid_bytes at bytes) ≡ sets out at bytes
+stores_laid [] out at = refl
+stores_laid (b ∷ bytes) out at = stores_laid bytes (set out at b) (suc at)
 
 pub stores_append : (xs ys : List Write) (out : List ℕ) → stores out (xs ++ ys) ≡ stores (stores out xs) ys
 stores_append [] ys out = refl

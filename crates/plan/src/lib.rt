@@ -28,6 +28,7 @@ use map::Map;
 use refusals::Refusal;
 use request::Request;
 use sound::Sound;
+use std::array;
 use video::Video;
 use wiring::Wires;
 
@@ -39,80 +40,12 @@ fn twenty(n: u32) -> [u8; 3]
     [high, middle, low]
 }
 
-// The code of the rate; of 48 kHz, rate 2, where there is no sound.
-fn rate_code(sound: Sound) -> u8
-    ensures { (result ≡ rate_code_of sound) × (result ≤ 15) }
-{
-    match sound {
-        Sound::Off => sound::code_of(2),
-        Sound::On { rate, .. } => sound::code_of(rate),
-    }
-}
-
-// A bit for each of I2S0 to I2S3.
-fn inputs(sound: Sound) -> u8
-    ensures { (result ≡ eight_channels sound * 14 + with_sound sound) × (result ≤ 15) }
-{
-    match sound {
-        Sound::Off => 0,
-        Sound::On { channels: 8, .. } => 15,
-        Sound::On { .. } => 1,
-    }
-}
-
-fn with_audio(sound: Sound) -> u8
-    ensures { (result ≡ with_sound sound) × (result ≤ 1) }
-{
-    u8::from(sound.is_on())
-}
-
 // Twelve coefficients as 24 bytes, the high five bits of each first.
 fn halves(k: [u16; 12]) -> [u8; 24]
     requires { (i : ℕ) → get_or k i 0 < 8192 }
     ensures { result ≡ map (λ f. f.number) (coefficient_places 0x18 k 0 12) }
 {
-    let mut out = [0u8; 24];
-    for i in 0..12 {
-        let [high, low] = k[i].to_be_bytes();
-        out[2 * i] = high;
-        out[2 * i + 1] = low;
-    }
-    out
-}
-
-fn output_format(encoding: u8) -> u8
-    ensures { result ≡ cond (eqb encoding 1) 1 0 * output_format_mask }
-{
-    if encoding == 1 {
-        Map::OUTPUT_FORMAT_MASK
-    } else {
-        0
-    }
-}
-
-// The four sync values, ten bits each, as five bytes.
-fn sync_bytes(wires: Wires) -> [u8; Map::SYNC_GENERATION_COUNT as usize]
-    requires { WiresFit wires }
-    ensures { (r : Request) (p : Pair) → wires ≡ wires_of r.wiring → result ≡ map (λ a. placed_at a (places r p)) (from 0x30 5) }
-{
-    [
-        (wires.hplacement / 4) as u8,
-        (wires.hplacement % 4 * 64 + wires.hduration / 16) as u8,
-        (wires.hduration % 16 * 16 + wires.vplacement / 64) as u8,
-        (wires.vplacement % 64 * 4 + wires.vduration / 256) as u8,
-        (wires.vduration % 256) as u8,
-    ]
-}
-
-// The code of the depth.
-fn depth_code(video: Video) -> u8
-    ensures { result ≡ get_or depth_numbers (depth video) 0 }
-{
-    match video.depth() {
-        1 => 5,
-        2 => 6,
-        _ => 0,
-    }
+    array::from_fn(|i| k[i / 2].to_be_bytes()[i % 2])
 }
 
 // A request that no row of 4 to 6, 17 and 20 refuses.
@@ -131,6 +64,48 @@ impl Accepted {
         Wires::from(self.request.wiring)
     }
 
+    // The four sync values of its wiring, ten bits each, as five bytes.
+    fn sync_bytes(self) -> [u8; Map::SYNC_GENERATION_COUNT as usize]
+        ensures { (p : Pair) → result ≡ map (λ a. placed_at a (places self.request p)) (from 0x30 5) }
+    {
+        let wires = self.wires();
+        [
+            (wires.hplacement / 4) as u8,
+            (wires.hplacement % 4 * 64 + wires.hduration / 16) as u8,
+            (wires.hduration % 16 * 16 + wires.vplacement / 64) as u8,
+            (wires.vplacement % 64 * 4 + wires.vduration / 256) as u8,
+            (wires.vduration % 256) as u8,
+        ]
+    }
+
+    // Whether it has sound.
+    fn with_audio(self) -> u8
+        ensures { (result ≡ with_sound self.request.sound) × (result ≤ 1) }
+    {
+        u8::from(self.request.sound.is_on())
+    }
+
+    // The code of its rate; of 48 kHz, rate 2, where there is no sound.
+    fn rate_code(self) -> u8
+        ensures { (result ≡ rate_code_of self.request.sound) × (result ≤ 15) }
+    {
+        match self.request.sound {
+            Sound::Off => sound::code_of(2),
+            Sound::On { rate, .. } => sound::code_of(rate),
+        }
+    }
+
+    // A bit for each of I2S0 to I2S3.
+    fn inputs(self) -> u8
+        ensures { (result ≡ eight_channels self.request.sound * 14 + with_sound self.request.sound) × (result ≤ 15) }
+    {
+        match self.request.sound {
+            Sound::Off => 0,
+            Sound::On { channels: 8, .. } => 15,
+            Sound::On { .. } => 1,
+        }
+    }
+
     // Whether its CTS is the manual one.
     fn cts_select(self) -> u8
         ensures { (result ≡ manual_cts self.request.sound) × (result ≤ 1) }
@@ -138,6 +113,28 @@ impl Accepted {
         match self.request.sound {
             Sound::Off => 0,
             Sound::On { coherent, .. } => coherent,
+        }
+    }
+
+    // The output format of its encoding.
+    fn output_format(self) -> u8
+        ensures { result ≡ cond (eqb self.request.video.encoding 1) 1 0 * output_format_mask }
+    {
+        if self.request.video.encoding == 1 {
+            Map::OUTPUT_FORMAT_MASK
+        } else {
+            0
+        }
+    }
+
+    // The code of its depth.
+    fn depth_code(self) -> u8
+        ensures { result ≡ get_or depth_numbers (depth self.request.video) 0 }
+    {
+        match video::depth(self.request.video) {
+            1 => 5,
+            2 => 6,
+            _ => 0,
         }
     }
 
@@ -199,9 +196,7 @@ impl Wanted {
         requires { at + length bytes.now ≤ 256 }
         ensures { self.new.bytes ≡ stores self.old.bytes (laid_bytes at bytes.now) }
     {
-        for (i, byte) in bytes.iter().enumerate() {
-            self.bytes[at as usize + i] = *byte;
-        }
+        lists::copy(bytes, &mut self.bytes[at as usize..]);
     }
 
     // N and CTS.
@@ -217,15 +212,14 @@ impl Wanted {
     fn with_inputs(&mut self, accepted: Accepted)
         ensures { (p : Pair) → self.new.bytes ≡ stores self.old.bytes (laid_out input_registers (places accepted.request p)) }
     {
-        let r = accepted.request;
         let wires = accepted.wires();
         self.bytes[Map::AUDIO_SOURCE as usize] = accepted.cts_select()
             * (1 << Map::CTS_SELECT_SHIFT);
-        self.bytes[Map::I2S_CONFIG as usize] = inputs(r.sound) * (1 << Map::I2S0_ENABLE_SHIFT);
-        self.bytes[Map::I2S_FREQ_ID_CFG as usize] = rate_code(r.sound)
+        self.bytes[Map::I2S_CONFIG as usize] = accepted.inputs() * (1 << Map::I2S0_ENABLE_SHIFT);
+        self.bytes[Map::I2S_FREQ_ID_CFG as usize] = accepted.rate_code()
             * (1 << Map::I2S_SAMPLING_FREQUENCY_SHIFT)
             + wires.input;
-        self.bytes[Map::VIDEO_INPUT_CFG1 as usize] = output_format(r.video.encoding)
+        self.bytes[Map::VIDEO_INPUT_CFG1 as usize] = accepted.output_format()
             + wires.depth * (1 << Map::INPUT_COLOR_DEPTH_SHIFT)
             + wires.style * (1 << Map::INPUT_STYLE_SHIFT);
     }
@@ -241,9 +235,8 @@ impl Wanted {
     fn with_wiring(&mut self, accepted: Accepted)
         ensures { (p : Pair) → self.new.bytes ≡ stores self.old.bytes (laid_out wiring_registers (places accepted.request p)) }
     {
-        let wires = accepted.wires();
-        self.laid(Map::SYNC_GENERATION, &sync_bytes(wires));
-        self.bytes[Map::VIDEO_INPUT_CFG2 as usize] = wires.justification
+        self.laid(Map::SYNC_GENERATION, &accepted.sync_bytes());
+        self.bytes[Map::VIDEO_INPUT_CFG2 as usize] = accepted.wires().justification
             * (1 << Map::VIDEO_INPUT_JUSTIFICATION_SHIFT);
     }
 
@@ -251,19 +244,18 @@ impl Wanted {
     fn with_enables(&mut self, accepted: Accepted)
         ensures { (p : Pair) → self.new.bytes ≡ stores self.old.bytes (laid_out enable_registers (places accepted.request p)) }
     {
-        let r = accepted.request;
         let link = accepted.link();
         let audio = Map::N_CTS_PACKET_ENABLE_MASK
             + Map::AUDIO_SAMPLE_PACKET_ENABLE_MASK
             + Map::AUDIO_INFOFRAME_ENABLE_MASK;
         self.bytes[Map::PIXEL_REPETITION as usize] = accepted.repetition_byte();
-        self.bytes[Map::VIC_MANUAL as usize] = r.video.vic;
+        self.bytes[Map::VIC_MANUAL as usize] = accepted.request.video.vic;
         self.bytes[Map::PACKET_ENABLE0 as usize] = link * Map::GC_PACKET_ENABLE_MASK;
-        self.bytes[Map::PACKET_ENABLE1 as usize] = with_audio(r.sound) * audio
+        self.bytes[Map::PACKET_ENABLE1 as usize] = accepted.with_audio() * audio
             + link * Map::AVI_INFOFRAME_ENABLE_MASK;
         self.bytes[Map::INFOFRAME_UPDATE as usize] = Map::AUTO_CHECKSUM_ENABLE_MASK;
         self.bytes[Map::AV_MUTE as usize] = Map::CLEAR_AV_MUTE_MASK;
-        self.bytes[Map::GC_DEPTH as usize] = depth_code(r.video);
+        self.bytes[Map::GC_DEPTH as usize] = accepted.depth_code();
         self.bytes[Map::HDCP_HDMI_CFG as usize] = link * Map::HDMI_DVI_MODE_SELECT_MASK;
     }
 
@@ -293,11 +285,11 @@ impl Wanted {
     }
 }
 
-// GC hold down, and not both other holds up.
+/// GC hold down, and not both other holds up.
 pub fn is_ready(holds: u8) -> bool
     ensures { result ≡ (not (up gc holds) && not (up avi holds && up audio holds)) }
 {
-    !Group::GC.is_up(holds) & !(Group::AVI.is_up(holds) & Group::AUDIO.is_up(holds))
+    !Group::GC.is_up(holds) && !(Group::AVI.is_up(holds) && Group::AUDIO.is_up(holds))
 }
 
 // The write list of a request that was read: refusals 7 to 10.
@@ -316,8 +308,8 @@ fn plan_with(accepted: Accepted, image: &[u8], writes: &mut [u8]) -> Result<u32,
     Ok(writes::write_list(image, &wanted.bytes, writes))
 }
 
-// The write list of a request on an image, as pairs of address and value in a lent buffer, and their count: refusals 1 to 6, 17, 20 and 7
-// to 10.
+/// The write list of a request on an image, as pairs of address and value in a lent buffer, and their count: refusals 1 to 6, 17, 20 and 7
+/// to 10.
 pub fn plan(input: &[u8], image: &[u8], writes: &mut [u8]) -> Result<u32, Refusal>
     ensures { Plans input.now image.now writes.old (planned_told result) writes.new }
 {
@@ -325,7 +317,7 @@ pub fn plan(input: &[u8], image: &[u8], writes: &mut [u8]) -> Result<u32, Refusa
     plan_with(Accepted { request }, image, writes)
 }
 
-// Whether a request is accepted on some image, and its list would leave this image as it is.
+/// Whether a request is accepted on some image, and its list would leave this image as it is.
 pub fn stands(r: Request, image: &[u8]) -> bool
     ensures { result ≡ stands_in r image.now }
 {
@@ -339,12 +331,12 @@ pub fn stands(r: Request, image: &[u8]) -> bool
     writes::stands(image, &wanted.bytes)
 }
 
-// The refusals of planning, in document 01's order.
+/// The refusals of planning, in document 01's order.
 pub fn refusals_of_a_plan()
     ensures { (input : List ℕ) → Bytes input → (image buffer : List ℕ) → PlanRefusals input image buffer }
 {}
 
-// Of an image to which neither 7 nor 8 applies, planning's refusal sees nothing more.
+/// Of an image to which neither 7 nor 8 applies, planning's refusal sees nothing more.
 pub fn on_another_image()
     ensures { AnyOther }
 {}

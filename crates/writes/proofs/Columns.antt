@@ -1,13 +1,10 @@
 -- What the columns of the code give: the byte of each step, and the finished image. Assumes nothing.
 use mathlib.Core.Path.{◌≡◌, refl, sym, ◌∙◌, subst}
-use mathlib.Core.Logic.{◌⊎◌, inl, inr}
 use mathlib.Core.Bool.{Bool, true, false, cond, ◌&&◌}
 use mathlib.Core.List.{List, [], ◌∷◌}
-use Prim.Native.Nat.{ℕ, ◌+◌, ◌<◌}
-use native.Mathlib.Nat.{eq-or-lt_of_le}
+use Prim.Native.Nat.{ℕ, ◌<◌}
 use native.Mathlib.Omega.{arith}
 use lib.Dec.{eqb, ltb, lit<}
-use lib.Bits.{bit_xor}
 use lib.ListN.{get_or, length, set}
 use lib.Seq.{get_or-set_same, get_or-set_other}
 use borrow.Author.Tests.{eqb-true, eqb-false, ltb-true}
@@ -21,7 +18,6 @@ use Rattle.registers.proofs.Whole.{rule}
 use Rattle.registers.proofs.Apart.{row, rules, holds}
 use Rattle.writes.specs.Steps.{Step}
 use Rattle.writes.specs.List.{byte, decided, is_written, left_up, written, finished}
-use Rattle.writes.specs.declared.steps.TheConstants.{OPEN, HELD}
 use Rattle.writes.specs.Columns.{open_bits, held_bits, closed}
 
 -- ---- the steps
@@ -105,15 +101,6 @@ by_columns want image a = go (is_written a) refl
         rw e (law (by (by (var 0) (var 0) zeros) (by (by (var 0) (var 0) zeros) (var 1) (var 2)) (by (var 0) (var 0) zeros))
         (by (var 0) (var 1) (by zeros (var 2) zeros)) 8 (255 ∷ get_or image a 0 ∷ want a ∷ []) refl)
 
--- the tables of the code, each byte turned back
-pub in_open : (a : ℕ) → a < 256 → {table : List ℕ} → table ≡ OPEN → bit_xor (get_or table a 0) a ≡ open_bits a
-unfolding class_at decided is_written merge
-in_open a h e = rw e (eqb-true _ _ (at_below (λ a. eqb (bit_xor (get_or OPEN a 0) a) (open_bits a)) 256 a refl h))
-
-pub in_held : (a : ℕ) → a < 256 → {table : List ℕ} → table ≡ HELD → bit_xor (get_or table a 0) a ≡ held_bits a
-unfolding class_at decided is_written merge
-in_held a h e = rw e (eqb-true _ _ (at_below (λ a. eqb (bit_xor (get_or HELD a 0) a) (held_bits a)) 256 a refl h))
-
 module _ (want : ℕ → ℕ) (image : List ℕ) where
   -- a step's byte is the closed one with the step's bits raised
   pub raised_written : (i : Step) → Proper i
@@ -149,12 +136,3 @@ module _ (want : ℕ → ℕ) (image : List ℕ) where
           ∙ rw (each reg.av_mute (lit< tt)) (raised_finished reg.av_mute (lit< tt) (small reg.av_mute (lit< tt))))
       go false t =
           get_or-set_other bytes reg.av_mute a v 0 (eqb-false a reg.av_mute t) ∙ each a h ∙ unraised a t ∙ raised_finished a h (small a h)
-
--- a turn of a loop that stores one byte after the other
-pub one_more : (f : ℕ → ℕ) (out : List ℕ) (a v : ℕ) → a < length out → v ≡ f a → ((j : ℕ) → j < a → get_or out j 0 ≡ f j)
-    → (j : ℕ) → j < a + 1 → get_or (set out a v) j 0 ≡ f j
-one_more f out a v h e before j l = go (eq-or-lt_of_le (omega arith))
-  where
-    go : (j ≡ a) ⊎ (j < a) → get_or (set out a v) j 0 ≡ f j
-    go (inl q) = rw q (get_or-set_same out a v 0 h ∙ e)
-    go (inr q) = get_or-set_other out a j v 0 (λ z. omega arith) ∙ before j q

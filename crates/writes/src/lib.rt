@@ -7,7 +7,7 @@ ghost use Rattle.bits.specs.Merge.{merge};
 ghost use Rattle.chip.specs.Machine.{◌gets◌};
 ghost use Rattle.writes.specs.Rows.{from, Touched};
 ghost use Rattle.writes.specs.Steps.{coefficient_steps, avi_steps, audio_steps};
-ghost use Rattle.writes.specs.Pen.{Penned};
+ghost use Rattle.writes.specs.Pen.{HasRoom, AddsAtMost, Penned};
 ghost use Rattle.writes.specs.List.{column, stands_whole, Lists};
 ghost use Rattle.writes.specs.Columns.{kept_bits, open_bits, held_bits, closed};
 ghost use Rattle.writes.specs.Parts.{with_bits, moving, coefficient_pairs, packet_pairs, both_pairs};
@@ -17,10 +17,11 @@ ghost use Rattle.writes.specs.Fewer.{Fewer};
 
 use chip::Group;
 use map::Map;
+use std::array;
 
 mod steps;
 
-// Of each register the bits that a list keeps; all eight of one that no list writes.
+/// Of each register the bits that a list keeps; all eight of one that no list writes.
 pub fn keep() -> [u8; 256]
     ensures { result ≡ column kept_bits }
 {
@@ -28,13 +29,11 @@ pub fn keep() -> [u8; 256]
 }
 
 // Of a register the bits that are the image's or as wanted.
-// Kept, for speed: this column and the next turned over by their places (docs/DECISIONS.md, B37), and not as they are: equal bytes in a row the
-// compiler would build in the stack at each call.
 fn open_at(a: usize) -> u8
     requires { a < 256 }
     ensures { result ≡ open_bits a }
 {
-    steps::OPEN[a] ^ a as u8
+    steps::OPEN[a]
 }
 
 // And those that are the image's or set.
@@ -42,19 +41,17 @@ fn held_at(a: usize) -> u8
     requires { a < 256 }
     ensures { result ≡ held_bits a }
 {
-    steps::HELD[a] ^ a as u8
+    steps::HELD[a]
 }
 
 // Every register with the bits that steps decide down, as a list of these wanted bytes leaves it.
 fn closed(image: &[u8; 256], wanted: &[u8; 256]) -> [u8; 256]
     ensures { (a : ℕ) → a < 256 → get_or result a 0 ≡ closed (λ b. get_or wanted.now b 0) image.now a }
 {
-    let mut out = [0u8; 256];
-    for a in 0..256 {
+    array::from_fn(|a| {
         let held = held_at(a);
-        out[a] = bits::merge(open_at(a), bits::merge(held, image[a], wanted[a]), held);
-    }
-    out
+        bits::merge(open_at(a), bits::merge(held, image[a], wanted[a]), held)
+    })
 }
 
 // These bits of a byte raised.
@@ -75,8 +72,9 @@ struct Pen<'a> {
 
 impl<'a> Pen<'a> {
     // A pair, and the place after it.
+    // Kept, no plainer: an address and its byte, for a value of the two would be made in both calls and opened in the first line.
     fn pair(&mut self, address: u8, byte: u8)
-        requires { 2 * self.old.at + 2 ≤ length self.old.writes.now }
+        requires { HasRoom self.old 1 }
         ensures { Penned self.old (λ image bytes. address gets byte ∷ []) self.new }
     {
         self.writes[2 * self.at] = address;
@@ -86,7 +84,7 @@ impl<'a> Pen<'a> {
 
     // A register, with some bits of its byte raised.
     fn put(&mut self, address: u8, bits: u8)
-        requires { 2 * self.old.at + 2 ≤ length self.old.writes.now }
+        requires { HasRoom self.old 1 }
         ensures { Penned self.old (λ image bytes. with_bits bytes address bits) self.new }
     {
         self.pair(address, raise(bits, self.bytes[address as usize]));
@@ -94,9 +92,9 @@ impl<'a> Pen<'a> {
 
     // A register where its byte is another than the image's.
     fn put_other(&mut self, address: u8)
-        requires { 2 * self.old.at + 2 ≤ length self.old.writes.now }
+        requires { HasRoom self.old 1 }
         ensures puts { Penned self.old (λ image bytes. moving image bytes (address ∷ [])) self.new }
-        ensures upper_bound { self.new.at ≤ self.old.at + 1 }
+        ensures at_most { AddsAtMost self.old 1 self.new }
     {
         let byte = self.bytes[address as usize];
         if byte != self.image[address as usize] {
@@ -106,9 +104,9 @@ impl<'a> Pen<'a> {
 
     // Of some registers those whose byte is another than the image's.
     fn each(&mut self, registers: &[u8])
-        requires { 2 * (self.old.at + length registers.now) ≤ length self.old.writes.now }
+        requires { HasRoom self.old (length registers.now) }
         ensures puts { Penned self.old (λ image bytes. moving image bytes registers.now) self.new }
-        ensures upper_bound { self.new.at ≤ self.old.at + length registers.now }
+        ensures at_most { AddsAtMost self.old (length registers.now) self.new }
     {
         for address in registers {
             self.put_other(*address);
@@ -118,10 +116,10 @@ impl<'a> Pen<'a> {
     // The same of registers in a row; most often none of a row is another.
     // Kept, no plainer: one function for both, over any iterator, would have to say in its contract what that yields.
     fn row(&mut self, first: usize, count: usize)
-        requires count_bound { first + count ≤ 256 }
-        requires count_in_bounds { 2 * (self.old.at + count) ≤ length self.old.writes.now }
+        requires in_the_map { first + count ≤ 256 }
+        requires has_room { HasRoom self.old count }
         ensures puts { Penned self.old (λ image bytes. moving image bytes (from first count)) self.new }
-        ensures upper_bound { self.new.at ≤ self.old.at + count }
+        ensures at_most { AddsAtMost self.old count self.new }
     {
         let end = first + count;
         let (bytes, image) = (self.bytes, self.image);
@@ -135,9 +133,9 @@ impl<'a> Pen<'a> {
 
     // "coefficient hold up, 0x18 to 0x2F with the hold kept up, hold down"
     fn coefficients(&mut self)
-        requires { 2 * (self.old.at + length coefficient_steps) ≤ length self.old.writes.now }
+        requires { HasRoom self.old (length coefficient_steps) }
         ensures puts { Penned self.old coefficient_pairs self.new }
-        ensures upper_bound { self.new.at ≤ self.old.at + length coefficient_steps }
+        ensures at_most { AddsAtMost self.old (length coefficient_steps) self.new }
     {
         let hold = Map::COEFFICIENT_UPDATE;
         let up = Map::COEFFICIENT_UPDATE_MASK;
@@ -150,9 +148,9 @@ impl<'a> Pen<'a> {
 
     // "AVI hold up, its registers, hold down; audio likewise"
     fn packet(&mut self, packet: Group)
-        requires { 2 * (self.old.at + packet.count + 2) ≤ length self.old.writes.now }
+        requires { HasRoom self.old (packet.count + 2) }
         ensures puts { Penned self.old (packet_pairs (2 ^ packet.hold) packet.first packet.count) self.new }
-        ensures upper_bound { self.new.at ≤ self.old.at + packet.count + 2 }
+        ensures at_most { AddsAtMost self.old (packet.count + 2) self.new }
     {
         self.put(Map::INFOFRAME_UPDATE, 1 << packet.hold);
         self.row(packet.first as usize, packet.count as usize);
@@ -161,9 +159,9 @@ impl<'a> Pen<'a> {
 
     // "If the audio hold is up at the start, audio goes before AVI."
     fn packets(&mut self)
-        requires { 2 * (self.old.at + length avi_steps + length audio_steps) ≤ length self.old.writes.now }
+        requires { HasRoom self.old (length avi_steps + length audio_steps) }
         ensures puts { Penned self.old both_pairs self.new }
-        ensures upper_bound { self.new.at ≤ self.old.at + length avi_steps + length audio_steps }
+        ensures at_most { AddsAtMost self.old (length avi_steps + length audio_steps) self.new }
     {
         if Group::AUDIO.is_up(self.image[Map::INFOFRAME_UPDATE as usize]) {
             self.packet(Group::AUDIO);
@@ -175,7 +173,7 @@ impl<'a> Pen<'a> {
     }
 }
 
-// The list, at the front of the buffer, and the count of its pairs; none where the image or the buffer has another length.
+/// The list, at the front of the buffer, and the count of its pairs; none where the image or the buffer has another length.
 // Kept, what may not change: then 0 and no refusal, for `Lists` says so, and no public function has a `requires`.
 pub fn write_list(image: &[u8], wanted: &[u8; 256], writes: &mut [u8]) -> u32
     ensures { Lists (λ a. get_or wanted.now a 0) image.now writes.old result writes.new }
@@ -202,7 +200,7 @@ pub fn write_list(image: &[u8], wanted: &[u8; 256], writes: &mut [u8]) -> u32
     pen.at as u32
 }
 
-// Whether an image stands as the list of these wanted bytes would leave it.
+/// Whether an image stands as the list of these wanted bytes would leave it.
 pub fn stands(image: &[u8], wanted: &[u8; 256]) -> bool
     ensures { result ≡ stands_whole (λ a. get_or wanted.now a 0) image.now }
 {
@@ -214,22 +212,22 @@ pub fn stands(image: &[u8], wanted: &[u8; 256]) -> bool
     lists::same(&bytes, image)
 }
 
-// Which registers the list writes, and in what order.
+/// Which registers the list writes, and in what order.
 pub fn write_order()
     ensures { (want : ℕ → ℕ) (image : List ℕ) → Order want image }
 {}
 
-// What each entry of the full list does.
+/// What each entry of the full list does.
 pub fn list_entries()
     ensures { (want : ℕ → ℕ) (image : List ℕ) → Entries want image }
 {}
 
-// Which writes are left out of it, and how many are left.
+/// Which writes are left out of it, and how many are left.
 pub fn fewer_writes()
     ensures { (want : ℕ → ℕ) (image : List ℕ) → Fewer want image }
 {}
 
-// The registers that a list may touch.
+/// The registers that a list may touch.
 pub fn touched()
     ensures { Touched }
 {}

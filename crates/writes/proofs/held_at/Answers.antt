@@ -1,7 +1,11 @@
--- `writes::held_at` meets its contract. Assumes nothing.
-use mathlib.Core.Path.{refl}
-use Rattle.writes.proofs.Columns.{in_held}
+-- `writes::held_at` meets its contract: its table is a column of the registers. Assumes nothing.
+use Rattle.bits.specs.Merge.{merge}
+use Rattle.registers.specs.Classes.{class_at}
+use Rattle.writes.specs.List.{decided, is_written, column}
+use Rattle.writes.specs.Columns.{held_bits}
+use Rattle.writes.proofs.Image.{column_at}
 use Rattle.writes.proofs.held_at.Goals as goal
 
 pub returns : goal.returns
-returns c = in_held c.args.a c.requires refl
+unfolding column class_at decided is_written merge
+returns c = column_at held_bits c.args.a c.requires

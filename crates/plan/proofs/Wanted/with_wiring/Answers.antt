@@ -14,7 +14,7 @@ use Rattle.plan.proofs.Wanted.with_wiring.Goals as goal
 pub returns : goal.returns
 returns c p = let out : List ℕ = c.args.self.now.bytes in
     let r = c.args.accepted.request in
-    let e = c.wires-wires.ensures.value in
+    let e = c.wires.ensures.value in
     let bytes : List ℕ = map (λ a. placed_at a (places r p)) (from 0x30 5) in
-    let five : c.laid.new.self.bytes ≡ stores out (laid_bytes 0x30 bytes) = rw (c.sync_bytes.ensures r p e) at c.laid.ensures in
+    let five : c.laid.new.self.bytes ≡ stores out (laid_bytes 0x30 bytes) = rw (c.sync_bytes.ensures p) at c.laid.ensures in
     rw e (more out (laid_bytes 0x30 bytes) (0x48 gets ((wires_of r.wiring).justification * 8) ∷ []) five refl ∙ ap (stores out) (wiring_made r p))

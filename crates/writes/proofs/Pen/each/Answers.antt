@@ -5,12 +5,12 @@ use Rattle.writes.proofs.Written.{writes_nothing, writes_next}
 use Rattle.writes.proofs.Pen.each.Goals as goal
 
 pub loop-address-init : goal.loop-address-init
-loop-address-init c = record { written = writes_nothing c.args.self.now; upper_bound = omega arith }
+loop-address-init c = record { written = writes_nothing c.args.self.now; at_most = omega arith }
 
 pub loop-address-preserved : goal.loop-address-preserved
 loop-address-preserved c = let l = c.loop-address in
     let w = c.put_other.ensures in
     record {
       written = writes_next c.args.registers.now l.address-index _ c.loop-address-test.true refl l.invariant.written w.puts;
-      upper_bound = omega (arith, l.invariant.upper_bound, w.upper_bound);
+      at_most = omega (arith, l.invariant.at_most, w.at_most);
     }

@@ -30,7 +30,7 @@ returns-then-same-clause-puts c = let a = c.args in
 pub loop-address-init : goal.loop-address-init
 loop-address-init c = let a = c.args in
     let z : a.first - a.first ≡ 0 = omega arith in
-    record { written = rw z (writes_nothing a.self.now); upper_bound = omega arith }
+    record { written = rw z (writes_nothing a.self.now); at_most = omega arith }
 
 pub loop-address-preserved : goal.loop-address-preserved
 loop-address-preserved c = let l = c.loop-address in
@@ -43,7 +43,7 @@ loop-address-preserved c = let l = c.loop-address in
     let m : l.address + 1 - c.args.first ≡ i + 1 = omega arith in
     record {
       written = rw m (writes_next rs i l.address h e l.invariant.written w.puts);
-      upper_bound = omega (arith, l.invariant.upper_bound, w.upper_bound);
+      at_most = omega (arith, l.invariant.at_most, w.at_most);
     }
 
 pub returns-clause-puts : goal.returns-clause-puts
