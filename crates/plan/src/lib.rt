@@ -131,7 +131,7 @@ impl Accepted {
     fn depth_code(self) -> u8
         ensures { result ≡ get_or depth_numbers (depth self.request.video) 0 }
     {
-        match video::depth(self.request.video) {
+        match self.request.video.depth() {
             1 => 5,
             2 => 6,
             _ => 0,

@@ -1,9 +1,10 @@
 // Reading a write list that a vendor brings: document 02, requests 03 and 04.
 #![tactic(auto)]
 
-ghost use Rattle.std.specs.Prelude.{◌≡◌, false, cond, not, ◌&&◌, ◌||◌, List, [], ℕ, ◌≤◌, eqb, length};
+ghost use Rattle.std.specs.Prelude.{◌≡◌, ◌≢◌, false, cond, not, ◌&&◌, ◌||◌, List, [], ℕ, ◌≤◌, eqb, length, take, IfErr};
 ghost use Rattle.lists.specs.Same.{same_list};
 ghost use Rattle.bits.specs.Merge.{under};
+ghost use Rattle.refusals.specs.declared.Refusal.TheVariants.{BadPair};
 ghost use Rattle.matrix.specs.Matrix.{fields};
 ghost use Rattle.chip.specs.declared.Chip.{Chip};
 ghost use Rattle.chip.specs.Machine.{avi, audio, matrix, packets, up, holds_of, registers_of, covers, mute};
@@ -15,6 +16,7 @@ ghost use Rattle.decode.specs.Decode.{some_ends};
 ghost use Rattle.cut.specs.Run.{all_in_use};
 ghost use Rattle.vendor.specs.Vendor.{shortened, end_of};
 ghost use Rattle.vendor.specs.Found.{shown, at_write, matrix_moving, may_move, is_kept, is_whole, is_between, is_turned, taken_by, first_fault, Untold, Vets};
+ghost use Rattle.vendor.specs.declared.Fault.TheVariants.{Refused};
 ghost use Rattle.vendor.specs.Numbered.{verdict_told, moves_told, writes_in};
 ghost use Rattle.vendor.specs.Theorems.{Vetted};
 
@@ -335,7 +337,8 @@ fn decodes(image: &[u8; 256]) -> bool
 // The verdict where neither 7 nor 8 nor 14 applies, by how many pairs the machine takes: 15, 16 or none.
 fn verdict_on(start: Chip, list: &[[u8; 2]], count: usize) -> Result<(), Fault>
     requires { (length list.now ≤ 512) × (count ≡ length (shortened (writes_in list.now) start)) }
-    ensures { (bytes : List ℕ) → pairs_of bytes ≡ writes_in list.now → Untold start bytes → Vets start bytes (verdict_told result) }
+    ensures vets { (bytes : List ℕ) → pairs_of bytes ≡ writes_in list.now → Untold start bytes → Vets start bytes (verdict_told result) }
+    ensures placed { IfErr result (λ fault. fault ≢ Refused BadPair) }
 {
     let end = ending(start, list, count);
     let ways = Ways {
@@ -362,7 +365,8 @@ pub fn vet(
     mark: u8,
     list: &[u8],
 ) -> Result<(), Fault>
-    ensures { Vets (lent_as image.now packet.now coefficients.now (marked mark)) list.now (verdict_told result) }
+    ensures vets { Vets (lent_as image.now packet.now coefficients.now (marked mark)) list.now (verdict_told result) }
+    ensures placed { IfErr result (λ fault. fault ≢ Refused BadPair) }
 {
     if (image.len() != 256) | (packet.len() != 32) | (coefficients.len() != 24) {
         return Err(Refusal::ImageLength.into());

@@ -45,19 +45,19 @@ module _ (c : After-as_chunks) where
 begun : (c : After-gathered-start) → let a = c.args in c.gathered-start.result ≡ lent_as a.image.now a.packet.now a.coefficients.now (marked a.mark)
 begun c = gathered_whole _ c.gathered-start.result (sized _ (sym (sizes _ _ _) ∙ c.if-image-packet.false)) c.gathered-start.ensures
 
-pub returns-then-image-packet : goal.returns-then-image-packet
-returns-then-image-packet c = let s = at (goal.at.returns-then-image-packet c).Start in
+pub returns-then-image-packet-clause-vets : goal.returns-then-image-packet-clause-vets
+returns-then-image-packet-clause-vets c = let s = at (goal.at.returns-then-image-packet-clause-vets c).Start in
     rw c.into.ensures (wrong_size s c.args.list.now (sym (sizes _ _ _) ∙ c.if-image-packet.true))
 
-pub returns-then-not-is_ready : goal.returns-then-not-is_ready
-returns-then-not-is_ready c = let s = at (goal.at.returns-then-not-is_ready c).Start in
-    rw c.into-then-not-is_ready.ensures (holds_up_lem s c.args.list.now (right_size (goal.at.returns-then-not-is_ready c).Else-image-packet)
+pub returns-then-not-is_ready-clause-vets : goal.returns-then-not-is_ready-clause-vets
+returns-then-not-is_ready-clause-vets c = let s = at (goal.at.returns-then-not-is_ready-clause-vets c).Start in
+    rw c.into-then-not-is_ready.ensures (holds_up_lem s c.args.list.now (right_size (goal.at.returns-then-not-is_ready-clause-vets c).Else-image-packet)
     (ap not (sym c.is_ready.ensures ∙ c.if-not-is_ready.true)))
 
-pub returns-then-rest-pairs : goal.returns-then-rest-pairs
-returns-then-rest-pairs c = let s = at (goal.at.returns-then-rest-pairs c).Start in
-    rw c.into-then-rest-pairs.ensures (wrong_length_lem s c.args.list.now (right_size (goal.at.returns-then-rest-pairs c).Else-image-packet)
-    (is_fit (goal.at.returns-then-rest-pairs c).Else-not-is_ready) (measured (goal.at.returns-then-rest-pairs c).After-as_chunks ∙ c.if-rest-pairs.true))
+pub returns-then-rest-pairs-clause-vets : goal.returns-then-rest-pairs-clause-vets
+returns-then-rest-pairs-clause-vets c = let s = at (goal.at.returns-then-rest-pairs-clause-vets c).Start in
+    rw c.into-then-rest-pairs.ensures (wrong_length_lem s c.args.list.now (right_size (goal.at.returns-then-rest-pairs-clause-vets c).Else-image-packet)
+    (is_fit (goal.at.returns-then-rest-pairs-clause-vets c).Else-not-is_ready) (measured (goal.at.returns-then-rest-pairs-clause-vets c).After-as_chunks ∙ c.if-rest-pairs.true))
 
 pub verdict_on-requires : goal.verdict_on-requires
 verdict_on-requires c =
@@ -73,14 +73,14 @@ verdict_on-requires c =
           ∙ ap (λ (t : Chip). length (shortened ws t)) (sym (begun (goal.at.verdict_on-requires c).After-gathered-start)),
     )
 
-pub returns : goal.returns
-returns c =
+pub returns-clause-vets : goal.returns-clause-vets
+returns-clause-vets c =
     let list = c.args.list.now in
-    let b = begun (goal.at.returns c).After-gathered-start in
-    let k = (goal.at.returns c).After-as_chunks in
-    c.verdict_on.ensures list (sym (chunked k)) (rw b (record {
-      sized = right_size (goal.at.returns c).Else-image-packet;
-      fit = is_fit (goal.at.returns c).Else-not-is_ready;
+    let b = begun (goal.at.returns-clause-vets c).After-gathered-start in
+    let k = (goal.at.returns-clause-vets c).After-as_chunks in
+    c.verdict_on.ensures.vets list (sym (chunked k)) (rw b (record {
+      sized = right_size (goal.at.returns-clause-vets c).Else-image-packet;
+      fit = is_fit (goal.at.returns-clause-vets c).Else-not-is_ready;
       whole = measured k ∙ c.if-rest-pairs.false;
     }))
     ∙ ap (λ (s : Chip). vet_of s list) b

@@ -10,4 +10,4 @@ returns c =
     let b = c.split_at-2.ensures in
     let d = c.split_at-3.ensures in
     let p = pieces 256 32 24 288 312 313 1 c.args.input.now _ _ _ refl refl refl a.back b.back d.back in
-    rw (le-ltb _ _ c.if-input-lt-AHEAD.false) (rw (a.front, b.front, d.front, a.back, p.0, p.1, p.2) at c.vet.ensures)
+    rw (le-ltb _ _ c.if-input-lt-AHEAD.false) (rw (a.front, b.front, d.front, a.back, p.0, p.1, p.2) at c.vet.ensures.vets)
