@@ -167,7 +167,7 @@ impl Video {
     pub fn edition_outside(self) -> bool
         ensures { result ≡ edition_outside self }
     {
-        (1 < self.edition % 4) | ((1 < self.edition / 4 % 4) | (0 < self.edition / 64))
+        1 < self.edition % 4 || 1 < self.edition / 4 % 4 || 0 < self.edition / 64
     }
 
     /// Row 5, of the fields that the AVI InfoFrame shows.
@@ -175,7 +175,7 @@ impl Video {
     pub fn shown_outside(self) -> bool
         ensures { result ≡ shown_outside self }
     {
-        (2 < self.encoding) | ((1 < self.range) | ((2 < self.pixel / 16) | self.edition_outside()))
+        2 < self.encoding || 1 < self.range || 2 < self.pixel / 16 || self.edition_outside()
     }
 
     /// Row 5, of this section.
@@ -183,35 +183,35 @@ impl Video {
     pub fn outside(self) -> bool
         ensures { result ≡ video_outside self }
     {
-        (1 < self.link) | ((2 < self.pixel % 16) | self.shown_outside())
+        1 < self.link || 2 < self.pixel % 16 || self.shown_outside()
     }
 
     /// Row 5, of the fields from which the clock is made.
     pub fn pixel_outside(self) -> bool
         ensures { result ≡ pixel_outside self }
     {
-        (2 < self.pixel % 16) | (2 < self.pixel / 16)
+        2 < self.pixel % 16 || 2 < self.pixel / 16
     }
 
     /// Row 6: range 1 with YCbCr.
     pub fn full_ycbcr(self) -> bool
         ensures { result ≡ full_ycbcr self }
     {
-        (self.range == 1) & (self.encoding != 0)
+        self.range == 1 && self.encoding != 0
     }
 
     /// Row 6: more than 24 bits with 4:2:2 or DVI.
     pub fn deep_apart(self) -> bool
         ensures { result ≡ deep_apart self }
     {
-        (self.pixel % 16 != 0) & ((self.encoding == 1) | (self.link == 0))
+        (self.pixel % 16 != 0) && (self.encoding == 1 || self.link == 0)
     }
 
     /// Row 6: E's bits under D.
     pub fn asked_under_d(self) -> bool
         ensures { result ≡ asked_under_d self }
     {
-        (self.edition % 4 == 0) & ((self.edition / 4 % 4 != 0) | (self.edition / 16 % 4 != 0))
+        self.edition % 4 == 0 && (self.edition / 4 % 4 != 0 || self.edition / 16 % 4 != 0)
     }
 
     /// Row 6, of the fields that the AVI InfoFrame shows.
@@ -219,7 +219,7 @@ impl Video {
     pub fn shown_combined(self) -> bool
         ensures { result ≡ shown_combined self }
     {
-        self.full_ycbcr() | self.asked_under_d()
+        self.full_ycbcr() || self.asked_under_d()
     }
 
     /// Row 6, of this section alone.
@@ -227,7 +227,7 @@ impl Video {
     pub fn combined(self) -> bool
         ensures { result ≡ video_combined self }
     {
-        ((self.link == 0) & (self.encoding != 0)) | (self.deep_apart() | self.shown_combined())
+        self.link == 0 && self.encoding != 0 || self.deep_apart() || self.shown_combined()
     }
 }
 

@@ -232,13 +232,16 @@ impl Wiring {
         let n = Wires::from(self);
         let kind = Kind::of(n.input);
         let most = kind.most_sync();
-        let undrawn = (n.depth < kind.least)
-            | ((3 < n.depth)
-                | ((n.style < kind.first)
-                    | ((kind.last < n.style) | (kind.ways < n.justification))));
-        let beyond = (most < n.hplacement)
-            | ((most < n.hduration) | ((most < n.vplacement) | (most < n.vduration)));
-        undrawn | ((self.count() != kind.count) | beyond)
+        let undrawn = n.depth < kind.least
+            || 3 < n.depth
+            || n.style < kind.first
+            || kind.last < n.style
+            || kind.ways < n.justification;
+        let beyond = most < n.hplacement
+            || most < n.hduration
+            || most < n.vplacement
+            || most < n.vduration;
+        undrawn || self.count() != kind.count || beyond
     }
 
     /// Whether the input counts as RGB.
@@ -246,7 +249,7 @@ impl Wiring {
     pub fn is_rgb(self) -> bool
         ensures { result ≡ rgb_in (wires_of self).input }
     {
-        matches!(self, Wiring::Board) || (Kind::of(Wires::from(self).input).rgb == 1)
+        matches!(self, Wiring::Board) || Kind::of(Wires::from(self).input).rgb == 1
     }
 }
 
