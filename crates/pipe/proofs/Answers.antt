@@ -1,14 +1,14 @@
 -- What each call answers, and what it leaves, case by case. Assumes nothing.
 use mathlib.Core.Path.{◌≡◌, refl, sym, ap, subst, ◌∙◌}
 use mathlib.Core.Logic.{◌≢◌, inl, inr}
-use mathlib.Core.Bool.{Bool, true, false, cond}
+use mathlib.Core.Bool.{Bool, true, false}
 use mathlib.Core.List.{List, ◌++◌}
 use Prim.Native.Nat.{ℕ, suc, ◌≤◌}
 use native.Mathlib.Omega.{arith}
-use lib.Dec.{eqb, leb}
+use lib.Dec.{leb}
 use lib.ListN.{length, take, set}
 use lib.Seq.{take_all}
-use borrow.Author.Tests.{ne_eqb, eqb-false, leb-true, leb-false}
+use borrow.Author.Tests.{ne_eqb, leb-true, leb-false}
 use Rattle.std.specs.Prelude.{Result, Ok, Err}
 use Rattle.lists.specs.Over.{over}
 use Rattle.refusals.specs.declared.Refusal.{Refusal}
@@ -19,7 +19,7 @@ use Rattle.request.specs.Read.{PairsInput}
 use Rattle.request.specs.Sections.{longest}
 use Rattle.request.proofs.Cut.{lengths}
 use Rattle.pipe.specs.Final.{refusal_of}
-use Rattle.pipe.specs.Bytes.{answer_byte, count_in, so_far, refused, not_yet, said_by, with_answer}
+use Rattle.pipe.specs.Bytes.{count_in, so_far, refused, not_yet, said_by, with_answer}
 use Rattle.pipe.specs.Found.{is_open, answer_there, early, kept, end_byte}
 use Rattle.pipe.specs.Found.{take_of, take_pipe, end_pipe_of, end_pipe, TakesPart, EndsPipe}
 use Rattle.pipe.proofs.Early.{TwoOrThree, long, early_is, early_some, early_none}
@@ -37,14 +37,6 @@ taking_nothing pipe part f = (rw f, rw f)
 pub ending_nothing : (pipe : List ℕ) → is_open pipe ≡ false → EndsPipe pipe (answer_there pipe) pipe
 unfolding end_pipe_of end_pipe
 ending_nothing pipe f = (rw f, rw f)
-
--- the byte that remembers an answer is not 0
-pub answer_byte_some : (n byte : ℕ) → byte ≡ answer_byte n → byte ≢ 0
-answer_byte_some n byte h = go (eqb n 0) refl h
-  where
-    go : (b : Bool) → eqb n 0 ≡ b → byte ≡ cond b 255 n → byte ≢ 0
-    go true e h z = omega (arith, h, z)
-    go false e h z = eqb-false n 0 e (sym h ∙ z)
 
 -- the end of an open one
 pub ending : (pipe : List ℕ) → is_open pipe ≡ true → EndsPipe pipe (said_by (end_byte pipe) (count_in pipe)) (with_answer pipe (end_byte pipe))

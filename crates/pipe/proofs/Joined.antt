@@ -8,11 +8,11 @@ use native.Mathlib.Omega.{arith}
 use lib.Dec.{eqb, leb, ltb}
 use lib.ListN.{length, take, drop, length-append, length-drop, drop_of_length-le}
 use borrow.Rule.Slice.PartMut.{put_mid, mid_of, post_of}
-use lib.Seq.{paste, take-paste, take-append-add, take_all, length-take-le, drop-drop}
+use lib.Seq.{paste, take-paste, take-append-add, take-append-le, take_all, length-take-le, drop-drop}
 use borrow.Author.Tests.{eqb-true, leb-true, ltb-true, ltb-false, eq-eqb, ne_eqb, le-leb}
 use Rattle.lists.specs.Over.{over}
 use Rattle.lists.proofs.Both.{both_left, both_right}
-use Rattle.lists.proofs.Copied.{over_shorter}
+use Rattle.lists.proofs.Copied.{over_shorter, over_front}
 use Rattle.request.specs.Sections.{longest}
 use Rattle.pipe.specs.Bytes.{pipe_length, count_in, answer_in, so_far}
 use Rattle.pipe.specs.Found.{is_pipe, is_open}
@@ -75,10 +75,12 @@ not_open pipe z = go (is_pipe pipe)
 pub length_so_far : (pipe : List ℕ) → is_pipe pipe ≡ true → length (so_far pipe) ≡ count_in pipe
 length_so_far pipe t = length-take-le (count_in pipe) pipe (omega (arith, of_length pipe t, counted pipe t))
 
--- the bytes so far put at the front, and a part behind them
-pub two : (pipe part d₁ d₂ : List ℕ) (n r : ℕ) → is_pipe pipe ≡ true
-    → take n d₁ ≡ take (suc longest) (so_far pipe) → take r d₂ ≡ take (suc longest) (take n d₁ ++ part)
-    → take r d₂ ≡ take (suc longest) (so_far pipe ++ part)
-two pipe part d₁ d₂ n r t first second =
-    let f : take n d₁ ≡ so_far pipe = first ∙ take_all (suc longest) (so_far pipe) (omega (arith, length_so_far pipe t, counted pipe t)) in
-    second ∙ ap (λ (s : List ℕ). take (suc longest) (s ++ part)) f
+-- the request so far at the front, and a part behind it
+pub joined : (bytes part d front out : List ℕ) (i : ℕ) → length d ≡ suc longest → length bytes ≤ longest → front ≡ over bytes d
+    → out ≡ over part (mid_of (length bytes) (suc longest - length bytes) front) → i ≡ min (length part) (suc longest - length bytes)
+    → take (length bytes + i) (put_mid (length bytes) (suc longest - length bytes) front out) ≡ take (suc longest) (bytes ++ part)
+joined bytes part d front out i l h f e m =
+    let g : front ≡ bytes ++ drop (length bytes) d = f ∙ over_front bytes d (omega (arith, l, h)) in
+    let k : length front ≡ suc longest = rw g (omega (arith, length-append bytes (drop (length bytes) d), length-drop (length bytes) d, l, h)) in
+    let t : take (length bytes) front ≡ bytes = rw (g, take-append-le (length bytes) bytes (drop (length bytes) d) (omega arith)) (take_all (length bytes) bytes (omega arith)) in
+    put_behind (suc longest) (length bytes) i front part out k (omega (arith, h)) e m ∙ ap (λ (x : List ℕ). take (suc longest) (x ++ part)) t

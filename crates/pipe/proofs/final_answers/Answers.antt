@@ -3,4 +3,4 @@ use Rattle.pipe.proofs.Early.{finals, deciding}
 use Rattle.pipe.proofs.final_answers.Goals as goal
 
 pub returns : goal.returns
-returns c = record { by_index = finals; by_index_2 = deciding }
+returns c = record { finals = finals; deciding = deciding }
