@@ -240,6 +240,7 @@ impl<'a> Collection<'a> {
     }
 
     // The answers to some questions, a bit each, the first the lowest.
+    // Kept, no plainer: two numbers and no Range. One that is passed in makes the loop one over an iterator, and what that yielded has to be told.
     fn word<F: Fn(u8) -> Ask>(&self, from: u8, to: u8, question: F) -> u32
         requires callable { F.IsAlwaysCallable question }
         requires fits { (from ≤ to) × (to ≤ from + 32) }
@@ -264,6 +265,7 @@ impl<'a> Collection<'a> {
     }
 
     // Whether a request is accepted, and its sound covered.
+    // Kept, the proof did not close: with `is_ok_and` a proof knows nothing of what its closure gave.
     fn is_shown(&self, request: &[u8]) -> bool
         ensures { result ≡ is_shown self.now.bytes.now request.now }
     {
@@ -331,11 +333,13 @@ pub fn choose(edid: &[u8], request: &[u8], wishes: &[u8]) -> Result<Chosen, Refu
 }
 
 /// A collection and its data blocks, both ways.
+#[tactic(auto, using(crate::proofs::Blocks::data_blocks_lem))]
 pub fn data_blocks()
     ensures { (bytes : List ℕ) → Bytes bytes → DataBlocks bytes }
 {}
 
 /// What an overview says, bit by bit.
+#[tactic(auto, using(crate::proofs::Answers::overview))]
 pub fn overview_rule()
     ensures { (edid : List ℕ) → Overview edid }
 {}
@@ -346,6 +350,7 @@ pub fn in_place()
 {}
 
 /// The first wish that fits, in document 02's words.
+#[tactic(auto, using(crate::proofs::Seen::chooses))]
 pub fn choices()
     ensures { (edid input wishes : List ℕ) → Chooses edid input wishes }
 {}

@@ -5,7 +5,7 @@ use mathlib.Core.List.{List}
 use Prim.Native.Nat.{ℕ}
 use native.Mathlib.Omega.{arith}
 use borrow.Author.Rules.{rules}
-use Rattle.std.specs.Prelude.{Err, None, Some}
+use Rattle.std.specs.Prelude.{Option, Err, None, Some}
 use Rattle.refusals.specs.declared.Refusal.TheVariants.{NoWishFits}
 use Rattle.edid.specs.Screen.{extension, collection}
 use Rattle.edid.specs.Wish.{wishes_in}
@@ -36,13 +36,17 @@ returns-in_err-template c = let a = c.args in
     (sym (refused_all a.edid.now a.request.now a.wishes.now w m.0
     (some_none (is_fitting (collection (extension a.edid.now)) a.request.now) (no_fit (collection (extension a.edid.now)) a.request.now z) (wishes_in a.wishes.now))))
 
+-- the place that the search found, by the screen that was read and the request as it came
+module _ (edid request wishes bytes held : List ℕ) (place : Option ℕ) (b : bytes ≡ collection (extension edid)) (q : held ≡ request) where
+  searched : place ≡ first_in (is_fitting bytes held) (wishes_in wishes) → first_in (is_fitting (collection (extension edid)) request) (wishes_in wishes) ≡ place
+  searched f = sym (f ∙ ap (λ (l : List ℕ). first_in (is_fitting l held) (wishes_in wishes)) b ∙ ap (λ (r : List ℕ). first_in (is_fitting (collection (extension edid)) r) (wishes_in wishes)) q)
+
 pub returns-in_err-place : goal.returns-in_err-place
 returns-in_err-place c = let a = c.args in
     let w = right_wishes a.wishes.now c.if-wishes-ne0.false c.if-wishes-gt-WISHES.false in
     let m = rw c.in_ok-screen.was at c.read.ensures in
-    let q : c.in_ok-template.template.request.now ≡ a.request.now = search rules in
     let n : c.first_wish.result ≡ None = search rules in
-    let f = sym (rw q at c.first_wish.ensures ∙ ap (λ (l : List ℕ). first_in (is_fitting l a.request.now) (wishes_in a.wishes.now)) m.1) ∙ n in
+    let f = searched a.edid.now a.request.now a.wishes.now _ _ _ m.1 (search rules) c.first_wish.ensures ∙ n in
     let r : c.from_residual-in_err-place.result ≡ Err NoWishFits = search rules in
     rw r (sym (refused_all a.edid.now a.request.now a.wishes.now w m.0 (found_none (is_fitting (collection (extension a.edid.now)) a.request.now) (wishes_in a.wishes.now) f)))
 
@@ -61,6 +65,6 @@ returns c = let a = c.args in
     let t = c.in_ok-template.template in
     let q : t.request.now ≡ a.request.now = search rules in
     let s : c.first_wish.result ≡ Some c.in_ok-place.place = search rules in
-    let f = sym (rw q at c.first_wish.ensures ∙ ap (λ (l : List ℕ). first_in (is_fitting l a.request.now) (wishes_in a.wishes.now)) m.1) ∙ s in
+    let f = searched a.edid.now a.request.now a.wishes.now _ _ _ m.1 q c.first_wish.ensures ∙ s in
     let p = found_some (is_fitting (collection (extension a.edid.now)) a.request.now) (wishes_in a.wishes.now) c.in_ok-place.place f in
     rw (p.1, sym (rw q at t.there.0)) (sym (taken a.edid.now a.request.now a.wishes.now w m.0 p.0))
