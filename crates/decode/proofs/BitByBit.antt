@@ -3,14 +3,13 @@ use mathlib.Core.Path.{◌≡◌, refl, sym, ap, ◌∙◌}
 use mathlib.Core.Logic.{◌≢◌, ◌⊎◌, ⊎_elim, inl, inr}
 use mathlib.Core.Bool.{Bool, true, false, cond}
 use mathlib.Core.List.{List}
-use Prim.Native.Nat.{ℕ, ◌+◌, ◌%◌, ◌<◌}
+use Prim.Native.Nat.{ℕ, ◌+◌, ◌<◌}
 use native.Mathlib.Omega.{arith}
 use lib.Dec.{eqb}
 use lib.ListN.{get_or}
 use borrow.Author.Tests.{eqb-true, eqb-false, eq-eqb, ne_eqb}
 use Rattle.bits.specs.Merge.{bit}
 use Rattle.bits.proofs.Laws.{merge_bit}
-use Rattle.bits.proofs.Fields.{low_same}
 use Rattle.registers.specs.Classes.{read_only, mandated, named, free, bits}
 use Rattle.registers.proofs.Whole.{rule}
 use Rattle.matrix.specs.Matrix.{Bytes}
@@ -19,6 +18,7 @@ use Rattle.plan.specs.Wanted.{wanted}
 use Rattle.writes.specs.List.{byte, is_written, finished}
 use Rattle.decode.specs.Ends.{Stands}
 use Rattle.decode.specs.Theorems.{Counts, AsLeft, BitByBit}
+use Rattle.writes.proofs.Fewer.{same_byte}
 use Rattle.writes.proofs.InOrder.{is_listed}
 use Rattle.writes.proofs.Named.{byte_small, left}
 
@@ -63,9 +63,6 @@ module _ (a j : ℕ) (h : a < 256) (l : j < 8) where
 
 -- ---- a register that the list writes
 
-whole : (x y : ℕ) → x < 256 → y < 256 → ((j : ℕ) → j < 8 → bit j x ≡ bit j y) → x ≡ y
-whole x y h k f = let e : x % 256 ≡ y % 256 = low_same 8 x y f in omega arith
-
 module _ (want : ℕ → ℕ) (a : ℕ) (h : a < 256) (w : is_written a ≡ true) where
   -- a bit that counts is left the same on any two images
   same : (image before : List ℕ) (j : ℕ) → j < 8 → Counts a j → bit j (finished want image a) ≡ bit j (finished want before a)
@@ -85,7 +82,7 @@ module _ (r : Request) (before image : List ℕ) where
       go : (t : Bool) → is_written a ≡ t → finished (wanted r) image a ≡ get_or image a 0
       go false w = rw w
       go true w =
-          whole (finished (wanted r) image a) (get_or image a 0) (small (wanted r) a h w image) (b a)
+          same_byte (finished (wanted r) image a) (get_or image a 0) (small (wanted r) a h w image) (b a)
           (λ j l. ⊎_elim (λ c. same (wanted r) a h w image before j l c ∙ sym (s a j h l (is_listed (wanted r) before a h ∙ w) c)) (λ k. stay (wanted r) a h w image j l k) (either a j h l))
 
   to : Stands r image → AsLeft r before image

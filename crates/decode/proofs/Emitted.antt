@@ -1,18 +1,12 @@
--- Bytes stored section by section. `sets d at xs` of lib.Seq is d with xs stored from index at. Assumes nothing.
---     body_laid     a body in its place
---     emitted       sections one after another are the bytes of a request
+-- Bytes stored section by section are the bytes of a request. `sets d at xs` of lib.Seq is d with xs stored from index at. Assumes nothing.
 use mathlib.Core.Path.{◌≡◌, refl, sym, ap, ap₂, ◌∙◌}
 use mathlib.Core.Bool.{Bool, true, false, cond}
 use mathlib.Core.List.{List, [], ◌∷◌}
-use Prim.Native.Nat.{ℕ, suc, ◌+◌, ◌-◌, ◌≤◌}
+use Prim.Native.Nat.{ℕ, suc, ◌+◌, ◌≤◌}
 use native.Mathlib.Omega.{arith}
 use lib.Dec.{eqb, lit≤}
-use lib.ListN.{length, take, drop, length-append, length-drop, drop_of_length-le}
-use lib.Seq.{sets, sets-eq, take_all, drop-drop}
-use Rattle.std.proofs.lemmas.List.{append_assoc, append-nil}
-use borrow.Rule.Slice.PartMut.{put_mid}
-use Rattle.lists.specs.Over.{over}
-use Rattle.lists.proofs.Copied.{over_front}
+use lib.ListN.{length, length-append}
+use lib.Seq.{sets, length-sets}
 use Rattle.lists.proofs.Emit.{sets_append, sets_front}
 use Rattle.wiring.specs.declared.Wiring.{Wiring}
 use Rattle.wiring.specs.declared.Wiring.TheVariants.{Board, Four, Twelve}
@@ -31,12 +25,9 @@ use Rattle.request.specs.Bytes.{laid, matrix_body, bodies_of, as_bytes}
 use Rattle.request.specs.Sections as sections
 use Rattle.decode.specs.Decode.{in_front}
 
-pub body_laid : (d body : List ℕ) (at k : ℕ) → k ≡ length d - at → at + length body ≤ length d
-    → put_mid at k d (over body (take k (drop at d))) ≡ sets d at body
-body_laid d body at k e h =
-    let n : length (drop at d) ≤ k = omega (arith, length-drop at d) in
-    let m : length body ≤ length (drop at d) = omega (arith, length-drop at d) in
-    simp (take_all k (drop at d) n, over_front body (drop at d) m, drop_of_length-le (drop at d) n, append-nil, sets-eq body d at h, append_assoc, drop-drop)
+-- a section that is stored leaves as many bytes
+pub same_length : (d body : List ℕ) (at : ℕ) {after : List ℕ} → after ≡ sets d at (length body ∷ body) → length after ≡ length d
+same_length d body at e = ap length e ∙ length-sets d at (length body ∷ body)
 
 -- sections stored one after another, from a place on
 abbrev pub in_turn : List ℕ → ℕ → List (List ℕ) → List ℕ
@@ -50,12 +41,12 @@ emitted d place (b ∷ bs) =
 
 -- ---- a request
 
-wiring_room : (w : Wiring) → length (wiring_body w) ≤ twelve_count
+pub wiring_room : (w : Wiring) → length (wiring_body w) ≤ twelve_count
 wiring_room Board = lit≤ tt
 wiring_room (Four i d s j) = lit≤ tt
 wiring_room (Twelve i d s j a b c e) = lit≤ tt
 
-audio_room : (s : Sound) → length (audio_body s) ≤ audio_count
+pub audio_room : (s : Sound) → length (audio_body s) ≤ audio_count
 audio_room Off = lit≤ tt
 audio_room (On rate channels coherent) = lit≤ tt
 

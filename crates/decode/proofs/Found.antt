@@ -9,7 +9,7 @@ use borrow.Author.Tests.{eq-eqb, ne_eqb, lt-ltb, le-ltb}
 use Rattle.request.specs.declared.Request.{Request}
 use Rattle.request.specs.Sections.{longest}
 use Rattle.request.specs.Bytes.{as_bytes, request_in_family}
-use Rattle.request.proofs.Fits.{coefficients_small, twelve_there}
+use Rattle.request.proofs.Fits.{coefficients_small}
 use Rattle.plan.specs.Plan.{stands_in}
 use Rattle.decode.specs.Numbered.{Decoded, not_decoded}
 use Rattle.decode.specs.Extract.{matrix_in, extract}
@@ -30,10 +30,6 @@ not_second r image l n f = go (stands_in (request_in_family 1 r) image) refl
 pub small : (image : List ℕ) → length image ≡ 256 → (i : ℕ) → get_or (extract image).matrix.coefficients i 0 < 8192
 unfolding extract
 small image sized = coefficients_small (matrix_in image) (shaped image sized)
-
-pub twelve : (image : List ℕ) → length image ≡ 256 → length (extract image).matrix.coefficients ≡ 12
-unfolding extract
-twelve image sized = twelve_there (matrix_in image) (shaped image sized)
 
 -- ---- rows 7, 10 and 11
 

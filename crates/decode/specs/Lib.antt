@@ -4,3 +4,4 @@ pub mod Extract
 pub mod Decode
 pub mod Theorems
 pub mod ReadBack
+pub mod Writer

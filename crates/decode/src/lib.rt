@@ -1,14 +1,17 @@
 // Decoding: from a finished image back to the request. Document 01, "Register classes", last paragraph.
 #![tactic(auto)]
 
-ghost use Rattle.std.specs.Prelude.{◌≡◌, ◌||◌, List, ◌∷◌, ℕ, suc, ◌+◌, ◌*◌, ◌<◌, ◌≤◌, get_or, length};
-ghost use Rattle.std.proofs.lemmas.List.Edits.{sets};
+ghost use Rattle.std.specs.Prelude.{◌≡◌, ◌||◌, List, ℕ, ◌+◌, ◌*◌, ◌<◌, ◌≤◌, get_or, length};
+ghost use Rattle.wiring.specs.Kinds.{twelve_count};
+ghost use Rattle.wiring.specs.Wiring.{wiring_body};
+ghost use Rattle.sound.specs.Sound.{audio_count, audio_body};
 ghost use Rattle.request.specs.declared.Request.{Request};
-ghost use Rattle.request.specs.Sections.{longest};
-ghost use Rattle.request.specs.Bytes.{as_bytes, request_in_family};
+ghost use Rattle.request.specs.Sections.{matrix_count, longest};
+ghost use Rattle.request.specs.Bytes.{matrix_body, as_bytes, request_in_family};
 ghost use Rattle.plan.specs.Plan.{stands_in};
 ghost use Rattle.decode.specs.Extract.{wires_in, sound_in, matrix_in, depth_of, extract};
 ghost use Rattle.decode.specs.Numbered.{decoded_told};
+ghost use Rattle.decode.specs.Writer.{HasRoom, Wrote};
 ghost use Rattle.decode.specs.Decode.{in_front, is_coherent, Decodes};
 ghost use Rattle.decode.specs.Theorems.{ExactlyWhen, BitByBit, AtMostOne, Refusals};
 ghost use Rattle.decode.specs.ReadBack.{ReadBack};
@@ -113,66 +116,100 @@ fn extract(image: &[u8; 256]) -> Request
     }
 }
 
-// A section from a place of the buffer on, its count and its body, and the place after it.
-fn section(buffer: &mut [u8], place: usize, body: &[u8]) -> usize
-    requires { (length body.now < 256) × (place + suc (length body.now) ≤ length buffer.old) }
-    ensures value { result ≡ place + suc (length body.now) }
-    ensures buffer_after { buffer.new ≡ sets buffer.old place (length body.now ∷ body.now) }
-{
-    let start = place + 1;
-    buffer[place] = body.len() as u8;
-    lists::copy(body, &mut buffer[start..]);
-    start + body.len()
+// A request that is being written: the buffer, and the place of the next section.
+#[derive(Drop)]
+struct Writer<'a> {
+    buffer: &'a mut [u8],
+    place: usize,
+}
+
+impl<'a> Writer<'a> {
+    // A section, its count and its body.
+    fn section(&mut self, body: &[u8])
+        requires short { length body.now < 256 }
+        requires has_room { HasRoom self.old (length body.now) }
+        ensures { Wrote self.old body.now self.new }
+    {
+        let start = self.place + 1;
+        self.buffer[self.place] = body.len() as u8;
+        lists::copy(body, &mut self.buffer[start..]);
+        self.place = start + body.len();
+    }
+
+    // The wiring, with none, four or twelve bytes.
+    fn wiring_section(&mut self, wiring: Wiring)
+        requires { HasRoom self.old twelve_count }
+        ensures { Wrote self.old (wiring_body wiring) self.new }
+    {
+        match wiring {
+            Wiring::Board => self.section(&[]),
+            Wiring::Four {
+                input,
+                depth,
+                style,
+                justification,
+            } => self.section(&[input, depth, style, justification]),
+            Wiring::Twelve {
+                input,
+                depth,
+                style,
+                justification,
+                hplacement,
+                hduration,
+                vplacement,
+                vduration,
+            } => {
+                let [a, b] = hplacement.to_be_bytes();
+                let [c, d] = hduration.to_be_bytes();
+                let [e, f] = vplacement.to_be_bytes();
+                let [g, h] = vduration.to_be_bytes();
+                self.section(&[input, depth, style, justification, a, b, c, d, e, f, g, h]);
+            }
+        }
+    }
+
+    // The sound, with none or three bytes.
+    fn audio_section(&mut self, sound: Sound)
+        requires { HasRoom self.old audio_count }
+        ensures { Wrote self.old (audio_body sound) self.new }
+    {
+        match sound {
+            Sound::Off => self.section(&[]),
+            Sound::On {
+                rate,
+                channels,
+                coherent,
+            } => self.section(&[rate, channels, coherent]),
+        }
+    }
+
+    // The matrix, with none or 25 bytes.
+    fn matrix_section(&mut self, matrix: Matrix)
+        requires small { (i : ℕ) → get_or matrix.coefficients i 0 < 8192 }
+        requires has_room { HasRoom self.old matrix_count }
+        ensures { Wrote self.old (matrix_body matrix) self.new }
+    {
+        if matrix.on == 0 {
+            self.section(&[]);
+        } else {
+            self.section(&matrix.body());
+        }
+    }
 }
 
 // The bytes of a request at the front of the buffer, section after section, and their count.
 fn emit(q: Request, buffer: &mut [u8]) -> usize
-    requires { (longest ≤ length buffer.old) × ((i : ℕ) → get_or q.matrix.coefficients i 0 < 8192) × (length q.matrix.coefficients ≡ 12) }
+    requires long { longest ≤ length buffer.old }
+    requires small { (i : ℕ) → get_or q.matrix.coefficients i 0 < 8192 }
     ensures value { (result ≡ length (as_bytes q)) × (result ≤ longest) }
     ensures buffer_after { buffer.new ≡ in_front (as_bytes q) buffer.old }
 {
-    let after_wiring = match q.wiring {
-        Wiring::Board => section(buffer, 0, &[]),
-        Wiring::Four {
-            input,
-            depth,
-            style,
-            justification,
-        } => section(buffer, 0, &[input, depth, style, justification]),
-        Wiring::Twelve {
-            input,
-            depth,
-            style,
-            justification,
-            hplacement,
-            hduration,
-            vplacement,
-            vduration,
-        } => {
-            let [a, b] = hplacement.to_be_bytes();
-            let [c, d] = hduration.to_be_bytes();
-            let [e, f] = vplacement.to_be_bytes();
-            let [g, h] = vduration.to_be_bytes();
-            let body = [input, depth, style, justification, a, b, c, d, e, f, g, h];
-            section(buffer, 0, &body)
-        }
-    };
-    let after_video = section(buffer, after_wiring, &q.video.to_body());
-    let after_audio = match q.sound {
-        Sound::Off => section(buffer, after_video, &[]),
-        Sound::On {
-            rate,
-            channels,
-            coherent,
-        } => section(buffer, after_video, &[rate, channels, coherent]),
-    };
-    // Kept, the proof did not close: made in the else alone, what the sections before left has to be told once for each end.
-    let matrix = q.matrix.body();
-    if q.matrix.on == 0 {
-        section(buffer, after_audio, &[])
-    } else {
-        section(buffer, after_audio, &matrix)
-    }
+    let mut writer = Writer { buffer, place: 0 };
+    writer.wiring_section(q.wiring);
+    writer.section(&q.video.to_body());
+    writer.audio_section(q.sound);
+    writer.matrix_section(q.matrix);
+    writer.place
 }
 
 // The request in a family.
@@ -201,7 +238,7 @@ fn ends(q: Request, image: &[u8; 256]) -> bool
         || (is_coherent(q.sound) && plan::stands(in_family(q, 1), image))
 }
 
-// The request that ends in an image, in a lent buffer, and the count of its bytes: refusals 7, 10 and 11.
+/// The request that ends in an image, in a lent buffer, and the count of its bytes: refusals 7, 10 and 11.
 pub fn decode(image: &[u8], buffer: &mut [u8]) -> Result<u32, Refusal>
     ensures { Decodes image.now buffer.old (decoded_told result) buffer.new }
 {
@@ -216,27 +253,27 @@ pub fn decode(image: &[u8], buffer: &mut [u8]) -> Result<u32, Refusal>
     Ok(emit(q, buffer) as u32)
 }
 
-// "Decoding answers a request exactly when .."
+/// "Decoding answers a request exactly when .."
 pub fn exactly_when()
     ensures { (image buffer : List ℕ) → ExactlyWhen image buffer }
 {}
 
-// ".. every named and mandated bit its list writes stands in the image as that list leaves it; free and read-only bits do not count."
+/// ".. every named and mandated bit its list writes stands in the image as that list leaves it; free and read-only bits do not count."
 pub fn bit_by_bit()
     ensures { (r : Request) (before image : List ℕ) → BitByBit r before image }
 {}
 
-// No two requests end in an image: the family is answered as 0, E that asks for nothing as D, and every other field has its register.
+/// No two requests end in an image: the family is answered as 0, E that asks for nothing as D, and every other field has its register.
 pub fn at_most_one()
     ensures { (image : List ℕ) → AtMostOne image }
 {}
 
-// "decoding 7, 10 and 11": the lowest that applies is given, with count 0 and the buffer as it was.
+/// "decoding 7, 10 and 11": the lowest that applies is given, with count 0 and the buffer as it was.
 pub fn refusals_of_decoding()
     ensures { (image buffer : List ℕ) → Refusals image buffer }
 {}
 
-// Demand 2: "the finished image reads back as the same request, but for the frame-rate family", and for an E that asks for nothing.
+/// Demand 2: "the finished image reads back as the same request, but for the frame-rate family", and for an E that asks for nothing.
 pub fn read_back()
     ensures { (input before image : List ℕ) → ReadBack input before image }
 {}

@@ -50,7 +50,7 @@ abbrev merged : E
 merged = whole (by (var 7) (var 8) (var 6))
 
 -- what a step decides is named
-decided_named : (a : ℕ) → a < 256 → merge 8 (named a) 0 (decided a) ≡ 0
+pub decided_named : (a : ℕ) → a < 256 → merge 8 (named a) 0 (decided a) ≡ 0
 unfolding class_at decided merge
 decided_named a h = eqb-true _ _ (at_below (λ a. eqb (merge 8 (named a) 0 (decided a)) 0) 256 a refl h)
 

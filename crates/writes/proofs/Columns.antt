@@ -19,6 +19,7 @@ use Rattle.registers.proofs.Apart.{row, rules, holds}
 use Rattle.writes.specs.Steps.{Step}
 use Rattle.writes.specs.List.{byte, decided, is_written, left_up, written, finished}
 use Rattle.writes.specs.Columns.{open_bits, held_bits, closed}
+use Rattle.writes.proofs.Carries.{decided_named}
 
 -- ---- the steps
 
@@ -43,11 +44,7 @@ is_proper i t =
 
 -- ---- the registers
 
--- what steps decide is named, and so is what they leave up
-decided_named : (a : ℕ) → a < 256 → merge 8 (named a) 0 (decided a) ≡ 0
-unfolding class_at decided merge
-decided_named a h = eqb-true _ 0 (at_below (λ a. eqb (merge 8 (named a) 0 (decided a)) 0) 256 a refl h)
-
+-- what steps decide is named (`decided_named`), and so is what they leave up
 left_decided : (a : ℕ) → a < 256 → merge 8 (decided a) 0 (left_up a) ≡ 0
 unfolding decided merge
 left_decided a h = eqb-true _ 0 (at_below (λ a. eqb (merge 8 (decided a) 0 (left_up a)) 0) 256 a refl h)

@@ -32,7 +32,7 @@ use Rattle.writes.proofs.Counted.{times, as_many, none_in_run}
 -- ---- exactly if
 
 -- numbers below 256 with the same bits
-same_byte : (x y : ℕ) → x < 256 → y < 256 → ((j : ℕ) → j < 8 → bit j x ≡ bit j y) → x ≡ y
+pub same_byte : (x y : ℕ) → x < 256 → y < 256 → ((j : ℕ) → j < 8 → bit j x ≡ bit j y) → x ≡ y
 same_byte x y h k e = let s : x % 256 ≡ y % 256 = low_same 8 x y e in omega (arith, s)
 
 module _ (image : List ℕ) (w : Write) where

@@ -1,9 +1,10 @@
 // The registers of two steps of the list, and the masks of a written byte, as columns. Document 01, "The write list"; specs/Columns.antt
 // says what these are.
+// Each is a `static`, and no `const`: equal bytes in a row of a const the compiler builds in the stack at every call.
 use map::Map;
 
 // The registers of Table 14, and the named ones of no other step.
-pub const TABLE14: [u8; 8] = [
+pub static TABLE14: [u8; 8] = [
     Map::FIXED_98,
     Map::FIXED_9A,
     Map::FIXED_9C,
@@ -14,7 +15,7 @@ pub const TABLE14: [u8; 8] = [
     Map::FIXED_I2C_ADDRESS,
 ];
 
-pub const OTHERS: [u8; 22] = [
+pub static OTHERS: [u8; 22] = [
     Map::N0,
     Map::N1,
     Map::N2,
@@ -41,7 +42,7 @@ pub const OTHERS: [u8; 22] = [
 
 // Of each register, sixteen to a line: the bits that a list keeps.
 #[rattlefmt::skip]
-pub const KEEP: [u8; 256] = [
+pub static KEEP: [u8; 256] = [
     0xFF, 0xF0, 0x00, 0x00, 0xFF, 0xFF, 0xFF, 0xF0, 0x00, 0x00, 0x03, 0xFF, 0xC0, 0xFF, 0xFF, 0xFF, // 00
     0xFF, 0xFF, 0xFF, 0xFF, 0xFF, 0x00, 0x03, 0xFF, 0x00, 0x00, 0xC0, 0x00, 0xE0, 0x00, 0xE0, 0x00, // 10
     0xE0, 0x00, 0xE0, 0x00, 0xE0, 0x00, 0xE0, 0x00, 0xE0, 0x00, 0xE0, 0x00, 0xE0, 0x00, 0xE0, 0x00, // 20
@@ -60,8 +61,7 @@ pub const KEEP: [u8; 256] = [
     0xFF, 0xFF, 0xFF, 0xFF, 0xFF, 0xFF, 0xFF, 0xFF, 0xFF, 0x00, 0xFF, 0xFF, 0xFF, 0xFF, 0xFF, 0xFF, // F0
 ];
 
-// And for `closed`: the bits that are the image's or as wanted; and those that are the image's or set. Each a `static`, and no `const`: equal bytes
-// in a row of a const the compiler builds in the stack at every call.
+// And for `closed`: the bits that are the image's or as wanted; and those that are the image's or set.
 #[rattlefmt::skip]
 pub static OPEN: [u8; 256] = [
     0xFF, 0xFF, 0xFF, 0xFF, 0xFF, 0xFF, 0xFF, 0xFF, 0xFF, 0xFF, 0xFF, 0xFF, 0xFF, 0xFF, 0xFF, 0xFF, // 00

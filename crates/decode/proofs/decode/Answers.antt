@@ -9,7 +9,7 @@ use Rattle.std.proofs.lemmas.Grind.{common_steps}
 use Rattle.decode.specs.Numbered.{decoded_told, not_decoded}
 use Rattle.decode.specs.Extract.{extract}
 use Rattle.decode.specs.Decode.{some_ends}
-use Rattle.decode.proofs.Found.{small, twelve, seven, ten, eleven, none, refuses, accepts}
+use Rattle.decode.proofs.Found.{small, seven, ten, eleven, none, refuses, accepts}
 use Rattle.decode.proofs.decode.Goals as goal
 use Rattle.decode.proofs.decode.Goals.{After-ends}
 
@@ -48,7 +48,7 @@ returns-then-not-ends c = let a = c.args in
 pub emit-requires : goal.emit-requires
 emit-requires c = let e = (goal.at.emit-requires c).After-ends in
     let image = c.args.image.now in
-    (c.if-buffer-lt-LONGEST.false, rw (extracted e) (small image (sized e)), rw (extracted e) (twelve image (sized e)))
+    record { long = c.if-buffer-lt-LONGEST.false; small = rw (extracted e) (small image (sized e)) }
 
 pub returns : goal.returns
 returns c = let a = c.args in
