@@ -43,6 +43,15 @@ impl From<Refusal> for u8 {
     }
 }
 
+/// The same number as C is told it.
+impl From<Refusal> for u32 {
+    ghost from_gives = { λ refusal number. number ≡ refusal_number refusal };
+
+    fn from(refusal: Refusal) -> u32 {
+        refusal as u32
+    }
+}
+
 /// No two refusals have one number, and none has 0.
 pub fn told_apart()
     ensures { ToldApart }

@@ -3,7 +3,7 @@
 #![tactic(auto)]
 
 ghost use Rattle.std.specs.Prelude.{◌≡◌};
-ghost use Rattle.refusals.specs.Numbered.{given_by, refusal_number, told};
+ghost use Rattle.refusals.specs.Numbered.{given_by, told};
 ghost use Rattle.clock.specs.Numbered.{pair_told};
 ghost use Rattle.matrix.specs.Numbered.{pixel_told};
 ghost use Rattle.pipe.specs.Numbered.{piped_told};
@@ -36,7 +36,7 @@ impl From<Result<u32, Refusal>> for CountOut {
         match answer {
             Ok(count) => CountOut { refusal: 0, count },
             Err(refusal) => CountOut {
-                refusal: number(refusal),
+                refusal: refusal.into(),
                 count: 0,
             },
         }
@@ -59,7 +59,7 @@ impl From<Result<NCts, Refusal>> for PairOut {
         match answer {
             Ok(NCts { n, cts }) => PairOut { refusal: 0, n, cts },
             Err(refusal) => PairOut {
-                refusal: number(refusal),
+                refusal: refusal.into(),
                 ..PairOut::default()
             },
         }
@@ -88,7 +88,7 @@ impl From<Result<Codes, Refusal>> for PixelOut {
                 c: c.into(),
             },
             Err(refusal) => PixelOut {
-                refusal: number(refusal),
+                refusal: refusal.into(),
                 ..PixelOut::default()
             },
         }
@@ -110,7 +110,7 @@ impl From<Said> for PipedOut {
     fn from(said: Said) -> PipedOut {
         match said {
             Said::NoPipe => PipedOut {
-                refusal: number(Refusal::ImageLength),
+                refusal: Refusal::ImageLength.into(),
                 ..PipedOut::default()
             },
             Said::Open => PipedOut::default(),
@@ -152,7 +152,7 @@ impl From<Result<Screen, Refusal>> for MonitorOut {
                 rates_8: screen.rates_8,
             },
             Err(refusal) => MonitorOut {
-                refusal: number(refusal),
+                refusal: refusal.into(),
                 ..MonitorOut::default()
             },
         }
@@ -179,19 +179,11 @@ impl From<Result<Chosen, Refusal>> for ChoiceOut {
                 at,
             },
             Err(refusal) => ChoiceOut {
-                refusal: number(refusal),
+                refusal: refusal.into(),
                 ..ChoiceOut::default()
             },
         }
     }
-}
-
-// The number that C is told of a refusal.
-// Kept, no plainer: `Refusal` and `u32` are of other crates, so that no `From` for the two can stand here.
-fn number(refusal: Refusal) -> u32
-    ensures { result ≡ refusal_number refusal }
-{
-    u8::from(refusal).into()
 }
 
 /// The write list of a request on an image, as pairs of address and value: refusals 1 to 6, 17, 20 and 7 to 10.

@@ -7,7 +7,7 @@ ghost use Rattle.vendor.specs.Numbered.{verdict_told};
 ghost use Rattle.station.specs.Machine.{part_out, mute_out, class_out, StationWrite, StationVsync, StationSent, StationMute, StationMatrix, StationClass};
 ghost use Rattle.station.specs.Vet.{verdict_out, StationVet};
 
-use crate::{CountOut, number};
+use crate::CountOut;
 use refusals::Refusal;
 use registers::Class;
 use vendor::Fault;
@@ -35,7 +35,7 @@ impl From<Result<Place, Refusal>> for PartOut {
                 len,
             },
             Err(refusal) => PartOut {
-                refusal: number(refusal),
+                refusal: refusal.into(),
                 ..PartOut::default()
             },
         }
@@ -60,7 +60,7 @@ impl From<Result<u8, Refusal>> for StateOut {
                 mute: mute.into(),
             },
             Err(refusal) => StateOut {
-                refusal: number(refusal),
+                refusal: refusal.into(),
                 mute: 0,
             },
         }
@@ -82,11 +82,11 @@ impl From<Result<(), Fault>> for VerdictOut {
         match answer {
             Ok(()) => VerdictOut::default(),
             Err(Fault::Refused(refusal)) => VerdictOut {
-                refusal: number(refusal),
+                refusal: refusal.into(),
                 place: 0,
             },
             Err(Fault::Pair { place }) => VerdictOut {
-                refusal: number(Refusal::BadPair),
+                refusal: Refusal::BadPair.into(),
                 place,
             },
         }
@@ -125,7 +125,7 @@ fn refused(answer: Result<(), Refusal>) -> u32
 {
     match answer {
         Ok(()) => 0,
-        Err(refusal) => number(refusal),
+        Err(refusal) => refusal.into(),
     }
 }
 
