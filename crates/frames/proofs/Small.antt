@@ -1,12 +1,15 @@
 -- What every mode's row says of its aspect and its colorimetry: one test over the table; how large C, Q and PR are; and the three
 -- fields of data byte 5. Assumes nothing.
-use Rattle.std.proofs.Common.{◌≡◌, ℕ, zero, suc, ◌+◌, ◌*◌, ◌/◌, ◌%◌, ◌≤◌, Bool, true, false, cond, ◌&&◌, eqb, leb, [], ◌∷◌, get_or, refl, arith, lit≤, leb-true}
+use Rattle.std.proofs.Common.{◌≡◌, ℕ, zero, suc, ◌+◌, ◌*◌, ◌/◌, ◌%◌, ◌≤◌, Bool, true, false, cond, ◌&&◌, eqb, leb, [], ◌∷◌, get_or, refl, inl, arith, lit≤, leb-true}
 use Rattle.lists.proofs.Both.{both_left, both_right}
+use Rattle.lists.proofs.Decides.{at_most}
 use Rattle.lists.proofs.Find.{found}
 use Rattle.video.specs.declared.Mode.{Mode}
 use Rattle.video.specs.declared.Video.{Video}
 use Rattle.video.specs.Modes.{modes, unlisted, mode_of}
 use Rattle.video.specs.Video.{repetition, ycc_quantisation, content_type}
+use Rattle.video.specs.Tests.{shown_outside}
+use Rattle.video.proofs.Fits.{is_shown_outside}
 use Rattle.frames.specs.Frames.{colorimetry, quantisation, repeats}
 
 pub record Small (m : Mode) : Type 0 where
@@ -61,3 +64,10 @@ pub fields : (v : Video) → Fifth v
 fields v =
     let p = repeats_small v in
     record { yq = omega (arith, p); cn = omega (arith, p); pr = omega (arith, p) }
+
+-- what a video that may be shown has, and its mode
+pub encoding_small : (v : Video) → shown_outside v ≡ false → v.encoding ≤ 2
+encoding_small v h = at_most 2 v.encoding (λ e. (is_shown_outside v).fails h (inl e))
+
+pub second_small : (m : Mode) (v : Video) → m ≡ mode_of v.vic → (colorimetry m v.encoding ≤ 2) × (m.aspect ≤ 2)
+second_small m v e = let s : Small m = rw e (mode_small v.vic) in (colour_small m v.encoding s, s.aspect)

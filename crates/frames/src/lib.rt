@@ -84,6 +84,7 @@ fn repeated(video: Video) -> u8
 // The AVI InfoFrame of a video, and its mode.
 // Kept, no plainer: the mode stands beside the video that names it, for `avi_of` has looked it up already. A struct of the two would be made and
 // opened once.
+#[tactic(auto, using(crate::proofs::Small::encoding_small, crate::proofs::Small::second_small))]
 fn avi_frame(video: Video, mode: Mode) -> [u8; AVI_FRAME]
     requires { (mode ≡ mode_of video.vic) × (shown_outside video ≡ false) }
     ensures { result ≡ avi_frame video }

@@ -1,17 +1,17 @@
 -- A matrix as 25 bytes. `sets d at xs` of lib.Seq is d with xs stored from index at. Assumes nothing.
---     turn_bytes, whole_matrix    a coefficient more, and after the last
---     unmoved                     fields of 13 bits are their own 13 bits
---     body_bytes, body_back       the bytes are bytes, are allowed, and are read as the matrix
+--     turn_bytes              a coefficient more
+--     unmoved                 fields of 13 bits are their own 13 bits
+--     body_bytes, body_back   the bytes are bytes, are allowed, and are read as the matrix
 use mathlib.Core.Path.{◌≡◌, refl, sym, ap, ap₂, ◌∙◌}
 use mathlib.Core.Bool.{Bool, true, false, cond}
-use mathlib.Core.List.{List, [], ◌∷◌, ◌++◌, append-nil, map}
-use Prim.Native.Nat.{ℕ, zero, suc, ◌+◌, ◌*◌, ◌/◌, ◌%◌, ◌≤◌, ◌<◌}
+use mathlib.Core.List.{List, [], ◌∷◌, ◌++◌, map}
+use Prim.Native.Nat.{ℕ, zero, suc, ◌+◌, ◌*◌, ◌/◌, ◌%◌, ◌<◌}
 use native.Mathlib.Nat.{mod-eq_of_lt}
 use native.Mathlib.Numerals.{add-one}
 use native.Mathlib.Omega.{arith}
 use lib.Dec.{ltb, lit<}
-use lib.ListN.{length, get_or, take, set, replicate, drop_of_length-le}
-use lib.Seq.{sets, sets-eq, take-suc, take_all, length-take-le}
+use lib.ListN.{length, get_or, take, set}
+use lib.Seq.{sets, take-suc, length-take-le}
 use borrow.Author.Tests.{le-leb}
 use Rattle.lists.proofs.Emit.{sets_two}
 use Rattle.matrix.specs.declared.Matrix.{Matrix}
@@ -35,15 +35,6 @@ turn_bytes cs d at i n m a b h e f p q =
     rw (← f) (sets_two (coefficient_bytes (take i cs)) d at n a b (omega arith))
     ∙ ap (sets d at) (ap₂ (λ (x y : ℕ). coefficient_bytes (take i cs) ++ (x ∷ y ∷ [])) p q
     ∙ sym (ap (λ (n : ℕ). coefficient_bytes (take n cs)) (add-one i) ∙ ap coefficient_bytes (take-suc cs i 0 h) ∙ bytes_append (take i cs) (get_or cs i 0 ∷ [])))
-
-pub whole_matrix : (cs : List ℕ) (mode i : ℕ) → length cs ≡ 12 → 12 ≤ i
-    → sets (mode ∷ replicate 24 0) 1 (coefficient_bytes (take i cs)) ≡ mode ∷ coefficient_bytes cs
-whole_matrix cs mode i l h =
-    let n : length (coefficient_bytes cs) ≡ 24 = omega (arith, length_bytes cs) in
-    let past : length (mode ∷ replicate 24 0) ≤ 1 + length (coefficient_bytes cs) = omega arith in
-    ap (λ (k : List ℕ). sets (mode ∷ replicate 24 0) 1 (coefficient_bytes k)) (take_all i cs (omega arith))
-    ∙ sets-eq (coefficient_bytes cs) (mode ∷ replicate 24 0) 1 (omega arith)
-    ∙ rw (drop_of_length-le (mode ∷ replicate 24 0) past, append-nil (coefficient_bytes cs))
 
 pub unmoved : (cs : List ℕ) → ((i : ℕ) → get_or cs i 0 < 8192) → map low_thirteen cs ≡ cs
 unmoved [] h = refl

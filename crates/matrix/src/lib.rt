@@ -102,6 +102,7 @@ impl Matrix {
     }
 
     // The matrix of a body that fits: refusal 5.
+    #[tactic(auto, using(crate::proofs::Pairs::sized))]
     fn allowed(body: &[u8]) -> Result<Matrix, Refusal>
         ensures allowed { IfOk result (λ m. (is_allowed body.now ≡ true) × (m ≡ matrix_of body.now)) }
         ensures small { IfOk result (λ m. (m.mode ≤ 2) × ((i : ℕ) → get_or m.coefficients i 0 < 8192)) }

@@ -19,7 +19,7 @@ use Rattle.matrix.specs.Twos.{bits_of}
 use Rattle.matrix.proofs.Order.{pos_le, of_pos_le, negsuc_le, of_negsuc_le}
 use Rattle.matrix.proofs.Signs.{twos}
 use Rattle.meter.specs.Nearest.{Nearest}
-use Rattle.meter.specs.Numbers.{top, bottom, minus_zero, BelowMode}
+use Rattle.meter.specs.Numbers.{top, bottom, BelowMode}
 use Rattle.meter.specs.Found.{negative, is_below, signed_field, field_of, field_in, is_field}
 use Rattle.meter.proofs.HalfUnit.{nearest_half}
 use Rattle.meter.proofs.Whole.{signed_by, half_signed, alone}
@@ -125,11 +125,6 @@ is_below_lem mode nan e = absurd (false≢true e)
 is_below_lem mode (inf s) e = absurd (false≢true e)
 is_below_lem mode (fin s m e) t =
     subst (λ (n : ℕ). Decides (ltb (m * up e) (2 ^ mode * down e)) (n < 2 ^ mode * down e)) (sym (size (fin s m e))) (less (m * up e) (2 ^ mode * down e))
-
--- minus zero
-pub zero_is : (mode : ℕ) (o : Bool) → Nearest (top minus_zero *ℤ pos (scale o)) (bottom minus_zero * 2 ^ mode) (pos 0)
-zero_is mode true = record { within = omega arith; even = λ _. refl }
-zero_is mode false = record { within = omega arith; even = λ _. refl }
 
 -- what a number asks of a mode, as an offset or as a factor
 pub record Suits (mode : ℕ) (o : Bool) (x : Float) : Type 0 where

@@ -1,7 +1,7 @@
 -- `closest` by its three cases, and shifts: what `meter::nearest` works out. Assumes nothing.
 use mathlib.Core.Path.{◌≡◌, refl, sym, ap, ◌∙◌, subst}
-use Prim.Native.Nat.{ℕ, suc, ◌+◌, ◌-◌, ◌*◌, ◌/◌, ◌%◌, ◌^◌, ◌≤◌, ◌<◌, compare, Ordering}
-use native.Mathlib.Nat.{lt_irrefl, lt_of_le_of_lt, lt_of_lt_of_le, le_trans, mod-eq_of_lt, div-eq_of_lt, div-mul-le_self, div-add-mod', div-le_self}
+use Prim.Native.Nat.{ℕ, suc, ◌+◌, ◌*◌, ◌/◌, ◌%◌, ◌^◌, ◌≤◌, ◌<◌, compare, Ordering}
+use native.Mathlib.Nat.{lt_irrefl, lt_of_lt_of_le, le_trans, mod-eq_of_lt, div-eq_of_lt}
 use native.Mathlib.Omega.{arith}
 use mathlib.Core.Bool.{not}
 use lib.Dec.{T, is_le, compare_is_eq, leb→le, nleb→lt, eqb→eq, eqb_refl, eqb, lit≤}
@@ -60,24 +60,6 @@ pub tied : (a b : ℕ) → a % b * 2 ≤ b → b ≤ a % b * 2 → a / b + a / b
 tied a b h k = sym (ap (λ (o : Ordering). nearest (a / b) o) (even (a % b * 2) b h k))
 
 -- ---- shifts
-pub whole : (a s : ℕ) → a < 2 ^ 24 → a / 2 ^ s * 2 ^ s % 18446744073709551616 ≡ a / 2 ^ s * 2 ^ s
-whole a s h = mod-eq_of_lt (lt_of_le_of_lt (div-mul-le_self a (2 ^ s)) (lt_of_lt_of_le h (lit≤ tt)))
-
-pub rest : (a s : ℕ) → a < 2 ^ 24 → a - a / 2 ^ s * 2 ^ s % 18446744073709551616 ≡ a % 2 ^ s
-rest a s h = ap (λ (w : ℕ). a - w) (whole a s h) ∙ left (a / 2 ^ s * 2 ^ s) (a % 2 ^ s) (div-add-mod' a (2 ^ s))
-  where
-    left : (w r : ℕ) → w + r ≡ a → a - w ≡ r
-    left w r e = omega arith
-
-pub fits : (a s : ℕ) → a < 2 ^ 24 → a / 2 ^ s * 2 ^ s % 18446744073709551616 ≤ a
-fits a s h = subst (λ (w : ℕ). w ≤ a) (sym (whole a s h)) (div-mul-le_self a (2 ^ s))
-
-pub unit : (s : ℕ) → s ≤ 25 → 2 ^ s % 18446744073709551616 ≡ 2 ^ s
-unit s h = mod-eq_of_lt (lt_of_le_of_lt (pow_mono h) (lit≤ tt))
-
-pub quotient : (a s : ℕ) → a < 2 ^ 24 → a / 2 ^ s < 2 ^ 24
-quotient a s h = lt_of_le_of_lt (div-le_self a (2 ^ s)) h
-
 -- a shift of more than 25 leaves less than a quarter
 pub far : (a s : ℕ) → a < 2 ^ 24 → 25 < s → 0 ≡ closest a (2 ^ s)
 far a s h k =

@@ -104,6 +104,7 @@ fn nearest(digits: u64, shift: u64) -> u64
 }
 
 // A sign and a size as 13 bits of two's complement, where they fit.
+#[tactic(auto, unfolding(crate::specs::Found::signed_field))]
 fn signed_field(negative: bool, size: u64) -> Option<u16>
     ensures { result ≡ as_field (signed_field negative size) }
 {
@@ -137,6 +138,7 @@ fn field(x: f32, raised: u64, mode: u8) -> Option<u16>
 }
 
 // The field of an offset or a factor in a mode.
+#[tactic(auto, unfolding(crate::specs::Found::field_in))]
 fn field_in(x: f32, offset: bool, mode: u8) -> Option<u16>
     requires x_value { finite x ≡ true }
     requires mode_bound { mode ≤ 2 }
@@ -214,6 +216,7 @@ impl Meter {
 impl From<[f32; 12]> for Meter {
     ghost from_gives = { λ numbers meter. numbers_of meter ≡ numbers };
 
+    #[tactic(auto, using(crate::proofs::Twelve::twelve))]
     fn from(numbers: [f32; 12]) -> Meter {
         let [a1, a2, a3, a4, b1, b2, b3, b4, c1, c2, c3, c4] = numbers;
         Meter {
@@ -247,6 +250,7 @@ pub fn take_matrix(numbers: &[f32], buffer: &mut [u8]) -> Result<u32, Refusal>
 }
 
 /// There is a nearest whole number, and no other, for any float and mode; "minus zero gives 0".
+#[tactic(auto, using(crate::proofs::Whole::rounds))]
 pub fn rounding()
     ensures rounds { (a : ℤ) (b : ℕ) → 0 < b → Rounds a b }
     ensures mode_nonzero { (x : Float) (mode : ℕ) → 0 < bottom x * 2 ^ mode }

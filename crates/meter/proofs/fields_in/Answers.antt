@@ -5,26 +5,17 @@ use mathlib.Core.Bool.{true}
 use mathlib.Core.List.{List}
 use Prim.Native.Nat.{ℕ}
 use Rattle.std.proofs.Common.{Some}
-use native.Mathlib.Nat.{not-suc-le-zero}
 use native.Mathlib.Omega.{arith}
 use lib.ListN.{get_or, set}
-use lib.Ieee.{nan}
-use lib.Ieee.Scale.{finite}
 use borrow.Author.Rules.{rules}
 use Rattle.lists.proofs.Copied.{copy_more, copy_end, over_whole}
-use Rattle.lists.proofs.Find.{every_at, at_every}
+use Rattle.lists.proofs.Find.{at_every}
 use Rattle.meter.specs.Numbers.{is_offset, number_of}
 use Rattle.meter.specs.Found.{field_in, fields_in, is_field, fits_in}
 use Rattle.meter.proofs.Answers.{one_more}
 use Rattle.meter.proofs.Held.{some, none}
 use Rattle.meter.proofs.Modes.{field_at, fields_length, unfit}
 use Rattle.meter.proofs.fields_in.Goals as goal
-
-pub loop-i-init : goal.loop-i-init
-loop-i-init c = (search rules, refl, refl, λ k h. absurd (not-suc-le-zero h))
-
-pub field_in-requires : goal.field_in-requires
-field_in-requires c = record { x_value = every_at finite c.args.numbers c.loop-i.i nan c.requires.0 (search rules); mode_bound = c.requires.1 }
 
 pub loop-i-preserved : goal.loop-i-preserved
 loop-i-preserved c =

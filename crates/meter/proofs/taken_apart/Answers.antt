@@ -1,8 +1,7 @@
 -- `meter::taken_apart` meets its contract. Assumes nothing.
-use mathlib.Core.Path.{◌≡◌, refl, sym, subst}
-use mathlib.Core.Logic.{inl, inr}
+use mathlib.Core.Path.{◌≡◌, sym, subst}
 use mathlib.Core.Bool.{Bool, not}
-use Prim.Native.Nat.{ℕ, suc, ◌+◌, ◌-◌, ◌/◌, ◌%◌, ◌<◌, ◌≤◌}
+use Prim.Native.Nat.{ℕ, suc, ◌-◌, ◌/◌, ◌%◌}
 use native.Mathlib.Nat.{lt_of_lt_of_le}
 use native.Mathlib.Omega.{arith}
 use lib.Dec.{T, lit≤}
@@ -21,32 +20,15 @@ float_to_bits-bits c = subst (λ (b : Bool). T (not b)) (sym (no_nan c.args.x c.
 pub overflow_cast-bits : goal.overflow_cast-bits
 overflow_cast-bits c = record { fits = lt_of_lt_of_le (to_bits-lt binary32 c.args.x (held c)) (lit≤ tt) }
 
-small : (b : ℕ) → b % 8388608 < 16777216
-small b = omega arith
-
-full : (b : ℕ) → 8388608 + b % 8388608 < 16777216
-full b = omega arith
-
-top : (b : ℕ) → 8388608 ≤ 8388608 + b % 8388608
-top b = omega arith
-
-under : (b : ℕ) → b % 2147483648 / 8388608 - 1 < 256
-under b = omega arith
-
 next : (k : ℕ) → (k ≡ 0 → ⊥) → k ≡ suc (k - 1)
 next k h = omega arith
 
-pub returns-then-field-eq0 : goal.returns-then-field-eq0
-returns-then-field-eq0 c = let x = c.args.x in
-    record {
-      has_value = least x (held (goal.at.returns-then-field-eq0 c).Start) c.requires c.if-field-eq0.true;
-      normal = record { small = small (to_bits binary32 x); most = lit≤ tt; leading = inl refl };
-    }
+pub returns-then-field-eq0-clause-has_value : goal.returns-then-field-eq0-clause-has_value
+returns-then-field-eq0-clause-has_value c =
+    least c.args.x (held (goal.at.returns-then-field-eq0-clause-has_value c).Start) c.requires c.if-field-eq0.true
 
-pub returns-else-field-eq0 : goal.returns-else-field-eq0
-returns-else-field-eq0 c = let x = c.args.x in
+pub returns-else-field-eq0-clause-has_value : goal.returns-else-field-eq0-clause-has_value
+returns-else-field-eq0-clause-has_value c =
+    let x = c.args.x in
     let b = to_bits binary32 x in
-    record {
-      has_value = normal x (held (goal.at.returns-else-field-eq0 c).Start) c.requires (b % 2147483648 / 8388608 - 1) (next (b % 2147483648 / 8388608) c.if-field-eq0.false);
-      normal = record { small = full b; most = under b; leading = inr (top b) };
-    }
+    normal x (held (goal.at.returns-else-field-eq0-clause-has_value c).Start) c.requires (b % 2147483648 / 8388608 - 1) (next (b % 2147483648 / 8388608) c.if-field-eq0.false)

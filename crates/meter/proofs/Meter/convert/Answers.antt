@@ -1,22 +1,14 @@
 -- `meter::Meter::convert` meets its contract: before turn `mode` no smaller mode fits. Assumes nothing.
-use mathlib.Core.Path.{◌≡◌, sym, ap, ◌∙◌}
-use mathlib.Core.Bool.{false}
-use native.Mathlib.Nat.{not-suc-le-zero}
+use mathlib.Core.Path.{sym, ap, ◌∙◌}
 use native.Mathlib.Omega.{arith}
 use borrow.Author.Rules.{rules}
 use Rattle.meter.specs.Found.{fields_in, fits_in, converted}
-use Rattle.meter.proofs.Answers.{with_fields, one_more, not_finite, in_mode_lem, in_none_lem}
-use Rattle.meter.proofs.Held.{some, none}
+use Rattle.meter.proofs.Answers.{with_fields, not_finite, in_mode_lem, in_none_lem}
+use Rattle.meter.proofs.Held.{some}
 use Rattle.meter.proofs.Meter.convert.Goals as goal
 
 pub returns-then-not-all_finite : goal.returns-then-not-all_finite
 returns-then-not-all_finite c = not_finite _ (sym c.all_finite.ensures ∙ c.if-not-all_finite.true) ∙ ap converted c.numbers-numbers.ensures
-
-pub loop-mode-init : goal.loop-mode-init
-loop-mode-init c = (sym c.all_finite.ensures ∙ c.if-not-all_finite.false, λ k h. absurd (not-suc-le-zero h))
-
-pub fields_in-requires : goal.fields_in-requires
-fields_in-requires c = (c.loop-mode.invariant.0, omega arith)
 
 pub returns-in-Some : goal.returns-in-Some
 returns-in-Some c =
@@ -24,13 +16,6 @@ returns-in-Some c =
     let n = c.numbers-numbers in
     let f = some (fits_in l.mode n.result) (fields_in l.mode n.result) c.in-Some.coefficients (sym c.fields_in.ensures ∙ c.in-Some.is) in
     ap (with_fields l.mode) (sym f.1) ∙ in_mode_lem n.result l.mode (search rules) l.invariant.0 l.invariant.1 f.0 ∙ ap converted n.ensures
-
-pub loop-mode-preserved : goal.loop-mode-preserved
-loop-mode-preserved c =
-    let l = c.loop-mode in
-    let n = c.numbers-numbers in
-    let f = none (fits_in l.mode n.result) (fields_in l.mode n.result) (sym c.fields_in.ensures ∙ c.in_default.is) in
-    (l.invariant.0, one_more (λ k. fits_in k n.result ≡ false) l.mode l.invariant.1 f)
 
 pub returns : goal.returns
 returns c =
