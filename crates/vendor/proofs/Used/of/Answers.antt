@@ -1,13 +1,13 @@
--- `vendor::in_use` meets its contract. Assumes nothing.
+-- `vendor::Used::of` meets its contract. Assumes nothing.
 use mathlib.Core.Path.{◌≡◌, ◌∙◌}
 use lib.ListN.{length}
 use Rattle.chip.specs.Machine.{packets, converter, avi, audio, matrix}
 use Rattle.vendor.proofs.Tested.{used, used_long, twelve_used}
 use borrow.Author.Rules.{rules}
-use Rattle.vendor.proofs.in_use.Goals as goal
+use Rattle.vendor.proofs.Used.of.Goals as goal
 
 pub returns : goal.returns
-returns c = let s = c.args.s.now in
+returns c = let s = c.args.state.now in
     let h : length s.image ≡ 256 = search rules in
     let k : length s.coefficients ≡ 24 = search rules in
     let m = used converter matrix s c.matrix.ensures c.in_use-3.ensures in
