@@ -46,6 +46,7 @@ impl From<Refusal> for Fault {
 pub const MOST_PAIRS: usize = 512;
 
 // Some bytes as an array.
+#[tactic(auto, using(lists::proofs::Copied::over_whole))]
 fn array<const N: usize>(bytes: &[u8]) -> [u8; N]
     requires { length bytes.now ≡ N }
     ensures { result ≡ bytes.now }
@@ -282,6 +283,7 @@ fn taken<'a>(start: u8, list: &'a [[u8; 2]]) -> &'a [[u8; 2]]
 }
 
 // The state after the event, where it comes.
+#[tactic(auto, unfolding(chip::specs::Write::vsync_of))]
 fn turn(state: &mut Chip, event: bool)
     ensures { state.new ≡ cond event (vsync_of state.old) state.old }
 {
@@ -293,6 +295,7 @@ fn turn(state: &mut Chip, event: bool)
 
 // A byte stored as the machine does, where no two packet holds are up: but for the two registers of holds it is the byte alone.
 // Kept, for speed: with `Chip::store` at each address the vet of 512 pairs takes 55,838 instructions, and so 46,099.
+#[tactic(auto, using(crate::proofs::Loops::plain_write))]
 fn store(state: &mut Chip, address: u8, byte: u8)
     ensures { two (holds_of packets state.old.image) ≡ false
         → Stores state.old address byte (not (two (holds_after address byte state.old.image))) state.new }
