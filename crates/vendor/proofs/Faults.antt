@@ -8,7 +8,7 @@ use Prim.Native.Nat.{ℕ, zero, suc, ◌<◌, ◌≤◌, suc-le-suc}
 use native.Mathlib.Nat.{not-suc-le-zero, le_of_suc-le-suc, zero-lt-suc, suc-ne-zero}
 use native.Mathlib.Omega.{arith}
 use lib.Dec.{eqb}
-use lib.ListN.{length, get_or}
+use lib.ListN.{length, get_or, take}
 use borrow.Author.Tests.{eq-eqb, eqb-true}
 use Rattle.bits.specs.Merge.{merge}
 use Rattle.registers.specs.Classes.{read_only}
@@ -80,6 +80,30 @@ shortened_whole (w ∷ ws) s e = go (refuses s w.address w.value) refl (shortene
     go false r ih e =
         let q : suc (length (shortened ws (write_of s w.address w.value).chip)) ≡ suc (length ws) = sym (ap length (is_taken_first w ws s r)) ∙ e in
         is_taken_first w ws s r ∙ ap (λ (l : List Write). w ∷ l) (ih (omega (arith, q)))
+
+-- what is taken is the front of the list, and of it all is taken
+pub shortened_front : (ws : List Write) (s : Chip) → take (length (shortened ws s)) ws ≡ shortened ws s
+shortened_front [] s = refl
+shortened_front (w ∷ ws) s = go (eqb (write_of s w.address w.value).refusal 0) (shortened_front ws (write_of s w.address w.value).chip)
+  where
+    go : (b : Bool) → take (length (shortened ws (write_of s w.address w.value).chip)) ws ≡ shortened ws (write_of s w.address w.value).chip
+        → take (length (cond b (w ∷ shortened ws (write_of s w.address w.value).chip) [])) (w ∷ ws)
+        ≡ cond b (w ∷ shortened ws (write_of s w.address w.value).chip) []
+    go true h = ap (λ (l : List Write). w ∷ l) h
+    go false h = refl
+
+pub shortened_twice : (ws : List Write) (s : Chip) → shortened (shortened ws s) s ≡ shortened ws s
+shortened_twice [] s = refl
+shortened_twice (w ∷ ws) s = go (refuses s w.address w.value) refl (shortened_twice ws (write_of s w.address w.value).chip)
+  where
+    go : (b : Bool) → refuses s w.address w.value ≡ b
+        → shortened (shortened ws (write_of s w.address w.value).chip) (write_of s w.address w.value).chip ≡ shortened ws (write_of s w.address w.value).chip
+        → shortened (shortened (w ∷ ws) s) s ≡ shortened (w ∷ ws) s
+    go true e h = let n = not_taken_first w ws s e in ap (λ (l : List Write). shortened l s) n ∙ sym n
+    go false e h =
+        let n = is_taken_first w ws s e in
+        ap (λ (l : List Write). shortened l s) n ∙ is_taken_first w (shortened ws (write_of s w.address w.value).chip) s e
+        ∙ ap (λ (l : List Write). w ∷ l) h ∙ sym n
 
 module _ (old new : InUse) where
   -- each group in use is one of the two

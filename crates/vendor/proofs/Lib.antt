@@ -3,6 +3,7 @@ pub mod Loops
 pub mod Verdicts
 pub mod Moved
 pub mod Faults
+pub mod AllTaken
 pub mod Judged
 pub mod Ended
 pub mod Careful

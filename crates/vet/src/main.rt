@@ -22,7 +22,7 @@ fn judged(input: &[u8]) -> Result<(), Fault>
     ensures { verdict_told result ≡ verdict_of input.now }
 {
     if input.len() < AHEAD {
-        return Err(Fault::Refused(Refusal::ImageLength));
+        return Err(Refusal::ImageLength.into());
     }
     let (image, rest) = input.split_at(256);
     let (packet, rest) = rest.split_at(32);
@@ -31,6 +31,7 @@ fn judged(input: &[u8]) -> Result<(), Fault>
 }
 
 // What is there to be read, at the front of a room: up to its end, or the input's. A read that fails counts as the end too.
+// Kept, no plainer: of an input that ends before the room does, `read_exact` does not say how much it read.
 fn read_full(rt: &HostRuntime, room: &mut [u8]) -> usize
     ensures { IsPrefixLen result room.new }
 {

@@ -3,7 +3,8 @@ use mathlib.Core.Path.{◌≡◌, sym, ap, subst, ◌∙◌}
 use Prim.Native.Nat.{ℕ, ◌+◌, ◌<◌}
 use native.Mathlib.Omega.{arith}
 use lib.Dec.{eqb}
-use lib.ListN.{length}
+use lib.ListN.{length, take}
+use lib.Seq.{take_all}
 use borrow.Author.Tests.{eq-eqb, ne_eqb}
 use Rattle.bits.specs.Merge.{merge}
 use Rattle.registers.specs.Classes.{read_only}
@@ -34,7 +35,8 @@ returns-then-two_up c =
     let p = pair_code c.args.list.now c.loop-i.i in
     let e = ap (λ (w : Write). w.address) p ∙ c.if-address-eq-INFOFRAME_UPDATE.true in
     let b = its_byte z _ _ e c.read_only-keep.ensures (c.merge-held.ensures ∙ ap (λ (w : Write). merge 8 c.read_only-keep.result c.loop-i.held w.value) (sym p)) in
-    counts_stop c.args.start ws c.loop-i.i c.loop-i.held c.loop-i.invariant (turn z) (eq-eqb _ _ e) (ap two (sym b) ∙ sym c.two_up.ensures ∙ c.if-two_up.true)
+    ap (λ (n : ℕ). take n c.args.list.now)
+    (counts_stop c.args.start ws c.loop-i.i c.loop-i.held c.loop-i.invariant (turn z) (eq-eqb _ _ e) (ap two (sym b) ∙ sym c.two_up.ensures ∙ c.if-two_up.true))
 
 pub loop-i-preserved : goal.loop-i-preserved
 loop-i-preserved c =
@@ -56,6 +58,7 @@ loop-i-preserved c =
 
 pub returns : goal.returns
 returns c =
-    let e : c.loop-i.i ≡ length (writes_in c.args.list.now) = omega (arith, length_writes c.args.list.now, c.loop-i.auto.i-end, c.loop-i-test.false) in
-    let q = counts_end c.args.start (writes_in c.args.list.now) c.loop-i.i c.loop-i.held c.loop-i.invariant e in
-    omega (arith, length_writes c.args.list.now, e, q)
+    let list = c.args.list.now in
+    let e : c.loop-i.i ≡ length (writes_in list) = omega (arith, length_writes list, c.loop-i-test.false) in
+    let q = counts_end c.args.start (writes_in list) c.loop-i.i c.loop-i.held c.loop-i.invariant e in
+    sym (take_all _ list (omega (arith, length_writes list, e, q)))

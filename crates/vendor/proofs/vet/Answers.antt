@@ -8,16 +8,12 @@ use borrow.Author.Tests.{not-false, ltb-false}
 use Rattle.lists.proofs.Both.{neither_right}
 use Rattle.chip.specs.declared.Chip.{Chip}
 use Rattle.chip.specs.Write.{lent_as}
-use Rattle.chip.specs.Machine.{packets, holds_of}
 use Rattle.views.specs.Entry.{marked, is_sized}
 use Rattle.views.proofs.Lent.{sized, gathered_whole}
 use Rattle.writes.specs.List.{pairs_of, ready}
 use Rattle.writes.proofs.Pairs.{length_pairs}
-use Rattle.cut.proofs.NoneRefused.{neat_two}
-use Rattle.vendor.specs.Vendor.{shortened}
 use Rattle.vendor.specs.Numbered.{writes_in}
 use Rattle.vendor.specs.Found.{wrong_length, vet_of}
-use Rattle.vendor.proofs.Faults.{taken_by_lem}
 use Rattle.vendor.proofs.Loops.{pairs_code}
 use Rattle.vendor.proofs.Verdicts.{wrong_size, holds_up_lem, wrong_length_lem, sizes, odd}
 use Rattle.vendor.proofs.vet.Goals as goal
@@ -60,18 +56,11 @@ returns-then-rest-pairs-clause-vets c = let s = at (goal.at.returns-then-rest-pa
     (is_fit (goal.at.returns-then-rest-pairs-clause-vets c).Else-not-is_ready) (measured (goal.at.returns-then-rest-pairs-clause-vets c).After-as_chunks ∙ c.if-rest-pairs.true))
 
 pub verdict_on-requires : goal.verdict_on-requires
-verdict_on-requires c =
-    let s = at (goal.at.verdict_on-requires c).Start in
-    let ws = writes_in c.as_chunks.result.0.now in
-    let z = sized s (right_size (goal.at.verdict_on-requires c).Else-image-packet) in (
-      ltb-false 512 _ (neither_right (not (eqb (length c.as_chunks.result.1.now) 0)) _ c.if-rest-pairs.false),
-      c.taken.ensures
-          ∙ taken_by_lem ws s (record {
-            whole = z.image;
-            single = neat_two (holds_of packets c.args.image.now) (not-false _ (is_fit (goal.at.verdict_on-requires c).Else-not-is_ready));
-          })
-          ∙ ap (λ (t : Chip). length (shortened ws t)) (sym (begun (goal.at.verdict_on-requires c).After-gathered-start)),
-    )
+verdict_on-requires c = (
+  ltb-false 512 _ (neither_right (not (eqb (length c.as_chunks.result.1.now) 0)) _ c.if-rest-pairs.false),
+  ap (λ (s : Chip). ready s.image) (begun (goal.at.verdict_on-requires c).After-gathered-start)
+      ∙ not-false _ (is_fit (goal.at.verdict_on-requires c).Else-not-is_ready),
+)
 
 pub returns-clause-vets : goal.returns-clause-vets
 returns-clause-vets c =

@@ -1,13 +1,13 @@
--- `vendor::first_fault` meets its contract. The loop's invariant: the rest of what is taken, from the state as it is then. Assumes nothing.
+-- `vendor::Run::first_fault` meets its contract. The loop's invariant: the rest of what is taken, from the state as it is then. Assumes nothing.
 use mathlib.Core.Path.{◌≡◌}
 use lib.ListN.{length}
 use Rattle.vendor.specs.Found.{shown}
 use Rattle.vendor.specs.Numbered.{writes_in}
 use Rattle.vendor.proofs.Loops.{Left}
-use Rattle.vendor.proofs.first_fault.Given as goal
+use Rattle.vendor.proofs.Run.first_fault.Given as goal
 
 abbrev pub invariant-loop-i : goal.invariant-loop-i
 invariant-loop-i l = record {
   whole : length l.state.image ≡ 256;
-  left : Left (shown l.ways.old) (shown l.ways.new) (writes_in l.list) l.fn.start l.i l.state;
+  left : Left (shown l.ways.old) (shown l.ways.new) (writes_in l.pairs) l.self.start.now l.i l.state;
 }
