@@ -336,7 +336,7 @@ impl<'a> Run<'a> {
                 state: &state,
                 event: i + 2 == pairs.len(),
             };
-            if !last && !ways.is_careful(&pair) {
+            if !(last || ways.is_careful(&pair)) {
                 return Some(i);
             }
         }
