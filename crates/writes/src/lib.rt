@@ -87,7 +87,7 @@ impl<'a> Pen<'a> {
         requires { HasRoom self.old 1 }
         ensures { Penned self.old (λ image bytes. with_bits bytes address bits) self.new }
     {
-        self.pair(address, raise(bits, self.bytes[address as usize]));
+        self.pair(address, raise(bits, self.bytes[usize::from(address)]));
     }
 
     // A register where its byte is another than the image's.
@@ -96,8 +96,9 @@ impl<'a> Pen<'a> {
         ensures puts { Penned self.old (λ image bytes. moving image bytes (address ∷ [])) self.new }
         ensures at_most { AddsAtMost self.old 1 self.new }
     {
-        let byte = self.bytes[address as usize];
-        if byte != self.image[address as usize] {
+        let register = usize::from(address);
+        let byte = self.bytes[register];
+        if byte != self.image[register] {
             self.pair(address, byte);
         }
     }
@@ -153,7 +154,7 @@ impl<'a> Pen<'a> {
         ensures at_most { AddsAtMost self.old (packet.count + 2) self.new }
     {
         self.put(Map::INFOFRAME_UPDATE, 1 << packet.hold);
-        self.row(packet.first as usize, packet.count as usize);
+        self.row(usize::from(packet.first), usize::from(packet.count));
         self.put(Map::INFOFRAME_UPDATE, 0);
     }
 

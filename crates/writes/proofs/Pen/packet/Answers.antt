@@ -12,4 +12,4 @@ returns-clause-puts c = let pen = c.args.self.now in
     let raised = sym (one_shl packet.hold 8 packet.in_a_byte) in
     writes_as _ (packet_pairs (2 ^ packet.hold) packet.first packet.count)
     (ap (λ (hold : ℕ). packet_pairs hold packet.first packet.count pen.image.now pen.bytes.now) raised)
-    (writes_then _ _ (writes_then _ _ c.put.ensures c.row.ensures.puts) c.put-2.ensures)
+    (writes_then _ _ (writes_then _ _ c.put.ensures (rw (c.from.ensures, c.from-2.ensures) at c.row.ensures.puts)) c.put-2.ensures)

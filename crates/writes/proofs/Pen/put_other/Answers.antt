@@ -10,5 +10,5 @@ returns-else-byte-self-clause-puts c = let pen = c.args.self.now in
       same_room = refl;
       same_image = refl;
       same_bytes = refl;
-      puts = one_stands pen.image.now pen.bytes.now pen.writes.now pen.at c.args.address c.if-byte-self.false;
+      puts = one_stands pen.image.now pen.bytes.now pen.writes.now pen.at c.args.address (rw c.from-register.ensures at c.if-byte-self.false);
     }
