@@ -7,6 +7,7 @@ ghost use Rattle.station.specs.Vet.{StationVet};
 
 use crate::{CountOut, number};
 use refusals::Refusal;
+use registers::Class;
 use vendor::Fault;
 use views::Place;
 
@@ -153,7 +154,7 @@ pub fn station_vet(
 pub fn station_class(address: u8) -> ClassOut
     ensures { StationClass address result }
 {
-    let class = registers::class_at(address);
+    let class = Class::at(address);
     ClassOut {
         read_only: class.read_only.into(),
         mandated: class.mandated.into(),

@@ -21,6 +21,7 @@ ghost use Rattle.vendor.specs.Theorems.{Vetted};
 use chip::{Chip, Group};
 use map::Map;
 use refusals::Refusal;
+use registers::ByColumn;
 use request::sections::LONGEST;
 
 // Why a list is refused; refusal 15 has the place of the first bad pair, counted from 0.
@@ -293,7 +294,7 @@ fn ending(start: Chip, list: &[[u8; 2]], count: usize) -> Chip
     requires { count ≡ length (shortened (writes_in list.now) start) }
     ensures { result ≡ end_of (shortened (writes_in list.now) start) start }
 {
-    let columns = registers::table_columns();
+    let columns = ByColumn::new();
     let mut state = start;
     for i in 0..count {
         let [address, value] = list[i];
@@ -310,7 +311,7 @@ fn first_fault(start: Chip, ways: &Ways, list: &[[u8; 2]], count: usize) -> usiz
     requires { count ≡ length (shortened (writes_in list.now) start) }
     ensures { result ≡ first_fault (shown ways.now.old) (shown ways.now.new) (shortened (writes_in list.now) start) start }
 {
-    let columns = registers::table_columns();
+    let columns = ByColumn::new();
     let keep = writes::keep();
     let mut state = start;
     for i in 0..count {
