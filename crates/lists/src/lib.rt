@@ -5,7 +5,7 @@ ghost use Rattle.std.specs.Prelude.{◌≡◌, get_or};
 ghost use Rattle.lists.specs.Over.{over};
 ghost use Rattle.lists.specs.Same.{same_list};
 
-// A slice over the front of another: what lies past its end stays, and what does not fit is left out.
+/// A slice over the front of another: what lies past its end stays, and what does not fit is left out.
 pub fn copy(bytes: &[u8], out: &mut [u8])
     ensures { out.new ≡ over bytes.now out.old }
 {
@@ -16,14 +16,14 @@ pub fn copy(bytes: &[u8], out: &mut [u8])
     }
 }
 
-// A byte of a slice; 0 past its end.
+/// A byte of a slice; 0 past its end.
 pub fn byte_at(s: &[u8], i: usize) -> u8
     ensures { result ≡ get_or s.now i 0 }
 {
     s.get(i).copied().unwrap_or(0)
 }
 
-// Whether two slices hold the same bytes. All are looked at.
+/// Whether two slices hold the same bytes. All are looked at.
 // Kept, for speed: the planner compares rows of lengths that the compiler knows, and `==` is a call for each of them, 13 ns for 5.
 #[tactic(auto, using(crate::proofs::Compared::unequal))]
 pub fn same(a: &[u8], b: &[u8]) -> bool
@@ -39,7 +39,7 @@ pub fn same(a: &[u8], b: &[u8]) -> bool
     all
 }
 
-// Whether two arrays hold the same twelve numbers.
+/// Whether two arrays hold the same twelve numbers.
 // Kept, no plainer: one function for any type would be `==` again, and the theorems on bytes and on fields speak of `same_list`, over numbers.
 pub fn same_numbers(a: [u16; 12], b: [u16; 12]) -> bool
     ensures { result ≡ same_list a b }

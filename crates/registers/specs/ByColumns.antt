@@ -1,5 +1,5 @@
 -- Document 01, "Register classes": the class table by its columns, as the code has it. `HasColumns`, the contract of
--- `registers::table_columns`, ties them to the table.
+-- `registers::ByColumn::new`, ties them to the table.
 use Rattle.std.specs.Prelude.{◌≡◌, List, map, ℕ}
 use Rattle.registers.specs.declared.Class.{Class}
 use Rattle.registers.specs.declared.ByColumn.{ByColumn}

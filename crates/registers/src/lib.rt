@@ -9,7 +9,7 @@ ghost use Rattle.registers.specs.Table14.{Table14};
 
 mod table;
 
-// Five numbers for each address: the masks of its read-only, mandated, named and free bits, and the mandated bits.
+/// Five numbers for each address: the masks of its read-only, mandated, named and free bits, and the mandated bits.
 #[derive(Clone, Copy, Debug, PartialEq, Eq)]
 pub struct Class {
     pub read_only: u8,
@@ -19,7 +19,7 @@ pub struct Class {
     pub bits: u8,
 }
 
-// The columns of the table, for a caller that goes through many addresses.
+/// The columns of the table, for a caller that goes through many addresses.
 // Kept, what may not change: four arrays, and no array of 256 structs, for that does not fit the prover's time (docs/HOUSE.md, F3); and
 // `HasColumns` has each column by itself.
 #[derive(Clone, Copy)]
@@ -30,49 +30,56 @@ pub struct ByColumn {
     pub bits: [u8; 256],
 }
 
-pub fn table_columns() -> ByColumn
-    ensures { HasColumns result }
-{
-    ByColumn {
-        read_only: table::READ_ONLY,
-        mandated: table::MANDATED,
-        free: table::FREE,
-        bits: table::BITS,
+impl Class {
+    /// The class of an address.
+    pub fn at(a: u8) -> Class
+        ensures { Classifies a result }
+    {
+        Class {
+            read_only: table::READ_ONLY[a as usize],
+            mandated: table::MANDATED[a as usize],
+            named: table::NAMED[a as usize],
+            free: table::FREE[a as usize],
+            bits: table::BITS[a as usize],
+        }
     }
 }
 
+impl ByColumn {
+    /// The columns, each whole.
+    pub fn new() -> ByColumn
+        ensures { HasColumns result }
+    {
+        ByColumn {
+            read_only: table::READ_ONLY,
+            mandated: table::MANDATED,
+            free: table::FREE,
+            bits: table::BITS,
+        }
+    }
+}
+
+/// The read-only bits of an address, without the other four numbers.
 pub fn read_only(a: u8) -> u8
     ensures { result ≡ read_only a }
 {
-    // Kept, the proof did not close: with `usize::from(a)`, here and in `class_at`, the place is an answer of a call, and the prover computes
+    // Kept, the proof did not close: with `usize::from(a)`, here and in `Class::at`, the place is an answer of a call, and the prover computes
     // the whole column.
     table::READ_ONLY[a as usize]
 }
 
-pub fn class_at(a: u8) -> Class
-    ensures { Classifies a result }
-{
-    Class {
-        read_only: table::READ_ONLY[a as usize],
-        mandated: table::MANDATED[a as usize],
-        named: table::NAMED[a as usize],
-        free: table::FREE[a as usize],
-        bits: table::BITS[a as usize],
-    }
-}
-
-// "This rule is proved once over the whole table."
+/// "This rule is proved once over the whole table."
 pub fn rule()
     ensures { (a : ℕ) → a < 256 → Rule (class_at a) }
 {}
 
-// "Table 14's bits are mandated", with the values that it prints.
+/// "Table 14's bits are mandated", with the values that it prints.
 #[tactic(auto, unfolding(crate::specs::Classes::class_at, bits::specs::Merge::merge))]
 pub fn table14()
     ensures { Table14 }
 {}
 
-// "then the fields listed below are named": the named bits of each register are those of its listed fields.
+/// "then the fields listed below are named": the named bits of each register are those of its listed fields.
 pub fn fields()
     ensures { (a : ℕ) → a < 256 → named a ≡ mask_in named_fields a }
 {}

@@ -195,5 +195,5 @@ pub fn station_vet(
 pub fn station_class(address: u8) -> ClassOut
     ensures { StationClass address result }
 {
-    registers::class_at(address).into()
+    Class::at(address).into()
 }

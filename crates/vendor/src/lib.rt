@@ -23,6 +23,7 @@ ghost use Rattle.vendor.specs.Theorems.{Vetted};
 use chip::{Chip, Group};
 use map::Map;
 use refusals::Refusal;
+use registers::ByColumn;
 use request::sections::LONGEST;
 
 /// Why a list is refused; refusal 15 has the place of the first bad pair, counted from 0.
@@ -310,7 +311,7 @@ impl<'a> Run<'a> {
         ensures { unwrap_or result (length self.now.pairs.now)
             ≡ first_fault (shown ways.now.old) (shown ways.now.new) (writes_in self.now.pairs.now) self.now.start.now }
     {
-        let columns = registers::table_columns();
+        let columns = ByColumn::new();
         let keep = writes::keep();
         let pairs = self.pairs;
         let mut state = *self.start;

@@ -38,7 +38,7 @@ returns-then-not-is_fair c =
     let w = c.args.ways.now in
     let list = c.args.self.now.pairs.now in
     let small : get_or (get_or list c.loop-i.i []) 0 0 < 256 = search rules in
-    let f = fairly_code _ c.table_columns-columns.ensures list c.loop-i.i c.loop-i.state.image _ c.keep-keep.ensures small in
+    let f = fairly_code _ c.new-columns.ensures list c.loop-i.i c.loop-i.state.image _ c.keep-keep.ensures small in
     found z _ (left_unfair (shown w.old) (shown w.new) (writes_in list) c.args.self.now.start.now c.loop-i.i c.loop-i.state c.loop-i.invariant.left (here z) (listed z)
     (sym (c.is_fair.ensures ∙ f) ∙ c.if-not-is_fair.true))
 
@@ -48,7 +48,7 @@ module _ (c : After-is_careful) (h : c.loop-i.i < length (shortened (writes_in c
   stored =
       let list = c.args.self.now.pairs.now in
       let w = c.args.ways.now in
-      let t = c.table_columns-columns in
+      let t = c.new-columns in
       by_code (writes_in list) c.loop-i.i _ (pair_code list c.loop-i.i) c.loop-i.state c.store.new.state c.merge-byte.result _ c.loop-i.invariant.whole
       (c.merge-byte.ensures ∙ merged t.result t.ensures _ _ _) c.store.ensures
       (λ e. is_taken (shown w.old) (shown w.new) (writes_in list) c.args.self.now.start.now c.loop-i.i c.loop-i.state c.loop-i.invariant.left h k e)
@@ -68,7 +68,7 @@ module _ (c : After-is_careful) (h : c.loop-i.i < length (shortened (writes_in c
   fair =
       let list = c.args.self.now.pairs.now in
       let small : get_or (get_or list c.loop-i.i []) 0 0 < 256 = search rules in
-      c.is_fair.ensures ∙ fairly_code _ c.table_columns-columns.ensures list c.loop-i.i c.loop-i.state.image _ c.keep-keep.ensures small
+      c.is_fair.ensures ∙ fairly_code _ c.new-columns.ensures list c.loop-i.i c.loop-i.state.image _ c.keep-keep.ensures small
 
 pub returns-then-not-last-is_careful : goal.returns-then-not-last-is_careful
 returns-then-not-last-is_careful c =

@@ -1,8 +1,8 @@
--- `registers::class_at` meets its contract: each of its tables is a column of the class table. Assumes nothing.
+-- `registers::Class::at` meets its contract: each of its tables is a column of the class table. Assumes nothing.
 use Rattle.registers.specs.declared.Class.{Class}
 use Rattle.registers.specs.Classes.{class}
 use Rattle.registers.proofs.Columns.{at_address}
-use Rattle.registers.proofs.class_at.Goals as goal
+use Rattle.registers.proofs.Class.at.Goals as goal
 
 pub returns : goal.returns
 returns c = let r = at_address (λ (row : Class). row.read_only) c.args.a in
