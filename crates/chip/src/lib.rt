@@ -57,16 +57,12 @@ pub fn still_waits(byte: u8, waiting: bool) -> bool
     is_held(byte) && waiting
 }
 
-// The packet buffer as the holds in 0x4A go from one byte to another.
-// Kept, the proof did not close: with `PACKETS.iter().find(|group| group.rises(old, new))` both goals over `filled` stayed open.
+// The packet buffer as the holds in 0x4A go from one byte to another: the first group whose hold rises fills it.
 fn fill_packet(image: &[u8; 256], packet: &mut [u8; 32], old: u8, new: u8)
     ensures { packet.new ≡ filled packets.groups old new image.now packet.old }
 {
-    for group in PACKETS {
-        if group.rises(old, new) {
-            group.fill(image, packet);
-            return;
-        }
+    if let Some(group) = PACKETS.iter().find(|group| group.rises(old, new)) {
+        group.fill(image, packet);
     }
 }
 
@@ -186,6 +182,7 @@ impl Chip {
 }
 
 /// What each write does and leaves alone.
+#[tactic(auto, using(crate::proofs::Writes::step))]
 pub fn step()
     ensures { AnyStep }
 {}
@@ -196,11 +193,13 @@ pub fn turn()
 {}
 
 /// Enable and mode wait for nothing.
+#[tactic(auto, using(crate::proofs::Writes::at_once_lem))]
 pub fn at_once()
     ensures { (s : Chip) → AtOnce s }
 {}
 
 /// Writes and Vsyncs in bare numbers.
+#[tactic(auto, using(crate::proofs::Cases::cases))]
 pub fn machine_cases()
     ensures { MachineCases }
 {}

@@ -1,39 +1,53 @@
 -- `chip::fill_packet` meets its contract: the first group whose hold rises fills the buffer. Assumes nothing.
 use mathlib.Core.Path.{◌≡◌, refl, sym, ap, ◌∙◌}
-use mathlib.Core.Bool.{Bool, cond, not, ◌&&◌}
-use mathlib.Core.List.{List, ◌++◌}
-use Prim.Native.Nat.{ℕ, ◌+◌, ◌<◌}
-use lib.ListN.{length, get_or, drop, drop_of_length-le}
-use lib.Seq.{drop-cons}
-use Rattle.std.proofs.Common.{map, add-one}
+use mathlib.Core.Bool.{Bool, true, false, cond, not, ◌&&◌}
+use mathlib.Core.List.{List, [], ◌∷◌, ◌++◌}
+use Prim.Native.Nat.{ℕ}
+use lib.ListN.{drop}
+use borrow.Author.Rules.{rules}
+use denote.Ref.{Bor}
+use Rattle.std.specs.Prelude.{Option, Some, None}
+use Rattle.std.specs.List.{find}
+use Rattle.std.specs.Option.{option_map}
+use Rattle.std.proofs.Common.{map}
+use Rattle.std.proofs.lemmas.Bool.Decides.{nat_tests}
+use Rattle.std.proofs.lemmas.Iterator.{YieldsList-from_slice}
+use Rattle.std.proofs.lemmas.Iterator.Search.{find_from_yields_List}
 use Rattle.chip.specs.declared.group.Group.{Group}
 use Rattle.chip.specs.Machine.{up, registers_of}
 use Rattle.chip.specs.Write.{filled}
 use Rattle.chip.specs.Groups.{group_of}
 use Rattle.chip.proofs.fill_packet.Goals as goal
 
--- what the groups from a place on fill, by the group at that place
-one : (gs : List Group) (i : ℕ) (d : Group) → i < length gs → (r : Bool) (old new : ℕ) (image bytes : List ℕ)
-    → r ≡ (up (group_of (get_or gs i d)) new && not (up (group_of (get_or gs i d)) old))
-    → filled (map group_of (drop i gs)) old new image bytes
-    ≡ cond r (registers_of (group_of (get_or gs i d)) image ++ drop (get_or gs i d).count bytes) (filled (map group_of (drop (i + 1) gs)) old new image bytes)
-one gs i d h r old new image bytes t = rw (add-one, drop-cons gs i d h, ← t) refl
+abbrev rising : ℕ → ℕ → Group → Bool
+rising old new g = up (group_of g) new && not (up (group_of g) old)
 
-pub loop-group-init : goal.loop-group-init
-loop-group-init c = refl
+-- what some groups fill, by the first of them whose hold rises
+abbrev filled_by : Option Group → List ℕ → List ℕ → List ℕ
+filled_by None image bytes = bytes
+filled_by (Some g) image bytes = registers_of (group_of g) image ++ drop g.count bytes
 
-pub loop-group-preserved : goal.loop-group-preserved
-loop-group-preserved c = let a = c.args in
-    sym (one _ _ c.group-item.result c.loop-group-test.true _ a.old a.new a.image.now c.loop-group.packet c.rises.ensures ∙ rw c.if-rises.false)
-    ∙ c.loop-group.invariant
+by_first : (gs : List Group) (old new : ℕ) (image bytes : List ℕ)
+    → filled_by (find (rising old new) gs) image bytes ≡ filled (map group_of gs) old new image bytes
+by_first [] old new image bytes = refl
+by_first (g ∷ gs) old new image bytes = go (rising old new g) (by_first gs old new image bytes)
+  where
+    go : (b : Bool) → filled_by (find (rising old new) gs) image bytes ≡ filled (map group_of gs) old new image bytes
+        → filled_by (cond b (Some g) (find (rising old new) gs)) image bytes
+        ≡ cond b (registers_of (group_of g) image ++ drop g.count bytes) (filled (map group_of gs) old new image bytes)
+    go true e = refl
+    go false e = e
 
-pub returns-then-rises : goal.returns-then-rises
-returns-then-rises c = let a = c.args in
-    c.fill.ensures
-    ∙ sym (one _ _ c.group-item.result c.loop-group-test.true _ a.old a.new a.image.now c.loop-group.packet c.rises.ensures ∙ rw c.if-rises.true)
-    ∙ c.loop-group.invariant
+by_found : {rest gs : List Group} → rest ≡ gs → (old new : ℕ) {r : Option Group} (image bytes : List ℕ) → r ≡ find (rising old new) gs
+    → filled_by r image bytes ≡ filled (map group_of gs) old new image bytes
+by_found {rest} {gs} is old new image bytes e = ap (λ (o : Option Group). filled_by o image bytes) e ∙ by_first gs old new image bytes
 
-pub returns : goal.returns
-returns c = let a = c.args in
-    sym (ap (λ (gs : List Group). filled (map group_of gs) a.old a.new a.image.now c.loop-group.packet) (drop_of_length-le _ c.loop-group-test.false))
-    ∙ c.loop-group.invariant
+pub returns-in-Some : goal.returns-in-Some
+returns-in-Some c = let a = c.args in
+    let e = find_from_yields_List (rising a.old a.new) _ _ c.find.result c.find.ensures.ran (YieldsList-from_slice _ c.iter.ensures.rest) (λ x b q k. search (rules, nat_tests)) in
+    c.fill.ensures ∙ by_found c.iter.ensures.rest a.old a.new a.image.now a.packet.now (ap (option_map (λ (g : Bor Group). g.now)) (sym c.in-Some.is) ∙ e)
+
+pub returns-in_default : goal.returns-in_default
+returns-in_default c = let a = c.args in
+    let e = find_from_yields_List (rising a.old a.new) _ _ c.find.result c.find.ensures.ran (YieldsList-from_slice _ c.iter.ensures.rest) (λ x b q k. search (rules, nat_tests)) in
+    by_found c.iter.ensures.rest a.old a.new a.image.now a.packet.now (ap (option_map (λ (g : Bor Group). g.now)) (sym c.in_default.is) ∙ e)
