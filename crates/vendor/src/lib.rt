@@ -268,7 +268,7 @@ fn turn(state: &mut Chip, event: bool)
 }
 
 // A byte stored as the machine does, where no two packet holds are up: but for the two registers of holds it is the byte alone.
-// Kept, for speed: with `Chip::store` at each address the vet of 512 pairs takes 55,838 instructions, and so 46,099.
+// Kept, for speed: with `Chip::store` at each address the vet of 512 pairs took 55,838 instructions, and so it takes 42,220.
 #[tactic(auto, using(crate::proofs::Loops::plain_write))]
 fn store(state: &mut Chip, address: u8, byte: u8)
     ensures { two (holds_of packets state.old.image) ≡ false
