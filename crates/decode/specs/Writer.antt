@@ -5,10 +5,10 @@ use Rattle.std.proofs.lemmas.List.Edits.{sets}
 use Rattle.decode.specs.declared.Writer.{Writer}
 
 -- room for a body of this many bytes, and its count
-abbrev pub HasRoom : Writer → ℕ → Type 0
-HasRoom writer count = writer.place + suc count ≤ length writer.buffer.now
+abbrev pub HasRoomFor : Writer → ℕ → Type 0
+HasRoomFor writer count = writer.place + suc count ≤ length writer.buffer.now
 
-pub record Wrote (old : Writer) (body : List ℕ) (new : Writer) : Type 0 where
+pub record WroteSection (old : Writer) (body : List ℕ) (new : Writer) : Type 0 where
   pub same_buffer : new.buffer.ghost_name ≡ old.buffer.ghost_name
   pub same_room : length new.buffer.now ≡ length old.buffer.now
   pub place : new.place ≡ old.place + suc (length body)

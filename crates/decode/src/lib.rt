@@ -11,7 +11,7 @@ ghost use Rattle.request.specs.Bytes.{matrix_body, as_bytes, request_in_family};
 ghost use Rattle.plan.specs.Plan.{stands_in};
 ghost use Rattle.decode.specs.Extract.{wires_in, sound_in, matrix_in, depth_of, extract};
 ghost use Rattle.decode.specs.Numbered.{decoded_told};
-ghost use Rattle.decode.specs.Writer.{HasRoom, Wrote};
+ghost use Rattle.decode.specs.Writer.{HasRoomFor, WroteSection};
 ghost use Rattle.decode.specs.Decode.{in_front, is_coherent, Decodes};
 ghost use Rattle.decode.specs.Theorems.{ExactlyWhen, BitByBit, AtMostOne, Refusals};
 ghost use Rattle.decode.specs.ReadBack.{ReadBack};
@@ -127,8 +127,8 @@ impl<'a> Writer<'a> {
     // A section, its count and its body.
     fn section(&mut self, body: &[u8])
         requires short { length body.now < 256 }
-        requires has_room { HasRoom self.old (length body.now) }
-        ensures { Wrote self.old body.now self.new }
+        requires has_room { HasRoomFor self.old (length body.now) }
+        ensures { WroteSection self.old body.now self.new }
     {
         let start = self.place + 1;
         self.buffer[self.place] = body.len() as u8;
@@ -138,8 +138,8 @@ impl<'a> Writer<'a> {
 
     // The wiring, with none, four or twelve bytes.
     fn wiring_section(&mut self, wiring: Wiring)
-        requires { HasRoom self.old twelve_count }
-        ensures { Wrote self.old (wiring_body wiring) self.new }
+        requires { HasRoomFor self.old twelve_count }
+        ensures { WroteSection self.old (wiring_body wiring) self.new }
     {
         match wiring {
             Wiring::Board => self.section(&[]),
@@ -170,8 +170,8 @@ impl<'a> Writer<'a> {
 
     // The sound, with none or three bytes.
     fn audio_section(&mut self, sound: Sound)
-        requires { HasRoom self.old audio_count }
-        ensures { Wrote self.old (audio_body sound) self.new }
+        requires { HasRoomFor self.old audio_count }
+        ensures { WroteSection self.old (audio_body sound) self.new }
     {
         match sound {
             Sound::Off => self.section(&[]),
@@ -186,8 +186,8 @@ impl<'a> Writer<'a> {
     // The matrix, with none or 25 bytes.
     fn matrix_section(&mut self, matrix: Matrix)
         requires small { (i : ℕ) → get_or matrix.coefficients i 0 < 8192 }
-        requires has_room { HasRoom self.old matrix_count }
-        ensures { Wrote self.old (matrix_body matrix) self.new }
+        requires has_room { HasRoomFor self.old matrix_count }
+        ensures { WroteSection self.old (matrix_body matrix) self.new }
     {
         if matrix.on == 0 {
             self.section(&[]);

@@ -1,4 +1,4 @@
--- The four slices of a call as the code holds them.
+-- The four slices of a call as the code holds them. `Entered` and `EnteredVsync` (Theorems) speak of the calls themselves.
 use Rattle.std.specs.Prelude.{◌≡◌}
 use Rattle.chip.specs.declared.Chip.{Chip}
 use Rattle.views.specs.declared.entry.Slices.{Slices}
