@@ -1,6 +1,6 @@
 -- Document 01, "The chip machine", with the waiting mark of document 02, request 04: its groups and their holds, and what is in use. What a
 -- write and a Vsync do is `OneWrite` (Step) and `Turn`.
-use Rattle.std.specs.Prelude.{◌≡◌, Bool, false, cond, ◌&&◌, ◌||◌, List, [], ◌∷◌, ℕ, ◌+◌, ◌*◌, eqb, leb, ltb, get_or, take, drop}
+use Rattle.std.specs.Prelude.{◌≡◌, Bool, false, cond, ◌||◌, List, [], ◌∷◌, ℕ, ◌+◌, ◌*◌, eqb, get_or, take, drop}
 use Rattle.bits.specs.Merge.{bit}
 use Rattle.map.specs.Map as reg
 use Rattle.map.specs.Map.{infoframe_update, avi_infoframe_version, avi_infoframe_count, audio_infoframe_version, audio_infoframe_count}
@@ -55,13 +55,6 @@ up g holds = eqb (bit g.hold holds) 1
 -- a group's registers
 abbrev pub registers_of : Group → List ℕ → List ℕ
 registers_of g image = take g.count (drop g.first image)
-
--- one of the count registers from `first` on; and so a register of a group
-abbrev pub in_run : ℕ → ℕ → ℕ → Bool
-in_run first count a = leb first a && ltb a (first + count)
-
-abbrev pub covers : Group → ℕ → Bool
-covers g = in_run g.first g.count
 
 -- a pair of address and value
 pub record Write : Type 0 where

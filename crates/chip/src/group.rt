@@ -15,8 +15,8 @@ pub struct Group {
 
 impl Group {
     ghost use Rattle.std.specs.Prelude.{◌≡◌, ◌++◌, cond, not, ◌&&◌, ℕ, length, take, drop};
-    ghost use Rattle.chip.specs.Machine.{up, registers_of, covers};
-    ghost use Rattle.chip.specs.Groups.{group_of};
+    ghost use Rattle.chip.specs.Machine.{up, registers_of};
+    ghost use Rattle.chip.specs.Groups.{group_of, covers};
 
     /// The AVI InfoFrame, from its version on.
     pub const AVI: Group = Group {

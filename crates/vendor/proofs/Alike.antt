@@ -12,7 +12,8 @@ use Rattle.refusals.specs.Rows.{image_length, holds_up, list_length, bad_pair, b
 use Rattle.refusals.specs.Tests.{◌if◌, lowest}
 use Rattle.chip.specs.declared.Chip.{Chip}
 use Rattle.chip.specs.Numbered.{Wrote}
-use Rattle.chip.specs.Machine.{Write, Group, avi, audio, gc, matrix, packets, converter, up, holds_of, registers_of, covers, held, in_use, coefficients, gc_in_use, mute}
+use Rattle.chip.specs.Machine.{Write, Group, avi, audio, gc, matrix, packets, converter, up, holds_of, registers_of, held, in_use, coefficients, gc_in_use, mute}
+use Rattle.chip.specs.Groups.{covers}
 use Rattle.chip.specs.Write.{lent_as, image_after, stored, refuses, write_of, vsync_of}
 use Rattle.chip.proofs.Writes.{written_as, stepped, turned}
 use Rattle.views.specs.Entry.{is_sized}

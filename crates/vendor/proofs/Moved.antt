@@ -16,7 +16,8 @@ use Rattle.bits.specs.Merge.{bit}
 use Rattle.matrix.specs.Matrix.{fields}
 use Rattle.chip.specs.declared.Chip.{Chip}
 use Rattle.chip.specs.Numbered.{Wrote}
-use Rattle.chip.specs.Machine.{Write, ◌gets◌, Group, avi, audio, gc, matrix, packets, converter, up, holds_of, registers_of, covers, held, in_use, coefficients, gc_in_use, mute, Muted}
+use Rattle.chip.specs.Machine.{Write, ◌gets◌, Group, avi, audio, gc, matrix, packets, converter, up, holds_of, registers_of, held, in_use, coefficients, gc_in_use, mute, Muted}
+use Rattle.chip.specs.Groups.{covers}
 use Rattle.chip.specs.Write.{lent_as, stored, two, write_of, vsync_of}
 use Rattle.chip.proofs.Writes.{written_as, allowed, turned}
 use Rattle.cut.specs.Run.{InUse, Either, Between}

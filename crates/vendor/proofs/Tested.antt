@@ -13,7 +13,8 @@ use Rattle.lists.proofs.Both.{both_left, both_right, neither_left, neither_right
 use Rattle.matrix.specs.Matrix.{fields}
 use Rattle.matrix.specs.Read.{twelve_of}
 use Rattle.chip.specs.declared.Chip.{Chip}
-use Rattle.chip.specs.Machine.{Group, avi, audio, matrix, packets, converter, up, holds_of, registers_of, covers, in_use, coefficients}
+use Rattle.chip.specs.Machine.{Group, avi, audio, matrix, packets, converter, up, holds_of, registers_of, in_use, coefficients}
+use Rattle.chip.specs.Groups.{covers}
 use Rattle.cut.specs.Run.{InUse}
 use Rattle.vendor.specs.Found.{packet_moving, matrix_moving, may_move, one_of, is_whole}
 

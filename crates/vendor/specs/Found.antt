@@ -7,7 +7,8 @@ use Rattle.refusals.specs.Rows.{image_length, holds_up, list_length, bad_pair, b
 use Rattle.refusals.specs.Tests.{Test, ◌if◌, lowest}
 use Rattle.matrix.specs.Matrix.{fields}
 use Rattle.chip.specs.declared.Chip.{Chip}
-use Rattle.chip.specs.Machine.{Write, Group, avi, audio, matrix, packets, converter, up, holds_of, registers_of, in_run, mute}
+use Rattle.chip.specs.Machine.{Write, Group, avi, audio, matrix, packets, converter, up, holds_of, registers_of, mute}
+use Rattle.chip.specs.Groups.{in_run}
 use Rattle.chip.specs.Write.{lent_as, two, write_of}
 use Rattle.views.specs.Entry.{is_sized}
 use Rattle.writes.specs.List.{pairs_of, is_written, ready}
