@@ -156,7 +156,10 @@ impl Fields {
     fn is_outside(self) -> bool
         ensures { result ≡ outside_in self.wiring self.video self.sound (is_out_of_range self.matrix) }
     {
-        self.wiring.outside() || self.video.outside() || self.sound.outside() || self.matrix.is_out_of_range()
+        self.wiring.outside()
+            || self.video.outside()
+            || self.sound.outside()
+            || self.matrix.is_out_of_range()
     }
 
     // Whether input and output are of different colour kinds.
