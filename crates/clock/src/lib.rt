@@ -309,7 +309,7 @@ impl Sampled {
     #[tactic(auto, unfolding(crate::specs::Pairs::reference))]
     fn reference(self) -> u64
         ensures value { result ≡ reference self.rate }
-        ensures result_nonzero { (0 < result) × (result ≤ reference_most) }
+        ensures bounds { (0 < result) × (result ≤ reference_most) }
     {
         128 * u64::from(sound::hertz(self.rate))
     }

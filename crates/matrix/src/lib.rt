@@ -194,7 +194,7 @@ impl Inputs {
     // Through the four fields of one row.
     fn code(self, row: [u16; 4], mode: u8) -> u16
         requires mode_bound { mode ≤ 2 }
-        requires k1_bound { (get_or row 0 0 < 8192) × (get_or row 1 0 < 8192) × (get_or row 2 0 < 8192) × (get_or row 3 0 < 8192) }
+        requires row_small { (get_or row 0 0 < 8192) × (get_or row 1 0 < 8192) × (get_or row 2 0 < 8192) × (get_or row 3 0 < 8192) }
         ensures { result ≡ code_of self.a self.b self.c (get_or row 0 0) (get_or row 1 0) (get_or row 2 0) (get_or row 3 0) mode }
     {
         let sum = times(self.a, row[0])

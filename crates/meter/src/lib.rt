@@ -64,7 +64,7 @@ fn taken_apart(x: f32) -> Parts
     ensures has_value { HasValue x result.negative (result.digits * 2 ^ result.exponent) (2 ^ 149) }
     ensures normal { Normal result.digits result.exponent }
 {
-    let bits = x.to_bits() as u64;
+    let bits = u64::from(x.to_bits());
     let negative = 0x80000000 <= bits;
     let field = bits % 0x80000000 / 0x800000;
     let low = bits % 0x800000;
@@ -123,13 +123,13 @@ fn signed_field(negative: bool, size: u64) -> Option<u16>
 
 // The field nearest to x · 2^raised / 2^mode.
 fn field(x: f32, raised: u64, mode: u8) -> Option<u16>
-    requires x_value { finite x ≡ true }
+    requires finite { finite x ≡ true }
     requires raised_bound { (raised ≤ 12) × (mode ≤ 2) }
     ensures { result ≡ as_field (field_of x raised mode) }
 {
     let p = taken_apart(x);
     let k = p.exponent + raised;
-    let unit = 149 + mode as u64;
+    let unit = 149 + u64::from(mode);
     if unit < k + 11 {
         return None;
     }
@@ -140,7 +140,7 @@ fn field(x: f32, raised: u64, mode: u8) -> Option<u16>
 // The field of an offset or a factor in a mode.
 #[tactic(auto, unfolding(crate::specs::Found::field_in))]
 fn field_in(x: f32, offset: bool, mode: u8) -> Option<u16>
-    requires x_value { finite x ≡ true }
+    requires finite { finite x ≡ true }
     requires mode_bound { mode ≤ 2 }
     ensures { result ≡ as_field (field_in mode offset x) }
 {
@@ -253,8 +253,8 @@ pub fn take_matrix(numbers: &[f32], buffer: &mut [u8]) -> Result<u32, Refusal>
 #[tactic(auto, using(crate::proofs::Whole::rounds))]
 pub fn rounding()
     ensures rounds { (a : ℤ) (b : ℕ) → 0 < b → Rounds a b }
-    ensures mode_nonzero { (x : Float) (mode : ℕ) → 0 < bottom x * 2 ^ mode }
-    ensures by_index { (mode i : ℕ) → Rounded mode i minus_zero (pos 0) }
+    ensures bottom_nonzero { (x : Float) (mode : ℕ) → 0 < bottom x * 2 ^ mode }
+    ensures minus_zero { (mode i : ℕ) → Rounded mode i minus_zero (pos 0) }
 {}
 
 /// What becomes of the struct, in document 02's words.

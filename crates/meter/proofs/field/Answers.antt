@@ -16,7 +16,7 @@ returns-then-unit-k c = let args = c.args in
     let e = c.taken_apart-p.ensures in
     ap as_field (too_large (negative args.x) (closest (num args.x * 2 ^ args.raised) (den args.x * 2 ^ args.mode))
     (far args.x p.negative p.digits p.exponent args.raised args.mode e.has_value
-    (leads p.digits p.exponent args.raised args.mode e.normal c.requires.raised_bound.0 c.if-unit-k.true) c.if-unit-k.true))
+    (leads p.digits p.exponent args.raised args.mode e.normal c.requires.raised_bound.0 (rw c.from-unit.ensures at c.if-unit-k.true)) (rw c.from-unit.ensures at c.if-unit-k.true)))
 
 pub returns : goal.returns
 unfolding field_of
@@ -25,7 +25,7 @@ returns c = let args = c.args in
     let v = c.taken_apart-p.ensures.has_value in
     c.signed_field.ensures
     ∙ ap as_field (ap (λ (n : ℕ). signed_field p.negative n)
-    (c.nearest-size.ensures ∙ sym (near args.x p.negative p.digits p.exponent args.raised args.mode v (room c.if-unit-k.false)))
+    (rw c.from-unit.ensures at c.nearest-size.ensures ∙ sym (near args.x p.negative p.digits p.exponent args.raised args.mode v (room (rw c.from-unit.ensures at c.if-unit-k.false))))
     ∙ ap (λ (s : Bool). signed_field s (closest (num args.x * 2 ^ args.raised) (den args.x * 2 ^ args.mode))) (sym (sign args.x p.negative (p.digits * 2 ^ p.exponent) (2 ^ 149) v)))
   where
     room : {k u : ℕ} → k + 11 ≤ u → k ≤ u

@@ -14,21 +14,18 @@ use Rattle.meter.proofs.taken_apart.Goals.{Start}
 held : (c : Start) → T (fits binary32 c.args.x)
 held c = subst T (sym c.well_formed.0.1) tt
 
-pub float_to_bits-bits : goal.float_to_bits-bits
-float_to_bits-bits c = subst (λ (b : Bool). T (not b)) (sym (no_nan c.args.x c.requires)) tt
-
-pub overflow_cast-bits : goal.overflow_cast-bits
-overflow_cast-bits c = record { fits = lt_of_lt_of_le (to_bits-lt binary32 c.args.x (held c)) (lit≤ tt) }
+pub float_to_bits-x : goal.float_to_bits-x
+float_to_bits-x c = subst (λ (b : Bool). T (not b)) (sym (no_nan c.args.x c.requires)) tt
 
 next : (k : ℕ) → (k ≡ 0 → ⊥) → k ≡ suc (k - 1)
 next k h = omega arith
 
 pub returns-then-field-eq0-clause-has_value : goal.returns-then-field-eq0-clause-has_value
 returns-then-field-eq0-clause-has_value c =
-    least c.args.x (held (goal.at.returns-then-field-eq0-clause-has_value c).Start) c.requires c.if-field-eq0.true
+    rw c.from-bits.ensures (least c.args.x (held (goal.at.returns-then-field-eq0-clause-has_value c).Start) c.requires (rw c.from-bits.ensures at c.if-field-eq0.true))
 
 pub returns-else-field-eq0-clause-has_value : goal.returns-else-field-eq0-clause-has_value
 returns-else-field-eq0-clause-has_value c =
     let x = c.args.x in
     let b = to_bits binary32 x in
-    normal x (held (goal.at.returns-else-field-eq0-clause-has_value c).Start) c.requires (b % 2147483648 / 8388608 - 1) (next (b % 2147483648 / 8388608) c.if-field-eq0.false)
+    rw c.from-bits.ensures (normal x (held (goal.at.returns-else-field-eq0-clause-has_value c).Start) c.requires (b % 2147483648 / 8388608 - 1) (next (b % 2147483648 / 8388608) (rw c.from-bits.ensures at c.if-field-eq0.false)))

@@ -35,12 +35,12 @@ known clock f r s p m l =
 
 ratio : (c : After-reduced-ratio) → let s = c.args.self in Known s.clock.num (s.clock.den * c.reference-reference.result) c.reduced-ratio.result
 ratio c =
-    let f = c.reference-reference.ensures.result_nonzero in
+    let f = c.reference-reference.ensures.bounds in
     known (clock_known c.args.self.clock) c.reference-reference.result c.reduced-ratio.result c.args.self.within_bounds f.0 f.1 c.reduced-ratio.ensures
 
 pub invariant_of-nearest : goal.invariant_of-nearest
 invariant_of-nearest c =
-    record { reference_bound = c.reference-reference.ensures.result_nonzero.1; u_nonzero = (ratio c).u; v_nonzero = (ratio c).v }
+    record { reference_bound = c.reference-reference.ensures.bounds.1; u_nonzero = (ratio c).u; v_nonzero = (ratio c).v }
 
 pub returns : goal.returns
 unfolding nearest_of
