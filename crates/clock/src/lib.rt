@@ -10,8 +10,19 @@ ghost use Rattle.clock.specs.Answers.{no_clock, clock_asked, above_limit, clock_
 ghost use Rattle.clock.specs.Bounds.{WithinBounds, num_most, reference_most, parts_most};
 ghost use Rattle.clock.specs.Tables.{pair};
 ghost use Rattle.clock.specs.Pairs.{reference, recommended_of};
-ghost use Rattle.clock.specs.Found.{quarter, slow_quarter, quarter_of, nearest_k, least_k, most_k, nearest_in, nearest_of, exactly};
-ghost use Rattle.clock.specs.Found.{coherent_of, GivesPair};
+ghost use Rattle.clock.specs.Found.{
+  quarter,
+  slow_quarter,
+  quarter_of,
+  nearest_k,
+  least_k,
+  most_k,
+  nearest_in,
+  nearest_of,
+  exactly,
+  coherent_of,
+  GivesPair,
+};
 ghost use Rattle.clock.specs.Theorems.{ClockRule, PairRule, ClockRefusals};
 
 use ratio::Ratio;
@@ -42,7 +53,8 @@ pub struct NCts {
 }
 
 // A row of the recommended pairs: the clock in lowest terms, and N and CTS at the rates 0 to 6.
-// Kept, the proof did not close: two arrays. As one of `NCts`, or of pairs of numbers, a row of the static could not be borrowed.
+// Kept, the proof did not close: two arrays. With one of `NCts` the borrow checker does not cover `recommended_pair`: a static is borrowed that
+// holds a struct which holds an array of structs.
 struct Row {
     clock: Hertz,
     n: [u32; 7],

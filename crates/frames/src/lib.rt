@@ -81,7 +81,7 @@ fn repeated(video: Video) -> u8
     }
 }
 
-// The AVI InfoFrame of a video, and its mode.
+// The AVI InfoFrame of a video, whose mode is given.
 // Kept, no plainer: the mode stands beside the video that names it, for `avi_of` has looked it up already. A struct of the two would be made and
 // opened once.
 #[tactic(auto, using(crate::proofs::Small::encoding_small, crate::proofs::Small::second_small))]

@@ -9,8 +9,8 @@ ghost use Rattle.lists.specs.Same.{same_list};
 pub fn copy(bytes: &[u8], out: &mut [u8])
     ensures { out.new ≡ over bytes.now out.old }
 {
-    // Kept, what may not change: the archive calls memcpy and memset alone (docs/ABI.md), and copy_from_slice calls memmove. Of what a loop over
-    // `out.iter_mut().zip(bytes)` wrote a proof knows no values.
+    // Kept, what may not change: the archive calls memcpy and memset alone (docs/ABI.md), and copy_from_slice calls memmove. `zip` loses
+    // the values: of what a loop over `out.iter_mut().zip(bytes)` wrote a proof knows none.
     for i in 0..bytes.len().min(out.len()) {
         out[i] = bytes[i];
     }
@@ -24,7 +24,8 @@ pub fn byte_at(s: &[u8], i: usize) -> u8
 }
 
 /// Whether two slices hold the same bytes. All are looked at.
-// Kept, for speed: the planner compares rows of lengths that the compiler knows, and `==` is a call for each of them, 13 ns for 5.
+// Kept, for speed: the bars of planning (docs/SPEED.md), which it misses already, it would miss by more. `==` is a call for each row: 12.9 ns for
+// the four of a list, where this loop takes 4.8 (docs/DECISIONS.md, B33). The vet, which is within its bar, calls it too.
 #[tactic(auto, using(crate::proofs::Compared::unequal))]
 pub fn same(a: &[u8], b: &[u8]) -> bool
     ensures { result ≡ same_list a.now b.now }

@@ -78,8 +78,7 @@ pub fn fits(body: &[u8]) -> bool
     body[0] <= 2 && in_range
 }
 
-// Whether twelve fields have 13 bits each.
-// Kept, for speed: a `fold` over all. `all`, which stops at the first that has more, is the slower way.
+// Whether twelve fields have 13 bits each. All are looked at, which is faster than to stop at the first that has more.
 fn are_small(k: [u16; 12]) -> bool
     ensures { result ≡ small_fields k 12 }
 {
@@ -144,7 +143,8 @@ impl Matrix {
     {
         let mut out = [0; 25];
         out[0] = self.mode;
-        // Kept, for speed: a `for`. A `map` into pairs took twice as many instructions.
+        // Kept, the proof did not close: a `for` over the places. With `as_chunks_mut::<2>()` and `zip` the goal `returns` of `body` stays open, for
+        // `zip` loses what was written. A `map` into pairs took twice as many instructions.
         for i in 0..12 {
             let field = self.coefficients[i];
             out[1 + 2 * i] = high_byte(field);

@@ -45,8 +45,8 @@ pub struct Parts {
 }
 
 // Below 2^mode in size.
-// Kept, no plainer: `finite x` and `mode ≤ 2` are asked for in four private contracts each. They are facts on two arguments that meet in different
-// pairs, and a type for each would be opened in the first line of each function.
+// Kept, no plainer: no types hold `finite x` and `mode ≤ 2`. Here the mode is asked for alone, in `taken_apart` the float, in `field` and `field_in`
+// both, and in `fields_in` twelve floats and a mode: three types, each opened in the first line of each function.
 fn is_below(x: f32, mode: u8) -> bool
     requires { mode ≤ 2 }
     ensures { result ≡ is_below x mode }
@@ -167,15 +167,14 @@ fn all_finite(numbers: [f32; 12]) -> bool
     numbers.iter().all(|x| is_finite(*x))
 }
 
-// All twelve in a mode, where each is a field.
-// Kept, no plainer: a loop over the places. An array has no `map` that can fail, and which number is an offset goes by its place.
+// All twelve in a mode, where each is a field. Which number is an offset goes by its place.
 fn fields_in(numbers: [f32; 12], mode: u8) -> Option<[u16; 12]>
     requires { (every finite numbers ≡ true) × (mode ≤ 2) }
     ensures { result ≡ as_fields mode numbers }
 {
     let mut out = [0; 12];
-    for i in 0..12 {
-        out[i] = field_in(numbers[i], i % 4 == 3, mode)?;
+    for (i, field) in out.iter_mut().enumerate() {
+        *field = field_in(numbers[i], i % 4 == 3, mode)?;
     }
     Some(out)
 }

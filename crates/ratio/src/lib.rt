@@ -60,7 +60,7 @@ fn gcd(a: u64, b: u64) -> u64
 
 impl Ratio {
     /// num / den in lowest terms: both are halved until one is odd, and then divided by their greatest common divisor.
-    // Kept, no plainer: an Option would give the one caller, whose den is above 0, a case that it never meets; what a den of 0 gives is settled.
+    // Kept, what may not change: zeros and no `Option` for a den of 0. `Reduces.none` says them, and what could not fail still can't.
     pub fn reduced(num: u64, den: u64) -> Ratio
         ensures { Reduces num den result }
     {

@@ -57,7 +57,7 @@ pub fn told_apart()
     ensures { ToldApart }
 {}
 
-/// 0, which is no refusal, and then the numbers of the rows in the list's order.
+/// 0, which is no refusal, and then the numbers of the list's twenty rows in its order; 21 to 24 are not in that list.
 pub fn numbers() -> [u8; 21]
     ensures { result ≡ 0 ∷ map number order }
 {

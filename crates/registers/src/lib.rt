@@ -20,9 +20,9 @@ pub struct Class {
 }
 
 /// The columns of the table, for a caller that goes through many addresses.
-// Kept, what may not change: four arrays, and no array of 256 structs, for that does not fit the prover's time (docs/HOUSE.md, F3); and
-// `HasColumns` has each column by itself.
-#[derive(Clone, Copy)]
+// Kept, what may not change: `HasColumns` has each of the four columns by itself. An array of 256 structs does not fit the prover's time either
+// (docs/HOUSE.md, F3).
+#[derive(Clone, Copy, Debug, PartialEq, Eq)]
 pub struct ByColumn {
     pub read_only: [u8; 256],
     pub mandated: [u8; 256],

@@ -43,8 +43,8 @@ static RATES: [Rate; 7] = [
 ];
 
 /// A rate in Hz; 0 for a number that is none.
-// Kept, what may not change: 0 here and in `code_of`, and 7 in `rate_of`, stand for none and are no `Option`, for `hertz_of`, `code_for` and
-// `rate_of` say so, and `RateTable` has these numbers.
+// Kept, what may not change: this, `code_of` and `rate_of` could not fail, and still can't. The definitions `hertz_of`, `code_for` and `rate_of` say
+// 0, 0 and 7 for none.
 // Kept, no plainer: a function that finds the row for both would have a contract that says what both of theirs say.
 pub fn hertz(rate: u8) -> u32
     ensures { result ≡ hertz_of rate }

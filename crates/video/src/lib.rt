@@ -34,8 +34,8 @@ pub const VIDEO_COUNT: u8 = 7;
 
 /// What the video section asks for. `pixel` is the depth byte, with the repetition in its upper half; `edition` is the edition byte, with
 /// the quantisation and the content type.
-// Kept, what may not change: the fields are bytes and no enums, for any byte may stand in a request, rows 4 to 6 judge it, and `Body` and
-// `Exception` speak of all of them.
+// Kept, what may not change: the fields are bytes and no enums, for any byte may stand in a request, rows 4 to 6 judge it, and `Body` holds
+// for every value of each.
 #[derive(Clone, Copy, Default, Debug, PartialEq, Eq)]
 pub struct Video {
     pub vic: u8,
@@ -48,6 +48,8 @@ pub struct Video {
 }
 
 /// A listed mode. A VIC that is not listed offers no family.
+// Kept, what may not change: `families`, `aspect` and `colorimetry` are numbers and no enums, for the definition `mode` has them so: how many
+// families, from 0 on, and M and C as the AVI InfoFrame has them.
 #[derive(Clone, Copy, Debug, PartialEq, Eq)]
 pub struct Mode {
     pub vic: u8,
@@ -118,7 +120,7 @@ impl Video {
         ]
     }
 
-    /// All fields 0, which the definitions have beside a refusal (`emptied`).
+    /// All fields 0: the video that the definition `emptied` has beside a refusal. No code calls it; the edits `every_field` and `type_under_d` ask it.
     pub fn none() -> Video
         ensures { result ≡ no_video }
     {
@@ -161,9 +163,9 @@ impl Video {
     }
 
     /// Row 5, of the edition byte.
-    // Kept, what may not change: this and the rows below take the halves of a byte apart themselves and call no `depth`, `repetition`,
-    // `ycc_quantisation` or `content_type`, for the edits `byte_forgotten`, `bit_6_taken` and `every_field` spoil one of these beside a row
-    // that would call it, and each is refused by its own facts.
+    // Kept, what may not change: the rows below take the halves of a byte apart themselves, for an edit refuses each function by its own facts
+    // (docs/DECISIONS.md, E1). Beside `deep_apart` and the first half of `pixel_outside` the edit `byte_forgotten` spoils `depth`; beside
+    // `asked_under_d` the edit `bit_6_taken` spoils `ycc_quantisation` and `content_type`. The others are written alike.
     pub fn edition_outside(self) -> bool
         ensures { result ≡ edition_outside self }
     {

@@ -23,9 +23,9 @@ loop-i-preserved c =
     let a = c.args in
     let n = fields_length a.mode a.numbers in
     let at = field_at a.mode a.numbers l.i (search rules) in
-    let v = c.in_ok-out.field-0 in
+    let v = c.in_ok-field.field-0 in
     let f = some (is_field (field_in a.mode (is_offset l.i) (number_of a.numbers l.i))) (field_in a.mode (is_offset l.i) (number_of a.numbers l.i)) v
-    (sym c.field_in.ensures ∙ c.in_ok-out.was) in
+    (sym c.field_in.ensures ∙ c.in_ok-field.was) in
     let e : v ≡ get_or (fields_in a.mode a.numbers) l.i 0 = sym (at ∙ f.1) in (
       l.invariant.0,
       refl,
@@ -33,11 +33,11 @@ loop-i-preserved c =
       one_more (λ k. is_field (get_or (fields_in a.mode a.numbers) k 0) ≡ true) l.i l.invariant.3 (ap is_field at ∙ f.0),
     )
 
-pub returns-in_err-out : goal.returns-in_err-out
-returns-in_err-out c =
+pub returns-in_err-field : goal.returns-in_err-field
+returns-in_err-field c =
     let l = c.loop-i in
     let a = c.args in
-    let f = none (is_field (field_in a.mode (is_offset l.i) (number_of a.numbers l.i))) (field_in a.mode (is_offset l.i) (number_of a.numbers l.i)) (sym c.field_in.ensures ∙ c.in_err-out.was) in
+    let f = none (is_field (field_in a.mode (is_offset l.i) (number_of a.numbers l.i))) (field_in a.mode (is_offset l.i) (number_of a.numbers l.i)) (sym c.field_in.ensures ∙ c.in_err-field.was) in
     rw (unfit a.mode a.numbers l.i (search rules) f) (search rules)
 
 pub returns : goal.returns

@@ -9,5 +9,5 @@ use Rattle.meter.proofs.fields_in.Given as goal
 
 abbrev pub invariant-loop-i : goal.invariant-loop-i
 invariant-loop-i l =
-    (length l.numbers ≡ 12) × (length l.initial.out ≡ 12) × (l.out ≡ take l.i (fields_in l.mode l.numbers) ++ drop l.i l.initial.out)
+    (length l.numbers ≡ 12) × (length l.initial.field-items ≡ 12) × (l.field-items ≡ take l.i (fields_in l.mode l.numbers) ++ drop l.i l.initial.field-items)
     × ((k : ℕ) → k < l.i → is_field (get_or (fields_in l.mode l.numbers) k 0) ≡ true)

@@ -2,11 +2,9 @@
 use mathlib.Core.Path.{◌≡◌, sym, subst}
 use mathlib.Core.Bool.{Bool, not}
 use Prim.Native.Nat.{ℕ, suc, ◌-◌, ◌/◌, ◌%◌}
-use native.Mathlib.Nat.{lt_of_lt_of_le}
 use native.Mathlib.Omega.{arith}
-use lib.Dec.{T, lit≤}
+use lib.Dec.{T}
 use lib.Ieee.{binary32, fits, to_bits}
-use lib.Ieee.Bits.{to_bits-lt}
 use Rattle.meter.proofs.Apart.{least, normal, no_nan}
 use Rattle.meter.proofs.taken_apart.Goals as goal
 use Rattle.meter.proofs.taken_apart.Goals.{Start}
