@@ -45,8 +45,8 @@ pub struct Parts {
 }
 
 // Below 2^mode in size.
-// Kept, no plainer: no types hold `finite x` and `mode ≤ 2`. Here the mode is asked for alone, in `taken_apart` the float, in `field` and `field_in`
-// both, and in `fields_in` twelve floats and a mode: three types, each opened in the first line of each function.
+// Kept, no plainer: no types hold `finite x` and `mode ≤ 2`. Here the mode is asked for alone, in `taken_apart` the float, in `field` and in
+// `field_in` both, and in `fields_in` twelve floats and a mode: three types, each opened in the first line of each function.
 fn is_below(x: f32, mode: u8) -> bool
     requires { mode ≤ 2 }
     ensures { result ≡ is_below x mode }

@@ -120,7 +120,8 @@ impl Video {
         ]
     }
 
-    /// All fields 0: the video that the definition `emptied` has beside a refusal. No code calls it; the edits `every_field` and `type_under_d` ask it.
+    /// All fields 0: the video that the definition `emptied` has beside a refusal. No code calls it; the edits `every_field` and `type_under_d`
+    /// spoil it.
     pub fn none() -> Video
         ensures { result ≡ no_video }
     {
