@@ -21,8 +21,7 @@ use refusals::Refusal;
 use request::sections::{LONGEST, WIRING, walk};
 use sound::Sound;
 
-// An EDID: a base block, and at most one extension, which has its data blocks from a byte on.
-/// The bytes of a block.
+/// The bytes of a block. An EDID has a base block, and at most one extension, which has its data blocks from a byte on.
 pub const BLOCK: usize = 128;
 
 /// The bytes of an EDID with an extension.
@@ -99,13 +98,6 @@ fn any_block<F: Fn(u8, &[u8]) -> bool>(bytes: &[u8], test: F) -> Result<bool, Re
     Ok(false)
 }
 
-// The bytes of a screen's data blocks, none of which runs past the end.
-#[derive(Clone, Copy)]
-struct Collection<'a> {
-    bytes: &'a [u8],
-    ghost whole: { is_past (data_blocks bytes.now) ≡ false },
-}
-
 // Whether an extension's first bytes are wrong: its tag, or its offset.
 fn is_wrong_start(ext: &[u8; BLOCK]) -> bool
     ensures { result ≡ wrong_start ext.now }
@@ -131,8 +123,9 @@ impl Pcm {
             && (rates >> self.rate) % 2 == 1
     }
 
-    // Whether one of a block's short audio descriptors covers it. They are taken off one by one: `chunks_exact` would divide by three, and below
-    // `station` the crates divide by powers of two alone.
+    // Whether one of a block's short audio descriptors covers it.
+    // Kept, what may not change: a loop that takes them off one by one. `chunks_exact` would divide by three, and the crates of the exported
+    // library divide by powers of two alone (docs/DECISIONS.md, 05.1).
     fn is_in(self, body: &[u8]) -> bool
         ensures { result ≡ some (covered_by self.rate self.channels) (descriptors body.now) }
     {
@@ -192,6 +185,13 @@ impl<'a> Template<'a> {
     }
 }
 
+// The bytes of a screen's data blocks, none of which runs past the end.
+#[derive(Clone, Copy)]
+struct Collection<'a> {
+    bytes: &'a [u8],
+    ghost whole: { is_past (data_blocks bytes.now) ≡ false },
+}
+
 impl<'a> Collection<'a> {
     // Bytes, if none of their data blocks runs past the end: row 23.
     fn of(bytes: &'a [u8]) -> Result<Collection<'a>, Refusal>
@@ -240,7 +240,7 @@ impl<'a> Collection<'a> {
     }
 
     // The answers to some questions, a bit each, the first the lowest.
-    // Kept, no plainer: two numbers and no Range. One that is passed in makes the loop one over an iterator, and what that yielded has to be told.
+    // Kept, no plainer: two numbers and no `Range`, for the clauses `fits`, `small` and `bits` speak of both ends.
     fn word<F: Fn(u8) -> Ask>(&self, from: u8, to: u8, question: F) -> u32
         requires callable { F.IsAlwaysCallable question }
         requires fits { (from ≤ to) × (to ≤ from + 32) }
@@ -265,7 +265,7 @@ impl<'a> Collection<'a> {
     }
 
     // Whether a request is accepted, and its sound covered.
-    // Kept, the proof did not close: with `is_ok_and` a proof knows nothing of what its closure gave.
+    // Kept, the proof did not close: with `is_ok_and` and with `map_or` the goal stays open that what the closure gave is `sound_told` of the sound.
     fn is_shown(&self, request: &[u8]) -> bool
         ensures { result ≡ is_shown self.now.bytes.now request.now }
     {

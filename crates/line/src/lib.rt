@@ -66,6 +66,7 @@ impl Text {
     }
 
     // A text.
+    // Kept, no plainer: `LineHasRoom` stands in each contract, for each asks for another count.
     fn text(&mut self, letters: &[u8])
         requires { LineHasRoom self.old (length letters.now) }
         ensures { AddsText self.old letters.now self.new }
@@ -113,7 +114,7 @@ impl Text {
     fn checked(&mut self, name: &[u8], byte: u8)
         requires { LineHasRoom self.old (length name.now + 2) }
         ensures adds { AddsText self.old (name.now ++ hex byte) self.new }
-        ensures value { self.new.count ≡ self.old.count + length name.now + 2 }
+        ensures count { self.new.count ≡ self.old.count + length name.now + 2 }
     {
         self.text(name);
         self.digit(byte / 16);
@@ -183,7 +184,7 @@ pub fn print(s: &[u8]) -> Text
 }
 
 /// What is printed of a request that came in parts: the line of its refusal, or that of the request.
-// Kept, no plainer: the refusal is a number, for a pipe that is anybody's bytes may answer with any.
+// Kept, what may not change: the refusal is a number, for a pipe that is anybody's bytes may answer with any (`PrintsAnswer`).
 pub fn print_answer(refusal: u8, request: &[u8]) -> Text
     ensures { PrintsAnswer refusal request.now result.count result.bytes }
 {
@@ -194,7 +195,7 @@ pub fn print_answer(refusal: u8, request: &[u8]) -> Text
 }
 
 /// What is printed of a verdict on a vendor's list.
-// Kept, no plainer: the verdict comes as two numbers, for `vendor` does not stand below this crate.
+// Kept, what may not change: the verdict comes as two numbers, for `vendor` does not stand below this crate (`PrintsVerdict`).
 pub fn print_verdict(refusal: u8, place: u32) -> Text
     ensures { PrintsVerdict refusal place result.count result.bytes }
 {
