@@ -44,6 +44,7 @@ fn leaves_two(held: u8, address: u8, byte: u8) -> bool
 }
 
 /// Whether the coefficient hold is up in a byte of 0x1A.
+// Kept, no plainer: the byte that is yet to be stored, and an image that is lent alone, are no state, so that the method cannot ask them.
 pub fn is_held(byte: u8) -> bool
     ensures { result ≡ up matrix byte }
 {
@@ -51,6 +52,7 @@ pub fn is_held(byte: u8) -> bool
 }
 
 /// Whether a mark still waits after a Vsync, by the byte of 0x1A: beside a raised hold it stays.
+// Kept, no plainer: `views::vsync_into` asks it of lent slices, which are no state.
 pub fn still_waits(byte: u8, waiting: bool) -> bool
     ensures { result ≡ (up matrix byte && waiting) }
 {
@@ -144,7 +146,7 @@ impl Chip {
     }
 
     /// A byte stored as it is, and whether it is: not where two packet holds are up or would be.
-    // Kept, what may not change: `Stores` says what stands after either answer, in place (B30), and its answer is a yes or no.
+    // Kept, no plainer: there is one refusal, and `write` names it.
     pub fn store(&mut self, address: u8, byte: u8) -> bool
         ensures { Stores self.old address byte result self.new }
     {

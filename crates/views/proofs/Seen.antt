@@ -14,8 +14,7 @@ use Rattle.lists.proofs.Decides.{Decides, opposite, equal, less, one_fails}
 use Rattle.refusals.specs.Rows.{field_out_of_range, Given}
 use Rattle.refusals.specs.Tests.{◌if◌}
 use Rattle.refusals.proofs.Tests.{Decided, lowest_given, none_at, numbered}
-use Rattle.views.specs.Numbered.{Part}
-use Rattle.views.specs.Numbered.{Mute}
+use Rattle.views.specs.Numbered.{Part, Mute}
 use Rattle.chip.specs.Machine.{Group, avi, audio, gc, packets, up, holds_of, in_use, gc_in_use, mute, registers_of}
 use Rattle.chip.specs.Write.{two}
 use Rattle.views.specs.View.{packet_at, viewed_of, lent_refusal, view_refusal, sent_of, placed, no_part, sent_part, start_in, mute_of, no_mute, lent_tests}

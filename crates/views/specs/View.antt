@@ -6,8 +6,7 @@ use Rattle.refusals.specs.Tests.{Test, ◌if◌, lowest, answer}
 use Rattle.chip.specs.Machine.{Group, avi, audio, packets, up, holds_of, in_use, mute}
 use Rattle.chip.specs.declared.Chip.{Chip}
 use Rattle.chip.specs.Write.{lent_as, two}
-use Rattle.views.specs.Numbered.{Part}
-use Rattle.views.specs.Numbered.{Mute}
+use Rattle.views.specs.Numbered.{Part, Mute}
 
 -- "it is asked for by number, 0 AVI or 1 audio"
 abbrev pub packet_at : ℕ → Group

@@ -27,6 +27,7 @@ fn store_matrix(mode: u8, bytes: &[u8], out: &mut [u8])
 }
 
 // The 24 bytes in use: while the hold is up, or a lowered one waits, those of the buffer.
+// Kept, no plainer: `Chip::matrix_in_use` asks a state, and no packet buffer is lent here.
 fn in_use<'a>(image: &'a [u8; 256], coefficients: &'a [u8; 24], waits: bool) -> &'a [u8]
     ensures { result.now ≡ in_use converter matrix (lent_as image.now [] coefficients.now waits) }
 {

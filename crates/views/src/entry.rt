@@ -80,7 +80,7 @@ impl Slices<'_> {
 }
 
 /// One write of the machine: refusals 7 and 13, and a refused write changes nothing.
-// Kept, for the C interface: the machine is lent as its four slices.
+// Kept, for the C interface: C lends the machine as four slices; here they become one value.
 pub fn write_into(
     image: &mut [u8],
     packet: &mut [u8],
@@ -106,7 +106,7 @@ pub fn write_into(
 }
 
 /// One Vsync of the machine: refusal 7, and no byte but the mark changes.
-// Kept, for the C interface: the machine is lent as its four slices.
+// Kept, for the C interface: C lends the machine as four slices; here they become one value.
 pub fn vsync_into(
     image: &mut [u8],
     packet: &mut [u8],
@@ -123,6 +123,7 @@ pub fn vsync_into(
         mark,
     };
     slices.sized()?;
+    // Kept, no plainer: `Chip::vsync` would copy the machine's 312 bytes out of the slices and back, for the one byte that changes.
     let hold = slices.image[Map::COEFFICIENT_UPDATE as usize];
     slices.mark[0] = u8::from(still_waits(hold, slices.mark[0] != 0));
     Ok(())

@@ -1,5 +1,6 @@
 // What the chip sends, over lent slices: document 01, "The chip machine".
-ghost use Rattle.std.specs.Prelude.{◌≡◌, Ok, length};
+ghost use Rattle.std.specs.Prelude.{◌≡◌, ◌<◌, ◌≤◌, Ok, IfOk, IfErr, length};
+ghost use Rattle.refusals.specs.declared.Refusal.TheVariants.{FieldOutOfRange};
 ghost use Rattle.refusals.specs.Numbered.{given_by};
 ghost use Rattle.chip.specs.Machine.{up, mute};
 ghost use Rattle.chip.specs.Groups.{group_of};
@@ -11,7 +12,7 @@ use map::Map;
 use refusals::Refusal;
 
 /// A part of a slice: of the packet buffer where its packet is held, else of the image.
-// Kept, for the C interface: the place and the length are `u32`, as `struct station_part` has them.
+// Kept, no plainer: both callers would open an enum of the two slices into these three again.
 #[derive(Clone, Copy, Debug, PartialEq, Eq)]
 pub struct Place {
     pub held: bool,
@@ -37,18 +38,20 @@ fn lent_refusal(image: &[u8], packet: &[u8]) -> Result<(), Refusal>
 pub fn sent_refusal(image: &[u8], packet: &[u8], which: u32) -> Result<(), Refusal>
     ensures { Refuses image.now packet.now which (given_by result) }
 {
-    if 1 < which {
-        Err(Refusal::FieldOutOfRange)
-    } else {
-        lent_refusal(image, packet)
-    }
+    packet_at(which)?;
+    lent_refusal(image, packet)
 }
 
-// The packet that is asked for by number: 0 AVI, 1 audio.
-fn packet_at(which: u32) -> Group
-    ensures { group_of result ≡ packet_at which }
+// The packet that is asked for by number: 0 AVI, 1 audio; refusal 5 of another.
+fn packet_at(which: u32) -> Result<Group, Refusal>
+    ensures found { IfOk result (λ group. (which ≤ 1) × (group_of group ≡ packet_at which)) }
+    ensures refused { IfErr result (λ refusal. (1 < which) × (refusal ≡ FieldOutOfRange)) }
 {
-    if which == 0 { Group::AVI } else { Group::AUDIO }
+    match which {
+        0 => Ok(Group::AVI),
+        1 => Ok(Group::AUDIO),
+        _ => Err(Refusal::FieldOutOfRange),
+    }
 }
 
 impl Place {
@@ -69,8 +72,9 @@ impl Place {
 pub fn sent_part(image: &[u8], packet: &[u8], which: u32) -> Result<Place, Refusal>
     ensures { Places image.now packet.now which (part_told result) }
 {
-    sent_refusal(image, packet, which)?;
-    Ok(Place::of(packet_at(which), image[Map::INFOFRAME_UPDATE as usize]))
+    let group = packet_at(which)?;
+    lent_refusal(image, packet)?;
+    Ok(Place::of(group, image[Map::INFOFRAME_UPDATE as usize]))
 }
 
 /// The packet that is sent, as a part of the image or of the packet buffer: its bytes, and where it starts.
@@ -92,7 +96,7 @@ pub fn sent<'a>(image: &'a [u8], packet: &'a [u8], which: u32) -> &'a [u8]
 }
 
 /// The mute bits of the GC byte in use, 1 muted, 2 open, 0 and 3 neither; what lies past the end of a slice is 0.
-// Kept, what may not change: `mute` is the two bits as they stand, for slices of every length (P4).
+// Kept, for the C interface: `struct station_state` has the bits as they stand, and 0 and 3 both occur.
 pub fn mute_bits(image: &[u8], packet: &[u8]) -> u8
     ensures { result ≡ mute (viewed_of image.now packet.now) }
 {
