@@ -7,7 +7,7 @@ ghost use Rattle.bits.specs.Merge.{under};
 ghost use Rattle.refusals.specs.declared.Refusal.TheVariants.{BadPair};
 ghost use Rattle.matrix.specs.Matrix.{fields};
 ghost use Rattle.chip.specs.declared.Chip.{Chip};
-ghost use Rattle.chip.specs.Machine.{avi, audio, matrix, packets, converter, up, holds_of, mute};
+ghost use Rattle.chip.specs.Machine.{avi, audio, matrix, packets, converter, up, holds_of, registers_of, mute};
 ghost use Rattle.chip.specs.Groups.{group_of, covers};
 ghost use Rattle.chip.specs.Write.{lent_as, two, holds_after, vsync_of, Stores};
 ghost use Rattle.writes.specs.List.{pairs_of, ready};
@@ -359,9 +359,11 @@ fn verdict_on(start: &Chip, list: &[[u8; 2]]) -> Result<(), Fault>
     ensures vets { (bytes : List ℕ) → pairs_of bytes ≡ writes_in list.now → Untold start.now bytes → Vets start.now bytes (verdict_told result) }
     ensures placed { IfErr result (λ fault. fault ≢ Refused BadPair) }
 {
+    // Kept, the proof did not close: with `packet_holds` here nothing says that the image has its 256 bytes (`Run::whole`).
+    let holds = start.image[Map::INFOFRAME_UPDATE as usize];
     let run = Run {
         start,
-        pairs: taken(start.packet_holds(), list),
+        pairs: taken(holds, list),
     };
     let end = run.ending();
     let ways = Ways {
