@@ -8,11 +8,7 @@ use Rattle.std.proofs.lemmas.Bool.Decides.{nat_tests}
 use lib.ListN.{get_or, length, set, take, length-append}
 use lib.Seq.{length-take-le}
 use Rattle.request.specs.Sections.{Bodies, Walk, ends, not_allowed, whole, walked, in_turn, by_name}
-use Rattle.refusals.specs.declared.Refusal.{Refusal}
-use Rattle.std.specs.Prelude.{Option, None, Result, Ok, Err}
-use Rattle.std.specs.Result.{result_ok}
-use Rattle.request.specs.Numbered.{BodyEnds, places_told}
-use Rattle.refusals.proofs.Told.{refusal_some}
+use Rattle.request.specs.Numbered.{BodyEnds}
 use Rattle.request.specs.Places.{ends_from, places_of}
 use Rattle.request.specs.Bytes.{laid}
 use Rattle.request.specs.Walks.{Sectioned}
@@ -21,11 +17,6 @@ use Rattle.lists.specs.Over.{over}
 use Rattle.lists.proofs.Copied.{over_whole}
 use Rattle.edid.specs.Wish.{Wish, wished, placed_in, in_place}
 use Rattle.edid.specs.Found.{vic_in, vic_at}
-
-pub no_place : (w : Walk) → (places_of w).refusal ≢ 0 → vic_in w ≡ 0
-no_place ends h = refl
-no_place not_allowed h = refl
-no_place (whole bodies rest) h = absurd (h refl)
 
 first_end : (bodies : List (List ℕ)) → in_turn (by_name bodies) ≡ bodies → get_or (ends_from 0 bodies) 0 0 + 1 ≡ suc (suc (length (by_name bodies).wiring))
 first_end bodies e = subst (λ (b : List (List ℕ)). get_or (ends_from 0 b) 0 0 + 1 ≡ suc (suc (length (by_name bodies).wiring))) e (omega arith)
@@ -40,10 +31,6 @@ place input z = go (walked input) refl z
 
 -- and by what the call answers
 module _ (input : List ℕ) where
-  pub no_place_told : (r : Result (List ℕ) Refusal) → places_told r ≡ places_of (walked input) → ◌≡◌ {A = Option (List ℕ)} (result_ok r) None → vic_in (walked input) ≡ 0
-  no_place_told (Ok l) h n = cc
-  no_place_told (Err e) h n = no_place (walked input) (λ z. refusal_some e (ap (λ (p : BodyEnds). p.refusal) h ∙ z))
-
   pub place_told : (l : List ℕ) → record { refusal = 0; ends = l } ≡ places_of (walked input) → get_or l 0 0 + 1 ≡ vic_in (walked input)
   place_told l h = ap (λ (p : BodyEnds). get_or p.ends 0 0 + 1) h ∙ place input (sym (ap (λ (p : BodyEnds). p.refusal) h))
 

@@ -3,19 +3,19 @@ use mathlib.Core.Path.{◌≡◌, refl, sym, ap, ◌∙◌}
 use mathlib.Core.Logic.{◌≢◌}
 use mathlib.Core.Bool.{true, false, false≢true}
 use mathlib.Core.List.{List, [], ◌∷◌}
-use Prim.Native.Nat.{ℕ, ◌≤◌, ◌<◌, ◌-◌, ◌%◌}
+use Prim.Native.Nat.{ℕ, ◌<◌, ◌-◌, ◌%◌}
 use native.Mathlib.Omega.{arith}
 use Rattle.std.proofs.lemmas.Bool.Decides.{nat_tests}
-use lib.ListN.{length, take, drop, length-drop}
-use borrow.Author.Tests.{lt-ltb, le-ltb, eq-eqb, ne_eqb}
+use lib.ListN.{length, length-drop}
+use borrow.Author.Tests.{eq-eqb, ne_eqb}
 use Rattle.std.specs.Prelude.{Result, Ok, Err, MatchResult}
 use Rattle.edid.specs.declared.Collection.{Collection}
 use Rattle.refusals.specs.declared.Refusal.{Refusal}
 use Rattle.refusals.specs.declared.Refusal.TheVariants.{EdidBlock}
 use Rattle.refusals.specs.Numbered.{refusal_number}
 use Rattle.frames.specs.Frames.{total}
-use Rattle.edid.specs.Screen.{base, extension, revision_of, offset_of, collection, cut_up, data_blocks}
-use Rattle.edid.specs.Found.{is_past, is_edid, wrong_start, bad_extension, wrong_sum, edid_refusal}
+use Rattle.edid.specs.Screen.{base, extension, collection, cut_up, data_blocks}
+use Rattle.edid.specs.Found.{is_past, is_edid, bad_extension, wrong_sum, edid_refusal}
 
 module _ (e : List ℕ) where
   pub extended : is_edid e ≡ true → length (extension e) ≢ 0 → length (extension e) ≡ 128
@@ -29,25 +29,6 @@ module _ (e : List ℕ) where
 none_there : (ext : List ℕ) → length ext ≡ 0 → [] ≡ collection ext
 none_there [] h = refl
 none_there (a ∷ ext) h = absurd (omega (arith, h))
-
--- the data blocks of an extension whose start is right: none in an old one, nor with an offset below 4
-module _ (ext : List ℕ) where
-  pub old : revision_of ext < 3 → [] ≡ collection ext
-  old h = rw (lt-ltb (revision_of ext) 3 h)
-
-  pub before_four : 3 ≤ revision_of ext → offset_of ext < 4 → [] ≡ collection ext
-  before_four h k = let z : offset_of ext - 4 ≡ 0 = omega arith in rw (le-ltb (revision_of ext) 3 h, z)
-
-  pub new : 3 ≤ revision_of ext → take (offset_of ext - 4) (drop 4 ext) ≡ collection ext
-  new h = rw (le-ltb (revision_of ext) 3 h)
-
--- what is answered of the bytes of an extension's data blocks is answered of the extension
-module _ (ext : List ℕ) (f : wrong_start ext ≡ false) where
-  pub judged : (bytes : List ℕ) → bytes ≡ collection ext → (r : Result Collection Refusal)
-      → MatchResult r (λ c. (is_past (data_blocks bytes) ≡ false) × (c.bytes.now ≡ bytes)) (λ x. (is_past (data_blocks bytes) ≡ true) × (x ≡ EdidBlock))
-      → MatchResult r (λ c. (bad_extension ext ≡ false) × (c.bytes.now ≡ collection ext)) (λ x. (bad_extension ext ≡ true) × (x ≡ EdidBlock))
-  judged bytes e (Ok c) m = (rw (f, sym e) m.0, m.1 ∙ e)
-  judged bytes e (Err x) m = (rw (f, sym e) m.0, m.1)
 
 -- the sums of the two blocks
 module _ (e : List ℕ) where

@@ -4,7 +4,6 @@ use mathlib.Core.List.{List}
 use Prim.Native.Nat.{ℕ, ◌+◌, ◌<◌, ◌≤◌}
 use native.Mathlib.Omega.{arith}
 use lib.ListN.{length, set, length-set}
-use lib.Seq.{length-take-le}
 use Rattle.edid.specs.declared.Template.{Template}
 use Rattle.edid.specs.Wish.{Wish, in_place}
 use Rattle.edid.specs.Found.{is_shown, is_fitting}
@@ -26,9 +25,6 @@ module _ (t : Template) where
 pub returns-then-not-is_told : goal.returns-then-not-is_told
 unfolding is_fitting
 returns-then-not-is_told c = rw (sym c.is_told.ensures ∙ c.if-not-is_told.true)
-
-pub slice_bounds-with-end : goal.slice_bounds-with-end
-slice_bounds-with-end c = let t = c.args.template.now in sym (length-take-le (length t.request.now) _ (small t))
 
 pub bounds-with-at : goal.bounds-with-at
 bounds-with-at c = let t = c.args.template.now in omega (arith, ap length (c.copy.ensures ∙ copied t.request.now _ (small t)), inside t)

@@ -1,5 +1,5 @@
 -- `edid::Collection::of` meets its contract: where a walk to the end finds no block that runs past it. Assumes nothing.
-use mathlib.Core.Path.{◌≡◌, refl}
+use mathlib.Core.Path.{◌≡◌}
 use mathlib.Core.Bool.{false}
 use borrow.Author.Rules.{rules}
 use Rattle.std.specs.Prelude.{Err}
@@ -19,9 +19,6 @@ none_past : (c : In_ok-any_block) → is_past (data_blocks c.args.bytes.now) ≡
 none_past c =
     let a = c.any_block.ensures (λ b. false) (λ tag body r k. search rules) in
     all_there (data_blocks c.args.bytes.now) _ (rw c.in_ok-any_block.was at a)
-
-pub returns : goal.returns
-returns c = (none_past (goal.at.returns c).In_ok-any_block, refl)
 
 pub invariant_of-result : goal.invariant_of-result
 invariant_of-result c = record { whole = none_past (goal.at.invariant_of-result c).In_ok-any_block }

@@ -21,8 +21,5 @@ loop-n-preserved g c = let a = c.args in
           ap (λ (k : ℕ). 2 * l.word + k) (b ∙ ap (λ (t : Bool). cond t 1 0) e) ∙ more f l.n a.to l.word (omega arith) (omega arith) (l.invariant.2 asks t),
     )
 
-pub returns-clause-small : goal.returns-clause-small
-returns-clause-small g c = let e : c.loop-n.n ≡ c.args.from = omega arith in rw e at c.loop-n.invariant.1
-
 pub returns-clause-bits : goal.returns-clause-bits
 returns-clause-bits g c = λ asks t. let e : c.loop-n.n ≡ c.args.from = omega arith in rw e at (c.loop-n.invariant.2 asks t)

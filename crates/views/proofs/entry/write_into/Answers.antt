@@ -8,7 +8,7 @@ use Rattle.chip.specs.declared.Chip.{Chip}
 use Rattle.chip.specs.Numbered.{wrote_told}
 use Rattle.chip.specs.Write.{write_of}
 use Rattle.views.specs.Entry.{Lent, lent, SliceAnswer, wrote_in, enter_of}
-use Rattle.views.proofs.Lent.{let_past, lent_sized, turned_away, let_in, past_a_refusal, past_a_write}
+use Rattle.views.proofs.Lent.{let_past, turned_away, let_in, past_a_refusal, past_a_write}
 use Rattle.views.proofs.entry.write_into.Goals as goal
 use Rattle.views.proofs.entry.write_into.Goals.{After-write}
 
@@ -26,11 +26,6 @@ entered c =
     let l = slices c in
     let_in l a.address a.value (let_past l c.in_ok-sized.ensures)
     ∙ ap (wrote_in l) (sym (c.write.ensures ∙ ap (λ (s : Chip). write_of s a.address a.value) c.state-before.ensures))
-
-pub state-before-requires : goal.state-before-requires
-state-before-requires c = let a = c.args in
-    let l = lent a.image.now a.packet.now a.coefficients.now a.mark.now in
-    lent_sized l (let_past l c.in_ok-sized.ensures)
 
 pub returns-in_err-sized : goal.returns-in_err-sized
 returns-in_err-sized c = let a = c.args in
