@@ -57,7 +57,7 @@ fn print(pipe: &mut [u8]) -> Text
         Said::NoPipe => line::print_answer(Refusal::ImageLength.into(), &[]),
         Said::Open => line::print_answer(0, &[]),
         Said::Accepted { count } => line::print_answer(0, &pipe[..usize::from(count)]),
-        Said::Refused { number } => line::print_answer(number, &[]),
+        Said::Refused { number } => line::print_answer(number.byte, &[]),
     }
 }
 

@@ -16,11 +16,11 @@ abbrev pub piped_told : Said → Piped
 piped_told NoPipe = record { refusal = number image_length; answered = 0; count = 0 }
 piped_told Open = record { refusal = 0; answered = 0; count = 0 }
 piped_told (Accepted count) = record { refusal = 0; answered = 1; count = count }
-piped_told (Refused n) = record { refusal = n; answered = 1; count = 0 }
+piped_told (Refused n) = record { refusal = n.byte; answered = 1; count = 0 }
 
 -- a refusal's byte is not 0, which is a pipe's byte for no answer yet
 abbrev pub IsNumbered : Said → Type 0
 IsNumbered NoPipe = Unit {0}
 IsNumbered Open = Unit {0}
 IsNumbered (Accepted count) = Unit {0}
-IsNumbered (Refused n) = n ≢ 0
+IsNumbered (Refused n) = n.byte ≢ 0

@@ -12,7 +12,10 @@ ghost use Rattle.pipe.specs.Final.{Finals, Deciding};
 ghost use Rattle.pipe.specs.Pipe.{AnyPipe, HoweverCut};
 ghost use Rattle.pipe.specs.Cases.{PipeCases};
 
+mod number;
+
 use clock::NCts;
+pub use number::Number;
 use refusals::Refusal;
 use request::sections::LONGEST;
 
@@ -35,16 +38,16 @@ pub const ENOUGH: usize = LONGEST + 1;
 /// What a call says: the bytes are no pipe; the request goes on; or its answer.
 // Kept, what may not change: a refusal stands here as the pipe's byte, for in a pipe that another hand wrote it may be any number, which is said
 // as it stands (`AnyPipe.said`).
-#[derive(Clone, Copy)]
+#[derive(Clone, Copy, Debug, PartialEq, Eq)]
 pub enum Said {
     NoPipe,
     Open,
     Accepted { count: u8 },
-    Refused { number: u8 },
+    Refused { number: Number },
 }
 
 // What stands in a pipe behind the room for a request: the count of the request's bytes so far, and the answer's byte.
-// Kept, no plainer: there is no method that writes both, for each call changes one of them.
+// Kept, no plainer: the count and the answer are written by their places in `take` and `end`, for each call changes one of them.
 #[derive(Clone, Copy)]
 struct State {
     count: u8,
@@ -54,7 +57,7 @@ struct State {
 impl State {
     // Of lent bytes, if they are a pipe.
     fn read(pipe: &[u8]) -> Result<State, Said>
-        ensures { MatchResult result (λ state. (is_pipe pipe.now ≡ true) × (state.count ≡ count_in pipe.now) × (state.answer ≡ answer_in pipe.now)) (λ said. (is_pipe pipe.now ≡ false) × (piped_told said ≡ no_pipe) × IsNumbered said) }
+        ensures { MatchResult result (λ state. (is_pipe pipe.now ≡ true) × (state.count ≡ count_in pipe.now) × (state.answer ≡ answer_in pipe.now)) (λ said. (is_pipe pipe.now ≡ false) × (piped_told said ≡ no_pipe)) }
     {
         if pipe.len() != PIPE || usize::from(pipe[COUNT]) > LONGEST {
             return Err(Said::NoPipe);
@@ -74,14 +77,14 @@ impl State {
 
     // What the answer says.
     fn said(self) -> Said
-        ensures told { piped_told result ≡ said_by self.answer self.count }
-        ensures number { self.answer ≢ 0 → IsNumbered result }
+        requires { self.answer ≢ 0 }
+        ensures { piped_told result ≡ said_by self.answer self.count }
     {
         if self.answer == ACCEPTED {
             Said::Accepted { count: self.count }
         } else {
             Said::Refused {
-                number: self.answer,
+                number: Number { byte: self.answer },
             }
         }
     }
@@ -97,7 +100,7 @@ struct Open<'a> {
 impl<'a> Open<'a> {
     // Of lent bytes; or else what is said: the answer that is there, or that they are no pipe.
     fn of(pipe: &'a [u8]) -> Result<Open<'a>, Said>
-        ensures { MatchResult result (λ found. (is_open pipe.now ≡ true) × (found.bytes.now ≡ so_far pipe.now)) (λ said. (is_open pipe.now ≡ false) × (piped_told said ≡ answer_there pipe.now) × IsNumbered said) }
+        ensures { MatchResult result (λ found. (is_open pipe.now ≡ true) × (found.bytes.now ≡ so_far pipe.now)) (λ said. (is_open pipe.now ≡ false) × (piped_told said ≡ answer_there pipe.now)) }
     {
         let state = State::read(pipe)?;
         if !state.is_open() {
@@ -148,8 +151,10 @@ pub fn take(pipe: &mut [u8], part: &[u8]) -> Said
     let mut input = [0u8; ENOUGH];
     let joined = so_far.join(part, &mut input);
     if let Some(refusal) = at_once(request::ncts(joined)) {
-        let number = refusal.into();
-        pipe[ANSWER] = number;
+        let number = Number {
+            byte: refusal.into(),
+        };
+        pipe[ANSWER] = number.byte;
         return Said::Refused { number };
     }
     lists::copy(joined, pipe);

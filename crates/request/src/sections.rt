@@ -11,10 +11,10 @@ use video::VIDEO_COUNT;
 use wiring::{FOUR_COUNT, TWELVE_COUNT};
 
 /// How many sections there are.
-// Kept, no plainer: numbers and no enum, for they are the indices of the ends that `walk` finds, and `allows` takes any number.
 pub const SECTIONS: usize = 4;
 
 /// The place of the wiring section in their order.
+// Kept, no plainer: the four places are numbers and no enum, for they are the indices of the ends that `walk` finds, and `allows` takes any number.
 pub const WIRING: usize = 0;
 
 /// The place of the video section.

@@ -120,7 +120,7 @@ impl From<Said> for PipedOut {
                 count: count.into(),
             },
             Said::Refused { number } => PipedOut {
-                refusal: number.into(),
+                refusal: number.byte.into(),
                 answered: 1,
                 count: 0,
             },

@@ -18,6 +18,6 @@ returns-clause-ends c = let p = c.args.pipe.now in
     let m = ending p t in
     let byte : c.answer_byte.result ≡ end_byte p = c.answer_byte.ensures ∙ ap answer_byte (by_pair _ _ (rw c.in-Ok.ensures.1 at c.ncts.ensures)) in
     let count : length c.in-Ok.so_far.bytes.now ≡ count_in p = rw c.in-Ok.ensures.1 (length_so_far p (open_is p t).0) in (
-      c.said.ensures.told ∙ ap (λ (k : ℕ). said_by k (length c.in-Ok.so_far.bytes.now)) byte ∙ ap (said_by (end_byte p)) count ∙ m.0,
+      c.said.ensures ∙ ap (λ (k : ℕ). said_by k (length c.in-Ok.so_far.bytes.now)) byte ∙ ap (said_by (end_byte p)) count ∙ m.0,
       ap (with_answer p) byte ∙ m.1,
     )

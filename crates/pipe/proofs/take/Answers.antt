@@ -15,7 +15,7 @@ returns-in-Err-clause-takes c = let m = taking_nothing _ _ c.in-Err.ensures.0 in
 
 pub returns-in-Some-clause-takes : goal.returns-in-Some-clause-takes
 returns-in-Some-clause-takes c =
-    rw c.into-number.ensures
+    rw c.into.ensures
     (judged_early c.args.pipe.now c.args.part.now _ _ c.in-Ok.ensures.0 (rw c.in-Ok.ensures.1 at c.join-joined.ensures) (by_pair _ _ c.ncts.ensures) _ c.in-Some.ensures (refusal_some _))
 
 pub overflow_cast-pipe : goal.overflow_cast-pipe
