@@ -268,7 +268,8 @@ fn turn(state: &mut Chip, event: bool)
 }
 
 // A byte stored as the machine does, where no two packet holds are up: but for the two registers of holds it is the byte alone.
-// Kept, for speed: with `Chip::store` at each address the vet of 512 pairs took 55,838 instructions, and so it takes 42,220.
+// Kept, for speed: the vet of 512 pairs stands at 1.25 of its bar of 1.4 (docs/SPEED.md) with some 42,000 instructions; with `Chip::store`
+// at each address it took 55,838.
 #[tactic(auto, using(crate::proofs::Loops::plain_write))]
 fn store(state: &mut Chip, address: u8, byte: u8)
     ensures { two (holds_of packets state.old.image) ≡ false

@@ -31,7 +31,7 @@ fn judged(input: &[u8]) -> Result<(), Fault>
 }
 
 // What is there to be read, at the front of a room: up to its end, or the input's. A read that fails counts as the end too.
-// Kept, no plainer: of an input that ends before the room does, `read_exact` does not say how much it read.
+// Kept, no plainer: `read_exact` does not say how much it read of an input that ends before the room, and `read_to_end` needs the heap.
 fn read_full(rt: &HostRuntime, room: &mut [u8]) -> usize
     ensures { IsPrefixLen result room.new }
 {
@@ -67,6 +67,7 @@ fn print(rt: &HostRuntime, room: &mut [u8]) -> Text
     line::print_verdict(refusal, place)
 }
 
+// Kept, what may not change: no `?` and no status, for a program whose write fails ended with status 0 (docs/DECISIONS.md K5).
 fn main(rt: HostRuntime) {
     let mut room = [0u8; ENOUGH];
     let _ = rt.stdout().write_all(print(&rt, &mut room).as_bytes());
