@@ -18,14 +18,14 @@ fn below()
     promises::vendors_lists();
 }
 
-// "any chain": what may be a link.
+/// "any chain": what may be a link.
 pub fn any_chain()
     ensures { (s : Chip) → AnyChain s }
 {
     promises::demand_3();
 }
 
-// "At every point": where a chain ends, and inside every link, after every write and every Vsync.
+/// "At every point": where a chain ends, and inside every link, after every write and every Vsync.
 pub fn every_point()
     ensures { EveryPoint }
 {
@@ -36,7 +36,7 @@ pub fn every_point()
     plan::on_another_image();
 }
 
-// "each cut at any place or finished, and the last one finished".
+/// "each cut at any place or finished, and the last one finished".
 pub fn last_finished()
     ensures { LastFinished }
 {
@@ -48,14 +48,14 @@ pub fn last_finished()
     plan::on_another_image();
 }
 
-// The last link a vendor's list.
+/// The last link a vendor's list.
 pub fn last_list()
     ensures { LastList }
 {
     below();
 }
 
-// "depend on the last request alone": two chains from two beginnings, with the same last request.
+/// "depend on the last request alone": two chains from two beginnings, with the same last request.
 pub fn last_alone()
     ensures { LastAlone }
 {
