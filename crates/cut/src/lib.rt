@@ -14,6 +14,7 @@ ghost use Rattle.cut.specs.Within.{MadeRight, NoLonger};
 
 /// "a chip in a state from which it was accepted, and a cut after any write": whatever is wanted, whatever the two buffers hold, whether a
 /// matrix change waits or not, and wherever Vsyncs come.
+// Kept, what may not change: the lengths and `ready` stand in each theorem by themselves, for theorems stay word for word.
 pub fn any_cut()
     ensures { (want : ℕ → ℕ) (s : Chip) → length s.image ≡ 256 → ready s.image ≡ true
         → Demand3 (write_list want) want s }

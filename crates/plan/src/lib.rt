@@ -79,6 +79,8 @@ impl Accepted {
     }
 
     // Whether it has sound.
+    // Kept, no plainer: 0 or 1 and no `bool`, here, in `cts_select` and in `link`. `places` has these numbers, and a byte is a sum of such at their
+    // places; a bool would be made one again where it is used.
     fn with_audio(self) -> u8
         ensures { (result ≡ with_sound self.request.sound) × (result ≤ 1) }
     {

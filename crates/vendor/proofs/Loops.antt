@@ -147,9 +147,6 @@ shortened_short (w ∷ ws) s = go (eqb (write_of s w.address w.value).refusal 0)
     go true h = suc-le-suc h
     go false h = omega arith
 
-pub taken_listed : (ws : List Write) (s : Chip) (i : ℕ) → i < length (shortened ws s) → i < length ws
-taken_listed ws s i h = omega (arith, h, shortened_short ws s)
-
 -- ---- how many pairs are taken
 
 -- at place i the byte of the holds is `held`

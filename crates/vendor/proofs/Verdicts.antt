@@ -1,6 +1,6 @@
 -- The verdict by the tests as the code makes them, and what each of these finds. Assumes nothing.
 use mathlib.Core.Path.{◌≡◌, refl, sym, ap, ap₂, ◌∙◌}
-use mathlib.Core.Bool.{Bool, true, false, false≢true, not, ◌&&◌, ◌||◌}
+use mathlib.Core.Bool.{Bool, true, false, false≢true, not}
 use native.Mathlib.Omega.{arith}
 use mathlib.Core.List.{List}
 use Prim.Native.Nat.{ℕ, zero, suc, ◌%◌, ◌≤◌, ◌<◌}
@@ -61,12 +61,6 @@ module _ (s : Chip) (list : List ℕ) where
       pub passed : ends ≡ true → record { refusal = 0; place = 0 } ≡ vet_of s list
       unfolding vet_of vet_refusal
       passed e = rw (u.sized, u.fit, u.whole, d, e)
-
--- the lengths, tested one by one
-pub sizes : (a b c : Bool) → ((not a || not b) || not c) ≡ not (a && (b && c))
-sizes true true c = refl
-sizes true false c = refl
-sizes false b c = refl
 
 pub odd : (n : ℕ) → not (eqb (n % 2) 0) ≡ eqb (n % 2) 1
 odd n = go (n % 2) (omega arith)

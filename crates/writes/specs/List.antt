@@ -2,7 +2,7 @@
 -- byte whose named bits are wanted in register a. `Order` and `Entries` tie the full list to the document's words, `Fewer` what is left out
 -- of it, which three always stay included (`Fewer.nine`), `Clauses.registers` (cut) and `BitByBit` (decode) the image. `flat` and `pairs_of`, pairs as
 -- bytes and back, are to be read here; `ready` is row 8's (`AnyCut.again`).
-use Rattle.std.specs.Prelude.{◌≡◌, Bool, true, cond, not, ◌&&◌, ◌||◌, List, [], ◌∷◌, ◌++◌, map, ℕ, zero, suc, ◌+◌, eqb, ltb, length, get_or, drop}
+use Rattle.std.specs.Prelude.{◌≡◌, Bool, true, cond, not, ◌&&◌, ◌||◌, List, [], ◌∷◌, ◌++◌, map, ℕ, zero, suc, eqb, ltb, length, get_or, drop}
 use Rattle.lists.specs.Among.{among}
 use Rattle.lists.specs.Those.{those}
 use Rattle.bits.specs.Merge.{merge}

@@ -29,6 +29,7 @@ pub fn keep() -> [u8; 256]
 }
 
 // Of a register the bits that are the image's or as wanted.
+// Kept, no plainer: this and the next differ in the column alone. With the column as an argument a contract would have to say which it is.
 fn open_at(a: usize) -> u8
     requires { a < 256 }
     ensures { result ≡ open_bits a }
@@ -115,7 +116,8 @@ impl<'a> Pen<'a> {
     }
 
     // The same of registers in a row; most often none of a row is another.
-    // Kept, no plainer: one function for both, over any iterator, would have to say in its contract what that yields.
+    // Kept, no plainer: one function for both, over any iterator, would have to say in its contract what that yields. The `for` goes over addresses,
+    // which are what is written.
     fn row(&mut self, first: usize, count: usize)
         requires in_the_map { first + count ≤ 256 }
         requires has_room { HasRoom self.old count }

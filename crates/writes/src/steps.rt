@@ -1,9 +1,11 @@
 // The registers of two steps of the list, and the masks of a written byte, as columns. Document 01, "The write list"; specs/Columns.antt
 // says what these are.
 // Each is a `static`, and no `const`: equal bytes in a row of a const the compiler builds in the stack at every call.
+// Kept, what may not change: three columns, and no array of rows, for `kept_bits`, `open_bits` and `held_bits` are functions of a register each, and
+// `keep` hands one column out.
 use map::Map;
 
-// The registers of Table 14, and the named ones of no other step.
+// The registers of Table 14.
 pub static TABLE14: [u8; 8] = [
     Map::FIXED_98,
     Map::FIXED_9A,
@@ -15,6 +17,7 @@ pub static TABLE14: [u8; 8] = [
     Map::FIXED_I2C_ADDRESS,
 ];
 
+// The named registers of no other step.
 pub static OTHERS: [u8; 22] = [
     Map::N0,
     Map::N1,
