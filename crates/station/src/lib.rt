@@ -1,5 +1,6 @@
 // The C face: each call is a call of the library, taken apart. No logic. The C declarations are in include/station.h; `station_c` exports the
 // calls.
+// Kept, for the C interface: `refusal` stands beside the values, as in each struct of include/station.h.
 #![tactic(auto)]
 
 ghost use Rattle.std.specs.Prelude.{◌≡◌};
@@ -23,7 +24,7 @@ use refusals::Refusal;
 
 /// `struct station_count`.
 #[repr(C)]
-#[derive(Clone, Copy)]
+#[derive(Clone, Copy, Default)]
 pub struct CountOut {
     pub refusal: u32,
     pub count: u32,
@@ -37,7 +38,7 @@ impl From<Result<u32, Refusal>> for CountOut {
             Ok(count) => CountOut { refusal: 0, count },
             Err(refusal) => CountOut {
                 refusal: refusal.into(),
-                count: 0,
+                ..CountOut::default()
             },
         }
     }

@@ -1,4 +1,5 @@
 // The C face of the chip machine, of a vendor's list on it and of the class table: each call is a call of the library, taken apart.
+// Kept, for the C interface: `refusal` stands beside the values, as in each struct of include/station.h.
 ghost use Rattle.std.specs.Prelude.{◌≡◌};
 ghost use Rattle.refusals.specs.Numbered.{given_by};
 ghost use Rattle.views.specs.Entry.{lent};
@@ -44,7 +45,7 @@ impl From<Result<Place, Refusal>> for PartOut {
 
 /// `struct station_state`.
 #[repr(C)]
-#[derive(Clone, Copy)]
+#[derive(Clone, Copy, Default)]
 pub struct StateOut {
     pub refusal: u32,
     pub mute: u32,
@@ -61,7 +62,7 @@ impl From<Result<u8, Refusal>> for StateOut {
             },
             Err(refusal) => StateOut {
                 refusal: refusal.into(),
-                mute: 0,
+                ..StateOut::default()
             },
         }
     }
@@ -119,14 +120,10 @@ impl From<Class> for ClassOut {
 }
 
 // 0, or the number of the refusal.
-// Kept, no plainer: `Result` and `u32` are of other crates, so that no `From` for the two can stand here.
 fn refused(answer: Result<(), Refusal>) -> u32
     ensures { result ≡ given_by answer }
 {
-    match answer {
-        Ok(()) => 0,
-        Err(refusal) => refusal.into(),
-    }
+    answer.err().map_or(0, u32::from)
 }
 
 /// One write of the chip machine: refusals 7 and 13.

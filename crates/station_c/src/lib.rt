@@ -1,5 +1,6 @@
 // The exports of the static library: each call is the call of `station` of the same name, with its clauses. No logic. The C declarations are in
 // include/station.h.
+// Kept, for the C interface: the exports repeat the calls of `station`, for a crate is a library or a static library (docs/DECISIONS.md, K4).
 #![tactic(auto)]
 
 ghost use Rattle.station.specs.Face.{StationPlan, StationDecode, StationNcts};
