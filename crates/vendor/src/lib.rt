@@ -268,8 +268,8 @@ fn turn(state: &mut Chip, event: bool)
 }
 
 // A byte stored as the machine does, where no two packet holds are up: but for the two registers of holds it is the byte alone.
-// Kept, for speed: the vet of 512 pairs stands at 1.25 of its bar of 1.4 (docs/SPEED.md) with some 42,000 instructions; with `Chip::store`
-// at each address it took 55,838.
+// Kept, for speed: the vet of 512 pairs took 1.25 of plain C's time with 46,099 instructions, and its bar is 1.4 (docs/SPEED.md). With
+// `Chip::store` at each address it took 55,838.
 #[tactic(auto, using(crate::proofs::Loops::plain_write))]
 fn store(state: &mut Chip, address: u8, byte: u8)
     ensures { two (holds_of packets state.old.image) ≡ false
