@@ -8,5 +8,5 @@ ghost use Rattle.std.specs.Prelude.{◌≤◌};
 pub struct Text {
     pub bytes: [u8; 80],
     pub count: usize,
-    ghost fits: { count ≤ 80 },
+    pub ghost fits: { count ≤ 80 },
 }
