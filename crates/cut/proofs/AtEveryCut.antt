@@ -142,6 +142,13 @@ pub record Near (s u : Chip) : Type 0 where
 pub near_self : (s : Chip) → Ready s.image → Near s s
 near_self s r = record { ready = r; kept = agree_self s.image; rest = λ a h t. refl }
 
+pub near_trans : (s u v : Chip) → Near s u → Near u v → Near s v
+near_trans s u v n m = record {
+  ready = m.ready;
+  kept = agree_trans v.image u.image s.image m.kept n.kept;
+  rest = λ a h w. m.rest a h w ∙ n.rest a h w;
+}
+
 -- what is near by its registers
 pub near_image : (s u v : Chip) → v.image ≡ u.image → Near s u → Near s v
 near_image s u v e n = record {

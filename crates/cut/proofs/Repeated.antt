@@ -168,3 +168,9 @@ retries (e ∷ es) s z h n =
     taken e es s n now idle rest zero l = now
     taken e es s n now idle rest (suc k) l =
         idle_taken e (happens e s).chip idle (n 0) (retried (λ k. n (suc k)) es) rest.taken k (le_of_suc-le-suc l)
+
+-- once an event is sent, one of the list has begun
+pub some_begun : (n : ℕ → ℕ) (es : List Event) (k : ℕ) → 0 < k → begun n es k < length es → 0 < begun n es k
+some_begun n [] k lo hi = absurd (not-suc-le-zero hi)
+some_begun n (e ∷ es) zero lo hi = lo
+some_begun n (e ∷ es) (suc k) lo hi = zero-lt-suc _
