@@ -1,12 +1,13 @@
 -- A collection cut into blocks by their lengths: block by block, as a loop finds them. Assumes nothing.
-use mathlib.Core.Path.{◌≡◌, refl, sym, ◌∙◌}
+use mathlib.Core.Path.{◌≡◌, refl, sym, ap, ◌∙◌}
 use mathlib.Core.Bool.{Bool, true, false, cond, false≢true}
 use mathlib.Core.List.{List, [], ◌∷◌}
-use Prim.Native.Nat.{ℕ, zero, suc, ◌%◌, ◌/◌, ◌<◌, ◌≤◌}
+use Prim.Native.Nat.{ℕ, zero, suc, ◌+◌, ◌-◌, ◌%◌, ◌/◌, ◌<◌, ◌≤◌}
 use native.Mathlib.Omega.{arith}
 use native.Mathlib.Nat.{div-one}
 use lib.Dec.{leb}
-use lib.ListN.{length, take, drop, length-drop}
+use lib.ListN.{length, take, drop, get_or, length-drop}
+use lib.Seq.{drop-drop}
 use borrow.Author.Tests.{le-leb, lt-leb}
 use Rattle.std.specs.Prelude.{Result, Ok, Err}
 use Rattle.std.specs.List.{IsSplitAt}
@@ -14,6 +15,7 @@ use Rattle.bits.specs.Merge.{bits_in}
 use Rattle.refusals.specs.declared.Refusal.{Refusal}
 use Rattle.refusals.specs.declared.Refusal.TheVariants.{EdidBlock}
 use Rattle.lists.specs.Find.{some}
+use Rattle.lists.proofs.Find.{next}
 use Rattle.edid.specs.Screen.{Block, Blocks, past_end, blocks, before, blocks_of, cut_up, data_blocks}
 use Rattle.edid.specs.Found.{is_past}
 use Rattle.edid.specs.Code.{Answers}
@@ -46,6 +48,24 @@ unfolding cut_up
 begun head bytes =
     let e = enough (length bytes) (length (drop (head % 32) bytes)) (drop (head % 32) bytes) (omega (arith, length-drop (head % 32) bytes)) (omega arith) in
     rw (low 32 head, e)
+
+-- at a place
+module _ (bytes : List ℕ) (at : ℕ) (h : at < length bytes) where
+  head : ℕ
+  head = get_or bytes at 0
+
+  left : List ℕ
+  left = drop (at + 1) bytes
+
+  from_here : data_blocks (drop at bytes)
+      ≡ cond (leb (head % 32) (length left)) (before (first head left) (data_blocks (drop (head % 32) left))) past_end
+  unfolding head left
+  from_here = ap data_blocks (next bytes at 0 h) ∙ begun (get_or bytes at 0) (drop (at + 1) bytes)
+
+  pub goes_on_lem : get_or bytes at 0 % 32 ≤ length bytes - (at + 1)
+      → data_blocks (drop at bytes) ≡ before (first (get_or bytes at 0) (drop (at + 1) bytes)) (data_blocks (drop (at + 1 + get_or bytes at 0 % 32) bytes))
+  unfolding head left
+  goes_on_lem k = from_here ∙ rw (le-leb (head % 32) (length left) (omega (arith, length-drop (at + 1) bytes)), drop-drop)
 
 -- what is answered of bytes, by the first block of them
 module _ (test : Block → Bool) where

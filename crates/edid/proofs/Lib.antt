@@ -1,5 +1,6 @@
 pub mod Order
 pub mod Cut
+pub mod Threes
 pub mod Some
 pub mod Sized
 pub mod Words

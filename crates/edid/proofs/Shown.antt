@@ -4,7 +4,7 @@ use mathlib.Core.Logic.{◌≢◌}
 use mathlib.Core.Bool.{false}
 use mathlib.Core.List.{List}
 use Prim.Native.Nat.{ℕ}
-use borrow.Author.Tests.{ne_eqb}
+use borrow.Author.Tests.{eq-eqb, ne_eqb}
 use Rattle.refusals.specs.declared.Refusal.{Refusal}
 use Rattle.refusals.specs.Numbered.{refusal_number}
 use Rattle.clock.specs.Numbered.{Pair}
@@ -15,6 +15,11 @@ use Rattle.request.specs.Read.{read_of, pair_for, ncts_of}
 use Rattle.refusals.proofs.Told.{refusal_some}
 use Rattle.request.proofs.Numbers.{read_refuses, read_gives}
 use Rattle.edid.specs.Found.{is_shown}
+
+module _ (bytes input : List ℕ) (z : (read_of input).refusal ≡ 0) where
+  pub no_pair_lem : (pair_for (read_of input).request).refusal ≢ 0 → is_shown bytes input ≡ false
+  unfolding ncts_of
+  no_pair_lem h = simp (eq-eqb (read_of input).refusal 0 z, ne_eqb (pair_for (read_of input).request).refusal 0 h)
 
 module _ (input : List ℕ) where
   pub not_read : (bytes : List ℕ) → (read_of input).refusal ≢ 0 → is_shown bytes input ≡ false
