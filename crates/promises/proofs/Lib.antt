@@ -10,6 +10,7 @@ pub mod Only
 pub mod AnyCut
 pub mod AnyInput
 pub mod Outcomes
+pub mod OneAnswer
 pub mod Example
 pub mod Filled
 pub mod Shown

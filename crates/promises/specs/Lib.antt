@@ -6,6 +6,7 @@ pub mod WiringCases
 pub mod AnyInput
 pub mod OtherCalls
 pub mod Settled
+pub mod SettledAnswers
 pub mod Rules
 pub mod OnSomeImage
 pub mod FieldByField

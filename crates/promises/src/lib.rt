@@ -24,6 +24,7 @@ ghost use Rattle.promises.specs.OnSomeImage.{OnSomeImage};
 ghost use Rattle.promises.specs.Said.{Said};
 ghost use Rattle.promises.specs.Screens.{ScreenCalls};
 ghost use Rattle.promises.specs.Settled.{Settled};
+ghost use Rattle.promises.specs.SettledAnswers.{SettledAnswers};
 ghost use Rattle.promises.specs.VendorCases.{VendorCases};
 ghost use Rattle.promises.specs.WiringCases.{WiringCases};
 ghost use Rattle.promises.specs.Wished.{WishPlanned};
@@ -56,6 +57,13 @@ pub fn screen_calls()
 pub fn settled()
     ensures { Settled }
 {}
+
+/// The same of the answers themselves: what they are told as in numbers leaves nothing of them open.
+pub fn settled_answers()
+    ensures { SettledAnswers }
+{
+    refusals::told_apart();
+}
 
 /// Demand 2: whatever is asked, whatever image and buffer are lent.
 pub fn demand_2()
