@@ -13,7 +13,10 @@ use Rattle.lists.specs.Find.{every}
 use Rattle.lists.proofs.Both.{both_left, both_right, neither_right}
 use Rattle.lists.proofs.Decides.{Decides, itself, either, together}
 use Rattle.refusals.specs.Rows.{Given}
+use Rattle.refusals.specs.declared.Refusal.{Refusal}
+use Rattle.refusals.specs.Numbered.{refusal_number}
 use Rattle.refusals.specs.Tests.{lowest}
+use Rattle.refusals.proofs.Told.{refusal_some}
 use Rattle.refusals.proofs.Tests.{lowest_given, answer_given}
 use Rattle.bits.specs.Merge.{bit}
 use Rattle.bits.proofs.Laws.{merge_bit, bit_code, two_bits_code}
@@ -128,8 +131,23 @@ module _ (s : Chip) (address value : ℕ) where
     pub refused_write_lem : done ≡ false → record { refusal = 13; chip = s } ≡ write_of s address value
     refused_write_lem e = sym (written_as true (said ∙ ap not e))
 
+    pub left_alone : done ≡ false → record { refusal = 13; chip = left } ≡ write_of s address value
+    left_alone e = ap (λ (c : Chip). record { refusal = 13; chip = c }) (h.1 ∙ rw e) ∙ refused_write_lem e
+
     pub taken_write : done ≡ true → record { refusal = 0; chip = left } ≡ write_of s address value
     taken_write e = ap (λ (c : Chip). record { refusal = 0; chip = c }) (h.1 ∙ rw e) ∙ sym (written_as false (said ∙ ap not e))
+
+  -- a write that is refused leaves the state
+  pub refused_left : (e : Refusal) (left : Chip) → record { refusal = refusal_number e; chip = left } ≡ write_of s address value
+      → record { refusal = refusal_number e; chip = s } ≡ write_of s address value
+  refused_left e left h = go (refuses s address value) refl
+    where
+      number : (b : Bool) → refuses s address value ≡ b → refusal_number e ≡ (wrote b).refusal
+      number b q = ap (λ (w : Wrote). w.refusal) (h ∙ written_as b q)
+
+      go : (b : Bool) → refuses s address value ≡ b → record { refusal = refusal_number e; chip = s } ≡ write_of s address value
+      go true q = ap (λ (n : ℕ). record { refusal = n; chip = s }) (number true q) ∙ sym (written_as true q)
+      go false q = absurd (refusal_some e (number false q))
 
   -- a write that has no refusal is taken, and leaves the image that it would leave
   pub allowed : (write_of s address value).refusal ≡ 0 → refuses s address value ≡ false

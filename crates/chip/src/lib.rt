@@ -10,7 +10,7 @@ ghost use Rattle.chip.specs.Write.{filled, two, buffer_after, mark_after, Stores
 ghost use Rattle.chip.specs.Step.{AnyStep};
 ghost use Rattle.chip.specs.Turn.{Turned, Turn, AtOnce};
 ghost use Rattle.chip.specs.Cases.{MachineCases};
-ghost use Rattle.chip.specs.Numbered.{wrote_told};
+ghost use Rattle.chip.specs.Numbered.{wrote_told, applied_told};
 
 mod group;
 
@@ -159,17 +159,25 @@ impl Chip {
         true
     }
 
-    /// One write: the new state, or refusal 13.
-    pub fn write(mut self, address: u8, value: u8) -> Result<Chip, Refusal>
-        ensures { Hands self address value (wrote_told self result) }
+    /// One write to the state as it is lent: refusal 13 leaves it as it was.
+    pub fn apply(&mut self, address: u8, value: u8) -> Result<(), Refusal>
+        ensures { Hands self.old address value (applied_told self.new result) }
     {
         let keep = registers::read_only(address);
         let byte = bits::merge(keep, self.image[usize::from(address)], value);
         if self.store(address, byte) {
-            Ok(self)
+            Ok(())
         } else {
             Err(Refusal::TwoHolds)
         }
+    }
+
+    /// One write: the new state, or refusal 13.
+    pub fn write(mut self, address: u8, value: u8) -> Result<Chip, Refusal>
+        ensures { Hands self address value (wrote_told self result) }
+    {
+        self.apply(address, value)?;
+        Ok(self)
     }
 
     /// One Vsync: where the coefficient hold is down, a wait is over, and the registers are in use.

@@ -19,7 +19,7 @@ use Rattle.refusals.specs.Tests.{◌if◌, lowest, answer}
 use Rattle.refusals.proofs.Tests.{Decided, lowest_given, in_stages, none_at, numbered}
 use Rattle.chip.specs.declared.Chip.{Chip}
 use Rattle.std.specs.Prelude.{Result, Ok, Err}
-use Rattle.chip.specs.Numbered.{Wrote, wrote_told}
+use Rattle.chip.specs.Numbered.{Wrote, wrote_told, applied_told}
 use Rattle.chip.specs.Write.{write_of, vsync_of}
 use Rattle.chip.specs.Step.{write_rules}
 use Rattle.views.specs.Entry.{mark_byte, is_sized, Lent, state_of, SliceAnswer, refused_entry, taken_entry, wrote_in, is_lent, Gathers, enter_tests, enter_of, turn_of}
@@ -125,6 +125,14 @@ module _ (l : Lent) where
 
   pub past_a_write : (s : Chip) (r : Result Chip Refusal) (t : Chip) → r ≡ Ok t → wrote_in l (wrote_told s r) ≡ taken_entry t
   past_a_write s r t h = rw h refl
+
+  -- and of a write to a state that is lent
+  pub left_by_a_refusal : (left : Chip) (r : Result (Unit {0}) Refusal) (e : Refusal) → r ≡ Err e
+      → wrote_in l (applied_told left r) ≡ refused_entry l (refusal_number e)
+  left_by_a_refusal left r e h = rw h (wrote_refused _ (refusal_some e))
+
+  pub left_by_a_write : (left : Chip) (r : Result (Unit {0}) Refusal) (u : Unit {0}) → r ≡ Ok u → wrote_in l (applied_told left r) ≡ taken_entry left
+  left_by_a_write left r u h = rw h refl
 
   pub wrote_number : (w : Wrote) → (wrote_in l w).refusal ≡ w.refusal
   wrote_number w = numbered (refused_entry l) (taken_entry w.chip) (λ (e : SliceAnswer). e.refusal) w.refusal (λ _. refl) refl

@@ -99,9 +99,9 @@ pub fn write_into(
         mark,
     };
     slices.sized()?;
-    let before = slices.state();
-    let after = before.write(address, value)?;
-    slices.leave(&after);
+    let mut state = slices.state();
+    state.apply(address, value)?;
+    slices.leave(&state);
     Ok(())
 }
 
