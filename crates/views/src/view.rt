@@ -1,6 +1,5 @@
 // What the chip sends, over lent slices: document 01, "The chip machine".
-ghost use Rattle.std.specs.Prelude.{◌≡◌, ◌<◌, ◌≤◌, Ok, IfOk, IfErr, length};
-ghost use Rattle.refusals.specs.declared.Refusal.TheVariants.{FieldOutOfRange};
+ghost use Rattle.std.specs.Prelude.{◌≡◌, Ok};
 ghost use Rattle.refusals.specs.Numbered.{given_by};
 ghost use Rattle.chip.specs.Machine.{up, mute};
 ghost use Rattle.chip.specs.Groups.{group_of};
@@ -38,20 +37,17 @@ fn lent_refusal(image: &[u8], packet: &[u8]) -> Result<(), Refusal>
 pub fn sent_refusal(image: &[u8], packet: &[u8], which: u32) -> Result<(), Refusal>
     ensures { Refuses image.now packet.now which (given_by result) }
 {
-    packet_at(which)?;
+    if 1 < which {
+        return Err(Refusal::FieldOutOfRange);
+    }
     lent_refusal(image, packet)
 }
 
-// The packet that is asked for by number: 0 AVI, 1 audio; refusal 5 of another.
-fn packet_at(which: u32) -> Result<Group, Refusal>
-    ensures found { IfOk result (λ group. (which ≤ 1) × (group_of group ≡ packet_at which)) }
-    ensures refused { IfErr result (λ refusal. (1 < which) × (refusal ≡ FieldOutOfRange)) }
+// The packet that is asked for by number: 0 AVI, 1 audio.
+fn packet_at(which: u32) -> Group
+    ensures { group_of result ≡ packet_at which }
 {
-    match which {
-        0 => Ok(Group::AVI),
-        1 => Ok(Group::AUDIO),
-        _ => Err(Refusal::FieldOutOfRange),
-    }
+    if which == 0 { Group::AVI } else { Group::AUDIO }
 }
 
 impl Place {
@@ -72,9 +68,8 @@ impl Place {
 pub fn sent_part(image: &[u8], packet: &[u8], which: u32) -> Result<Place, Refusal>
     ensures { Places image.now packet.now which (part_told result) }
 {
-    let group = packet_at(which)?;
-    lent_refusal(image, packet)?;
-    Ok(Place::of(group, image[Map::INFOFRAME_UPDATE as usize]))
+    sent_refusal(image, packet, which)?;
+    Ok(Place::of(packet_at(which), image[Map::INFOFRAME_UPDATE as usize]))
 }
 
 /// The packet that is sent, as a part of the image or of the packet buffer: its bytes, and where it starts.
