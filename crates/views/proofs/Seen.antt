@@ -20,7 +20,7 @@ use Rattle.chip.specs.Write.{two}
 use Rattle.views.specs.View.{packet_at, viewed_of, lent_refusal, view_refusal, sent_of, placed, no_part, sent_part, start_in, mute_of, no_mute, lent_tests}
 use Rattle.views.specs.Refusals.{bytes_in, SentFrom, lent_rules, view_rules, ViewRefusals}
 use Rattle.bits.specs.Merge.{bit}
-use Rattle.bits.proofs.Laws.{two_bits_code}
+use Rattle.bits.proofs.Laws.{bit_code, two_bits_code}
 use Rattle.chip.proofs.Writes.{two_up}
 
 -- one of two lengths is another than it is to be; both are as they are to be
@@ -137,7 +137,16 @@ module _ (image packet : List ℕ) where
       SentFrom (bit g.hold (holds_of packets image)) g.first g.count (sent_part image packet which)
   from_slice which e = ((λ h. taken which e ∙ rw h), λ h. taken which e ∙ rw h)
 
+  -- beside a refusal no mute bits
+  pub mute_refused_lem : lent_refusal image packet ≢ 0 → no_mute (lent_refusal image packet) ≡ mute_of image packet
+  unfolding mute_of
+  mute_refused_lem h = sym (rw (ne_eqb _ _ h))
+
   -- the mute bits, off the buffer's first byte where the GC hold is up, else off the register
+  pub mute_held_lem : get_or image 0x4A 0 / 16 % 2 ≡ 1 → get_or packet 0 0 / 64 % 4 ≡ mute (viewed_of image packet)
+  unfolding gc_in_use in_use
+  mute_held_lem h = sym (simp (bit_code 4 (get_or image 0x4A 0), eq-eqb _ _ h, get_or-take 1 packet 0 0 (lit< tt), two_bits_code 6 (get_or packet 0 0)))
+
   pub mute_shown : (byte : ℕ) → byte ≡ cond (up gc (holds_of packets image)) (get_or packet 0 0) (get_or image 0x4B 0)
       → byte / 64 % 4 ≡ mute (viewed_of image packet)
   unfolding gc_in_use in_use
@@ -151,17 +160,13 @@ module _ (image packet : List ℕ) where
   unfolding mute_of
   mute_numbered = numbered no_mute _ (λ (m : Mute). m.refusal) (lent_refusal image packet) (λ _. refl) refl
 
-  mute_refused : lent_refusal image packet ≢ 0 → mute_of image packet ≡ no_mute (lent_refusal image packet)
-  unfolding mute_of
-  mute_refused h = rw (ne_eqb _ _ h)
-
   pub refusals : ViewRefusals image packet
   refusals = record {
     view = view_given;
     part = part_numbered;
     empty = λ which h. (empty which h, refused which h);
     mute = rw mute_numbered lent_given;
-    zero = λ h. ap (λ (m : Mute). m.mute) (mute_refused (λ e. h (mute_numbered ∙ e)));
+    zero = λ h. ap (λ (m : Mute). m.mute) (sym (mute_refused_lem (λ e. h (mute_numbered ∙ e))));
     bytes = bytes;
     avi = from_slice 0;
     audio = from_slice 1;
