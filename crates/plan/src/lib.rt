@@ -326,6 +326,9 @@ pub fn stands(r: Request, image: &[u8]) -> bool
     if r.allowed().is_err() {
         return false;
     }
+    if image.len() != 256 {
+        return false;
+    }
     let Ok(pair) = r.pair() else {
         return false;
     };

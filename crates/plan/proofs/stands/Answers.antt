@@ -19,6 +19,9 @@ returns-then-is_err c = let a = c.args in
     let some = is_refused c.allowed.result (sym c.is_err.ensures.value ∙ c.if-is_err.true) in
     sym (not_stood a.r a.image.now (λ s. some (c.allowed.ensures ∙ s.allowed)))
 
+pub returns-then-image-ne256 : goal.returns-then-image-ne256
+returns-then-image-ne256 c = let a = c.args in sym (not_stood a.r a.image.now (λ s. c.if-image-ne256.true s.sized))
+
 pub returns-in_default : goal.returns-in_default
 returns-in_default c = let a = c.args in
     let n = ap (λ (p : Pair). p.refusal) (rw c.in_default.is at c.pair.ensures) in
