@@ -67,15 +67,14 @@ pub fn high_byte(bits: u16) -> u8
 pub fn fits(body: &[u8]) -> bool
     ensures { result ≡ is_allowed body.now }
 {
-    if body.len() != 25 {
+    if body.len() != 25 || 2 < body[0] {
         return false;
     }
     let (pairs, _) = body[1..].as_chunks::<2>();
-    let in_range = pairs.iter().all(|pair| {
+    pairs.iter().all(|pair| {
         let bits = u16::from_be_bytes(*pair);
         bits < 4096 || 61440 <= bits
-    });
-    body[0] <= 2 && in_range
+    })
 }
 
 // Whether twelve fields have 13 bits each. All are looked at, which is faster than to stop at the first that has more.

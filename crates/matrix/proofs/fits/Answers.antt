@@ -9,23 +9,23 @@ use Rattle.matrix.specs.Coefficient.{word}
 use Rattle.matrix.specs.Tests.{within, in_range, is_allowed}
 use Rattle.matrix.proofs.Pairs.{pairs_range}
 use Rattle.matrix.proofs.fits.Goals as goal
+use Rattle.matrix.proofs.fits.Goals.{then-body-ne25-via-then-body-ne25, then-body-ne25-via-else-body-ne25+then-body-gt2}
 
 pub returns-then-body-ne25 : goal.returns-then-body-ne25
 unfolding is_allowed
-returns-then-body-ne25 c = simp (ne_eqb _ _ c.if-body-ne25.true)
+returns-then-body-ne25 c = elim c.then-body-ne25.branch [
+  | then-body-ne25-via-then-body-ne25 w ↦ simp (ne_eqb _ _ w.if-body-ne25.true)
+  | then-body-ne25-via-else-body-ne25+then-body-gt2 w ↦ simp (eq-eqb _ _ w.if-body-ne25.false, lt-leb _ _ w.if-body-gt2.true)
+]
 
-pub returns-else-body-le2 : goal.returns-else-body-le2
+pub returns : goal.returns
 unfolding is_allowed
-returns-else-body-le2 c = simp (eq-eqb _ _ c.if-body-ne25.false, lt-leb _ _ c.if-body-le2.false)
-
-pub returns-then-body-le2 : goal.returns-then-body-le2
-unfolding is_allowed
-returns-then-body-le2 c =
+returns c =
     let body = c.args.body.now in
     let pairs = c.as_chunks.result.0.now in
     let after : take (length body - 1) (drop 1 body) ≡ drop 1 body = take_all _ _ (search rules) in
     let l : length (take (length body - 1) (drop 1 body)) ≡ 24 = rw after (omega (arith, length-drop 1 body)) in
-    let all = all_from_yields_List (λ pair. within (word (get_or pair 0 0) (get_or pair 1 0))) _ _ c.all-in_range.result c.all-in_range.ensures.ran (YieldsList-from_slice {s = c.iter.result} pairs cc) (λ x b q k. search (rules, tests)) in
-    let e : c.all-in_range.result ≡ in_range (drop 1 body) =
+    let all = all_from_yields_List (λ pair. within (word (get_or pair 0 0) (get_or pair 1 0))) _ _ c.all.result c.all.ensures.ran (YieldsList-from_slice {s = c.iter.result} pairs cc) (λ x b q k. search (rules, tests)) in
+    let e : c.all.result ≡ in_range (drop 1 body) =
     all ∙ ap (list_all (λ pair. within (word (get_or pair 0 0) (get_or pair 1 0)))) c.as_chunks.ensures.front ∙ pairs_range _ _ (rw l refl) ∙ ap in_range after in
-    simp (eq-eqb _ _ c.if-body-ne25.false, le-leb _ _ c.if-body-le2.true, e)
+    simp (eq-eqb _ _ c.if-body-ne25.false, le-leb _ _ c.if-body-gt2.false, e)
