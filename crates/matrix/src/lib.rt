@@ -3,7 +3,7 @@
 
 ghost use Rattle.std.specs.Prelude.{◌≡◌, true, false, IfOk, IfErr, List, ℕ, ◌+◌, ◌*◌, ◌%◌, ◌^◌, ◌<◌, ◌≤◌, get_or, length, ℤ, ◌&&◌, eqb, leb};
 ghost use Rattle.std.specs.Int.Signed.{shr_z};
-ghost use Rattle.refusals.specs.declared.Refusal.TheVariants.{FieldOutOfRange, InputAbove};
+ghost use Rattle.refusals.specs.declared.Refusal.TheVariants.{InputAbove};
 ghost use Rattle.matrix.specs.declared.Matrix.{Matrix};
 ghost use Rattle.matrix.specs.Coefficient.{word, low_thirteen, high_byte};
 ghost use Rattle.matrix.specs.Twos.{TwosComplement};
@@ -99,28 +99,29 @@ impl Matrix {
         self == Matrix::none() || self.is_on()
     }
 
-    // The matrix of a body that fits: refusal 5.
+    // The matrix of a body that fits.
     #[tactic(auto, using(crate::proofs::Pairs::sized))]
-    fn allowed(body: &[u8]) -> Result<Matrix, Refusal>
-        ensures allowed { IfOk result (λ m. (is_allowed body.now ≡ true) × (m ≡ matrix_of body.now)) }
-        ensures small { IfOk result (λ m. (m.mode ≤ 2) × ((i : ℕ) → get_or m.coefficients i 0 < 8192)) }
-        ensures refused { IfErr result (λ refusal. (is_allowed body.now ≡ false) × (refusal ≡ FieldOutOfRange)) }
+    fn of(body: &[u8]) -> Matrix
+        requires { is_allowed body.now ≡ true }
+        ensures value { result ≡ matrix_of body.now }
+        ensures small { (result.mode ≤ 2) × ((i : ℕ) → get_or result.coefficients i 0 < 8192) }
     {
-        if !fits(body) {
-            return Err(Refusal::FieldOutOfRange);
-        }
-        Ok(Matrix {
+        Matrix {
             on: 1,
             mode: body[0],
             coefficients: twelve(&body[1..]),
-        })
+        }
     }
 
     /// The matrix of a body that fits; no matrix of one that does not.
     pub fn read(body: &[u8]) -> Matrix
         ensures { result ≡ allowed_matrix body.now }
     {
-        Matrix::allowed(body).unwrap_or(Matrix::none())
+        if fits(body) {
+            Matrix::of(body)
+        } else {
+            Matrix::none()
+        }
     }
 
     /// No matrix: converter off.
@@ -210,8 +211,11 @@ impl Inputs {
 pub fn preview(body: &[u8], a: u32, b: u32, c: u32) -> Result<Codes, Refusal>
     ensures { Previews body.now a b c (pixel_told result) }
 {
-    let m = Matrix::allowed(body)?;
+    if !fits(body) {
+        return Err(Refusal::FieldOutOfRange);
+    }
     let inputs = Inputs::new(a, b, c)?;
+    let m = Matrix::of(body);
     let [a1, a2, a3, a4, b1, b2, b3, b4, c1, c2, c3, c4] = m.coefficients;
     Ok(Codes {
         a: inputs.code([a1, a2, a3, a4], m.mode),
