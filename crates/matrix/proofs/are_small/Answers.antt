@@ -1,5 +1,5 @@
 -- `matrix::are_small` meets its contract: the answer so far is that of the fields so far. Assumes nothing.
-use Rattle.std.proofs.Common.{◌≡◌, ◌∙◌, sym, ap, ℕ, Bool, ◌&&◌, ltb, List, [], ◌∷◌, ◌++◌, length, rules}
+use Rattle.std.proofs.Common.{◌≡◌, ◌∙◌, sym, ap, ℕ, Bool, ◌&&◌, ltb, List, [], ◌∷◌, ◌++◌, length, rules, tests}
 use Rattle.std.proofs.lemmas.Fn.{fold_over, fronts}
 use Rattle.std.proofs.lemmas.Iterator.{YieldsList-from_slice}
 use Rattle.matrix.specs.Tests.{small_fields}
@@ -17,4 +17,5 @@ returns c =
     let all = fold_over fronts (λ y. y.now) _ (λ xs b. b ≡ small_fields xs (length xs)) _
     (λ xs b x r f' so_far called. (so_far_more xs b x.now r (search rules) so_far, search rules))
     c.iter.result k _ _ fields.runs (search rules) c.fold.ensures.ran in
-    all ∙ ap (small_fields k) e
+    let small : c.fold.result ≡ small_fields k 12 = all ∙ ap (small_fields k) e in
+    search (rules, tests, small)

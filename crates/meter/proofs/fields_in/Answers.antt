@@ -25,7 +25,7 @@ loop-i-preserved c =
     let at = field_at a.mode a.numbers l.i (search rules) in
     let v = c.in_ok-field.field-0 in
     let f = some (is_field (field_in a.mode (is_offset l.i) (number_of a.numbers l.i))) (field_in a.mode (is_offset l.i) (number_of a.numbers l.i)) v
-    (sym c.field_in.ensures ∙ c.in_ok-field.was) in
+    (search rules) in
     let e : v ≡ get_or (fields_in a.mode a.numbers) l.i 0 = sym (at ∙ f.1) in (
       l.invariant.0,
       refl,
@@ -37,7 +37,7 @@ pub returns-in_err-field : goal.returns-in_err-field
 returns-in_err-field c =
     let l = c.loop-i in
     let a = c.args in
-    let f = none (is_field (field_in a.mode (is_offset l.i) (number_of a.numbers l.i))) (field_in a.mode (is_offset l.i) (number_of a.numbers l.i)) (sym c.field_in.ensures ∙ c.in_err-field.was) in
+    let f = none (is_field (field_in a.mode (is_offset l.i) (number_of a.numbers l.i))) (field_in a.mode (is_offset l.i) (number_of a.numbers l.i)) (search rules) in
     rw (unfit a.mode a.numbers l.i (search rules) f) (search rules)
 
 pub returns : goal.returns

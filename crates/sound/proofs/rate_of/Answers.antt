@@ -9,6 +9,8 @@ use Rattle.sound.proofs.Rates.{searched}
 use Rattle.sound.proofs.rate_of.Goals as goal
 
 pub returns : goal.returns
-returns c = rw c.unwrap_or.ensures (searched c.args.code c.position-place.result
+returns c =
+    let place = searched c.args.code c.position-place.result
     (position_from_yields_List (λ (r : Rate). eqb r.code c.args.code) _ _ c.position-place.result c.position-place.ensures.ran
-    (YieldsList-from_slice _ c.iter.ensures.rest) (λ x b q k. search (rules, tests))))
+    (YieldsList-from_slice _ c.iter.ensures.rest) (λ x b q k. search (rules, tests))) in
+    search (rules, place)
