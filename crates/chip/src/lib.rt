@@ -146,7 +146,7 @@ impl Chip {
     }
 
     /// A byte stored as it is, and whether it is: not where two packet holds are up or would be.
-    // Kept, no plainer: there is one refusal, and `write` names it.
+    // Kept, no plainer: there is one refusal, and `apply` names it.
     pub fn store(&mut self, address: u8, byte: u8) -> bool
         ensures { Stores self.old address byte result self.new }
     {

@@ -27,7 +27,7 @@ use Rattle.pipe.specs.Numbered.{Piped, piped_told}
 use Rattle.edid.specs.Found.{monitor_told, choice_told}
 use Rattle.line.specs.declared.buffer.Text.{Text}
 use Rattle.chip.specs.declared.Chip.{Chip}
-use Rattle.chip.specs.Numbered.{Wrote, wrote_told}
+use Rattle.chip.specs.Numbered.{Wrote, wrote_told, applied_told}
 use Rattle.views.specs.Numbered.{Count, Part, Mute, count_told, part_told, mute_told}
 use Rattle.plan.specs.Numbered.{Planned, planned_told}
 use Rattle.decode.specs.Numbered.{Decoded, decoded_told}
@@ -199,6 +199,12 @@ module _ (t : ToldApart) where
       → Settles {A = Result T Refusal × L} (λ o. (tell o.0 ≡ x) × (o.1 ≡ l))
   two tell a x l r s p q = ap₂ (λ u v. (u, v)) (one_answer tell a r.0 s.0 (p.0 ∙ sym q.0)) (p.1 ∙ sym q.1)
 
+  -- what a write says, and leaves in the state
+  applied : (w : Wrote) → Settles {A = Result (Unit {0}) Refusal × Chip} (λ o. applied_told o.1 o.0 ≡ w)
+  applied w r s p q =
+      let h = p ∙ sym q in
+      ap₂ (λ u v. (u, v)) (one_answer given_by given r.0 s.0 (ap (λ (a : Wrote). a.refusal) h)) (ap (λ (a : Wrote). a.chip) h)
+
   -- a limit, and what is known of a request beside it
   one_limit : (l k : Option Refusal) → limit_number l ≡ limit_number k → l ≡ k
   one_limit None None p = refl
@@ -260,6 +266,7 @@ module _ (t : ToldApart) where
     avi = λ video. one avi_told avi _;
     audio = λ channels. one audio_told audio _;
     write = λ s address value. one (wrote_told s) (wrote s) _;
+    apply = λ s address value. applied _;
     enter = λ l address value. two given_by given _ _;
     vsync = λ l. two given_by given _ _;
     part = λ image packet which. one part_told part _;

@@ -36,7 +36,7 @@ use Rattle.line.specs.declared.buffer.Text.{Text}
 use Rattle.line.specs.Words.{Prints, PrintsAnswer}
 use Rattle.line.specs.Verdict.{PrintsVerdict}
 use Rattle.chip.specs.declared.Chip.{Chip}
-use Rattle.chip.specs.Numbered.{wrote_told}
+use Rattle.chip.specs.Numbered.{wrote_told, applied_told}
 use Rattle.chip.specs.Write.{lent_as, Hands}
 use Rattle.views.specs.declared.view.Place.{Place}
 use Rattle.views.specs.Numbered.{count_told, part_told, mute_told}
@@ -95,7 +95,9 @@ pub record SettledAnswers : Type 0 where
   pub avi : (video : Video) → Settles {A = Result (List ℕ) Refusal} (λ r. GivesAvi video (avi_told r))
   pub audio : (channels : ℕ) → Settles {A = Result (List ℕ) Refusal} (λ r. GivesAudio channels (audio_told r))
   pub write : (s : Chip) (address value : ℕ) → Settles {A = Result Chip Refusal} (λ r. Hands s address value (wrote_told s r))
-  -- over slices
+  -- to a state that is lent, with what it leaves there; and over slices
+  pub apply : (s : Chip) (address value : ℕ)
+      → Settles {A = Result (Unit {0}) Refusal × Chip} (λ o. Hands s address value (applied_told o.1 o.0))
   pub enter : (l : Lent) (address value : ℕ)
       → Settles {A = Result (Unit {0}) Refusal × Lent} (λ o. Writes l address value (given_by o.0) o.1)
   pub vsync : (l : Lent) → Settles {A = Result (Unit {0}) Refusal × Lent} (λ o. Turns l (given_by o.0) o.1)
