@@ -1,8 +1,13 @@
 -- The four slices of a call as the code holds them. `Entered` and `EnteredVsync` (Theorems) speak of the calls themselves.
-use Rattle.std.specs.Prelude.{◌≡◌}
+use Rattle.std.specs.Prelude.{◌≡◌, false, replicate}
 use Rattle.chip.specs.declared.Chip.{Chip}
+use Rattle.chip.specs.Write.{lent_as}
 use Rattle.views.specs.declared.entry.Slices.{Slices}
 use Rattle.views.specs.Entry.{Lent, lent, slices_of}
+
+-- a state of zeros, over which slices are laid
+abbrev pub blank : Chip
+blank = lent_as (replicate 256 0) (replicate 32 0) (replicate 24 0) false
 
 -- their bytes
 abbrev pub lent_in : Slices → Lent

@@ -1,30 +1,47 @@
 // A write and a Vsync over the slices that the host lends: documents 01, "The chip machine", and 02, request 04.
 ghost use Rattle.std.specs.Prelude.{◌≡◌};
+ghost use Rattle.lists.specs.Over.{over};
 ghost use Rattle.refusals.specs.Numbered.{given_by};
 ghost use Rattle.refusals.specs.Tests.{lowest};
 ghost use Rattle.chip.specs.Write.{lent_as};
 ghost use Rattle.views.specs.Entry.{marked, lent, state_of, is_lent, enter_tests, Gathers, Writes, Turns};
-ghost use Rattle.views.specs.Lending.{lent_in, LeavesIn};
+ghost use Rattle.views.specs.Lending.{blank, lent_in, LeavesIn};
 ghost use Rattle.views.specs.Sized.{LentSized};
 
 use chip::{Chip, still_waits};
 use map::Map;
 use refusals::Refusal;
 
+// Slices over a state: what a slice is short of stays, and what does not fit is left out. A mark of 0 is none.
+fn gather(state: &mut Chip, image: &[u8], packet: &[u8], coefficients: &[u8], mark: u8)
+    ensures { state.new ≡ lent_as (over image.now state.old.image) (over packet.now state.old.packet)
+        (over coefficients.now state.old.coefficients) (marked mark) }
+{
+    lists::copy(image, &mut state.image);
+    lists::copy(packet, &mut state.packet);
+    lists::copy(coefficients, &mut state.coefficients);
+    state.waiting = mark != 0;
+}
+
+// A state of zeros.
+fn blank() -> Chip
+    ensures { result ≡ blank }
+{
+    Chip {
+        image: [0; 256],
+        packet: [0; 32],
+        coefficients: [0; 24],
+        waiting: false,
+    }
+}
+
 /// The slices as a state; what a slice is short of is 0, and what does not fit is left out. A mark of 0 is none.
 // Kept, what may not change: `Gathers` gives a state for slices of every length, so that it cannot fail (P4).
 pub fn gathered(image: &[u8], packet: &[u8], coefficients: &[u8], mark: u8) -> Chip
     ensures { Gathers (lent_as image.now packet.now coefficients.now (marked mark)) result }
 {
-    let mut state = Chip {
-        image: [0; 256],
-        packet: [0; 32],
-        coefficients: [0; 24],
-        waiting: mark != 0,
-    };
-    lists::copy(image, &mut state.image);
-    lists::copy(packet, &mut state.packet);
-    lists::copy(coefficients, &mut state.coefficients);
+    let mut state = blank();
+    gather(&mut state, image, packet, coefficients, mark);
     state
 }
 
@@ -59,12 +76,19 @@ impl Slices<'_> {
         }
     }
 
-    // The slices as a state.
-    fn state(&self) -> Chip
-        requires { LentSized (lent_in self.now) }
-        ensures { result ≡ state_of (lent_in self.now) }
+    // The slices over a state of zeros, which is theirs then.
+    fn read(&self, state: &mut Chip)
+        requires sized { LentSized (lent_in self.now) }
+        requires blank { state.old ≡ blank }
+        ensures { state.new ≡ state_of (lent_in self.now) }
     {
-        gathered(self.image, self.packet, self.coefficients, self.mark[0])
+        gather(
+            state,
+            self.image,
+            self.packet,
+            self.coefficients,
+            self.mark[0],
+        );
     }
 
     // A state over the slices.
@@ -99,7 +123,8 @@ pub fn write_into(
         mark,
     };
     slices.sized()?;
-    let mut state = slices.state();
+    let mut state = blank();
+    slices.read(&mut state);
     state.apply(address, value)?;
     slices.leave(&state);
     Ok(())

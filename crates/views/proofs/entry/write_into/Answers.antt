@@ -25,7 +25,7 @@ entered c =
     let a = c.args in
     let l = slices c in
     let_in l a.address a.value (let_past l c.in_ok-sized.ensures)
-    ∙ ap (wrote_in l) (sym (c.apply.ensures ∙ ap (λ (s : Chip). write_of s a.address a.value) c.state-state.ensures))
+    ∙ ap (wrote_in l) (sym (c.apply.ensures ∙ ap (λ (s : Chip). write_of s a.address a.value) c.read.ensures))
 
 pub returns-in_err-sized : goal.returns-in_err-sized
 returns-in_err-sized c = let a = c.args in
